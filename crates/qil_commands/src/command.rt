@@ -1,0 +1,88 @@
+//! The commands, and why a line spells none.
+
+ghost use Rattle.std.specs.Prelude.{◌≡◌};
+
+use std::fmt;
+use std::marker::Model;
+
+/// A name without its sigil: a part of the line.
+#[derive(Debug, Drop)]
+pub struct Name<'a> {
+    bytes: &'a [u8],
+}
+
+impl<'a> Model for Name<'a> {
+    ghost use Rattle.std.specs.Prelude.{List, ℕ};
+
+    ghost Value = { List ℕ };
+
+    ghost view = { λ n. n.bytes.now };
+}
+
+impl<'a> Name<'a> {
+    /// The name that these bytes are.
+    pub fn new(bytes: &'a [u8]) -> Name<'a>
+        ensures { result ≡ bytes.now }
+    {
+        Name { bytes }
+    }
+
+    /// The bytes, of which there is at least one in a name that was read.
+    pub fn bytes(&self) -> &'a [u8]
+        ensures { result.now ≡ self.now }
+    {
+        self.bytes
+    }
+}
+
+/// The first word of a line, which says what the others are.
+#[derive(Clone, Copy, Debug, PartialEq, Eq)]
+pub enum Verb {
+    Step,
+    Back,
+    Print,
+    Quit,
+}
+
+/// What a line asks of a session.
+#[derive(Debug, Drop)]
+pub enum Command<'a> {
+    /// Move forward up to this many times, 1 to 4,294,967,295.
+    Step(u32),
+    /// Move backward up to this many times, 1 to 4,294,967,295.
+    Back(u32),
+    /// Show a temporary of the innermost frame.
+    Print(Name<'a>),
+    /// End the session: the rest of the script isn't read.
+    Quit,
+}
+
+/// Why a line of a script spells no command, in the order in which the reasons are looked for: the length of the
+/// line, its first word, then each further word from the left, then words left over.
+#[derive(Clone, Copy, Debug, PartialEq, Eq)]
+pub enum Refused {
+    /// The line has more than 256 bytes, its newline not counted. Comes before all others, and also for a line
+    /// without words.
+    LineTooLong,
+    /// The first word is no command.
+    UnknownCommand,
+    /// A word that the command needs isn't there.
+    MissingWord,
+    /// A word has another shape than the command asks.
+    BadWord,
+    /// There are more words than the command takes.
+    ExtraWord,
+}
+
+impl fmt::Display for Refused {
+    fn fmt<W: fmt::Write>(&self, f: &mut fmt::Formatter<W>) -> fmt::Result {
+        let text = match *self {
+            Refused::LineTooLong => "line too long",
+            Refused::UnknownCommand => "unknown command",
+            Refused::MissingWord => "missing word",
+            Refused::BadWord => "bad word",
+            Refused::ExtraWord => "extra word",
+        };
+        write!(f, "{text}")
+    }
+}

@@ -1,0 +1,14 @@
+//! What a line of a script says: its words, the commands that they spell, and the refusals of lines that spell
+//! none. Nothing here takes memory, and names in a command are slices of the line.
+#![tactic(auto)]
+
+mod command;
+mod numbers;
+mod read;
+mod words;
+
+pub use command::{Command, Name, Refused};
+pub use read::read_command;
+
+#[cfg(test)]
+mod tests;

@@ -1,0 +1,4 @@
+pub mod Law
+pub mod Marks
+pub mod Loop
+pub mod Loose

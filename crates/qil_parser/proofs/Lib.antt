@@ -1,0 +1,7 @@
+pub mod Numbers
+pub mod Productions
+pub mod Open
+pub mod Ends
+pub mod Whole
+pub mod Unique
+pub mod Verdict

@@ -1,0 +1,5 @@
+use Rattle.qil_parser.proofs.Numbers.{numbers_left}
+use Rattle.qil_parser.proofs.cursor.Cursor.skip.Goals as goal
+
+pub invariant_of-self : goal.invariant_of-self
+invariant_of-self c = record { numbers = numbers_left c.args.self.now.rest.now c.args.self.now.numbers }

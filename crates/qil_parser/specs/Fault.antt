@@ -1,0 +1,48 @@
+-- Where tokens stop to be a program's, and what the fault is called.
+use Rattle.std.specs.Prelude.{◌≡◌, ℕ, List, [], ◌∷◌, ◌++◌}
+use Rattle.qil_lexer.specs.declared.token.TokenKind.TheVariants as kinds
+use Rattle.qil_parser.specs.declared.error.ParseCode.{ParseCode}
+use Rattle.qil_parser.specs.declared.error.ParseCode.TheVariants as codes
+use Rattle.qil_parser.specs.declared.tree.Program.{Program}
+use Rattle.qil_parser.specs.Token.{Tok}
+use Rattle.qil_parser.specs.Grammar.{Spells, OpenAt}
+
+-- The tokens are front and rest; front is the longest prefix that is a prefix of some program's tokens.
+pub record StopsAt (A : Type 0) (ts front rest : List Tok) : Type 0 where
+  pub parts : ts ≡ front ++ rest
+  -- the tokens are no program's
+  pub refused : (p : Program A) → Spells ts p → ⊥
+  -- with one token more they begin no program's
+  pub longest : (t : Tok) (after : List Tok) → rest ≡ t ∷ after → (more : List Tok) (p : Program A) → Spells (front ++ t ∷ more) p → ⊥
+  -- some ending makes front a program's
+  pub ending : List Tok
+  pub program : Program A
+  pub begun : Spells (front ++ ending) program
+
+-- a block is closed that has no jump
+abbrev pub ClosesOpen : List Tok → Tok → Type 0
+ClosesOpen front t = OpenAt front × (t.kind ≡ kinds.CloseBrace)
+
+-- what the first token that fits nothing is called, after these tokens
+abbrev pub Names : List Tok → Tok → ParseCode → Type 0
+Names front t codes.P4 = ClosesOpen front t
+Names front t codes.P1 = ClosesOpen front t → ⊥
+Names front t codes.P2 = ⊥
+Names front t codes.P3 = ⊥
+
+abbrev pub last_line : List Tok → ℕ
+last_line [] = 1
+last_line (t ∷ []) = t.line
+last_line (t ∷ (u ∷ ts)) = last_line (u ∷ ts)
+
+-- P3 where the tokens end too early; else the first token that fits nothing names the fault
+abbrev pub Named : List Tok → List Tok → List Tok → ParseCode → ℕ → Type 0
+Named ts front [] code line = (code ≡ codes.P3) × (line ≡ last_line ts)
+Named ts front (t ∷ after) code line = Names front t code × (line ≡ t.line)
+
+-- The fault of tokens that are no program's. A is the memory that the trees would lie in; it changes nothing.
+pub record TokenFault (A : Type 0) (ts : List Tok) (code : ParseCode) (line : ℕ) : Type 0 where
+  pub front : List Tok
+  pub rest : List Tok
+  pub stops : StopsAt A ts front rest
+  pub named : Named ts front rest code line

@@ -1,0 +1,5 @@
+pub mod Token
+pub mod Grammar
+pub mod Fault
+pub mod Parsing
+pub mod Outcome

@@ -1,0 +1,61 @@
+-- What the functions of the parser return.
+use Rattle.std.specs.Prelude.{◌≡◌, ℕ, Bool, true, false, ◌&&◌, List, [], ◌∷◌, Result, Ok, Err, if◌then◌else◌}
+use Rattle.qil_lexer.specs.declared.token.TokenKind.{TokenKind}
+use Rattle.qil_lexer.specs.declared.token.TokenKind.TheVariants as kinds
+use Rattle.qil_language.specs.Reading.{Read, got, failed}
+use Rattle.qil_parser.specs.declared.error.ParseCode.{ParseCode}
+use Rattle.qil_parser.specs.declared.error.ParseCode.TheVariants as codes
+use Rattle.qil_parser.specs.declared.error.ParseError.{ParseError}
+use Rattle.qil_parser.specs.declared.error.ParseError.TheVariants as errors
+use Rattle.qil_parser.specs.declared.stop.Stop.{Stop}
+use Rattle.qil_parser.specs.declared.stop.Stop.TheVariants as stops
+use Rattle.qil_parser.specs.declared.tree.Program.{Program}
+use Rattle.qil_parser.specs.Token.{Tok, seen}
+use Rattle.qil_parser.specs.Fault.{TokenFault, last_line}
+
+-- ---- parse
+
+-- unless memory ran out, the fault is that of the tokens
+abbrev pub IsFault : Type 0 → List Tok → ParseError → Type 0
+IsFault A ts (errors.Refused code line) = TokenFault A ts code line
+IsFault A ts errors.OutOfMemory = Unit {0}
+
+-- unless memory ran out, just this program
+abbrev pub IsProgram : {A : Type 0} → Program A → Result (Program A) ParseError → Type 0
+IsProgram p (Ok q) = q ≡ p
+IsProgram p (Err (errors.Refused code line)) = ⊥
+IsProgram p (Err errors.OutOfMemory) = Unit {0}
+
+-- unless memory ran out, just this refusal
+abbrev pub IsRefusal : {A : Type 0} → ParseCode → ℕ → Result (Program A) ParseError → Type 0
+IsRefusal code line (Ok q) = ⊥
+IsRefusal code line (Err (errors.Refused c l)) = (c ≡ code) × (l ≡ line)
+IsRefusal code line (Err errors.OutOfMemory) = Unit {0}
+
+-- ---- what stands below it
+
+-- unless memory ran out, reading fails there
+abbrev pub Fails : {A : Type 0} → Stop → Read Tok A → Type 0
+Fails stops.Memory read = Unit {0}
+Fails (stops.Refused marked at) read = read ≡ failed marked (seen at.now)
+
+-- unless memory ran out, reading gives what was returned, and these tokens are left
+abbrev pub Gives : {X A : Type 0} → (X → A) → List Tok → Result X Stop → Read Tok A → Type 0
+Gives value rest (Ok x) read = read ≡ got (value x) rest
+Gives value rest (Err e) read = Fails e read
+
+abbrev pub closes : TokenKind → Bool
+closes kinds.CloseBrace = true
+closes _ = false
+
+-- the code of the first token that fits nothing: whether reading marked its failure comes first
+abbrev pub code_of : Bool → TokenKind → ParseCode
+code_of marked kind = if marked && closes kind then codes.P4 else codes.P1
+
+abbrev pub Answered : List Tok → Bool → List Tok → ParseCode → ℕ → Type 0
+Answered ts marked [] code line = (code ≡ codes.P3) × (line ≡ last_line ts)
+Answered ts marked (t ∷ after) code line = (code ≡ code_of marked t.kind) × (line ≡ t.line)
+
+abbrev pub IsAnswered : List Tok → Bool → List Tok → ParseError → Type 0
+IsAnswered ts marked rest (errors.Refused code line) = Answered ts marked rest code line
+IsAnswered ts marked rest errors.OutOfMemory = ⊥

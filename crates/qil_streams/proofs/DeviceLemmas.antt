@@ -1,0 +1,36 @@
+-- What is known of a device's bytes after several calls.
+use Rattle.std.proofs.Common.{◌≡◌, ℕ, ◌-◌, List, [], ◌++◌, length, take, drop, Option, refl, sym, ◌∙◌, ap, append_assoc}
+use Rattle.std.specs.Prelude.{Some, None}
+use Rattle.std.proofs.lemmas.List.{append-nil, take-append-drop, take_rest}
+use Rattle.std.specs.Io.KnownBytes.{Appends, Consumes}
+
+pub Appends-nil : (a : Option (List ℕ)) → Appends a a []
+Appends-nil None = tt
+Appends-nil (Some xs) = sym (append-nil xs)
+
+pub Appends-append : (a b c : Option (List ℕ)) (x y : List ℕ) → Appends a b x → Appends b c y → Appends a c (x ++ y)
+Appends-append None b c x y p q = tt
+Appends-append (Some xs) None c x y p q = absurd p
+Appends-append (Some xs) (Some ys) None x y p q = absurd q
+Appends-append (Some xs) (Some ys) (Some zs) x y p q = q ∙ ap (λ v. v ++ y) p ∙ append_assoc xs x y
+
+pub Consumes-nil : (a : Option (List ℕ)) → Consumes a a []
+Consumes-nil None = tt
+Consumes-nil (Some xs) = refl
+
+pub Consumes-append : (a b c : Option (List ℕ)) (x y : List ℕ) → Consumes a b x → Consumes b c y → Consumes a c (x ++ y)
+Consumes-append None b c x y p q = tt
+Consumes-append (Some xs) None c x y p q = absurd p
+Consumes-append (Some xs) (Some ys) None x y p q = absurd q
+Consumes-append (Some xs) (Some ys) (Some zs) x y p q = p ∙ ap (λ v. x ++ v) q ∙ sym (append_assoc x y zs)
+
+-- one more write of a text that is written piece by piece
+pub wrote_more : (bytes rest : List ℕ) (n : ℕ) (old mid new : Option (List ℕ))
+    → ((front : List ℕ) × (bytes ≡ front ++ rest) × Appends old mid front) → Appends mid new (take n rest)
+    → (front : List ℕ) × (bytes ≡ front ++ take (length rest - n) (drop n rest)) × Appends old new front
+wrote_more bytes rest n old mid new told more = (
+  told.0 ++ take n rest,
+  told.1 ∙ ap (λ v. told.0 ++ v) (sym (take-append-drop n rest)) ∙ sym (append_assoc told.0 (take n rest) (drop n rest))
+      ∙ ap (λ v. (told.0 ++ take n rest) ++ v) (sym (take_rest rest n)),
+  Appends-append old mid new told.0 (take n rest) told.2 more,
+)

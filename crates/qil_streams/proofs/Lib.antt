@@ -1,0 +1,5 @@
+-- The lemmas of this crate.
+pub mod DeviceLemmas
+pub mod ReaderLemmas
+pub mod ScriptLemmas
+pub mod TextLemmas

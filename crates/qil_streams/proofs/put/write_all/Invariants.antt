@@ -1,0 +1,12 @@
+use Rattle.std.proofs.Common.{◌≡◌, ℕ, List, ◌++◌, length}
+use Rattle.std.specs.Io.KnownBytes.{Appends}
+use Rattle.qil_streams.proofs.put.write_all.Given as goal
+
+-- what was written so far and the rest are the bytes
+abbrev pub invariant-loop-rest : goal.invariant-loop-rest
+invariant-loop-rest g l =
+    (g.W.Sink.failures l.sink ≡ g.W.Sink.failures l.fn.sink)
+    × ((front : List ℕ) × (l.fn.bytes ≡ front ++ l.rest) × Appends (g.W.Sink.contents l.fn.sink) (g.W.Sink.contents l.sink) front)
+
+abbrev pub decreases-loop-rest : goal.decreases-loop-rest
+decreases-loop-rest g l = length l.rest

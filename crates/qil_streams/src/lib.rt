@@ -1,0 +1,13 @@
+//! Bytes in and out: devices that count their faults, texts that are put piece by piece, and a script's lines.
+#![tactic(auto)]
+
+mod device;
+mod put;
+mod reader;
+
+pub use device::{DeviceFault, FromReader, IntoWriter, Sink, Source};
+pub use put::{Outlet, Put, Stopped, put_line, put_number, write_all};
+pub use reader::{KeptLine, LineEnd, LineReader, Piece, SCRIPT_LIMIT, ScriptBytes};
+
+#[cfg(test)]
+mod tests;
