@@ -1,9 +1,9 @@
--- What is kept of a line, byte by byte.
-use Rattle.std.proofs.Common.{◌≡◌, ℕ, ◌+◌, ◌≤◌, ◌<◌, List, [], ◌∷◌, ◌++◌, take, length, arith, sym, ◌∙◌, ap, refl, suc, zero, ◌≢◌}
+-- What is kept of a line, and what was read of its source, byte by byte.
+use Rattle.std.proofs.Common.{◌≡◌, ℕ, ◌+◌, ◌^◌, ◌≤◌, ◌<◌, List, [], ◌∷◌, ◌++◌, take, length, arith, sym, ◌∙◌, ap, refl, suc, zero, ◌≢◌}
 use Rattle.std.specs.Prelude.{Option}
 use Rattle.std.specs.Io.KnownBytes.{Consumes}
 use Rattle.qil_streams.specs.Reader.{rest_of, IsLine, Reads}
-use Rattle.qil_streams.specs.Reading.{Reading}
+use Rattle.qil_streams.specs.Reading.{Reading, read_count}
 use Rattle.qil_streams.proofs.DeviceLemmas.{Consumes-nil, Consumes-append}
 use Rattle.std.proofs.Math.ListN.{set}
 use Rattle.std.proofs.lemmas.List.{take_more_set, take_all, length-take-le, length-append, take-append-le}
@@ -57,3 +57,8 @@ TakesFront-nil reading kept before none = record {
   given = omega arith;
   reads = Reads-nil reading before;
 }
+
+-- what a reader took of its source since it was made, as one bounded list
+pub Reads-within : (first now : Reading) (before after : Option (List ℕ)) → read_count first ≡ 0 → Reads first now before after → read_count now ≤ 2 ^ 24 + 1
+    → (bytes : List ℕ) × Consumes before after bytes × (length bytes ≤ 2 ^ 24 + 1)
+Reads-within first now before after none reads within = (reads.0, reads.1, omega (arith, reads.2, none, within))

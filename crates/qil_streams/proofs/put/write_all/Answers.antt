@@ -1,3 +1,4 @@
+-- One more write keeps what was written and the rest.
 use Rattle.std.proofs.Common.{◌∙◌}
 use Rattle.qil_streams.proofs.DeviceLemmas.{wrote_more}
 use Rattle.qil_streams.proofs.put.write_all.Goals as goal

@@ -1,8 +1,8 @@
+-- The loop that writes the rest of the bytes.
 use Rattle.std.proofs.Common.{◌≡◌, ℕ, List, ◌++◌, length}
 use Rattle.std.specs.Io.KnownBytes.{Appends}
 use Rattle.qil_streams.proofs.put.write_all.Given as goal
 
--- what was written so far and the rest are the bytes
 abbrev pub invariant-loop-rest : goal.invariant-loop-rest
 invariant-loop-rest g l =
     (g.W.Sink.failures l.sink ≡ g.W.Sink.failures l.fn.sink)

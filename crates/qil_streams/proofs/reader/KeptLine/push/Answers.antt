@@ -1,3 +1,4 @@
+-- A byte is kept while there is room, and else dropped.
 use Rattle.std.proofs.Common.{rules}
 use Rattle.qil_streams.proofs.ReaderLemmas.{push_kept, push_full}
 use Rattle.qil_streams.proofs.reader.KeptLine.push.Goals as goal

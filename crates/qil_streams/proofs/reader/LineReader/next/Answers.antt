@@ -1,3 +1,4 @@
+-- A byte more is a longer front of the line, and byte 10 ends it.
 use Rattle.std.proofs.Common.{◌≡◌, ◌+◌, [], ◌∷◌, ◌++◌, take, length, length-append, ap, ◌∙◌, refl, arith}
 use Rattle.qil_streams.proofs.DeviceLemmas.{Consumes-append}
 use Rattle.qil_streams.proofs.ReaderLemmas.{take-take-append, IsLine-append, Reads-append, TakesFront-nil}

@@ -1,3 +1,4 @@
+-- The loop over the bytes of a line.
 use Rattle.std.proofs.Common.{◌≡◌, ◌-◌, ◌^◌}
 use Rattle.qil_streams.proofs.ReaderLemmas.{TakesFront}
 use Rattle.qil_streams.proofs.reader.LineReader.next.Given as goal

@@ -1,0 +1,4 @@
+pub mod TableLemmas
+pub mod PlaceLemmas
+pub mod CountLemmas
+pub mod WholeLemmas

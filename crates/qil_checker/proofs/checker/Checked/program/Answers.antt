@@ -1,0 +1,7 @@
+use Rattle.std.proofs.Common.{subst}
+use Rattle.qil_checker.specs.Check.{Verdict}
+use Rattle.qil_checker.specs.Rules.{WellFormed}
+use Rattle.qil_checker.proofs.checker.Checked.program.Goals as goal
+
+pub returns-clause-well_formed : goal.returns-clause-well_formed
+returns-clause-well_formed g c = subst (λ (v : Verdict g.row.A.Denot). WellFormed v.program) c.self.view_is c.self.invariant.0

@@ -1,0 +1,8 @@
+use Rattle.std.proofs.Common.{◌≡◌, List, ℕ, sym, ap, ◌∙◌, None, Option}
+use Rattle.qil_checker.specs.Tables.{place_of, or_else, at_name}
+use Rattle.qil_checker.proofs.TableLemmas.{noted}
+use Rattle.qil_checker.proofs.table.Table.note.Goals as goal
+
+pub returns-in_ok-insert-in-None : goal.returns-in_ok-insert-in-None
+returns-in_ok-insert-in-None g c = λ x.
+    noted _ _ _ c.args.self.now.places c.insert.new.self c.in_ok-insert-in-None.ensures.updates c.bytes.ensures (sym c.in-None.ensures) x

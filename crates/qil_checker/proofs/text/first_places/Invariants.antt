@@ -1,0 +1,6 @@
+use Rattle.std.proofs.Common.{◌≡◌, List, ℕ, drop}
+use Rattle.qil_checker.specs.Tables.{place_of, or_else, first, is_named}
+use Rattle.qil_checker.proofs.text.first_places.Given as goal
+
+abbrev pub invariant-loop-place : goal.invariant-loop-place
+invariant-loop-place g l = (x : List ℕ) → or_else (place_of l.table.places x) (first (is_named l.kind x) l.place (drop l.place l.marks)) ≡ first (is_named l.kind x) 0 l.marks

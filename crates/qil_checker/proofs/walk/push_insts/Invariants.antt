@@ -1,0 +1,7 @@
+use Rattle.std.proofs.Common.{◌≡◌, ◌++◌, drop}
+use Rattle.std.specs.List.{flat_map}
+use Rattle.qil_checker.specs.Text.{inst_marks}
+use Rattle.qil_checker.proofs.walk.push_insts.Given as goal
+
+abbrev pub invariant-loop-inst : goal.invariant-loop-inst
+invariant-loop-inst g l = l.out.items ++ flat_map inst_marks (drop l.inst-index l.insts) ≡ l.fn.out.items ++ flat_map inst_marks l.insts

@@ -1,0 +1,12 @@
+//! The form of a program: whether each temporary has one definition.
+
+use qil_parser::Name;
+
+/// Whether each temporary of a program has one definition.
+#[derive(Debug, Drop)]
+pub enum Form<'a> {
+    Single,
+    /// The first function of the text in which a temporary has several, and of its temporaries the one whose second
+    /// definition comes first.
+    Several { func: Name<'a>, temp: Name<'a> },
+}

@@ -1,0 +1,6 @@
+pub mod Values
+pub mod State
+pub mod Step
+pub mod Start
+pub mod StartCode
+pub mod Timeline

@@ -1,0 +1,12 @@
+pub mod MomentLemmas
+pub mod StepLemmas
+pub mod PieceLemmas
+pub mod TimelineLemmas
+pub mod AnswerLemmas
+pub mod KeptLemmas
+pub mod ServeLemmas
+pub mod FewLemmas
+pub mod FindLemmas
+pub mod StartLemmas
+pub mod LoadLemmas
+pub mod DebugLemmas

@@ -1,0 +1,334 @@
+-- How far `serve` has come.
+use Rattle.std.proofs.Common.{rules, ◌≡◌, ◌≢◌, ℕ, ◌+◌, ◌-◌, ◌≤◌, ◌<◌, ◌^◌, List, [], ◌∷◌, ◌++◌, take, length, arith, sym, ◌∙◌, ap, refl, Bool, true, false, cond, nat_eq, nat_lt, append_assoc, length-append}
+use Rattle.std.specs.Prelude.{Option, Some, None, Result, Ok, Err, ◌==◌}
+use Rattle.std.proofs.lemmas.List.{append-nil}
+use Rattle.std.specs.Bool.{MatchBool}
+use Rattle.std.proofs.lemmas.Bool.{true≢false, false≢true}
+use Rattle.std.proofs.lemmas.List.Folds.{list_any-append}
+use Rattle.qil_commands.specs.declared.command.Command.{Command}
+use Rattle.qil_commands.specs.declared.command.Command.TheVariants.{Step, Back, Print, Quit}
+use Rattle.qil_commands.specs.declared.command.Refused.{Refused}
+use Rattle.qil_streams.specs.Reader.{IsLine}
+use Rattle.qil_streams.specs.Script.{lines_of, whole_lines_of}
+use Rattle.qil_commands.specs.Command.{command_of}
+use Rattle.qil_meaning.specs.Timeline.{position, at_end}
+use Rattle.qil_transcript.specs.Session.{Sitting, Answer, answer, answers, AreLawful, IsLawful, IsAnswered, is_quit, quits}
+use Rattle.std.specs.Prelude.{IfSome}
+use Rattle.std.specs.Io.KnownBytes.{Consumes, Appends, IsAtEnd, prepend_known}
+use Rattle.qil_transcript.specs.declared.serving.IoFault.{IoFault}
+use Rattle.qil_transcript.specs.declared.serving.IoFault.TheVariants.{Read, Write, TooLong}
+use Rattle.qil_streams.specs.Reader.{HasMore}
+use Rattle.qil_streams.proofs.DeviceLemmas.{Appends-nil, Appends-append, Consumes-nil, Consumes-append}
+use Rattle.qil_streams.specs.Device.{IsFrontOf}
+use Rattle.std.proofs.Common.{subst}
+use Rattle.std.proofs.Math.Seq.{take-append_seam, take-append-add}
+use Rattle.qil_transcript.specs.declared.session.Next.{Next}
+use Rattle.qil_transcript.specs.Serve.{IsServed, IsTooLong, AnswersLine}
+use Rattle.qil_streams.proofs.ScriptLemmas.{Cut, Cut-nil, Cut-line, Cut-whole_part, Cut-end, Cut-last}
+use Rattle.qil_transcript.proofs.KeptLemmas.{command_of-kept}
+
+-- After these lines, with these wants, `told` was answered and the s is `now`, whatever comes next.
+pub record Told {A : Type 0} (first : Sitting A) (before : List (List ℕ)) (wants : List (Option ℕ)) (told : List ℕ) (now : Sitting A) : Type 0 where
+  pub goes : quits before ≡ false
+  pub lawful : (rest : List (List ℕ)) (more : List (Option ℕ)) → AreLawful now rest more → AreLawful first (before ++ rest) (wants ++ more)
+  pub text : (rest : List (List ℕ)) (more : List (Option ℕ)) → answers first (before ++ rest) (wants ++ more) ≡ told ++ answers now rest more
+
+pub Told-nil : {A : Type 0} (first : Sitting A) → Told first [] [] [] first
+Told-nil first = record { goes = refl; lawful = λ rest more h. h; text = λ rest more. refl }
+
+cond_goes : {A : Type 0} (b : Bool) (x y : Answer A) → x.goes ≡ true → y.goes ≡ true → (cond b x y).goes ≡ true
+cond_goes true x y p q = p
+cond_goes false x y p q = q
+
+-- only `quit` ends a session
+pub answer_goes : {A : Type 0} (s : Sitting A) (said : Result (Option Command) Refused) (want : Option ℕ) → is_quit said ≡ false → (answer s said want).goes ≡ true
+unfolding answer
+answer_goes s (Ok (Some (Step n))) None h = cond_goes (at_end s.timeline) _ _ refl refl
+answer_goes s (Ok (Some (Step n))) (Some k) h = refl
+answer_goes s (Ok (Some (Back n))) want h = cond_goes (position s.timeline == 0) _ _ refl refl
+answer_goes s (Ok (Some (Print x))) want h = refl
+answer_goes s (Ok (Some Quit)) want h = absurd (true≢false h)
+answer_goes s (Ok None) want h = refl
+answer_goes s (Err refusal) want h = refl
+
+-- one more line
+pub Told-line : {A : Type 0} (first : Sitting A) (before : List (List ℕ)) (wants : List (Option ℕ)) (told : List ℕ) (now : Sitting A) (line : List ℕ) (want : Option ℕ) (text : List ℕ) (next : Sitting A)
+  → Told first before wants told now → is_quit (command_of line) ≡ false → IsLawful now (command_of line) want
+  → text ≡ (answer now (command_of line) want).text → next ≡ (answer now (command_of line) want).left
+  → Told first (before ++ line ∷ []) (wants ++ want ∷ []) (told ++ text) next
+Told-line first before wants told now line want text next r no_quit lawful is_text is_next =
+    let goes = answer_goes now (command_of line) want no_quit in
+    record {
+      goes = list_any-append _ before (line ∷ []) ∙ rw (r.goes, no_quit) refl;
+      lawful = λ rest more h. simp append_assoc (r.lawful (line ∷ rest) (want ∷ more) (lawful, rw goes (rw (← is_next) h)));
+      text = λ rest more. simp append_assoc (r.text (line ∷ rest) (want ∷ more) ∙ rw (goes, is_text, is_next) refl) }
+
+-- no want is lawful
+pub none_lawful : {A : Type 0} (s : Sitting A) (said : Result (Option Command) Refused) → IsLawful s said None
+unfolding IsLawful
+none_lawful s said = tt
+
+either : (b : Bool) (A : List (Option ℕ) → Type 0) → ((wants : List (Option ℕ)) × A wants) → (wants : List (Option ℕ)) × MatchBool b (A wants) (wants ≡ [])
+either true A h = h
+either false A h = ([], refl)
+
+-- where memory is never wanting, that is lawful
+pub ample : {A : Type 0} (s : Sitting A) (lines : List (List ℕ)) → (wants : List (Option ℕ)) × AreLawful s lines wants
+ample s [] = ([], refl)
+ample s (line ∷ lines) =
+    let one = answer s (command_of line) None in
+    let rest = either one.goes (λ wants. AreLawful one.left lines wants) (ample one.left lines) in
+    (None ∷ rest.0, (none_lawful s (command_of line), rest.1))
+
+-- what was told answers the lines so far
+pub Told-answered : {A : Type 0} (first : Sitting A) (before : List (List ℕ)) (wants : List (Option ℕ)) (told : List ℕ) (now : Sitting A) → Told first before wants told now → IsAnswered first before told
+Told-answered first before wants told now r =
+    (wants ++ [], rw (append-nil before) at (r.lawful [] [] refl), sym (rw (append-nil before, append-nil told) at (r.text [] [])))
+
+quit_goes : {A : Type 0} (now : Sitting A) (said : Result (Option Command) Refused) → is_quit said ≡ true → (answer now said None).goes ≡ false
+unfolding answer
+quit_goes now (Ok (Some (Step n))) h = absurd (false≢true h)
+quit_goes now (Ok (Some (Back n))) h = absurd (false≢true h)
+quit_goes now (Ok (Some (Print x))) h = absurd (false≢true h)
+quit_goes now (Ok (Some Quit)) h = refl
+quit_goes now (Ok None) h = absurd (false≢true h)
+quit_goes now (Err refusal) h = absurd (false≢true h)
+
+quit_text : {A : Type 0} (now : Sitting A) (said : Result (Option Command) Refused) → is_quit said ≡ true → (answer now said None).text ≡ []
+unfolding answer
+quit_text now (Ok (Some (Step n))) h = absurd (false≢true h)
+quit_text now (Ok (Some (Back n))) h = absurd (false≢true h)
+quit_text now (Ok (Some (Print x))) h = absurd (false≢true h)
+quit_text now (Ok (Some Quit)) h = refl
+quit_text now (Ok None) h = absurd (false≢true h)
+quit_text now (Err refusal) h = absurd (false≢true h)
+
+-- and, with a `quit` after them, any lines that follow
+pub Told-quit : {A : Type 0} (first : Sitting A) (before : List (List ℕ)) (wants : List (Option ℕ)) (told : List ℕ) (now : Sitting A) (line : List ℕ) (rest : List (List ℕ)) → Told first before wants told now → is_quit (command_of line) ≡ true → IsAnswered first (before ++ line ∷ rest) told
+Told-quit first before wants told now line rest r quit =
+    (wants ++ None ∷ [],
+     r.lawful (line ∷ rest) (None ∷ []) (none_lawful now (command_of line), rw (quit_goes now (command_of line) quit) refl),
+     sym (r.text (line ∷ rest) (None ∷ []) ∙ rw (quit_goes now (command_of line) quit, quit_text now (command_of line) quit) (append-nil told)))
+
+-- what is left of the text of a line, and of the answers to any lines that follow
+pub Told-front : {A : Type 0} (first : Sitting A) (before : List (List ℕ)) (wants : List (Option ℕ)) (told : List ℕ) (now : Sitting A) (line : List ℕ) (rest : List (List ℕ)) (want : Option ℕ) (front : List ℕ)
+  → Told first before wants told now → IsLawful now (command_of line) want → IsFrontOf front (answer now (command_of line) want).text
+  → (all : List ℕ) × IsAnswered first (before ++ line ∷ rest) all × IsFrontOf (told ++ front) all
+Told-front first before wants told now line rest want front r lawful is_front =
+    let one = answer now (command_of line) want in
+    let more = either one.goes (λ wants. AreLawful one.left rest wants) (ample one.left rest) in
+    (told ++ answers now (line ∷ rest) (want ∷ more.0),
+     (wants ++ want ∷ more.0, r.lawful (line ∷ rest) (want ∷ more.0) (lawful, more.1), sym (r.text (line ∷ rest) (want ∷ more.0))),
+     (is_front.0 ++ cond one.goes (answers one.left rest more.0) [],
+      rw is_front.1 (simp append_assoc)))
+
+-- After the bytes `done`, which are whole lines, `told` was answered and the s is `now`.
+pub record Reached {A : Type 0} (first : Sitting A) (done told : List ℕ) (now : Sitting A) : Type 0 where
+  pub before : List (List ℕ)
+  pub wants : List (Option ℕ)
+  pub cut : Cut done before
+  pub so_far : Told first before wants told now
+
+pub Reached-nil : {A : Type 0} (first : Sitting A) → Reached first [] [] first
+Reached-nil first = record { before = []; wants = []; cut = Cut-nil; so_far = Told-nil first }
+
+pub Reached-line : {A : Type 0} (first : Sitting A) (done told : List ℕ) (now : Sitting A) (line : List ℕ) (want : Option ℕ) (text : List ℕ) (next : Sitting A)
+  → Reached first done told now → IsLine line → is_quit (command_of line) ≡ false → IsLawful now (command_of line) want
+  → text ≡ (answer now (command_of line) want).text → next ≡ (answer now (command_of line) want).left
+  → Reached first (done ++ (line ++ 10 ∷ [])) (told ++ text) next
+Reached-line first done told now line want text next r is_line no_quit lawful is_text is_next = record {
+    before = r.before ++ line ∷ []; wants = r.wants ++ want ∷ [];
+    cut = Cut-line done r.before line r.cut is_line;
+    so_far = Told-line first r.before r.wants told now line want text next r.so_far no_quit lawful is_text is_next }
+
+-- Where a loop over the lines stands: what it took of the script, and what it wrote.
+pub record Standing {A : Type 0} (first : Sitting A) (known rest : Option (List ℕ)) (w0 w1 : Option (List ℕ)) (now : Sitting A) (given : ℕ) : Type 0 where
+  pub done : List ℕ
+  pub told : List ℕ
+  pub reached : Reached first done told now
+  pub taken : Consumes known rest done
+  pub given_is : given ≡ length done
+  pub wrote : Appends w0 w1 told
+
+-- what `serve` promises
+abbrev pub Promise : {A T : Type 0} → Result T IoFault → Sitting A → Option (List ℕ) → Option (List ℕ) → Option (List ℕ) → Option (List ℕ) → Type 0
+Promise r first known left w0 w1 = IfSome known (λ script. (text : List ℕ) × Appends w0 w1 text × IsServed r first script left text)
+
+consumed_all : (script done : List ℕ) (rest : Option (List ℕ)) → Consumes (Some script) rest done → IsAtEnd rest → script ≡ done
+consumed_all script done None p e = absurd p
+consumed_all script done (Some ys) p e = p ∙ ap (λ v. done ++ v) e ∙ append-nil done
+
+short_enough : (script : List ℕ) → length script ≤ 2 ^ 24 → IsTooLong script → ⊥
+short_enough script le t = omega (arith, t.0)
+
+pub Standing-start : {A : Type 0} (first : Sitting A) (known rest w : Option (List ℕ)) (given : ℕ) → rest ≡ known → given ≡ 0 → Standing first known rest w w first given
+Standing-start first known rest w given e h = record {
+    done = []; told = []; reached = Reached-nil first; taken = rw e (Consumes-nil known); given_is = h; wrote = Appends-nil w }
+
+pub Standing-line : {A : Type 0} (first : Sitting A) (known rest rest' w0 w1 w2 : Option (List ℕ)) (now next : Sitting A) (given given' : ℕ) (line : List ℕ) (want : Option ℕ)
+  → Standing first known rest w0 w1 now given → IsLine line → Consumes rest rest' (line ++ 10 ∷ []) → given' ≡ given + (length line + 1)
+  → is_quit (command_of line) ≡ false → IsLawful now (command_of line) want → Appends w1 w2 (answer now (command_of line) want).text
+  → next ≡ (answer now (command_of line) want).left
+  → Standing first known rest' w0 w2 next given'
+Standing-line first known rest rest' w0 w1 w2 now next given given' line want s is_line taken given_is no_quit lawful wrote is_next =
+    let text = (answer now (command_of line) want).text in
+    let size : length (s.done ++ (line ++ 10 ∷ [])) ≡ length s.done + (length line + 1) = length-append s.done (line ++ 10 ∷ []) ∙ ap (λ v. length s.done + v) (length-append line (10 ∷ [])) in
+    record {
+      done = s.done ++ (line ++ 10 ∷ []); told = s.told ++ text;
+      reached = Reached-line first s.done s.told now line want text next s.reached is_line no_quit lawful refl is_next;
+      taken = Consumes-append known rest rest' s.done (line ++ 10 ∷ []) s.taken taken;
+      given_is = omega (arith, given_is, s.given_is, size);
+      wrote = Appends-append w0 w1 w2 s.told text s.wrote wrote }
+
+-- the end of the script
+pub Promise-end : {A T : Type 0} (v : T) (first : Sitting A) (known rest rest' left w0 w1 : Option (List ℕ)) (now : Sitting A) (given given' : ℕ)
+  → Standing first known rest w0 w1 now given → Consumes rest rest' [] → IsAtEnd rest' → given' ≡ given → given' ≤ 2 ^ 24
+  → Promise (Ok v) first known left w0 w1
+Promise-end v first None rest rest' left w0 w1 now given given' s taken end same le = tt
+Promise-end v first (Some script) rest rest' left w0 w1 now given given' s taken end same le =
+    let all = Consumes-append (Some script) rest rest' s.done [] s.taken taken in
+    let is : script ≡ s.done = consumed_all script (s.done ++ []) rest' all end ∙ append-nil s.done in
+    let size : length script ≤ 2 ^ 24 = omega (arith, ap length is, s.given_is) in
+    (s.told, s.wrote,
+     (rw is (rw (Cut-end s.done s.reached.before s.reached.cut) (Told-answered first s.reached.before s.reached.wants s.told now s.reached.so_far)),
+      short_enough script size))
+
+-- a last line without byte 10
+pub Promise-last : {A T : Type 0} (v : T) (first : Sitting A) (known rest rest' left w0 w1 w2 : Option (List ℕ)) (now next : Sitting A) (given given' : ℕ) (line : List ℕ) (want : Option ℕ)
+  → Standing first known rest w0 w1 now given → IsLine line → 0 < length line → Consumes rest rest' line → IsAtEnd rest' → given' ≡ given + length line → given' ≤ 2 ^ 24
+  → is_quit (command_of line) ≡ false → IsLawful now (command_of line) want → Appends w1 w2 (answer now (command_of line) want).text
+  → next ≡ (answer now (command_of line) want).left
+  → Promise (Ok v) first known left w0 w2
+Promise-last v first None rest rest' left w0 w1 w2 now next given given' line want s is_line some taken end given_is le no_quit lawful wrote is_next = tt
+Promise-last v first (Some script) rest rest' left w0 w1 w2 now next given given' line want s is_line some taken end given_is le no_quit lawful wrote is_next =
+    let text = (answer now (command_of line) want).text in
+    let r = s.reached in
+    let is : script ≡ s.done ++ line = consumed_all script (s.done ++ line) rest' (Consumes-append (Some script) rest rest' s.done line s.taken taken) end in
+    let size : length script ≤ 2 ^ 24 = omega (arith, ap length is, s.given_is, given_is, length-append s.done line) in
+    (s.told ++ text, Appends-append w0 w1 w2 s.told text s.wrote wrote,
+     (rw is (rw (Cut-last s.done r.before line r.cut is_line some)
+        (Told-answered first (r.before ++ line ∷ []) (r.wants ++ want ∷ []) (s.told ++ text) next
+          (Told-line first r.before r.wants s.told now line want text next r.so_far no_quit lawful refl is_next))),
+      short_enough script size))
+
+-- a last line that quits
+pub Promise-last_quit : {A T : Type 0} (v : T) (first : Sitting A) (known rest rest' left w0 w1 : Option (List ℕ)) (now : Sitting A) (given given' : ℕ) (line : List ℕ)
+  → Standing first known rest w0 w1 now given → IsLine line → 0 < length line → Consumes rest rest' line → IsAtEnd rest' → given' ≡ given + length line → given' ≤ 2 ^ 24
+  → is_quit (command_of line) ≡ true
+  → Promise (Ok v) first known left w0 w1
+Promise-last_quit v first None rest rest' left w0 w1 now given given' line s is_line some taken end given_is le quit = tt
+Promise-last_quit v first (Some script) rest rest' left w0 w1 now given given' line s is_line some taken end given_is le quit =
+    let r = s.reached in
+    let is : script ≡ s.done ++ line = consumed_all script (s.done ++ line) rest' (Consumes-append (Some script) rest rest' s.done line s.taken taken) end in
+    let size : length script ≤ 2 ^ 24 = omega (arith, ap length is, s.given_is, given_is, length-append s.done line) in
+    (s.told, s.wrote,
+     (rw is (rw (Cut-last s.done r.before line r.cut is_line some) (Told-quit first r.before r.wants s.told now line [] r.so_far quit)),
+      short_enough script size))
+
+pub prepend_none : (pending : List ℕ) (left : Option (List ℕ)) → pending ≡ [] → prepend_known pending left ≡ left
+prepend_none pending None e = refl
+prepend_none pending (Some xs) e = rw e refl
+
+-- a reading that failed
+pub Promise-read : {A : Type 0} (T : Type 0) (first : Sitting A) (known rest left w0 w1 : Option (List ℕ)) (pending : List ℕ) (now : Sitting A) (given : ℕ) (line : List ℕ)
+  → Standing first known rest w0 w1 now given → IsLine line → Consumes rest (prepend_known pending left) line → pending ≡ []
+  → Promise {T = T} (Err Read) first known left w0 w1
+Promise-read T first None rest left w0 w1 pending now given line s is_line taken none = tt
+Promise-read T first (Some script) rest left w0 w1 pending now given line s is_line taken none =
+    let r = s.reached in
+    let all = Consumes-append (Some script) rest left s.done line s.taken (rw (prepend_none pending left none) at taken) in
+    (s.told, s.wrote,
+     (s.done ++ line, all, rw (Cut-whole_part s.done r.before line r.cut is_line) (Told-answered first r.before r.wants s.told now r.so_far)))
+
+
+consumed_some : (script done : List ℕ) (rest : Option (List ℕ)) → Consumes (Some script) rest done → (more : List ℕ) × (script ≡ done ++ more)
+consumed_some script done None p = absurd p
+consumed_some script done (Some ys) p = (ys, p)
+
+consumed_part : (script done : List ℕ) (rest : Option (List ℕ)) → Consumes (Some script) rest done → HasMore rest → (more : List ℕ) × (script ≡ done ++ more) × (0 < length more)
+consumed_part script done None p m = absurd p
+consumed_part script done (Some ys) p m = (ys, p, m)
+
+take_seam : (n : ℕ) (xs ys : List ℕ) → length xs ≡ n → take n (xs ++ ys) ≡ xs
+take_seam n xs ys e = rw (← e) (take-append_seam xs ys)
+
+take_over : (n : ℕ) (xs ys : List ℕ) → length xs ≤ n → take n (xs ++ ys) ≡ xs ++ take (n - length xs) ys
+take_over n xs ys le =
+    let e : n ≡ length xs + (n - length xs) = omega arith in
+    ap (λ v. take v (xs ++ ys)) e ∙ take-append-add xs ys (n - length xs)
+
+-- a script that is too long
+pub Promise-too_long : {A : Type 0} (T : Type 0) (first : Sitting A) (known rest after left w0 w1 : Option (List ℕ)) (now : Sitting A) (given : ℕ) (line : List ℕ)
+  → Standing first known rest w0 w1 now given → IsLine line → Consumes rest after line → HasMore after → given + length line ≡ 2 ^ 24
+  → Promise {T = T} (Err TooLong) first known left w0 w1
+Promise-too_long T first None rest after left w0 w1 now given line s is_line taken more full = tt
+Promise-too_long T first (Some script) rest after left w0 w1 now given line s is_line taken more full =
+    let r = s.reached in
+    let (ys, is, some) = consumed_part script (s.done ++ line) after (Consumes-append (Some script) rest after s.done line s.taken taken) more in
+    let size : length (s.done ++ line) ≡ 2 ^ 24 = length-append s.done line ∙ ap (λ v. v + length line) (sym s.given_is) ∙ full in
+    let front : take (2 ^ 24) script ≡ s.done ++ line = ap (λ v. take (2 ^ 24) v) is ∙ take_seam (2 ^ 24) (s.done ++ line) ys size in
+    let whole : whole_lines_of (take (2 ^ 24) script) ≡ r.before = ap (λ v. whole_lines_of v) front ∙ Cut-whole_part s.done r.before line r.cut is_line in
+    let long : 2 ^ 24 < length script = omega (arith, ap length is, length-append (s.done ++ line) ys, size, some) in
+    (s.told, s.wrote,
+     (subst (λ lines. IsAnswered first lines s.told) (sym whole) (Told-answered first r.before r.wants s.told now r.so_far),
+      (long, ap (λ lines. quits lines) whole ∙ r.so_far.goes)))
+
+quits_there : (before : List (List ℕ)) (line : List ℕ) (after : List (List ℕ)) → quits before ≡ false → is_quit (command_of line) ≡ true → quits (before ++ line ∷ after) ≡ true
+quits_there before line after e f = list_any-append _ before (line ∷ after) ∙ rw (e, f) refl
+
+-- a line that quits
+pub Promise-quit : {A T : Type 0} (v : T) (first : Sitting A) (known rest rest' left w0 w1 : Option (List ℕ)) (now : Sitting A) (given given' : ℕ) (line : List ℕ)
+  → Standing first known rest w0 w1 now given → IsLine line → Consumes rest rest' (line ++ 10 ∷ []) → given' ≡ given + (length line + 1) → given' ≤ 2 ^ 24
+  → is_quit (command_of line) ≡ true
+  → Promise (Ok v) first known left w0 w1
+Promise-quit v first None rest rest' left w0 w1 now given given' line s is_line taken given_is le quit = tt
+Promise-quit v first (Some script) rest rest' left w0 w1 now given given' line s is_line taken given_is le quit =
+    let r = s.reached in
+    let bytes = s.done ++ (line ++ 10 ∷ []) in
+    let cut = Cut-line s.done r.before line r.cut is_line in
+    let (ys, is) = consumed_some script bytes rest' (Consumes-append (Some script) rest rest' s.done (line ++ 10 ∷ []) s.taken taken) in
+    let size : length bytes ≤ 2 ^ 24 = omega (arith, s.given_is, given_is, length-append s.done (line ++ 10 ∷ []), length-append line (10 ∷ [])) in
+    let all : lines_of script ≡ r.before ++ line ∷ lines_of ys = ap (λ v. lines_of v) is ∙ cut.lines ys ∙ append_assoc r.before (line ∷ []) (lines_of ys) in
+    let front : take (2 ^ 24) script ≡ bytes ++ take (2 ^ 24 - length bytes) ys = ap (λ v. take (2 ^ 24) v) is ∙ take_over (2 ^ 24) bytes ys size in
+    let whole : whole_lines_of (take (2 ^ 24) script) ≡ r.before ++ line ∷ whole_lines_of (take (2 ^ 24 - length bytes) ys) =
+        ap (λ v. whole_lines_of v) front ∙ cut.whole (take (2 ^ 24 - length bytes) ys) ∙ append_assoc r.before (line ∷ []) (whole_lines_of (take (2 ^ 24 - length bytes) ys)) in
+    let ends : quits (whole_lines_of (take (2 ^ 24) script)) ≡ true = ap (λ lines. quits lines) whole ∙ quits_there r.before line (whole_lines_of (take (2 ^ 24 - length bytes) ys)) r.so_far.goes quit in
+    (s.told, s.wrote,
+     (subst (λ lines. IsAnswered first lines s.told) (sym all) (Told-quit first r.before r.wants s.told now line (lines_of ys) r.so_far quit),
+      λ t. true≢false (sym ends ∙ t.1)))
+
+-- a writing that failed at a line
+pub Promise-write : {A : Type 0} (T : Type 0) (first : Sitting A) (known rest rest' left w0 w1 w2 : Option (List ℕ)) (now : Sitting A) (given : ℕ) (line : List ℕ) (want : Option ℕ)
+  → Standing first known rest w0 w1 now given → IsLine line → Consumes rest rest' (line ++ 10 ∷ []) → IsLawful now (command_of line) want
+  → ((front : List ℕ) × IsFrontOf front (answer now (command_of line) want).text × Appends w1 w2 front)
+  → Promise {T = T} (Err Write) first known left w0 w2
+Promise-write T first None rest rest' left w0 w1 w2 now given line want s is_line taken lawful wrote = tt
+Promise-write T first (Some script) rest rest' left w0 w1 w2 now given line want s is_line taken lawful wrote =
+    let r = s.reached in
+    let bytes = s.done ++ (line ++ 10 ∷ []) in
+    let cut = Cut-line s.done r.before line r.cut is_line in
+    let (ys, is) = consumed_some script bytes rest' (Consumes-append (Some script) rest rest' s.done (line ++ 10 ∷ []) s.taken taken) in
+    let all : lines_of script ≡ r.before ++ line ∷ lines_of ys = ap (λ v. lines_of v) is ∙ cut.lines ys ∙ append_assoc r.before (line ∷ []) (lines_of ys) in
+    let told = Told-front first r.before r.wants s.told now line (lines_of ys) want wrote.0 r.so_far lawful wrote.1 in
+    (s.told ++ wrote.0, Appends-append w0 w1 w2 s.told wrote.0 s.wrote wrote.2,
+     (told.0, subst (λ lines. IsAnswered first lines told.0) (sym all) told.1, told.2))
+
+-- a writing that failed at a last line without byte 10
+pub Promise-write_last : {A : Type 0} (T : Type 0) (first : Sitting A) (known rest rest' left w0 w1 w2 : Option (List ℕ)) (now : Sitting A) (given : ℕ) (line : List ℕ) (want : Option ℕ)
+  → Standing first known rest w0 w1 now given → IsLine line → 0 < length line → Consumes rest rest' line → IsAtEnd rest' → IsLawful now (command_of line) want
+  → ((front : List ℕ) × IsFrontOf front (answer now (command_of line) want).text × Appends w1 w2 front)
+  → Promise {T = T} (Err Write) first known left w0 w2
+Promise-write_last T first None rest rest' left w0 w1 w2 now given line want s is_line some taken end lawful wrote = tt
+Promise-write_last T first (Some script) rest rest' left w0 w1 w2 now given line want s is_line some taken end lawful wrote =
+    let r = s.reached in
+    let is : script ≡ s.done ++ line = consumed_all script (s.done ++ line) rest' (Consumes-append (Some script) rest rest' s.done line s.taken taken) end in
+    let all : lines_of script ≡ r.before ++ line ∷ [] = ap (λ v. lines_of v) is ∙ Cut-last s.done r.before line r.cut is_line some in
+    let told = Told-front first r.before r.wants s.told now line [] want wrote.0 r.so_far lawful wrote.1 in
+    (s.told ++ wrote.0, Appends-append w0 w1 w2 s.told wrote.0 s.wrote wrote.2,
+     (told.0, subst (λ lines. IsAnswered first lines told.0) (sym all) told.1, told.2))
+
+-- what is kept of a line says what it says
+pub line_said : {A E : Type 0} (r : Result Next E) (old new : Sitting A) (slice kept line : List ℕ) (before after : Option (List ℕ))
+  → slice ≡ kept → kept ≡ take 257 line → AnswersLine r old new (command_of slice) before after → AnswersLine r old new (command_of line) before after
+line_said r old new slice kept line before after e f h =
+    subst (λ said. AnswersLine r old new said before after) (ap (λ v. command_of v) (e ∙ f) ∙ command_of-kept line) h

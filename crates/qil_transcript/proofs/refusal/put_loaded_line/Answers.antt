@@ -1,0 +1,14 @@
+use Rattle.std.proofs.Common.{◌≡◌}
+use Rattle.qil_transcript.proofs.refusal.put_loaded_line.Goals as goal
+
+pub returns-in-Single-clause-text : goal.returns-in-Single-clause-text
+returns-in-Single-clause-text g c =
+    rw c.in-Single.is
+    (rw (c.as_slice.ensures, c.as_bytes-count.ensures.value, c.format.ensures.text, c.as_slice-in-Single.ensures) at c.put_pieces.ensures.text)
+
+pub returns-in-Several-clause-text : goal.returns-in-Several-clause-text
+returns-in-Several-clause-text g c =
+    rw c.in-Several.is
+    (rw (c.as_slice-in-Several.ensures, c.as_bytes-count.ensures.value, c.format.ensures.text, c.as_slice-in-Several-2.ensures, c.bytes.ensures,
+        c.as_slice-in-Several-3.ensures, c.bytes-in-Several.ensures, c.as_slice-in-Several-4.ensures)
+      at c.put_pieces-in-Several.ensures.text)

@@ -1,0 +1,100 @@
+//! `qrev`: runs a program in QBE IL and steps through it, forward and back, by the commands on standard input.
+#![tactic(auto)]
+
+ghost use Rattle.std.specs.Prelude.{◌≡◌, IfOk, IfSome, take};
+ghost use Rattle.qrev.specs.Status.{outcome_status};
+
+mod options;
+#[cfg(test)]
+mod tests;
+
+use options::{Failure, Options};
+use qil_streams::{FromReader, IntoWriter};
+use qil_transcript::{Outcome, debug};
+use std::alloc::Global;
+use std::io::{LineWriter, Read};
+use std::process::ExitCode;
+use std::rt::{Env, Files};
+use std::{fs, io};
+
+/// The most bytes that are read of a program: one more than it may have, so that one byte too many is seen.
+const PROGRAM_LIMIT: u64 = (1 << 20) + 1;
+
+/// The first bytes of a file, up to the limit.
+fn first_bytes<F: Read + Drop>(alloc: Global, file: F) -> io::Result<Vec<u8>>
+    ensures { IfOk result (λ bytes. IfSome (F.remaining file) (λ all. bytes.items ≡ take 1048577 all)) }
+{
+    let mut bytes = Vec::new(alloc);
+    file.take(PROGRAM_LIMIT).read_to_end(&mut bytes)?;
+    Ok(bytes)
+}
+
+fn read_program<R: Files>(rt: &R, alloc: Global, name: &str) -> io::Result<Vec<u8>> {
+    first_bytes(alloc, fs::open(rt, name)?)
+}
+
+/// The bytes of the program that the command line names.
+fn load<R: Files + Eprint>(rt: &R, alloc: Global, name: &str) -> Result<Vec<u8>, Failure> {
+    match read_program(rt, alloc, name) {
+        Ok(program) => Ok(program),
+        Err(error) if error.kind() == io::ErrorKind::OutOfMemory => Err(Failure::OutOfMemory),
+        Err(_) => {
+            let _ = rt.eprintln("cannot read program");
+            Err(Failure::Unreadable)
+        }
+    }
+}
+
+/// Runs the session: the script is standard input, the transcript standard output, where each line is written at once.
+fn run_session<R: Input + Print>(
+    rt: &R,
+    alloc: Global,
+    program: &[u8],
+    options: &Options<'_>,
+) -> Result<Outcome, Failure> {
+    let Ok(writer) = LineWriter::new(alloc, io::writer(rt)) else {
+        return Err(Failure::OutOfMemory);
+    };
+    let mut source = FromReader::new(rt.reader());
+    let mut sink = IntoWriter::new(writer);
+    Ok(debug(
+        alloc,
+        program,
+        options.entry.as_bytes(),
+        options.args.as_slice(),
+        options.limit as u64,
+        &mut source,
+        &mut sink,
+    ))
+}
+
+/// The command line first, then the file, then the session.
+fn run<R: Files + Input + Print + Eprint + Env + AllocGlobal>(
+    rt: &R,
+    alloc: Global,
+) -> Result<Outcome, Failure> {
+    let words = options::read_words(rt, alloc)?;
+    let matches = options::parse(rt, alloc, words.as_slice())?;
+    let options = options::read_options(alloc, &matches)?;
+    let program = load(rt, alloc, options.program)?;
+    run_session(rt, alloc, program.as_slice(), &options)
+}
+
+/// The status after a session.
+fn outcome_status(outcome: Outcome) -> u8
+    ensures { result ≡ outcome_status outcome }
+{
+    match outcome {
+        Outcome::Ended => 0,
+        Outcome::Refused => 1,
+        Outcome::ReadFault | Outcome::WriteFault | Outcome::TooLong => 2,
+        Outcome::Memory => 3,
+    }
+}
+
+fn main(rt: HostRuntime) -> ExitCode {
+    ExitCode::from(match run(&rt, rt.alloc()) {
+        Ok(outcome) => outcome_status(outcome),
+        Err(failure) => failure.status(),
+    })
+}
