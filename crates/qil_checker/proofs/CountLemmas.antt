@@ -1,5 +1,5 @@
 -- How many temporaries a text has: as many as its table has names.
-use Rattle.std.proofs.Common.{◌≡◌, ◌≢◌, ◌↔◌, ◌∙◌, sym, ap, refl, subst, ℕ, ◌<◌, ◌≤◌, List, [], ◌∷◌, ◌||◌, Option, Some, None, Bool, true, false, IsTrue, nat_lt, nat_eq, ◌⊎◌, inl, inr, ⊎_elim, length, get_or, map, All, AllPairs, Bor, arith}
+use Rattle.std.proofs.Common.{◌≡◌, ◌∙◌, sym, ap, refl, subst, ℕ, ◌<◌, ◌≤◌, List, [], ◌∷◌, ◌||◌, Option, Some, None, true, false, IsTrue, nat_lt, nat_eq, ◌⊎◌, inl, inr, ⊎_elim, length, get_or, map, All, Bor, arith}
 use Rattle.std.proofs.lemmas.Bool.Decides.{nat_tests}
 use Rattle.std.specs.Option.{is_some}
 use Rattle.std.specs.Str.{bytes_eq}
@@ -53,39 +53,41 @@ is_long n m l = grind (arith, nat_tests)
 module _ {S : Type 0} (m : IndexMap (Bor (List ℕ)) ℕ S) (text : List Mark)
     (places : (x : List ℕ) → place_of m x ≡ first (is_named Named x) 0 text)
     (unique : IsDistinct (λ x y. bytes_eq x.now y.now) (keys m))
-    where
-  has_place : (q : List ℕ) → is_some (place_of m q) ≡ list_any (bytes_eq q) (map (λ k. k.now) (keys m))
-  has_place q = is_some-lookup (λ k. bytes_eq q k.now) m.entries ∙ sym (any_names q (keys m))
+  where
+    has_place : (q : List ℕ) → is_some (place_of m q) ≡ list_any (bytes_eq q) (map (λ k. k.now) (keys m))
+    has_place q = is_some-lookup (λ k. bytes_eq q k.now) m.entries ∙ sym (any_names q (keys m))
 
-  is_temporary : (q : List ℕ) → list_any (bytes_eq q) (map (λ k. k.now) (keys m)) ≡ true → IsTemporary text q
-  is_temporary q has = let p = some_there (place_of m q) (has_place q ∙ has) in temp_found text q p.0 (sym (places q) ∙ p.1)
+    is_temporary : (q : List ℕ) → list_any (bytes_eq q) (map (λ k. k.now) (keys m)) ≡ true → IsTemporary text q
+    is_temporary q has = let p = some_there (place_of m q) (has_place q ∙ has) in temp_found text q p.0 (sym (places q) ∙ p.1)
 
-  is_listed : (q : List ℕ) → IsTemporary text q → list_any (bytes_eq q) (map (λ k. k.now) (keys m)) ≡ true
-  is_listed q t = sym (has_place q) ∙ none_there (place_of m q) (λ none. temp_absent text q (sym (places q) ∙ none) t)
+    is_listed : (q : List ℕ) → IsTemporary text q → list_any (bytes_eq q) (map (λ k. k.now) (keys m)) ≡ true
+    is_listed q t = sym (has_place q) ∙ none_there (place_of m q) (λ none. temp_absent text q (sym (places q) ∙ none) t)
 
-  pub too_many : 65535 < length m.entries → HasTooMany text
-  too_many long =
-      let all = map (λ k. k.now) (keys m) in
-      (all, AllPairs-from_IsDistinct bytes_eq-Decides all (distinct_names (keys m) unique),
-       (λ i d l. is_temporary (get_or all i d) (list_any_at (bytes_eq (get_or all i d)) all i d l (same_name (get_or all i d)))),
-       omega (arith, length_names m.entries))
+    pub too_many : 65535 < length m.entries → HasTooMany text
+    too_many long =
+        let all = map (λ k. k.now) (keys m) in (
+          all,
+          AllPairs-from_IsDistinct bytes_eq-Decides all (distinct_names (keys m) unique),
+          (λ i d l. is_temporary (get_or all i d) (list_any_at (bytes_eq (get_or all i d)) all i d l (same_name (get_or all i d)))),
+          omega (arith, length_names m.entries),
+        )
 
-  among : (xs : List (List ℕ)) → All (IsTemporary text) xs → (q : List ℕ) → list_any (bytes_eq q) xs ≡ true → IsTemporary text q
-  among xs each q has =
-      let w = Any-from_list_any (bytes_eq q) xs has in
-      subst (IsTemporary text) (w.3 ∙ sym ((bytes_eq-Decides q w.1).0 w.4)) (each w.0 w.1 w.2)
+    among : (xs : List (List ℕ)) → All (IsTemporary text) xs → (q : List ℕ) → list_any (bytes_eq q) xs ≡ true → IsTemporary text q
+    among xs each q has =
+        let w = Any-from_list_any (bytes_eq q) xs has in
+        subst (IsTemporary text) (w.3 ∙ sym ((bytes_eq-Decides q w.1).0 w.4)) (each w.0 w.1 w.2)
 
-  pub few : HasTooMany text → 65535 < length m.entries
-  few many =
-      let xs = many.0 in
-      let short = length-le_from_is_member nat_list_eq_equiv xs (map (λ k. k.now) (keys m)) (IsDistinct-from_AllPairs bytes_eq-Decides xs many.1)
-          (λ q has. is_listed q (among xs many.2 q has)) in
-      omega (arith, short, many.3, length_names m.entries)
+    pub few : HasTooMany text → 65535 < length m.entries
+    few many =
+        let xs = many.0 in
+        let short = length-le_from_is_member nat_list_eq_equiv xs (map (λ k. k.now) (keys m)) (IsDistinct-from_AllPairs bytes_eq-Decides xs many.1)
+        (λ q has. is_listed q (among xs many.2 q has)) in
+        omega (arith, short, many.3, length_names m.entries)
 
-  pub over : (n r : ℕ) → r ≡ length m.entries → 65535 < r
-      → (IsTrue (nat_lt 65535 r) → (◌≡◌ {A = ℕ} 0 0) × (HasTooMany text ⊎ (n ≡ 1000))) × ((◌≡◌ {A = ℕ} 0 0) × (HasTooMany text ⊎ (n ≡ 1000)) → IsTrue (nat_lt 65535 r))
-  over n r e l = (λ t. (refl, inl (too_many (omega arith))), λ b. is_long 65535 r l)
+    pub over : (n r : ℕ) → r ≡ length m.entries → 65535 < r
+        → (IsTrue (nat_lt 65535 r) → (◌≡◌ {A = ℕ} 0 0) × (HasTooMany text ⊎ (n ≡ 1000))) × ((◌≡◌ {A = ℕ} 0 0) × (HasTooMany text ⊎ (n ≡ 1000)) → IsTrue (nat_lt 65535 r))
+    over n r e l = (λ t. (refl, inl (too_many (omega arith))), λ b. is_long 65535 r l)
 
-  pub within : (n r : ℕ) → r ≡ length m.entries → r ≤ 65535
-      → (IsTrue (nat_eq n 1000) → (◌≡◌ {A = ℕ} 0 0) × (HasTooMany text ⊎ (n ≡ 1000))) × ((◌≡◌ {A = ℕ} 0 0) × (HasTooMany text ⊎ (n ≡ 1000)) → IsTrue (nat_eq n 1000))
-  within n r e l = (λ t. (refl, inr (same_number n 1000 t)), λ b. ⊎_elim (λ many. let long = few many in absurd (omega (arith, long))) (λ same. is_same n 1000 same) b.1)
+    pub within : (n r : ℕ) → r ≡ length m.entries → r ≤ 65535
+        → (IsTrue (nat_eq n 1000) → (◌≡◌ {A = ℕ} 0 0) × (HasTooMany text ⊎ (n ≡ 1000))) × ((◌≡◌ {A = ℕ} 0 0) × (HasTooMany text ⊎ (n ≡ 1000)) → IsTrue (nat_eq n 1000))
+    within n r e l = (λ t. (refl, inr (same_number n 1000 t)), λ b. ⊎_elim (λ many. let long = few many in absurd (omega (arith, long))) (λ same. is_same n 1000 same) b.1)

@@ -1,3 +1,4 @@
+-- The lemmas.
 pub mod TableLemmas
 pub mod PlaceLemmas
 pub mod CountLemmas

@@ -1,5 +1,5 @@
 -- What the first place of a temporary says of a text.
-use Rattle.std.proofs.Common.{◌≡◌, ◌∙◌, sym, ap, refl, subst, not, IsTrue, ℕ, zero, suc, ◌+◌, ◌<◌, ◌≢◌, ◌↔◌, ◌⊎◌, inl, inr, ⊎_elim, length, get_or, List, [], ◌∷◌, Option, Some, None, MatchOption, Bool, true, false, if◌then◌else◌, arith}
+use Rattle.std.proofs.Common.{◌≡◌, ◌∙◌, sym, ap, refl, subst, not, IsTrue, ℕ, zero, suc, ◌+◌, ◌<◌, ◌≢◌, ◌⊎◌, inl, inr, ⊎_elim, length, get_or, List, [], ◌∷◌, Option, Some, None, MatchOption, Bool, true, false, if◌then◌else◌, arith}
 use Rattle.std.specs.Option.{option_map}
 use Rattle.std.proofs.lemmas.Option.{slice_get_within}
 use Rattle.std.specs.List.{slice_get}
@@ -99,12 +99,14 @@ class_found : (text : List Mark) (x : List ℕ) (k : ℕ) → first (is_named De
     → (c : Class) × Stands text k (Defines x c) × ((j : ℕ) (d : Class) → j < k → Stands text j (Defines x d) → ⊥)
 class_found text x k e =
     let f = found_here (is_named Defined x) text k e in
-    let t = class_of_mark x f.item.what f.passes in
-    (t.0, mark_stands text k f.item (Defines x t.0) f.there t.1,
-     λ j d l s. let m = stands_mark text j (Defines x d) s in
-        let yes : is_named Defined x m.0 ≡ true = brings_definition x d m.0 m.2 in
-        let not : is_named Defined x m.0 ≡ false = f.earlier j m.0 l m.1 in
-        cc)
+    let t = class_of_mark x f.item.what f.passes in (
+      t.0,
+      mark_stands text k f.item (Defines x t.0) f.there t.1,
+      λ j d l s. let m = stands_mark text j (Defines x d) s in
+          let yes : is_named Defined x m.0 ≡ true = brings_definition x d m.0 m.2 in
+          let not : is_named Defined x m.0 ≡ false = f.earlier j m.0 l m.1 in
+          cc,
+    )
 
 pub class_absent : (text : List Mark) (x : List ℕ) → first (is_named Defined x) 0 text ≡ None → IsUndefined text x
 class_absent text x e = λ j d s. let m = stands_mark text j (Defines x d) s in

@@ -1,5 +1,5 @@
 -- The first place of a whole program, from those of its functions.
-use Rattle.std.proofs.Common.{◌≡◌, ◌∙◌, sym, refl, subst, ap, ℕ, ◌+◌, ◌<◌, ◌≤◌, ◌==◌, List, [], ◌∷◌, ◌++◌, take, get_or, Option, Some, slice_get, length, map, ⊎_elim, inl, inr, arith, below_more, if◌then◌else◌}
+use Rattle.std.proofs.Common.{◌≡◌, ◌∙◌, sym, refl, subst, ap, ℕ, ◌+◌, ◌<◌, ◌≤◌, ◌==◌, List, [], ◌∷◌, ◌++◌, take, get_or, Some, slice_get, length, map, ⊎_elim, inl, inr, arith, below_more, if◌then◌else◌}
 use Rattle.std.specs.Option.{option_map}
 use Rattle.std.proofs.lemmas.List.{map-append, take_more, take_all}
 use Rattle.std.proofs.lemmas.Option.{slice_get_within, slice_get-map}
@@ -52,19 +52,19 @@ module _ {A : Type 0} (p : Program A) where
   pub breach_here : (r : Rule) (i : ℕ) (f : Func A) (line : ℕ) → slice_get p.funcs i ≡ Some f
       → ((q : Place) → q.func < i → BreaksAt r p q → ⊥) → Breach r f i line → IsBrokenFirst r p line
   breach_here r i f line there before b = record {
-      at = record { func = i; mark = b.mark };
-      func = f;
-      is_func = there;
-      breaks = b.breaks;
-      first = λ q e h. ⊎_elim (λ l. before q l h) (λ s. b.first q.mark s.1 (breaks_in r i f there q s.0 h)) e;
-      line_is = b.line_is
-    }
+    at = record { func = i; mark = b.mark };
+    func = f;
+    is_func = there;
+    breaks = b.breaks;
+    first = λ q e h. ⊎_elim (λ l. before q l h) (λ s. b.first q.mark s.1 (breaks_in r i f there q s.0 h)) e;
+    line_is = b.line_is;
+  }
 
   pub kept_more : (r : Rule) (i : ℕ) (f : Func A) → slice_get p.funcs i ≡ Some f
       → ((q : Place) → q.func < i → BreaksAt r p q → ⊥) → Keeps r f i → (q : Place) → q.func < i + 1 → BreaksAt r p q → ⊥
   kept_more r i f there before keeps = λ q l.
       below_more (λ k. (o : Place) → o.func ≡ k → BreaksAt r p o → ⊥) i (λ k l o e. before o (omega arith))
-          (λ o e h. keeps o.mark (breaks_in r i f there o e h)) q.func l q refl
+      (λ o e h. keeps o.mark (breaks_in r i f there o e h)) q.func l q refl
 
   pub at_function : (r : Rule) (q : Place) → BreaksAt r p q → q.func < length p.funcs
   at_function r q h = slice_get_within p.funcs q.func h.0 h.1
@@ -77,19 +77,19 @@ module _ {A : Type 0} (p : Program A) where
   pub again_here : (i : ℕ) (f : Func A) (func temp : List ℕ) → slice_get p.funcs i ≡ Some f
       → ((q : Place) (x : List ℕ) → q.func < i → IsAgainAt p q x → ⊥) → IsAgainFirst (marks f) temp → func ≡ f.name → IsFirstAgain p func temp
   again_here i f func temp there before b name = record {
-      at = record { func = i; mark = b.mark };
-      in_func = f;
-      is_func = there;
-      again = b.again;
-      first = λ q x e h. ⊎_elim (λ l. before q x l h) (λ s. b.first q.mark x s.1 (again_in i f there q x s.0 h)) e;
-      name = sym name
-    }
+    at = record { func = i; mark = b.mark };
+    in_func = f;
+    is_func = there;
+    again = b.again;
+    first = λ q x e h. ⊎_elim (λ l. before q x l h) (λ s. b.first q.mark x s.1 (again_in i f there q x s.0 h)) e;
+    name = sym name;
+  }
 
   pub single_more : (i : ℕ) (f : Func A) → slice_get p.funcs i ≡ Some f
       → ((q : Place) (x : List ℕ) → q.func < i → IsAgainAt p q x → ⊥) → IsSingle (marks f) → (q : Place) (x : List ℕ) → q.func < i + 1 → IsAgainAt p q x → ⊥
   single_more i f there before single = λ q x l.
       below_more (λ k. (o : Place) → o.func ≡ k → IsAgainAt p o x → ⊥) i (λ k l o e. before o x (omega arith))
-          (λ o e h. single o.mark x (again_in i f there o x e h)) q.func l q refl
+      (λ o e h. single o.mark x (again_in i f there o x e h)) q.func l q refl
 
   pub again_function : (q : Place) (x : List ℕ) → IsAgainAt p q x → q.func < length p.funcs
   again_function q x h = slice_get_within p.funcs q.func h.0 h.1
@@ -102,14 +102,14 @@ module _ {A : Type 0} (p : Program A) where
       (kept_C7 : order C7 < limit → IsKept C7 p)
       (kept_C10 : order C10 < limit → IsKept C10 p)
       (kept_C12 : order C12 < limit → IsKept C12 p)
-      where
-    -- the rules below a limit are kept
-    pub lower : (r : Rule) → order r < limit → IsKept r p
-    lower C5 l = kept_C5 l
-    lower C6 l = kept_C6 l
-    lower C7 l = kept_C7 l
-    lower C10 l = kept_C10 l
-    lower C12 l = kept_C12 l
+    where
+      -- the rules below a limit are kept
+      pub lower : (r : Rule) → order r < limit → IsKept r p
+      lower C5 l = kept_C5 l
+      lower C6 l = kept_C6 l
+      lower C7 l = kept_C7 l
+      lower C10 l = kept_C10 l
+      lower C12 l = kept_C12 l
 
   module _ (kept_C5 : IsKept C5 p) (kept_C6 : IsKept C6 p) (kept_C7 : IsKept C7 p) (kept_C10 : IsKept C10 p) (kept_C12 : IsKept C12 p) where
     pub well_formed : WellFormed p

@@ -1,3 +1,4 @@
+-- The definitions.
 pub mod Text
 pub mod Tables
 pub mod Rules

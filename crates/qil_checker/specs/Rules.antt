@@ -1,13 +1,12 @@
 -- When a program is well-formed, and which rule it breaks first where it is not.
 use Rattle.std.specs.Prelude.{◌≡◌, ◌≢◌, ℕ, ◌<◌, ◌⊎◌, List, length, Option, Some, None, option_map, slice_get, All, AllPairs}
-
 use Rattle.qil_parser.specs.declared.tree.Class.{Class}
 use Rattle.qil_parser.specs.declared.tree.Class.TheVariants as classes
 use Rattle.qil_parser.specs.declared.tree.Func.{Func}
 use Rattle.qil_parser.specs.declared.tree.Program.{Program}
 use Rattle.qil_checker.specs.declared.rule.Rule.{Rule}
 use Rattle.qil_checker.specs.declared.rule.Rule.TheVariants.{C5, C6, C7, C10, C12}
-use Rattle.qil_checker.specs.Text.{What, Defines, Uses, Gives, Mark, marks, Stands, FirstClass, IsUndefined, IsAgain}
+use Rattle.qil_checker.specs.Text.{Defines, Uses, Gives, Mark, marks, Stands, FirstClass, IsUndefined}
 
 -- the lower rule is answered before the higher
 abbrev pub order : Rule → ℕ

@@ -10,7 +10,6 @@ use Rattle.qil_parser.specs.declared.tree.Expr.TheVariants as exprs
 use Rattle.qil_parser.specs.declared.tree.Inst.{Inst}
 use Rattle.qil_parser.specs.declared.tree.InstKind.{InstKind}
 use Rattle.qil_parser.specs.declared.tree.InstKind.TheVariants as insts
-use Rattle.qil_parser.specs.declared.tree.Jump.{Jump}
 use Rattle.qil_parser.specs.declared.tree.JumpKind.{JumpKind}
 use Rattle.qil_parser.specs.declared.tree.JumpKind.TheVariants as jumps
 use Rattle.qil_parser.specs.declared.tree.Block.{Block}

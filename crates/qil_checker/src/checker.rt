@@ -14,12 +14,15 @@ use crate::whole::{Refusal, form_of, lowest, texts_of};
 use qil_parser::Program;
 use std::alloc::Allocator;
 use std::marker::Model;
+use thiserror::Error;
 
 /// Why a program was not checked.
-#[derive(Clone, Copy, Debug, PartialEq, Eq)]
+#[derive(Clone, Copy, Debug, PartialEq, Eq, Error)]
 pub enum CheckError {
     /// The lowest rule that is broken anywhere, and the line of its first place in the text.
+    #[error("{rule} line {line}")]
     Refused { rule: Rule, line: u32 },
+    #[error("out of memory")]
     OutOfMemory,
 }
 
@@ -79,7 +82,10 @@ fn judge<'a, A: Allocator + Copy>(texts: &[Text<'_, 'a, A>]) -> Result<Form<'a>,
 }
 
 /// The form of a well-formed program; why it is not well-formed, otherwise.
-fn examine<'a, A: Allocator + Copy>(alloc: A, program: &Program<'a, A>) -> Result<Form<'a>, CheckError>
+fn examine<'a, A: Allocator + Copy>(
+    alloc: A,
+    program: &Program<'a, A>,
+) -> Result<Form<'a>, CheckError>
     ensures well_formed { IfOk result (λ form. WellFormed program.now) }
     ensures form { IfOk result (λ form. HasForm program.now form) }
     ensures told { IfErr result (λ error. IsTold program.now error) }
@@ -91,7 +97,10 @@ fn examine<'a, A: Allocator + Copy>(alloc: A, program: &Program<'a, A>) -> Resul
 }
 
 /// Checks a program. Hands it back where it is refused, or where memory is wanting.
-pub fn check<'a, A: Allocator + Copy>(alloc: A, program: Program<'a, A>) -> Result<Checked<'a, A>, (Program<'a, A>, CheckError)>
+pub fn check<'a, A: Allocator + Copy>(
+    alloc: A,
+    program: Program<'a, A>,
+) -> Result<Checked<'a, A>, (Program<'a, A>, CheckError)>
     ensures same { IfOk result (λ c. c.program ≡ program.entry) }
     ensures kept { IfOk result (λ c. WellFormed c.program × HasForm c.program c.form) }
     ensures handed_back { IfErr result (λ e. e.0 ≡ program.entry) }

@@ -13,3 +13,6 @@ mod whole;
 pub use checker::{CheckError, Checked, check};
 pub use form::Form;
 pub use rule::Rule;
+
+#[cfg(test)]
+mod tests;

@@ -3,7 +3,7 @@
 use qil_parser::{Class, Name};
 
 /// What a mark says.
-#[derive(Debug, Drop)]
+#[derive(Drop)]
 pub enum What<'a> {
     /// A temporary gets a value of a class.
     Defines(Name<'a>, Class),
@@ -14,14 +14,14 @@ pub enum What<'a> {
 }
 
 /// A mark, on the line of its instruction or jump.
-#[derive(Debug, Drop)]
+#[derive(Drop)]
 pub struct Mark<'a> {
     pub what: What<'a>,
     pub line: u32,
 }
 
 /// Which marks of a temporary a table lists.
-#[derive(Clone, Copy, Debug)]
+#[derive(Clone, Copy)]
 pub enum Kind {
     /// Where it is defined.
     Defined,

@@ -21,7 +21,11 @@ const MAX_TEMPORARIES: usize = 65_535;
 const MAX_FUNCTIONS: usize = 1000;
 
 /// Where each name of a kind stands first.
-fn first_places<'a, A: Allocator + Copy>(alloc: A, marks: &[Mark<'a>], kind: Kind) -> Result<Table<'a, A>, AllocError>
+fn first_places<'a, A: Allocator + Copy>(
+    alloc: A,
+    marks: &[Mark<'a>],
+    kind: Kind,
+) -> Result<Table<'a, A>, AllocError>
     ensures { IfOk result (λ t. (x : List ℕ) → place_of t.places x ≡ first (is_named kind x) 0 marks.now) }
 {
     let mut table = Table::new(alloc);

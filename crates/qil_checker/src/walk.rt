@@ -8,7 +8,12 @@ use crate::mark::{Mark, What};
 use qil_parser::{Block, Class, Expr, Func, Inst, InstKind, Jump, JumpKind, Name, Operand};
 use std::alloc::{AllocError, Allocator};
 
-fn push_operand<'a, A: Allocator + Copy>(out: &mut Vec<Mark<'a>, A>, line: u32, class: Class, operand: &Operand<'a>) -> Result<(), AllocError>
+fn push_operand<'a, A: Allocator + Copy>(
+    out: &mut Vec<Mark<'a>, A>,
+    line: u32,
+    class: Class,
+    operand: &Operand<'a>,
+) -> Result<(), AllocError>
     ensures { OnOk result (out.new.items ≡ out.old.items ++ operand_marks line class operand.now) }
 {
     match operand {
@@ -21,7 +26,12 @@ fn push_operand<'a, A: Allocator + Copy>(out: &mut Vec<Mark<'a>, A>, line: u32, 
     Ok(())
 }
 
-fn push_expr<'a, A: Allocator + Copy>(out: &mut Vec<Mark<'a>, A>, line: u32, class: Class, expr: &Expr<'a>) -> Result<(), AllocError>
+fn push_expr<'a, A: Allocator + Copy>(
+    out: &mut Vec<Mark<'a>, A>,
+    line: u32,
+    class: Class,
+    expr: &Expr<'a>,
+) -> Result<(), AllocError>
     ensures { OnOk result (out.new.items ≡ out.old.items ++ expr_marks line class expr.now) }
 {
     match expr {
@@ -33,7 +43,11 @@ fn push_expr<'a, A: Allocator + Copy>(out: &mut Vec<Mark<'a>, A>, line: u32, cla
     }
 }
 
-fn push_kind<'a, A: Allocator + Copy>(out: &mut Vec<Mark<'a>, A>, line: u32, kind: &InstKind<'a>) -> Result<(), AllocError>
+fn push_kind<'a, A: Allocator + Copy>(
+    out: &mut Vec<Mark<'a>, A>,
+    line: u32,
+    kind: &InstKind<'a>,
+) -> Result<(), AllocError>
     ensures { OnOk result (out.new.items ≡ out.old.items ++ kind_marks line kind.now) }
 {
     match kind {
@@ -46,7 +60,10 @@ fn push_kind<'a, A: Allocator + Copy>(out: &mut Vec<Mark<'a>, A>, line: u32, kin
     Ok(())
 }
 
-fn push_insts<'a, A: Allocator + Copy>(out: &mut Vec<Mark<'a>, A>, insts: &[Inst<'a>]) -> Result<(), AllocError>
+fn push_insts<'a, A: Allocator + Copy>(
+    out: &mut Vec<Mark<'a>, A>,
+    insts: &[Inst<'a>],
+) -> Result<(), AllocError>
     ensures { OnOk result (out.new.items ≡ out.old.items ++ flat_map inst_marks insts.now) }
 {
     for inst in insts {
@@ -55,7 +72,12 @@ fn push_insts<'a, A: Allocator + Copy>(out: &mut Vec<Mark<'a>, A>, insts: &[Inst
     Ok(())
 }
 
-fn push_jump<'a, A: Allocator + Copy>(out: &mut Vec<Mark<'a>, A>, returns: Option<Class>, line: u32, kind: &JumpKind<'a>) -> Result<(), AllocError>
+fn push_jump<'a, A: Allocator + Copy>(
+    out: &mut Vec<Mark<'a>, A>,
+    returns: Option<Class>,
+    line: u32,
+    kind: &JumpKind<'a>,
+) -> Result<(), AllocError>
     ensures { OnOk result (out.new.items ≡ out.old.items ++ jump_marks returns line kind.now) }
 {
     match kind {
@@ -69,7 +91,11 @@ fn push_jump<'a, A: Allocator + Copy>(out: &mut Vec<Mark<'a>, A>, returns: Optio
     Ok(())
 }
 
-fn push_block<'a, A: Allocator + Copy>(out: &mut Vec<Mark<'a>, A>, returns: Option<Class>, block: &Block<'a, A>) -> Result<(), AllocError>
+fn push_block<'a, A: Allocator + Copy>(
+    out: &mut Vec<Mark<'a>, A>,
+    returns: Option<Class>,
+    block: &Block<'a, A>,
+) -> Result<(), AllocError>
     ensures { OnOk result (out.new.items ≡ out.old.items ++ block_marks returns block.now) }
 {
     push_insts(out, block.insts.as_slice())?;
@@ -77,7 +103,10 @@ fn push_block<'a, A: Allocator + Copy>(out: &mut Vec<Mark<'a>, A>, returns: Opti
 }
 
 /// The marks of a function, in the order of its text.
-pub fn marks_of<'a, A: Allocator + Copy>(alloc: A, func: &Func<'a, A>) -> Result<Vec<Mark<'a>, A>, AllocError>
+pub fn marks_of<'a, A: Allocator + Copy>(
+    alloc: A,
+    func: &Func<'a, A>,
+) -> Result<Vec<Mark<'a>, A>, AllocError>
     ensures { IfOk result (λ v. v.items ≡ marks func.now) }
 {
     let mut out = Vec::new(alloc);

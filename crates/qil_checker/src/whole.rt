@@ -12,14 +12,17 @@ use qil_parser::{Name, Program};
 use std::alloc::{AllocError, Allocator};
 
 /// A rule that is broken, and the line that is told of it.
-#[derive(Clone, Copy, Debug)]
+#[derive(Clone, Copy)]
 pub struct Refusal {
     pub rule: Rule,
     pub line: u32,
 }
 
 /// The texts of a program's functions.
-pub fn texts_of<'p, 'a, A: Allocator + Copy>(alloc: A, program: &'p Program<'a, A>) -> Result<Vec<Text<'p, 'a, A>, A>, AllocError>
+pub fn texts_of<'p, 'a, A: Allocator + Copy>(
+    alloc: A,
+    program: &'p Program<'a, A>,
+) -> Result<Vec<Text<'p, 'a, A>, A>, AllocError>
     ensures { IfOk result (λ v. map (λ t. t.func.now) v.items ≡ program.now.funcs) }
 {
     let mut texts = Vec::new(alloc);
@@ -46,19 +49,34 @@ pub fn lowest<A: Allocator + Copy>(texts: &[Text<'_, '_, A>]) -> Option<Refusal>
     ensures { MatchOption result (WellFormed (program_of texts.now)) (λ r. Broken (program_of texts.now) r.rule r.line) }
 {
     if let Some(line) = line_of(texts, Rule::C5) {
-        return Some(Refusal { rule: Rule::C5, line });
+        return Some(Refusal {
+            rule: Rule::C5,
+            line,
+        });
     }
     if let Some(line) = line_of(texts, Rule::C6) {
-        return Some(Refusal { rule: Rule::C6, line });
+        return Some(Refusal {
+            rule: Rule::C6,
+            line,
+        });
     }
     if let Some(line) = line_of(texts, Rule::C7) {
-        return Some(Refusal { rule: Rule::C7, line });
+        return Some(Refusal {
+            rule: Rule::C7,
+            line,
+        });
     }
     if let Some(line) = line_of(texts, Rule::C10) {
-        return Some(Refusal { rule: Rule::C10, line });
+        return Some(Refusal {
+            rule: Rule::C10,
+            line,
+        });
     }
     match line_of(texts, Rule::C12) {
-        Some(line) => Some(Refusal { rule: Rule::C12, line }),
+        Some(line) => Some(Refusal {
+            rule: Rule::C12,
+            line,
+        }),
         None => None,
     }
 }

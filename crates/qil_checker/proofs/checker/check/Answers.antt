@@ -1,3 +1,4 @@
+-- A program is well-formed or breaks one rule first, never both.
 use Rattle.qil_checker.proofs.WholeLemmas.{not_both, only_memory, only_told}
 use Rattle.qil_checker.proofs.checker.check.Goals as goal
 

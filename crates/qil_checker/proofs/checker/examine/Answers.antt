@@ -1,4 +1,5 @@
-use Rattle.std.proofs.Common.{◌≡◌, ◌∙◌, ap, subst, map, IfOk, IfErr}
+-- What is judged of the texts holds of the program that they were made of.
+use Rattle.std.proofs.Common.{◌∙◌, ap, subst, map, IfOk, IfErr}
 use Rattle.qil_parser.specs.declared.tree.Program.{Program}
 use Rattle.qil_checker.specs.Check.{IsTold}
 use Rattle.qil_checker.specs.Forms.{HasForm}

@@ -1,3 +1,4 @@
+-- The table's place of a name, or else its first place among the marks that are left, is its first place.
 use Rattle.std.proofs.Common.{◌≡◌, List, ℕ, drop}
 use Rattle.qil_checker.specs.Tables.{place_of, or_else, first, is_named}
 use Rattle.qil_checker.proofs.text.first_places.Given as goal

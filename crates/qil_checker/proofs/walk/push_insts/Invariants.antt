@@ -1,3 +1,4 @@
+-- The marks so far, and those of the instructions that are left, are all marks.
 use Rattle.std.proofs.Common.{◌≡◌, ◌++◌, drop}
 use Rattle.std.specs.List.{flat_map}
 use Rattle.qil_checker.specs.Text.{inst_marks}

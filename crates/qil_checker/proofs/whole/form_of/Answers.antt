@@ -1,4 +1,5 @@
-use Rattle.std.proofs.Common.{◌≡◌, ◌<◌, ◌∙◌, ℕ, length, map, arith}
+-- The first place of a function is the first of the program where no earlier function has one.
+use Rattle.std.proofs.Common.{◌∙◌, arith}
 use Rattle.qil_checker.specs.Whole.{program_of}
 use Rattle.qil_checker.proofs.PlaceLemmas.{read_there}
 use Rattle.qil_checker.proofs.WholeLemmas.{text_there, length_funcs, again_here, single_more, again_function}
@@ -9,7 +10,7 @@ returns-in-Some g c =
     let t = c.text-item.result in
     let there = text_there c.args.texts.now c.loop-text.text-index t (read_there c.args.texts.now c.loop-text.text-index t (omega arith) c.text-item.is) in
     again_here (program_of c.args.texts.now) c.loop-text.text-index t.func.now c.new-func.result c.in-Some.temp there c.loop-text.invariant c.in-Some.ensures
-        (c.new-func.ensures ∙ c.bytes.ensures)
+    (c.new-func.ensures ∙ c.bytes.ensures)
 
 pub loop-text-preserved : goal.loop-text-preserved
 loop-text-preserved g c =

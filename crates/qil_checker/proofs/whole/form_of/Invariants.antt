@@ -1,3 +1,4 @@
+-- No function so far defines a temporary again.
 use Rattle.std.proofs.Common.{◌<◌, List, ℕ}
 use Rattle.qil_checker.specs.Rules.{Place}
 use Rattle.qil_checker.specs.Forms.{IsAgainAt}

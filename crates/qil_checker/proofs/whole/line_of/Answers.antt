@@ -1,4 +1,5 @@
-use Rattle.std.proofs.Common.{◌≡◌, ◌<◌, ℕ, length, map, arith}
+-- The first place of a function is the first of the program where no earlier function has one.
+use Rattle.std.proofs.Common.{arith}
 use Rattle.qil_checker.specs.Whole.{program_of}
 use Rattle.qil_checker.proofs.PlaceLemmas.{read_there}
 use Rattle.qil_checker.proofs.WholeLemmas.{text_there, length_funcs, breach_here, kept_more, at_function}

@@ -1,3 +1,4 @@
+-- No function so far breaks the rule.
 use Rattle.std.proofs.Common.{◌<◌}
 use Rattle.qil_checker.specs.Rules.{Place, BreaksAt}
 use Rattle.qil_checker.specs.Whole.{program_of}

@@ -1,3 +1,4 @@
+-- The texts so far are those of the functions so far.
 use Rattle.std.proofs.Common.{◌≡◌, map, take}
 use Rattle.qil_checker.proofs.whole.texts_of.Given as goal
 

@@ -1,3 +1,4 @@
+-- What is kept of a checked program holds of what is seen of it.
 use Rattle.std.proofs.Common.{subst}
 use Rattle.qil_checker.specs.Check.{Verdict}
 use Rattle.qil_checker.specs.Forms.{HasForm}

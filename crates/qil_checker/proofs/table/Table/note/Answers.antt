@@ -1,5 +1,5 @@
-use Rattle.std.proofs.Common.{◌≡◌, List, ℕ, sym, ap, ◌∙◌, None, Option}
-use Rattle.qil_checker.specs.Tables.{place_of, or_else, at_name}
+-- What the table says once a new name is in it.
+use Rattle.std.proofs.Common.{sym}
 use Rattle.qil_checker.proofs.TableLemmas.{noted}
 use Rattle.qil_checker.proofs.table.Table.note.Goals as goal
 

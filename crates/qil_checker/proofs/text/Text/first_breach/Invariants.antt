@@ -1,4 +1,5 @@
-use Rattle.std.proofs.Common.{◌≡◌, ℕ, ◌<◌}
+-- No mark so far breaks the rule.
+use Rattle.std.proofs.Common.{ℕ, ◌<◌}
 use Rattle.qil_checker.specs.Rules.{Breaks}
 use Rattle.qil_checker.proofs.text.Text.first_breach.Given as goal
 

@@ -1,3 +1,4 @@
+-- The first definition that is not the first of its temporary.
 use Rattle.std.proofs.Common.{◌≡◌, List, ℕ, ◌<◌, sym, ap, subst, length, arith, below_more}
 use Rattle.qil_checker.specs.Text.{IsAgain, marks}
 use Rattle.qil_checker.proofs.PlaceLemmas.{again_within}
@@ -5,15 +6,15 @@ use Rattle.qil_checker.proofs.text.Text.second_definition.Goals as goal
 
 pub returns-in-Some : goal.returns-in-Some
 returns-in-Some g c = record {
-    mark = c.loop-place.place;
-    again = subst (λ t. IsAgain t c.loop-place.place c.in-Some.name) c.args.self.now.marks_are c.in-Some.ensures;
-    first = c.loop-place.invariant
-  }
+  mark = c.loop-place.place;
+  again = subst (λ t. IsAgain t c.loop-place.place c.in-Some.name) c.args.self.now.marks_are c.in-Some.ensures;
+  first = c.loop-place.invariant;
+}
 
 pub loop-place-preserved : goal.loop-place-preserved
 loop-place-preserved g c = λ j x l.
     below_more (λ k. (y : List ℕ) → IsAgain (marks c.args.self.now.func.now) k y → ⊥) c.loop-place.place (λ k h y. c.loop-place.invariant k y h)
-        (λ y b. c.in_default.ensures y (subst (λ t. IsAgain t c.loop-place.place y) (sym c.args.self.now.marks_are) b)) j l x
+    (λ y b. c.in_default.ensures y (subst (λ t. IsAgain t c.loop-place.place y) (sym c.args.self.now.marks_are) b)) j l x
 
 pub returns : goal.returns
 returns g c = λ k x a.

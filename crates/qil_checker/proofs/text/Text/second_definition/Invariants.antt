@@ -1,4 +1,5 @@
-use Rattle.std.proofs.Common.{◌≡◌, List, ℕ, ◌<◌}
+-- No mark so far defines a temporary again.
+use Rattle.std.proofs.Common.{List, ℕ, ◌<◌}
 use Rattle.qil_checker.specs.Text.{IsAgain, marks}
 use Rattle.qil_checker.proofs.text.Text.second_definition.Given as goal
 
