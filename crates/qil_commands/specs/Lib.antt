@@ -1,3 +1,4 @@
+-- The definitions of this crate.
 pub mod Words
 pub mod Numbers
 pub mod Command

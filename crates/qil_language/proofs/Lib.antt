@@ -1,3 +1,4 @@
+-- The lemmas of this crate.
 pub mod Law
 pub mod Marks
 pub mod Loop

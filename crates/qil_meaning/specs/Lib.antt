@@ -1,3 +1,4 @@
+-- The definitions of this crate.
 pub mod Values
 pub mod State
 pub mod Step

@@ -16,7 +16,8 @@ first_label (b ∷ blocks) = b.label
 abbrev pub started : {A : Type 0} → Func A → State
 started func = record {
   frames = record { func = func.name; label = first_label func.blocks; index = 0; temps = none_set } ∷ [];
-  status = running }
+  status = running;
+}
 
 -- functions take no parameters yet, so no argument is wanted
 abbrev pub started_with : {A : Type 0} → Option (Func A) → List ℕ → Result State StartFault

@@ -6,4 +6,4 @@ mod start;
 mod timeline;
 
 pub use start::StartFault;
-pub use timeline::back_undoes_forward;
+pub use timeline::{back_undoes_forward, moves_are_counted};

@@ -1,3 +1,4 @@
+-- The lemmas of this crate.
 pub mod Numbers
 pub mod Productions
 pub mod Open

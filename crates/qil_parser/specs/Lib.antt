@@ -1,3 +1,4 @@
+-- The definitions of this crate.
 pub mod Token
 pub mod Grammar
 pub mod Fault

@@ -1,3 +1,4 @@
+-- The goals of `one_list` that the check leaves open.
 use Rattle.qil_language.proofs.Loop.{one_list}
 use Rattle.qil_language.proofs.one_list.Goals as goal
 

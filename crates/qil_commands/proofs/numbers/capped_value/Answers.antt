@@ -1,3 +1,4 @@
+-- The goals of `capped_value` that the check leaves open.
 use Rattle.std.proofs.Common.{◌≡◌, ◌+◌, ◌*◌, ◌-◌, ◌^◌, min, get_or, ◌∙◌, arith}
 use Rattle.qil_commands.proofs.NumberLemmas.{value_after-step}
 use Rattle.qil_commands.proofs.numbers.capped_value.Goals as goal

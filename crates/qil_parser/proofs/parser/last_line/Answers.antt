@@ -1,3 +1,4 @@
+-- The goals of `last_line` that the check leaves open.
 use Rattle.qil_parser.proofs.Verdict.{last_is}
 use Rattle.qil_parser.proofs.parser.last_line.Goals as goal
 

@@ -1,3 +1,4 @@
+-- The goals of `one_fault` that the check leaves open.
 use Rattle.qil_parser.proofs.Unique.{one_fault}
 use Rattle.qil_parser.proofs.parser.one_fault.Goals as goal
 

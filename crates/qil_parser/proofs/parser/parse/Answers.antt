@@ -1,3 +1,4 @@
+-- The goals of `parse` that the check leaves open.
 use Rattle.std.proofs.Common.{sym, arith}
 use Rattle.qil_parser.specs.Token.{seen}
 use Rattle.qil_parser.proofs.Numbers.{cut_numbers}

@@ -1,3 +1,4 @@
+-- The goals of `lines` that the check leaves open.
 use Rattle.std.proofs.Common.{sym, ◌∙◌}
 use Rattle.std.proofs.lemmas.Result.{err_from_is_err_and}
 use Rattle.qil_language.proofs.Loop.{many_goes_on, many_stops}

@@ -1,3 +1,4 @@
+-- What the loop of `lines` keeps.
 use Rattle.std.proofs.Common.{◌≡◌, length}
 use Rattle.qil_language.proofs.Loop.{with_front}
 use Rattle.qil_parser.specs.Token.{seen}

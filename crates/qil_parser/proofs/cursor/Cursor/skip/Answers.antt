@@ -1,3 +1,4 @@
+-- The goals of `skip` that the check leaves open.
 use Rattle.qil_parser.proofs.Numbers.{numbers_left}
 use Rattle.qil_parser.proofs.cursor.Cursor.skip.Goals as goal
 

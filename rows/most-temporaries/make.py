@@ -1,0 +1,6 @@
+"""A function of 65,535 temporaries, the most that one may have."""
+with open("program.ssa", "w") as program:
+    program.write("function $main() {\n@start\n")
+    for number in range(65535):
+        program.write(f"%{number:x} =w copy 1\n")
+    program.write("ret\n}\n")
