@@ -1,7 +1,6 @@
 -- Each answer, by what was put and where the timeline was left.
-use Rattle.std.proofs.Common.{◌≡◌, ℕ, ◌<◌, ◌++◌, List, [], Bool, true, false, refl, arith}
+use Rattle.std.proofs.Common.{◌≡◌, ℕ, ◌<◌, ◌++◌, List, [], true, false, refl, arith}
 use Rattle.std.specs.Prelude.{Option, Some, None, Result, Ok, Err, codes, ◌==◌}
-use Rattle.std.proofs.lemmas.Bool.{cond-true, cond-false}
 use Rattle.qil_commands.specs.declared.command.Command.TheVariants.{Step, Back, Print, Quit}
 use Rattle.qil_commands.specs.declared.command.Refused.{Refused}
 use Rattle.qil_streams.specs.Device.{Puts}

@@ -1,12 +1,12 @@
 -- From the answers of a session to the transcript.
-use Rattle.std.proofs.Common.{◌≡◌, ℕ, ◌^◌, List, [], ◌∷◌, ◌++◌, take, sym, ◌∙◌, ap, refl, subst, append_assoc, inl, inr}
-use Rattle.std.specs.Prelude.{Option, Some, None, Result, Ok, Err, IfSome}
-use Rattle.std.specs.Io.KnownBytes.{Appends, Consumes}
+use Rattle.std.proofs.Common.{◌≡◌, ℕ, ◌^◌, List, ◌++◌, take, sym, ◌∙◌, ap, refl, subst, append_assoc, inl, inr}
+use Rattle.std.specs.Prelude.{Option, Some, None, Ok, Err}
+use Rattle.std.specs.Io.KnownBytes.{Appends}
 use Rattle.qil_parser.specs.declared.tree.Program.{Program}
 use Rattle.qil_checker.specs.declared.form.Form.{Form}
 use Rattle.qil_checker.specs.Check.{Verdict}
 use Rattle.qil_meaning.specs.State.{State}
-use Rattle.qil_meaning.specs.Timeline.{Timeline, begun}
+use Rattle.qil_meaning.specs.Timeline.{begun}
 use Rattle.qil_streams.specs.Device.{IsFrontOf}
 use Rattle.qil_streams.specs.Script.{lines_of, whole_lines_of}
 use Rattle.qil_streams.proofs.DeviceLemmas.{Appends-append}
@@ -14,7 +14,7 @@ use Rattle.qil_transcript.specs.declared.serving.IoFault.TheVariants.{Read, Writ
 use Rattle.qil_transcript.specs.declared.outcome.Outcome.TheVariants as outcomes
 use Rattle.qil_transcript.specs.declared.load.Refusal.{Refusal}
 use Rattle.qil_transcript.specs.Session.{Sitting, IsAnswered, answers}
-use Rattle.std.proofs.Common.{Bool, true, false}
+use Rattle.std.proofs.Common.{true, false}
 use Rattle.std.proofs.lemmas.Bool.{false≢true}
 use Rattle.qil_parser.specs.declared.tree.Func.{Func}
 use Rattle.qil_parser.specs.Token.{Tok}
@@ -25,7 +25,7 @@ use Rattle.qil_transcript.specs.declared.load.Refusal.TheVariants as refusals
 use Rattle.qil_transcript.specs.declared.outcome.Outcome.{Outcome}
 use Rattle.qil_transcript.specs.Find.{IsOneBlock}
 use Rattle.qil_transcript.specs.Load.{Accepts, IsSimple, Refuses, RefusesText}
-use Rattle.qil_transcript.specs.Debug.{Begins, IsSession, IsNoSession, IsRefusal, IsRefused, Written, load_lines, refused_line}
+use Rattle.qil_transcript.specs.Debug.{Begins, IsSession, IsNoSession, IsRefused, Written, load_lines, refused_line}
 use Rattle.qil_transcript.proofs.ServeLemmas.{Promise, ample}
 
 -- the load lines of a program and a form are those of their verdict
@@ -47,85 +47,107 @@ is_session : {A : Type 0} (text entry args : List ℕ) (verdict : Verdict A) (st
     Begins text entry args verdict start → first ≡ record { program = verdict.program; timeline = begun start } → IsAnswered first lines told →
     IsSession A text entry args lines (load_lines verdict start ++ told)
 is_session {A} text entry args verdict start first lines told begins first_is answered = record {
-    verdict = verdict; start = start; begins = begins; answered = told;
-    answers = subst (λ (s : Sitting A). IsAnswered s lines told) first_is answered;
-    written_is = refl }
+  verdict = verdict;
+  start = start;
+  begins = begins;
+  answered = told;
+  answers = subst (λ (s : Sitting A). IsAnswered s lines told) first_is answered;
+  written_is = refl;
+}
 
 pub Written-ended : {A T : Type 0} (v : T) (text entry args : List ℕ) (verdict : Verdict A) (start : State) (first : Sitting A) (known left w0 w1 w2 : Option (List ℕ))
-  → Opened text entry args verdict start first w0 w1 → Promise (Ok v) first known left w1 w2
-  → Written A outcomes.Ended text entry args known left w0 w2
+    → Opened text entry args verdict start first w0 w1 → Promise (Ok v) first known left w1 w2
+    → Written A outcomes.Ended text entry args known left w0 w2
 Written-ended v text entry args verdict start first None left w0 w1 w2 o p = tt
-Written-ended v text entry args verdict start first (Some script) left w0 w1 w2 o p =
-    (load_lines verdict start ++ p.0, Appends-append w0 w1 w2 (load_lines verdict start) p.0 o.loaded p.1,
-     (is_session text entry args verdict start first (lines_of script) p.0 o.begins o.first_is p.2.0, p.2.1))
+Written-ended v text entry args verdict start first (Some script) left w0 w1 w2 o p = (
+  load_lines verdict start ++ p.0,
+  Appends-append w0 w1 w2 (load_lines verdict start) p.0 o.loaded p.1,
+  (is_session text entry args verdict start first (lines_of script) p.0 o.begins o.first_is p.2.0, p.2.1),
+)
 
 pub Written-too_long : {A : Type 0} (T : Type 0) (text entry args : List ℕ) (verdict : Verdict A) (start : State) (first : Sitting A) (known left w0 w1 w2 : Option (List ℕ))
-  → Opened text entry args verdict start first w0 w1 → Promise {T = T} (Err TooLong) first known left w1 w2
-  → Written A outcomes.TooLong text entry args known left w0 w2
+    → Opened text entry args verdict start first w0 w1 → Promise {T = T} (Err TooLong) first known left w1 w2
+    → Written A outcomes.TooLong text entry args known left w0 w2
 Written-too_long T text entry args verdict start first None left w0 w1 w2 o p = tt
-Written-too_long T text entry args verdict start first (Some script) left w0 w1 w2 o p =
-    (load_lines verdict start ++ p.0, Appends-append w0 w1 w2 (load_lines verdict start) p.0 o.loaded p.1,
-     (is_session text entry args verdict start first (whole_lines_of (take (2 ^ 24) script)) p.0 o.begins o.first_is p.2.0, p.2.1))
+Written-too_long T text entry args verdict start first (Some script) left w0 w1 w2 o p = (
+  load_lines verdict start ++ p.0,
+  Appends-append w0 w1 w2 (load_lines verdict start) p.0 o.loaded p.1,
+  (is_session text entry args verdict start first (whole_lines_of (take (2 ^ 24) script)) p.0 o.begins o.first_is p.2.0, p.2.1),
+)
 
 pub Written-read : {A : Type 0} (T : Type 0) (text entry args : List ℕ) (verdict : Verdict A) (start : State) (first : Sitting A) (known left w0 w1 w2 : Option (List ℕ))
-  → Opened text entry args verdict start first w0 w1 → Promise {T = T} (Err Read) first known left w1 w2
-  → Written A outcomes.ReadFault text entry args known left w0 w2
+    → Opened text entry args verdict start first w0 w1 → Promise {T = T} (Err Read) first known left w1 w2
+    → Written A outcomes.ReadFault text entry args known left w0 w2
 Written-read T text entry args verdict start first None left w0 w1 w2 o p = tt
 Written-read T text entry args verdict start first (Some script) left w0 w1 w2 o p =
-    let (read, taken, answered) = p.2 in
-    (load_lines verdict start ++ p.0, Appends-append w0 w1 w2 (load_lines verdict start) p.0 o.loaded p.1,
-     (read, taken, is_session text entry args verdict start first (whole_lines_of read) p.0 o.begins o.first_is answered))
+    let (read, taken, answered) = p.2 in (
+      load_lines verdict start ++ p.0,
+      Appends-append w0 w1 w2 (load_lines verdict start) p.0 o.loaded p.1,
+      (read, taken, is_session text entry args verdict start first (whole_lines_of read) p.0 o.begins o.first_is answered),
+    )
 
 pub Written-write : {A : Type 0} (T : Type 0) (text entry args : List ℕ) (verdict : Verdict A) (start : State) (first : Sitting A) (known left w0 w1 w2 : Option (List ℕ))
-  → Opened text entry args verdict start first w0 w1 → Promise {T = T} (Err Write) first known left w1 w2
-  → Written A outcomes.WriteFault text entry args known left w0 w2
+    → Opened text entry args verdict start first w0 w1 → Promise {T = T} (Err Write) first known left w1 w2
+    → Written A outcomes.WriteFault text entry args known left w0 w2
 Written-write T text entry args verdict start first None left w0 w1 w2 o p = tt
 Written-write T text entry args verdict start first (Some script) left w0 w1 w2 o p =
-    let (all, answered, front) = p.2 in
-    (load_lines verdict start ++ p.0, Appends-append w0 w1 w2 (load_lines verdict start) p.0 o.loaded p.1,
-     (load_lines verdict start ++ all, inr (is_session text entry args verdict start first (lines_of script) all o.begins o.first_is answered),
-      (front.0, ap (λ v. load_lines verdict start ++ v) front.1 ∙ sym (append_assoc (load_lines verdict start) p.0 front.0))))
+    let (all, answered, front) = p.2 in (
+      load_lines verdict start ++ p.0,
+      Appends-append w0 w1 w2 (load_lines verdict start) p.0 o.loaded p.1,
+      (
+        load_lines verdict start ++ all,
+        inr (is_session text entry args verdict start first (lines_of script) all o.begins o.first_is answered),
+        (front.0, ap (λ v. load_lines verdict start ++ v) front.1 ∙ sym (append_assoc (load_lines verdict start) p.0 front.0)),
+      ),
+    )
 
 -- the load lines stopped
 pub Written-load : {A : Type 0} (text entry args : List ℕ) (verdict : Verdict A) (start : State) (known left w0 w1 : Option (List ℕ))
-  → Begins text entry args verdict start → ((front : List ℕ) × IsFrontOf front (load_lines verdict start) × Appends w0 w1 front)
-  → Written A outcomes.WriteFault text entry args known left w0 w1
+    → Begins text entry args verdict start → ((front : List ℕ) × IsFrontOf front (load_lines verdict start) × Appends w0 w1 front)
+    → Written A outcomes.WriteFault text entry args known left w0 w1
 Written-load text entry args verdict start None left w0 w1 begins p = tt
 Written-load {A} text entry args verdict start (Some script) left w0 w1 begins p =
     let first : Sitting A = record { program = verdict.program; timeline = begun start } in
     let more = ample first (lines_of script) in
-    let told = answers first (lines_of script) more.0 in
-    (p.0, p.2, (load_lines verdict start ++ told, inr (is_session text entry args verdict start first (lines_of script) told begins refl (more.0, more.1, refl)),
-      (p.1.0 ++ told, ap (λ v. v ++ told) p.1.1 ∙ append_assoc p.0 p.1.0 told)))
+    let told = answers first (lines_of script) more.0 in (
+      p.0,
+      p.2,
+      (
+        load_lines verdict start ++ told,
+        inr (is_session text entry args verdict start first (lines_of script) told begins refl (more.0, more.1, refl)),
+        (p.1.0 ++ told, ap (λ v. v ++ told) p.1.1 ∙ append_assoc p.0 p.1.0 told),
+      ),
+    )
 
 -- a refusal was told
 pub Written-refused : (A : Type 0) (text entry args : List ℕ) (refusal : Refusal) (known left w0 w1 : Option (List ℕ))
-  → Refuses A text entry args refusal → Appends w0 w1 (refused_line refusal)
-  → Written A outcomes.Refused text entry args known left w0 w1
+    → Refuses A text entry args refusal → Appends w0 w1 (refused_line refusal)
+    → Written A outcomes.Refused text entry args known left w0 w1
 Written-refused A text entry args refusal None left w0 w1 refuses p = tt
 Written-refused A text entry args refusal (Some script) left w0 w1 refuses p =
     (refused_line refusal, p, record { refusal = refusal; refuses = refuses; written_is = refl })
 
 -- the line of a refusal stopped
 pub Written-refusal_stopped : (A : Type 0) (text entry args : List ℕ) (refusal : Refusal) (known left w0 w1 : Option (List ℕ))
-  → Refuses A text entry args refusal → ((front : List ℕ) × IsFrontOf front (refused_line refusal) × Appends w0 w1 front)
-  → Written A outcomes.WriteFault text entry args known left w0 w1
+    → Refuses A text entry args refusal → ((front : List ℕ) × IsFrontOf front (refused_line refusal) × Appends w0 w1 front)
+    → Written A outcomes.WriteFault text entry args known left w0 w1
 Written-refusal_stopped A text entry args refusal None left w0 w1 refuses p = tt
 Written-refusal_stopped A text entry args refusal (Some script) left w0 w1 refuses p =
     (p.0, p.2, (refused_line refusal, inl (record { refusal = refusal; refuses = refuses; written_is = refl }), p.1))
 
 pub opened : {A : Type 0} (text entry args : List ℕ) (verdict : Verdict A) (start : State) (first : Sitting A) (form : Form) (w0 w1 : Option (List ℕ))
-  → Begins text entry args verdict start → form ≡ verdict.form → first.program ≡ verdict.program → first.timeline ≡ begun start
-  → Appends w0 w1 (load_lines (record { program = first.program; form = form }) start)
-  → Opened text entry args verdict start first w0 w1
+    → Begins text entry args verdict start → form ≡ verdict.form → first.program ≡ verdict.program → first.timeline ≡ begun start
+    → Appends w0 w1 (load_lines (record { program = first.program; form = form }) start)
+    → Opened text entry args verdict start first w0 w1
 opened text entry args verdict start first form w0 w1 begins f e t loaded = record {
-    begins = begins;
-    first_is = sitting-is first verdict.program start e t;
-    loaded = subst (λ (lines : List ℕ). Appends w0 w1 lines) (load_lines-is first.program form verdict start f e) loaded }
+  begins = begins;
+  first_is = sitting-is first verdict.program start e t;
+  loaded = subst (λ (lines : List ℕ). Appends w0 w1 lines) (load_lines-is first.program form verdict start f e) loaded;
+}
 
 pub stopped_lines : {A : Type 0} (p : Program A) (form : Form) (verdict : Verdict A) (start : State) (w0 w1 : Option (List ℕ)) → form ≡ verdict.form → p ≡ verdict.program
-  → ((front : List ℕ) × IsFrontOf front (load_lines (record { program = p; form = form }) start) × Appends w0 w1 front)
-  → (front : List ℕ) × IsFrontOf front (load_lines verdict start) × Appends w0 w1 front
+    → ((front : List ℕ) × IsFrontOf front (load_lines (record { program = p; form = form }) start) × Appends w0 w1 front)
+    → (front : List ℕ) × IsFrontOf front (load_lines verdict start) × Appends w0 w1 front
 stopped_lines p form verdict start w0 w1 f e stopped =
     (stopped.0, subst (λ (lines : List ℕ). IsFrontOf stopped.0 lines) (load_lines-is p form verdict start f e) stopped.1, stopped.2)
 
@@ -138,7 +160,7 @@ refuses_text A text entry args (refusals.Start fault) h = absurd h
 
 -- what was refused and how that was put
 pub Written-refuse : (A : Type 0) (outcome : Outcome) (text entry args : List ℕ) (refusal : Refusal) (known left w0 w1 : Option (List ℕ))
-  → Refuses A text entry args refusal → IsRefused outcome w0 w1 (refused_line refusal) → Written A outcome text entry args known left w0 w1
+    → Refuses A text entry args refusal → IsRefused outcome w0 w1 (refused_line refusal) → Written A outcome text entry args known left w0 w1
 Written-refuse A outcomes.Ended text entry args refusal known left w0 w1 refuses p = absurd p
 Written-refuse A outcomes.Refused text entry args refusal known left w0 w1 refuses p = Written-refused A text entry args refusal known left w0 w1 refuses p
 Written-refuse A outcomes.ReadFault text entry args refusal known left w0 w1 refuses p = absurd p

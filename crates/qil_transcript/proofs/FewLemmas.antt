@@ -1,7 +1,6 @@
 -- How many bytes are taken of a source.
-use Rattle.std.proofs.Common.{◌≡◌, ℕ, ◌+◌, ◌≤◌, ◌<◌, ◌^◌, List, [], length, arith, refl}
+use Rattle.std.proofs.Common.{◌≡◌, ℕ, ◌+◌, ◌≤◌, ◌^◌, List, [], arith, refl}
 use Rattle.std.specs.Prelude.{Option, Some, None, IfSome}
-use Rattle.std.specs.Io.KnownBytes.{Consumes}
 use Rattle.qil_streams.specs.Reading.{Reading, read_count}
 use Rattle.qil_streams.specs.Reader.{Reads}
 use Rattle.qil_streams.proofs.DeviceLemmas.{Consumes-nil}

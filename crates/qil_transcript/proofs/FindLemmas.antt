@@ -1,7 +1,6 @@
 -- A search through a list, element by element.
-use Rattle.std.proofs.Common.{◌≡◌, ℕ, suc, ◌+◌, ◌<◌, ◌≤◌, List, [], ◌∷◌, length, drop, get_or, Bool, true, false, cond, refl, sym, ap, ◌∙◌, add-one, drop-cons, inl, inr, subst}
+use Rattle.std.proofs.Common.{◌≡◌, ℕ, suc, ◌+◌, ◌<◌, ◌≤◌, List, [], ◌∷◌, length, drop, get_or, Bool, true, false, sym, ap, ◌∙◌, add-one, drop-cons, inl, inr, subst}
 use Rattle.std.specs.Prelude.{Option, Some, None, find}
-use Rattle.std.specs.Str.{bytes_eq}
 use Rattle.std.specs.List.{AllByRecursion}
 use Rattle.std.proofs.lemmas.List.{drop_all}
 use Rattle.std.proofs.lemmas.Bool.{cases_Bool, cond-true, cond-false}
@@ -35,14 +34,14 @@ find_none p xs i all h told = sym (ap (λ v. find p v) (drop_all i xs h)) ∙ to
 pub find-passes : {T : Type 0} (p : T → Bool) (xs : List T) (x : T) → find p xs ≡ Some x → p x ≡ true
 find-passes p [] x e = absurd cc
 find-passes p (y ∷ ys) x e = elim (cases_Bool (p y)) [
-    | inl t ↦ let same : Some y ≡ Some x = sym (find-cons_true p y ys t) ∙ e in let y_is : y ≡ x = cc in subst (λ z. p z ≡ true) y_is t
-    | inr f ↦ find-passes p ys x (sym (find-cons_false p y ys f) ∙ e)
-  ]
+  | inl t ↦ let same : Some y ≡ Some x = sym (find-cons_true p y ys t) ∙ e in let y_is : y ≡ x = cc in subst (λ z. p z ≡ true) y_is t
+  | inr f ↦ find-passes p ys x (sym (find-cons_false p y ys f) ∙ e)
+]
 
 -- and has what all have
 pub find-all : {T : Type 0} (P : T → Type 0) (p : T → Bool) (xs : List T) (x : T) → AllByRecursion P xs → find p xs ≡ Some x → P x
 find-all P p [] x all e = absurd cc
 find-all P p (y ∷ ys) x all e = elim (cases_Bool (p y)) [
-    | inl t ↦ let same : Some y ≡ Some x = sym (find-cons_true p y ys t) ∙ e in let y_is : y ≡ x = cc in subst P y_is all.0
-    | inr f ↦ find-all P p ys x all.1 (sym (find-cons_false p y ys f) ∙ e)
-  ]
+  | inl t ↦ let same : Some y ≡ Some x = sym (find-cons_true p y ys t) ∙ e in let y_is : y ≡ x = cc in subst P y_is all.0
+  | inr f ↦ find-all P p ys x all.1 (sym (find-cons_false p y ys f) ∙ e)
+]

@@ -1,3 +1,4 @@
+-- The lemmas of this crate, from a moment of a run up to whole transcripts.
 pub mod MomentLemmas
 pub mod StepLemmas
 pub mod PieceLemmas

@@ -1,6 +1,6 @@
 -- From the contracts of the lexer, the parser and the checker to that of loading.
-use Rattle.std.proofs.Common.{◌≡◌, ℕ, ◌≤◌, ◌<◌, ◌^◌, List, [], ◌∷◌, length, refl, sym, ap, ◌∙◌, subst, arith, inl, inr}
-use Rattle.std.specs.Prelude.{Result, Ok, Err, IfErr, IfOk, IsErr, IsErrAnd, MatchResult, map}
+use Rattle.std.proofs.Common.{◌≡◌, ℕ, ◌≤◌, ◌^◌, List, [], ◌∷◌, length, refl, sym, ap, ◌∙◌, subst, inl, inr}
+use Rattle.std.specs.Prelude.{Result, Ok, Err, IfErr, IsErrAnd, MatchResult, map}
 use Rattle.std.proofs.lemmas.Bool.{cases_lt}
 use Rattle.qil_lexer.specs.declared.token.Token.{Token}
 use Rattle.qil_lexer.specs.declared.error.LexCode.{LexCode}
@@ -16,12 +16,12 @@ use Rattle.qil_parser.specs.declared.tree.Program.{Program}
 use Rattle.qil_parser.specs.Token.{Tok, tok, seen}
 use Rattle.qil_parser.specs.Grammar.{Spells}
 use Rattle.qil_parser.specs.Fault.{TokenFault}
-use Rattle.qil_parser.specs.Outcome.{IsFault, IsProgram, IsRefusal}
+use Rattle.qil_parser.specs.Outcome.{IsFault, IsProgram}
 use Rattle.qil_checker.specs.declared.rule.Rule.{Rule}
 use Rattle.qil_checker.specs.declared.checker.CheckError.{CheckError}
 use Rattle.qil_checker.specs.declared.checker.CheckError.TheVariants as check
 use Rattle.qil_checker.specs.Rules.{WellFormed, Broken}
-use Rattle.qil_checker.specs.Check.{Verdict, IsTold, IsAnswered}
+use Rattle.qil_checker.specs.Check.{Verdict, IsTold}
 use Rattle.qil_transcript.specs.declared.load.Refusal.{Refusal}
 use Rattle.qil_transcript.specs.declared.load.Refusal.TheVariants as refusals
 use Rattle.qil_transcript.specs.declared.load.LoadError.{LoadError}
@@ -61,9 +61,9 @@ lex_accepts text e load verdict accepts only_cut is =
 -- a text with tokens is no longer than it may be
 pub short_text : (text : List ℕ) → ((code : LexCode) (line : ℕ) → TextFault text code line → ⊥) → length text ≤ 2 ^ 20
 short_text text only_fault = elim (cases_lt (2 ^ 20) (length text)) [
-    | inl gt ↦ absurd (only_fault L6 1 (inl (gt, refl, refl)))
-    | inr le ↦ le
-  ]
+  | inl gt ↦ absurd (only_fault L6 1 (inl (gt, refl, refl)))
+  | inr le ↦ le
+]
 
 -- ---- what the parser refuses
 

@@ -1,5 +1,5 @@
 -- The value of a temporary, write by write.
-use Rattle.std.proofs.Common.{◌≡◌, ℕ, suc, ◌+◌, ◌<◌, ◌≤◌, List, [], ◌∷◌, ◌++◌, length, drop, get_or, Bool, true, false, refl, sym, ap, ◌∙◌, arith, add-one, drop-cons, if◌then◌else◌}
+use Rattle.std.proofs.Common.{◌≡◌, ℕ, suc, ◌+◌, ◌<◌, ◌≤◌, List, [], ◌∷◌, ◌++◌, length, drop, get_or, Bool, true, false, refl, sym, ap, ◌∙◌, add-one, drop-cons, if◌then◌else◌}
 use Rattle.std.specs.Prelude.{Option, Some, None}
 use Rattle.std.specs.Str.{bytes_eq}
 use Rattle.std.proofs.lemmas.List.{drop_all}
@@ -31,10 +31,10 @@ read_more ws i w d x found found' all h is same told =
     let rest = drop (suc i) ws in
     let cut : drop i ws ≡ w ∷ rest = drop-cons ws i d h ∙ ap (λ (v : Write). v ∷ rest) is in
     rw (add-one i) (
-      ap (λ (o : Option ℕ). else_at (temps_of rest x) o) (sym same)
-      ∙ sym (else_at-assoc (temps_of rest x) (if bytes_eq x w.name.now then Some w.value else None) found)
-      ∙ ap (λ (o : Option ℕ). else_at o found) (sym (temps_of-cons w rest x))
-      ∙ ap (λ (v : List Write). else_at (temps_of v x) found) (sym cut) ∙ told)
+    ap (λ (o : Option ℕ). else_at (temps_of rest x) o) (sym same)
+    ∙ sym (else_at-assoc (temps_of rest x) (if bytes_eq x w.name.now then Some w.value else None) found)
+    ∙ ap (λ (o : Option ℕ). else_at o found) (sym (temps_of-cons w rest x))
+    ∙ ap (λ (v : List Write). else_at (temps_of v x) found) (sym cut) ∙ told)
 
 -- the write at an index is to that name
 pub read_match : (ws : List Write) (i : ℕ) (d : Write) (x : List ℕ) (b : Bool) (found found' all : Option ℕ) → i < length ws →

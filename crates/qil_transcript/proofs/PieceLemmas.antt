@@ -1,6 +1,6 @@
 -- Pieces of a text that were put so far, and those that are left.
 use Rattle.std.proofs.Common.{◌≡◌, ℕ, suc, ◌+◌, ◌<◌, ◌≤◌, List, [], ◌∷◌, ◌++◌, length, take, drop, get_or, ap, sym, subst, ◌∙◌}
-use Rattle.std.specs.Prelude.{Option, Result, Ok, Err, IsErrAnd}
+use Rattle.std.specs.Prelude.{Option, Result, Err, IsErrAnd}
 use Rattle.std.specs.List.{flat_map}
 use Rattle.std.specs.Io.KnownBytes.{Appends}
 use Rattle.std.proofs.lemmas.List.{take_more, take_all, append-nil}
@@ -33,7 +33,7 @@ pub put_stop : {T R E F : Type 0} (f : T → List ℕ) (xs : List T) (i : ℕ) (
 put_stop f xs i d a b c h Q r is e p q =
     let rest = flat_map f (drop (suc i) xs) in
     subst (λ (text : List ℕ). Puts r a c text) (sym (flat_map-split f xs i d h))
-      (Puts-append r a b c (flat_map f (take i xs)) (f (get_or xs i d) ++ rest) p (Puts-stop Q r is e b c (f (get_or xs i d)) rest q))
+    (Puts-append r a b c (flat_map f (take i xs)) (f (get_or xs i d) ++ rest) p (Puts-stop Q r is e b c (f (get_or xs i d)) rest q))
 
 -- all pieces were put
 pub put_all : {T : Type 0} (f : T → List ℕ) (xs : List T) (i : ℕ) (a b : Option (List ℕ)) → length xs ≤ i →

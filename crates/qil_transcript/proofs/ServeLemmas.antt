@@ -1,5 +1,5 @@
 -- How far `serve` has come.
-use Rattle.std.proofs.Common.{rules, ◌≡◌, ◌≢◌, ℕ, ◌+◌, ◌-◌, ◌≤◌, ◌<◌, ◌^◌, List, [], ◌∷◌, ◌++◌, take, length, arith, sym, ◌∙◌, ap, refl, Bool, true, false, cond, nat_eq, nat_lt, append_assoc, length-append}
+use Rattle.std.proofs.Common.{◌≡◌, ℕ, ◌+◌, ◌-◌, ◌≤◌, ◌<◌, ◌^◌, List, [], ◌∷◌, ◌++◌, take, length, arith, sym, ◌∙◌, ap, refl, Bool, true, false, cond, append_assoc, length-append}
 use Rattle.std.specs.Prelude.{Option, Some, None, Result, Ok, Err, ◌==◌}
 use Rattle.std.proofs.lemmas.List.{append-nil}
 use Rattle.std.specs.Bool.{MatchBool}
@@ -53,15 +53,16 @@ answer_goes s (Err refusal) want h = refl
 
 -- one more line
 pub Told-line : {A : Type 0} (first : Sitting A) (before : List (List ℕ)) (wants : List (Option ℕ)) (told : List ℕ) (now : Sitting A) (line : List ℕ) (want : Option ℕ) (text : List ℕ) (next : Sitting A)
-  → Told first before wants told now → is_quit (command_of line) ≡ false → IsLawful now (command_of line) want
-  → text ≡ (answer now (command_of line) want).text → next ≡ (answer now (command_of line) want).left
-  → Told first (before ++ line ∷ []) (wants ++ want ∷ []) (told ++ text) next
+    → Told first before wants told now → is_quit (command_of line) ≡ false → IsLawful now (command_of line) want
+    → text ≡ (answer now (command_of line) want).text → next ≡ (answer now (command_of line) want).left
+    → Told first (before ++ line ∷ []) (wants ++ want ∷ []) (told ++ text) next
 Told-line first before wants told now line want text next r no_quit lawful is_text is_next =
     let goes = answer_goes now (command_of line) want no_quit in
     record {
       goes = list_any-append _ before (line ∷ []) ∙ rw (r.goes, no_quit) refl;
       lawful = λ rest more h. simp append_assoc (r.lawful (line ∷ rest) (want ∷ more) (lawful, rw goes (rw (← is_next) h)));
-      text = λ rest more. simp append_assoc (r.text (line ∷ rest) (want ∷ more) ∙ rw (goes, is_text, is_next) refl) }
+      text = λ rest more. simp append_assoc (r.text (line ∷ rest) (want ∷ more) ∙ rw (goes, is_text, is_next) refl);
+    }
 
 -- no want is lawful
 pub none_lawful : {A : Type 0} (s : Sitting A) (said : Result (Option Command) Refused) → IsLawful s said None
@@ -105,22 +106,26 @@ quit_text now (Err refusal) h = absurd (false≢true h)
 
 -- and, with a `quit` after them, any lines that follow
 pub Told-quit : {A : Type 0} (first : Sitting A) (before : List (List ℕ)) (wants : List (Option ℕ)) (told : List ℕ) (now : Sitting A) (line : List ℕ) (rest : List (List ℕ)) → Told first before wants told now → is_quit (command_of line) ≡ true → IsAnswered first (before ++ line ∷ rest) told
-Told-quit first before wants told now line rest r quit =
-    (wants ++ None ∷ [],
-     r.lawful (line ∷ rest) (None ∷ []) (none_lawful now (command_of line), rw (quit_goes now (command_of line) quit) refl),
-     sym (r.text (line ∷ rest) (None ∷ []) ∙ rw (quit_goes now (command_of line) quit, quit_text now (command_of line) quit) (append-nil told)))
+Told-quit first before wants told now line rest r quit = (
+  wants ++ None ∷ [],
+  r.lawful (line ∷ rest) (None ∷ []) (none_lawful now (command_of line), rw (quit_goes now (command_of line) quit) refl),
+  sym (r.text (line ∷ rest) (None ∷ []) ∙ rw (quit_goes now (command_of line) quit, quit_text now (command_of line) quit) (append-nil told)),
+)
 
 -- what is left of the text of a line, and of the answers to any lines that follow
 pub Told-front : {A : Type 0} (first : Sitting A) (before : List (List ℕ)) (wants : List (Option ℕ)) (told : List ℕ) (now : Sitting A) (line : List ℕ) (rest : List (List ℕ)) (want : Option ℕ) (front : List ℕ)
-  → Told first before wants told now → IsLawful now (command_of line) want → IsFrontOf front (answer now (command_of line) want).text
-  → (all : List ℕ) × IsAnswered first (before ++ line ∷ rest) all × IsFrontOf (told ++ front) all
+    → Told first before wants told now → IsLawful now (command_of line) want → IsFrontOf front (answer now (command_of line) want).text
+    → (all : List ℕ) × IsAnswered first (before ++ line ∷ rest) all × IsFrontOf (told ++ front) all
 Told-front first before wants told now line rest want front r lawful is_front =
     let one = answer now (command_of line) want in
-    let more = either one.goes (λ wants. AreLawful one.left rest wants) (ample one.left rest) in
-    (told ++ answers now (line ∷ rest) (want ∷ more.0),
-     (wants ++ want ∷ more.0, r.lawful (line ∷ rest) (want ∷ more.0) (lawful, more.1), sym (r.text (line ∷ rest) (want ∷ more.0))),
-     (is_front.0 ++ cond one.goes (answers one.left rest more.0) [],
-      rw is_front.1 (simp append_assoc)))
+    let more = either one.goes (λ wants. AreLawful one.left rest wants) (ample one.left rest) in (
+      told ++ answers now (line ∷ rest) (want ∷ more.0),
+      (wants ++ want ∷ more.0, r.lawful (line ∷ rest) (want ∷ more.0) (lawful, more.1), sym (r.text (line ∷ rest) (want ∷ more.0))),
+      (
+        is_front.0 ++ cond one.goes (answers one.left rest more.0) [],
+        rw is_front.1 (simp append_assoc),
+      ),
+    )
 
 -- After the bytes `done`, which are whole lines, `told` was answered and the s is `now`.
 pub record Reached {A : Type 0} (first : Sitting A) (done told : List ℕ) (now : Sitting A) : Type 0 where
@@ -133,13 +138,15 @@ pub Reached-nil : {A : Type 0} (first : Sitting A) → Reached first [] [] first
 Reached-nil first = record { before = []; wants = []; cut = Cut-nil; so_far = Told-nil first }
 
 pub Reached-line : {A : Type 0} (first : Sitting A) (done told : List ℕ) (now : Sitting A) (line : List ℕ) (want : Option ℕ) (text : List ℕ) (next : Sitting A)
-  → Reached first done told now → IsLine line → is_quit (command_of line) ≡ false → IsLawful now (command_of line) want
-  → text ≡ (answer now (command_of line) want).text → next ≡ (answer now (command_of line) want).left
-  → Reached first (done ++ (line ++ 10 ∷ [])) (told ++ text) next
+    → Reached first done told now → IsLine line → is_quit (command_of line) ≡ false → IsLawful now (command_of line) want
+    → text ≡ (answer now (command_of line) want).text → next ≡ (answer now (command_of line) want).left
+    → Reached first (done ++ (line ++ 10 ∷ [])) (told ++ text) next
 Reached-line first done told now line want text next r is_line no_quit lawful is_text is_next = record {
-    before = r.before ++ line ∷ []; wants = r.wants ++ want ∷ [];
-    cut = Cut-line done r.before line r.cut is_line;
-    so_far = Told-line first r.before r.wants told now line want text next r.so_far no_quit lawful is_text is_next }
+  before = r.before ++ line ∷ [];
+  wants = r.wants ++ want ∷ [];
+  cut = Cut-line done r.before line r.cut is_line;
+  so_far = Told-line first r.before r.wants told now line want text next r.so_far no_quit lawful is_text is_next;
+}
 
 -- Where a loop over the lines stands: what it took of the script, and what it wrote.
 pub record Standing {A : Type 0} (first : Sitting A) (known rest : Option (List ℕ)) (w0 w1 : Option (List ℕ)) (now : Sitting A) (given : ℕ) : Type 0 where
@@ -163,67 +170,87 @@ short_enough script le t = omega (arith, t.0)
 
 pub Standing-start : {A : Type 0} (first : Sitting A) (known rest w : Option (List ℕ)) (given : ℕ) → rest ≡ known → given ≡ 0 → Standing first known rest w w first given
 Standing-start first known rest w given e h = record {
-    done = []; told = []; reached = Reached-nil first; taken = rw e (Consumes-nil known); given_is = h; wrote = Appends-nil w }
+  done = [];
+  told = [];
+  reached = Reached-nil first;
+  taken = rw e (Consumes-nil known);
+  given_is = h;
+  wrote = Appends-nil w;
+}
 
 pub Standing-line : {A : Type 0} (first : Sitting A) (known rest rest' w0 w1 w2 : Option (List ℕ)) (now next : Sitting A) (given given' : ℕ) (line : List ℕ) (want : Option ℕ)
-  → Standing first known rest w0 w1 now given → IsLine line → Consumes rest rest' (line ++ 10 ∷ []) → given' ≡ given + (length line + 1)
-  → is_quit (command_of line) ≡ false → IsLawful now (command_of line) want → Appends w1 w2 (answer now (command_of line) want).text
-  → next ≡ (answer now (command_of line) want).left
-  → Standing first known rest' w0 w2 next given'
+    → Standing first known rest w0 w1 now given → IsLine line → Consumes rest rest' (line ++ 10 ∷ []) → given' ≡ given + (length line + 1)
+    → is_quit (command_of line) ≡ false → IsLawful now (command_of line) want → Appends w1 w2 (answer now (command_of line) want).text
+    → next ≡ (answer now (command_of line) want).left
+    → Standing first known rest' w0 w2 next given'
 Standing-line first known rest rest' w0 w1 w2 now next given given' line want s is_line taken given_is no_quit lawful wrote is_next =
     let text = (answer now (command_of line) want).text in
     let size : length (s.done ++ (line ++ 10 ∷ [])) ≡ length s.done + (length line + 1) = length-append s.done (line ++ 10 ∷ []) ∙ ap (λ v. length s.done + v) (length-append line (10 ∷ [])) in
     record {
-      done = s.done ++ (line ++ 10 ∷ []); told = s.told ++ text;
+      done = s.done ++ (line ++ 10 ∷ []);
+      told = s.told ++ text;
       reached = Reached-line first s.done s.told now line want text next s.reached is_line no_quit lawful refl is_next;
       taken = Consumes-append known rest rest' s.done (line ++ 10 ∷ []) s.taken taken;
       given_is = omega (arith, given_is, s.given_is, size);
-      wrote = Appends-append w0 w1 w2 s.told text s.wrote wrote }
+      wrote = Appends-append w0 w1 w2 s.told text s.wrote wrote;
+    }
 
 -- the end of the script
 pub Promise-end : {A T : Type 0} (v : T) (first : Sitting A) (known rest rest' left w0 w1 : Option (List ℕ)) (now : Sitting A) (given given' : ℕ)
-  → Standing first known rest w0 w1 now given → Consumes rest rest' [] → IsAtEnd rest' → given' ≡ given → given' ≤ 2 ^ 24
-  → Promise (Ok v) first known left w0 w1
+    → Standing first known rest w0 w1 now given → Consumes rest rest' [] → IsAtEnd rest' → given' ≡ given → given' ≤ 2 ^ 24
+    → Promise (Ok v) first known left w0 w1
 Promise-end v first None rest rest' left w0 w1 now given given' s taken end same le = tt
 Promise-end v first (Some script) rest rest' left w0 w1 now given given' s taken end same le =
     let all = Consumes-append (Some script) rest rest' s.done [] s.taken taken in
     let is : script ≡ s.done = consumed_all script (s.done ++ []) rest' all end ∙ append-nil s.done in
-    let size : length script ≤ 2 ^ 24 = omega (arith, ap length is, s.given_is) in
-    (s.told, s.wrote,
-     (rw is (rw (Cut-end s.done s.reached.before s.reached.cut) (Told-answered first s.reached.before s.reached.wants s.told now s.reached.so_far)),
-      short_enough script size))
+    let size : length script ≤ 2 ^ 24 = omega (arith, ap length is, s.given_is) in (
+      s.told,
+      s.wrote,
+      (
+        rw is (rw (Cut-end s.done s.reached.before s.reached.cut) (Told-answered first s.reached.before s.reached.wants s.told now s.reached.so_far)),
+        short_enough script size,
+      ),
+    )
 
 -- a last line without byte 10
 pub Promise-last : {A T : Type 0} (v : T) (first : Sitting A) (known rest rest' left w0 w1 w2 : Option (List ℕ)) (now next : Sitting A) (given given' : ℕ) (line : List ℕ) (want : Option ℕ)
-  → Standing first known rest w0 w1 now given → IsLine line → 0 < length line → Consumes rest rest' line → IsAtEnd rest' → given' ≡ given + length line → given' ≤ 2 ^ 24
-  → is_quit (command_of line) ≡ false → IsLawful now (command_of line) want → Appends w1 w2 (answer now (command_of line) want).text
-  → next ≡ (answer now (command_of line) want).left
-  → Promise (Ok v) first known left w0 w2
+    → Standing first known rest w0 w1 now given → IsLine line → 0 < length line → Consumes rest rest' line → IsAtEnd rest' → given' ≡ given + length line → given' ≤ 2 ^ 24
+    → is_quit (command_of line) ≡ false → IsLawful now (command_of line) want → Appends w1 w2 (answer now (command_of line) want).text
+    → next ≡ (answer now (command_of line) want).left
+    → Promise (Ok v) first known left w0 w2
 Promise-last v first None rest rest' left w0 w1 w2 now next given given' line want s is_line some taken end given_is le no_quit lawful wrote is_next = tt
 Promise-last v first (Some script) rest rest' left w0 w1 w2 now next given given' line want s is_line some taken end given_is le no_quit lawful wrote is_next =
     let text = (answer now (command_of line) want).text in
     let r = s.reached in
     let is : script ≡ s.done ++ line = consumed_all script (s.done ++ line) rest' (Consumes-append (Some script) rest rest' s.done line s.taken taken) end in
-    let size : length script ≤ 2 ^ 24 = omega (arith, ap length is, s.given_is, given_is, length-append s.done line) in
-    (s.told ++ text, Appends-append w0 w1 w2 s.told text s.wrote wrote,
-     (rw is (rw (Cut-last s.done r.before line r.cut is_line some)
-        (Told-answered first (r.before ++ line ∷ []) (r.wants ++ want ∷ []) (s.told ++ text) next
-          (Told-line first r.before r.wants s.told now line want text next r.so_far no_quit lawful refl is_next))),
-      short_enough script size))
+    let size : length script ≤ 2 ^ 24 = omega (arith, ap length is, s.given_is, given_is, length-append s.done line) in (
+      s.told ++ text,
+      Appends-append w0 w1 w2 s.told text s.wrote wrote,
+      (
+        rw is (rw (Cut-last s.done r.before line r.cut is_line some)
+            (Told-answered first (r.before ++ line ∷ []) (r.wants ++ want ∷ []) (s.told ++ text) next
+            (Told-line first r.before r.wants s.told now line want text next r.so_far no_quit lawful refl is_next))),
+        short_enough script size,
+      ),
+    )
 
 -- a last line that quits
 pub Promise-last_quit : {A T : Type 0} (v : T) (first : Sitting A) (known rest rest' left w0 w1 : Option (List ℕ)) (now : Sitting A) (given given' : ℕ) (line : List ℕ)
-  → Standing first known rest w0 w1 now given → IsLine line → 0 < length line → Consumes rest rest' line → IsAtEnd rest' → given' ≡ given + length line → given' ≤ 2 ^ 24
-  → is_quit (command_of line) ≡ true
-  → Promise (Ok v) first known left w0 w1
+    → Standing first known rest w0 w1 now given → IsLine line → 0 < length line → Consumes rest rest' line → IsAtEnd rest' → given' ≡ given + length line → given' ≤ 2 ^ 24
+    → is_quit (command_of line) ≡ true
+    → Promise (Ok v) first known left w0 w1
 Promise-last_quit v first None rest rest' left w0 w1 now given given' line s is_line some taken end given_is le quit = tt
 Promise-last_quit v first (Some script) rest rest' left w0 w1 now given given' line s is_line some taken end given_is le quit =
     let r = s.reached in
     let is : script ≡ s.done ++ line = consumed_all script (s.done ++ line) rest' (Consumes-append (Some script) rest rest' s.done line s.taken taken) end in
-    let size : length script ≤ 2 ^ 24 = omega (arith, ap length is, s.given_is, given_is, length-append s.done line) in
-    (s.told, s.wrote,
-     (rw is (rw (Cut-last s.done r.before line r.cut is_line some) (Told-quit first r.before r.wants s.told now line [] r.so_far quit)),
-      short_enough script size))
+    let size : length script ≤ 2 ^ 24 = omega (arith, ap length is, s.given_is, given_is, length-append s.done line) in (
+      s.told,
+      s.wrote,
+      (
+        rw is (rw (Cut-last s.done r.before line r.cut is_line some) (Told-quit first r.before r.wants s.told now line [] r.so_far quit)),
+        short_enough script size,
+      ),
+    )
 
 pub prepend_none : (pending : List ℕ) (left : Option (List ℕ)) → pending ≡ [] → prepend_known pending left ≡ left
 prepend_none pending None e = refl
@@ -231,15 +258,16 @@ prepend_none pending (Some xs) e = rw e refl
 
 -- a reading that failed
 pub Promise-read : {A : Type 0} (T : Type 0) (first : Sitting A) (known rest left w0 w1 : Option (List ℕ)) (pending : List ℕ) (now : Sitting A) (given : ℕ) (line : List ℕ)
-  → Standing first known rest w0 w1 now given → IsLine line → Consumes rest (prepend_known pending left) line → pending ≡ []
-  → Promise {T = T} (Err Read) first known left w0 w1
+    → Standing first known rest w0 w1 now given → IsLine line → Consumes rest (prepend_known pending left) line → pending ≡ []
+    → Promise {T = T} (Err Read) first known left w0 w1
 Promise-read T first None rest left w0 w1 pending now given line s is_line taken none = tt
 Promise-read T first (Some script) rest left w0 w1 pending now given line s is_line taken none =
     let r = s.reached in
-    let all = Consumes-append (Some script) rest left s.done line s.taken (rw (prepend_none pending left none) at taken) in
-    (s.told, s.wrote,
-     (s.done ++ line, all, rw (Cut-whole_part s.done r.before line r.cut is_line) (Told-answered first r.before r.wants s.told now r.so_far)))
-
+    let all = Consumes-append (Some script) rest left s.done line s.taken (rw (prepend_none pending left none) at taken) in (
+      s.told,
+      s.wrote,
+      (s.done ++ line, all, rw (Cut-whole_part s.done r.before line r.cut is_line) (Told-answered first r.before r.wants s.told now r.so_far)),
+    )
 
 consumed_some : (script done : List ℕ) (rest : Option (List ℕ)) → Consumes (Some script) rest done → (more : List ℕ) × (script ≡ done ++ more)
 consumed_some script done None p = absurd p
@@ -259,8 +287,8 @@ take_over n xs ys le =
 
 -- a script that is too long
 pub Promise-too_long : {A : Type 0} (T : Type 0) (first : Sitting A) (known rest after left w0 w1 : Option (List ℕ)) (now : Sitting A) (given : ℕ) (line : List ℕ)
-  → Standing first known rest w0 w1 now given → IsLine line → Consumes rest after line → HasMore after → given + length line ≡ 2 ^ 24
-  → Promise {T = T} (Err TooLong) first known left w0 w1
+    → Standing first known rest w0 w1 now given → IsLine line → Consumes rest after line → HasMore after → given + length line ≡ 2 ^ 24
+    → Promise {T = T} (Err TooLong) first known left w0 w1
 Promise-too_long T first None rest after left w0 w1 now given line s is_line taken more full = tt
 Promise-too_long T first (Some script) rest after left w0 w1 now given line s is_line taken more full =
     let r = s.reached in
@@ -268,19 +296,23 @@ Promise-too_long T first (Some script) rest after left w0 w1 now given line s is
     let size : length (s.done ++ line) ≡ 2 ^ 24 = length-append s.done line ∙ ap (λ v. v + length line) (sym s.given_is) ∙ full in
     let front : take (2 ^ 24) script ≡ s.done ++ line = ap (λ v. take (2 ^ 24) v) is ∙ take_seam (2 ^ 24) (s.done ++ line) ys size in
     let whole : whole_lines_of (take (2 ^ 24) script) ≡ r.before = ap (λ v. whole_lines_of v) front ∙ Cut-whole_part s.done r.before line r.cut is_line in
-    let long : 2 ^ 24 < length script = omega (arith, ap length is, length-append (s.done ++ line) ys, size, some) in
-    (s.told, s.wrote,
-     (subst (λ lines. IsAnswered first lines s.told) (sym whole) (Told-answered first r.before r.wants s.told now r.so_far),
-      (long, ap (λ lines. quits lines) whole ∙ r.so_far.goes)))
+    let long : 2 ^ 24 < length script = omega (arith, ap length is, length-append (s.done ++ line) ys, size, some) in (
+      s.told,
+      s.wrote,
+      (
+        subst (λ lines. IsAnswered first lines s.told) (sym whole) (Told-answered first r.before r.wants s.told now r.so_far),
+        (long, ap (λ lines. quits lines) whole ∙ r.so_far.goes),
+      ),
+    )
 
 quits_there : (before : List (List ℕ)) (line : List ℕ) (after : List (List ℕ)) → quits before ≡ false → is_quit (command_of line) ≡ true → quits (before ++ line ∷ after) ≡ true
 quits_there before line after e f = list_any-append _ before (line ∷ after) ∙ rw (e, f) refl
 
 -- a line that quits
 pub Promise-quit : {A T : Type 0} (v : T) (first : Sitting A) (known rest rest' left w0 w1 : Option (List ℕ)) (now : Sitting A) (given given' : ℕ) (line : List ℕ)
-  → Standing first known rest w0 w1 now given → IsLine line → Consumes rest rest' (line ++ 10 ∷ []) → given' ≡ given + (length line + 1) → given' ≤ 2 ^ 24
-  → is_quit (command_of line) ≡ true
-  → Promise (Ok v) first known left w0 w1
+    → Standing first known rest w0 w1 now given → IsLine line → Consumes rest rest' (line ++ 10 ∷ []) → given' ≡ given + (length line + 1) → given' ≤ 2 ^ 24
+    → is_quit (command_of line) ≡ true
+    → Promise (Ok v) first known left w0 w1
 Promise-quit v first None rest rest' left w0 w1 now given given' line s is_line taken given_is le quit = tt
 Promise-quit v first (Some script) rest rest' left w0 w1 now given given' line s is_line taken given_is le quit =
     let r = s.reached in
@@ -291,17 +323,21 @@ Promise-quit v first (Some script) rest rest' left w0 w1 now given given' line s
     let all : lines_of script ≡ r.before ++ line ∷ lines_of ys = ap (λ v. lines_of v) is ∙ cut.lines ys ∙ append_assoc r.before (line ∷ []) (lines_of ys) in
     let front : take (2 ^ 24) script ≡ bytes ++ take (2 ^ 24 - length bytes) ys = ap (λ v. take (2 ^ 24) v) is ∙ take_over (2 ^ 24) bytes ys size in
     let whole : whole_lines_of (take (2 ^ 24) script) ≡ r.before ++ line ∷ whole_lines_of (take (2 ^ 24 - length bytes) ys) =
-        ap (λ v. whole_lines_of v) front ∙ cut.whole (take (2 ^ 24 - length bytes) ys) ∙ append_assoc r.before (line ∷ []) (whole_lines_of (take (2 ^ 24 - length bytes) ys)) in
-    let ends : quits (whole_lines_of (take (2 ^ 24) script)) ≡ true = ap (λ lines. quits lines) whole ∙ quits_there r.before line (whole_lines_of (take (2 ^ 24 - length bytes) ys)) r.so_far.goes quit in
-    (s.told, s.wrote,
-     (subst (λ lines. IsAnswered first lines s.told) (sym all) (Told-quit first r.before r.wants s.told now line (lines_of ys) r.so_far quit),
-      λ t. true≢false (sym ends ∙ t.1)))
+    ap (λ v. whole_lines_of v) front ∙ cut.whole (take (2 ^ 24 - length bytes) ys) ∙ append_assoc r.before (line ∷ []) (whole_lines_of (take (2 ^ 24 - length bytes) ys)) in
+    let ends : quits (whole_lines_of (take (2 ^ 24) script)) ≡ true = ap (λ lines. quits lines) whole ∙ quits_there r.before line (whole_lines_of (take (2 ^ 24 - length bytes) ys)) r.so_far.goes quit in (
+      s.told,
+      s.wrote,
+      (
+        subst (λ lines. IsAnswered first lines s.told) (sym all) (Told-quit first r.before r.wants s.told now line (lines_of ys) r.so_far quit),
+        λ t. true≢false (sym ends ∙ t.1),
+      ),
+    )
 
 -- a writing that failed at a line
 pub Promise-write : {A : Type 0} (T : Type 0) (first : Sitting A) (known rest rest' left w0 w1 w2 : Option (List ℕ)) (now : Sitting A) (given : ℕ) (line : List ℕ) (want : Option ℕ)
-  → Standing first known rest w0 w1 now given → IsLine line → Consumes rest rest' (line ++ 10 ∷ []) → IsLawful now (command_of line) want
-  → ((front : List ℕ) × IsFrontOf front (answer now (command_of line) want).text × Appends w1 w2 front)
-  → Promise {T = T} (Err Write) first known left w0 w2
+    → Standing first known rest w0 w1 now given → IsLine line → Consumes rest rest' (line ++ 10 ∷ []) → IsLawful now (command_of line) want
+    → ((front : List ℕ) × IsFrontOf front (answer now (command_of line) want).text × Appends w1 w2 front)
+    → Promise {T = T} (Err Write) first known left w0 w2
 Promise-write T first None rest rest' left w0 w1 w2 now given line want s is_line taken lawful wrote = tt
 Promise-write T first (Some script) rest rest' left w0 w1 w2 now given line want s is_line taken lawful wrote =
     let r = s.reached in
@@ -309,26 +345,30 @@ Promise-write T first (Some script) rest rest' left w0 w1 w2 now given line want
     let cut = Cut-line s.done r.before line r.cut is_line in
     let (ys, is) = consumed_some script bytes rest' (Consumes-append (Some script) rest rest' s.done (line ++ 10 ∷ []) s.taken taken) in
     let all : lines_of script ≡ r.before ++ line ∷ lines_of ys = ap (λ v. lines_of v) is ∙ cut.lines ys ∙ append_assoc r.before (line ∷ []) (lines_of ys) in
-    let told = Told-front first r.before r.wants s.told now line (lines_of ys) want wrote.0 r.so_far lawful wrote.1 in
-    (s.told ++ wrote.0, Appends-append w0 w1 w2 s.told wrote.0 s.wrote wrote.2,
-     (told.0, subst (λ lines. IsAnswered first lines told.0) (sym all) told.1, told.2))
+    let told = Told-front first r.before r.wants s.told now line (lines_of ys) want wrote.0 r.so_far lawful wrote.1 in (
+      s.told ++ wrote.0,
+      Appends-append w0 w1 w2 s.told wrote.0 s.wrote wrote.2,
+      (told.0, subst (λ lines. IsAnswered first lines told.0) (sym all) told.1, told.2),
+    )
 
 -- a writing that failed at a last line without byte 10
 pub Promise-write_last : {A : Type 0} (T : Type 0) (first : Sitting A) (known rest rest' left w0 w1 w2 : Option (List ℕ)) (now : Sitting A) (given : ℕ) (line : List ℕ) (want : Option ℕ)
-  → Standing first known rest w0 w1 now given → IsLine line → 0 < length line → Consumes rest rest' line → IsAtEnd rest' → IsLawful now (command_of line) want
-  → ((front : List ℕ) × IsFrontOf front (answer now (command_of line) want).text × Appends w1 w2 front)
-  → Promise {T = T} (Err Write) first known left w0 w2
+    → Standing first known rest w0 w1 now given → IsLine line → 0 < length line → Consumes rest rest' line → IsAtEnd rest' → IsLawful now (command_of line) want
+    → ((front : List ℕ) × IsFrontOf front (answer now (command_of line) want).text × Appends w1 w2 front)
+    → Promise {T = T} (Err Write) first known left w0 w2
 Promise-write_last T first None rest rest' left w0 w1 w2 now given line want s is_line some taken end lawful wrote = tt
 Promise-write_last T first (Some script) rest rest' left w0 w1 w2 now given line want s is_line some taken end lawful wrote =
     let r = s.reached in
     let is : script ≡ s.done ++ line = consumed_all script (s.done ++ line) rest' (Consumes-append (Some script) rest rest' s.done line s.taken taken) end in
     let all : lines_of script ≡ r.before ++ line ∷ [] = ap (λ v. lines_of v) is ∙ Cut-last s.done r.before line r.cut is_line some in
-    let told = Told-front first r.before r.wants s.told now line [] want wrote.0 r.so_far lawful wrote.1 in
-    (s.told ++ wrote.0, Appends-append w0 w1 w2 s.told wrote.0 s.wrote wrote.2,
-     (told.0, subst (λ lines. IsAnswered first lines told.0) (sym all) told.1, told.2))
+    let told = Told-front first r.before r.wants s.told now line [] want wrote.0 r.so_far lawful wrote.1 in (
+      s.told ++ wrote.0,
+      Appends-append w0 w1 w2 s.told wrote.0 s.wrote wrote.2,
+      (told.0, subst (λ lines. IsAnswered first lines told.0) (sym all) told.1, told.2),
+    )
 
 -- what is kept of a line says what it says
 pub line_said : {A E : Type 0} (r : Result Next E) (old new : Sitting A) (slice kept line : List ℕ) (before after : Option (List ℕ))
-  → slice ≡ kept → kept ≡ take 257 line → AnswersLine r old new (command_of slice) before after → AnswersLine r old new (command_of line) before after
+    → slice ≡ kept → kept ≡ take 257 line → AnswersLine r old new (command_of slice) before after → AnswersLine r old new (command_of line) before after
 line_said r old new slice kept line before after e f h =
     subst (λ said. AnswersLine r old new said before after) (ap (λ v. command_of v) (e ∙ f) ∙ command_of-kept line) h

@@ -1,6 +1,6 @@
 -- How a session starts.
-use Rattle.std.proofs.Common.{◌≡◌, ℕ, List, [], ◌∷◌, Bool, true, refl, sym, ap, ◌∙◌, subst, reverse}
-use Rattle.std.specs.Prelude.{Option, Some, None, map}
+use Rattle.std.proofs.Common.{◌≡◌, ℕ, List, [], ◌∷◌, sym, ap, ◌∙◌}
+use Rattle.std.specs.Prelude.{Some}
 use Rattle.std.specs.Str.{bytes_eq}
 use Rattle.qil_parser.specs.declared.tree.Block.{Block}
 use Rattle.qil_parser.specs.declared.tree.Func.{Func}
@@ -25,7 +25,8 @@ begun_run run func block one f b writes index status past =
     let temps : temps_of run.present.writes.items ≡ none_set = ap (λ (ws : List Write). temps_of ws) writes ∙ (λ i x. temps_of-nil x i) in
     rw (one, status, past, f, b, index) (λ i. record {
       now = record { frames = record { func = func.name; label = block.label; index = 0; temps = temps i } ∷ []; status = running };
-      past = [] })
+      past = [];
+    })
 
 -- the function that was found by a name has it
 pub found_is_named : {A : Type 0} (funcs : List (Func A)) (x : List ℕ) (f : Func A) → func_named funcs x ≡ Some f → func_named funcs f.name ≡ Some f

@@ -1,5 +1,5 @@
 -- What `debug` writes.
-use Rattle.std.specs.Prelude.{◌≡◌, ◌≢◌, ℕ, ◌+◌, ◌^◌, ◌⊎◌, List, [], ◌∷◌, ◌++◌, length, take, codes, decimal, Option, Some, Result, Ok, Err, IfSome}
+use Rattle.std.specs.Prelude.{◌≡◌, ℕ, ◌+◌, ◌^◌, ◌⊎◌, List, [], ◌∷◌, ◌++◌, length, take, codes, decimal, Option, Some, Ok, IfSome}
 use Rattle.std.specs.Io.KnownBytes.{Appends, Consumes}
 use Rattle.qil_lexer.specs.Text.{code_text}
 use Rattle.qil_parser.specs.declared.error.ParseCode.{ParseCode}
@@ -20,7 +20,7 @@ use Rattle.qil_transcript.specs.declared.load.Refusal.TheVariants as refusals
 use Rattle.qil_transcript.specs.declared.outcome.Outcome.{Outcome}
 use Rattle.qil_transcript.specs.declared.outcome.Outcome.TheVariants.{Ended, Refused, ReadFault, WriteFault, TooLong, Memory}
 use Rattle.qil_transcript.specs.Text.{text_of, place_line}
-use Rattle.qil_transcript.specs.Session.{Sitting, IsAnswered}
+use Rattle.qil_transcript.specs.Session.{IsAnswered}
 use Rattle.qil_transcript.specs.Serve.{IsTooLong}
 use Rattle.qil_transcript.specs.Load.{Accepts, Refuses}
 

@@ -1,3 +1,4 @@
+-- What `debug` writes: moments and runs, texts, answers, loading, and whole transcripts.
 pub mod Moment
 pub mod Run
 pub mod Text

@@ -1,5 +1,5 @@
 -- Which texts are accepted, and for what others are refused.
-use Rattle.std.specs.Prelude.{◌≡◌, ℕ, ◌≤◌, ◌^◌, List, [], ◌∷◌, length, Result, Ok, Err}
+use Rattle.std.specs.Prelude.{◌≡◌, ℕ, ◌≤◌, ◌^◌, List, [], length, Ok, Err}
 use Rattle.std.specs.List.{AllByRecursion}
 use Rattle.qil_lexer.specs.declared.token.Token.{Token}
 use Rattle.qil_lexer.specs.Cut.{Cuts, TextFault}
@@ -10,7 +10,6 @@ use Rattle.qil_parser.specs.Fault.{TokenFault}
 use Rattle.qil_checker.specs.Rules.{WellFormed, Broken}
 use Rattle.qil_checker.specs.Forms.{HasForm}
 use Rattle.qil_checker.specs.Check.{Verdict}
-use Rattle.qil_meaning.specs.State.{State}
 use Rattle.qil_meaning.specs.Start.{start_of}
 use Rattle.qil_transcript.specs.declared.load.Refusal.{Refusal}
 use Rattle.qil_transcript.specs.declared.load.Refusal.TheVariants as refusals

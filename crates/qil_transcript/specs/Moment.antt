@@ -1,9 +1,6 @@
 -- What the parts of a moment stand for: states of a run by names.
-use Rattle.std.specs.Prelude.{ℕ, Bool, true, false, cond, List, [], ◌∷◌, Option, Some, None, Result, Ok, Err, if◌then◌else◌, slice_get, ◌≡◌}
+use Rattle.std.specs.Prelude.{ℕ, List, [], ◌∷◌, Option, Some, None, Result, Ok, Err, if◌then◌else◌, slice_get, ◌≡◌}
 use Rattle.std.specs.Str.{bytes_eq}
-
-
-
 use Rattle.qil_meaning.specs.State as state
 use Rattle.qil_parser.specs.declared.tree.Block.{Block}
 use Rattle.qil_parser.specs.declared.tree.Func.{Func}

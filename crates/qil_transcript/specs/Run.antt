@@ -1,5 +1,5 @@
 -- The timeline that a run keeps.
-use Rattle.std.specs.Prelude.{◌≡◌, List, ◌∷◌, [], map, reverse, slice_get, Some}
+use Rattle.std.specs.Prelude.{◌≡◌, ◌∷◌, [], map, reverse, slice_get, Some}
 use Rattle.qil_meaning.specs.Step.{settled, does, func_named, block_labelled}
 use Rattle.qil_parser.specs.declared.tree.Program.{Program}
 use Rattle.qil_meaning.specs.State.{State}
@@ -21,8 +21,9 @@ IsForward old new =
     let s = state_in old.body old.present in
     let block = old.body.block.now in
     timeline_of new ≡ record {
-        now = settled s (does s (frame_of old.body.func.now.name block.label old.present) [] old.body.func.now (slice_get block.insts old.present.index) block.jump);
-        past = s ∷ (timeline_of old).past }
+      now = settled s (does s (frame_of old.body.func.now.name block.label old.present) [] old.body.func.now (slice_get block.insts old.present.index) block.jump);
+      past = s ∷ (timeline_of old).past;
+    }
 
 -- the body is a block that the program has under its names
 pub record RunsIn {A : Type 0} (p : Program A) (body : Body A) : Type 0 where

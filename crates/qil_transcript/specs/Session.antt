@@ -1,5 +1,5 @@
 -- What a session answers.
-use Rattle.std.specs.Prelude.{◌≡◌, ℕ, ◌<◌, ◌==◌, List, [], ◌∷◌, ◌++◌, codes, cond, Bool, true, false, Option, Some, None, Result, Ok, Err, IsTrue}
+use Rattle.std.specs.Prelude.{◌≡◌, ℕ, ◌<◌, ◌==◌, List, [], ◌∷◌, ◌++◌, codes, cond, Bool, true, false, Option, Some, None, Result, Ok, Err}
 use Rattle.std.specs.List.{list_any}
 use Rattle.std.specs.Str.{bytes_eq}
 use Rattle.std.specs.Bool.{MatchBool}
@@ -20,7 +20,7 @@ use Rattle.qil_commands.specs.declared.command.Refused.{Refused}
 use Rattle.qil_commands.specs.declared.command.Refused.TheVariants.{LineTooLong, UnknownCommand, MissingWord, BadWord, ExtraWord}
 use Rattle.qil_commands.specs.Command.{command_of}
 use Rattle.qil_streams.specs.Device.{Puts}
-use Rattle.qil_meaning.specs.State.{Name, Temps, Frame}
+use Rattle.qil_meaning.specs.State.{Name, Frame}
 use Rattle.qil_meaning.specs.Step.{func_named}
 use Rattle.qil_meaning.specs.Timeline.{Timeline, position, at_end, forward_by, back_by}
 use Rattle.qil_streams.specs.Text.{line}

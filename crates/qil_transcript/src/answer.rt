@@ -1,8 +1,8 @@
 //! The answers to commands, put as they are made.
 
-ghost use Rattle.std.specs.Prelude.{◌≡◌, ◌-◌, ◌^◌, ◌<◌, ◌++◌, codes, Ok, Err, Some, None};
+ghost use Rattle.std.specs.Prelude.{◌≡◌, ◌-◌, ◌^◌, ◌<◌, ◌++◌, codes, Ok, Err, Some};
 ghost use Rattle.qil_parser.specs.declared.tree.Program.{Program};
-ghost use Rattle.qil_commands.specs.declared.command.Command.TheVariants.{Step as step_command, Back as back_command, Print as print_command};
+ghost use Rattle.qil_commands.specs.declared.command.Command.TheVariants.{Step as step_command, Back as back_command};
 ghost use Rattle.qil_streams.specs.Device.{Counts, Puts};
 ghost use Rattle.qil_streams.specs.Text.{line};
 ghost use Rattle.qil_transcript.specs.Text.{place_line};
@@ -10,11 +10,11 @@ ghost use Rattle.qil_transcript.specs.Run.{timeline_of, RunsIn};
 ghost use Rattle.qil_transcript.specs.Session.{Answers, sitting_of, refusal_text, printed};
 
 use crate::moment::Status;
+use crate::moves::{back_by, step_by};
 use crate::names::has_temporary;
 use crate::run::Run;
-use crate::moves::{back_by, step_by};
 use crate::text::{put_place, put_value};
-use qil_commands::{Command, Refused};
+use qil_commands::Refused;
 use qil_streams::{Put, Stopped, put_line};
 use std::alloc::Allocator;
 
@@ -29,7 +29,13 @@ fn put_want<P: Put, A: Allocator + Copy>(out: &mut P, run: &Run<'_, '_, A>) -> R
     put_place(out, run)
 }
 
-pub fn step<P: Put, A: Allocator + Copy>(alloc: A, run: &mut Run<'_, '_, A>, count: u32, out: &mut P) -> Result<(), Stopped>
+/// Answers `step N`: moves forward up to N times, and tells the place.
+pub fn step<P: Put, A: Allocator + Copy>(
+    alloc: A,
+    run: &mut Run<'_, '_, A>,
+    count: u32,
+    out: &mut P,
+) -> Result<(), Stopped>
     requires { P.stops out.old < 2 ^ 64 - 1 }
     ensures body { run.new.body ≡ run.old.body }
     ensures answered { (p : Program A) → RunsIn p run.old.body → Answers (sitting_of p run.old) (sitting_of p run.new)
@@ -46,7 +52,12 @@ pub fn step<P: Put, A: Allocator + Copy>(alloc: A, run: &mut Run<'_, '_, A>, cou
     }
 }
 
-pub fn back<P: Put, A: Allocator + Copy>(run: &mut Run<'_, '_, A>, count: u32, out: &mut P) -> Result<(), Stopped>
+/// Answers `back N`: moves back up to N times, and tells the place. Takes no memory.
+pub fn back<P: Put, A: Allocator + Copy>(
+    run: &mut Run<'_, '_, A>,
+    count: u32,
+    out: &mut P,
+) -> Result<(), Stopped>
     requires { P.stops out.old < 2 ^ 64 - 1 }
     ensures body { run.new.body ≡ run.old.body }
     ensures answered { (p : Program A) → Answers (sitting_of p run.old) (sitting_of p run.new)
@@ -61,7 +72,12 @@ pub fn back<P: Put, A: Allocator + Copy>(run: &mut Run<'_, '_, A>, count: u32, o
     put_place(out, run)
 }
 
-pub fn print<P: Put, A: Allocator + Copy>(run: &Run<'_, '_, A>, name: &[u8], out: &mut P) -> Result<(), Stopped>
+/// Answers `print %x`: what a temporary of the innermost frame holds.
+pub fn print<P: Put, A: Allocator + Copy>(
+    run: &Run<'_, '_, A>,
+    name: &[u8],
+    out: &mut P,
+) -> Result<(), Stopped>
     requires { P.stops out.old < 2 ^ 64 - 1 }
     ensures text { (p : Program A) → RunsIn p run.now.body
         → Puts result (P.written out.old) (P.written out.new) (printed p (timeline_of run.now).now.frames name.now) }
@@ -77,6 +93,7 @@ pub fn print<P: Put, A: Allocator + Copy>(run: &Run<'_, '_, A>, name: &[u8], out
     }
 }
 
+/// Answers a line that spells no command.
 pub fn put_refusal<P: Put>(out: &mut P, refused: Refused) -> Result<(), Stopped>
     requires { P.stops out.old < 2 ^ 64 - 1 }
     ensures text { Puts result (P.written out.old) (P.written out.new) (line (refusal_text refused)) }

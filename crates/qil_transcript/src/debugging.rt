@@ -1,6 +1,6 @@
 //! `debug`: from the bytes of a program and a script to the bytes of the transcript.
 
-ghost use Rattle.std.specs.Prelude.{◌≡◌, ◌≢◌, ℕ, ◌-◌, ◌^◌, ◌<◌, ◌≤◌, ◌↔◌, ◌++◌, List, Ok, Err, IfSome};
+ghost use Rattle.std.specs.Prelude.{◌≡◌, ◌≢◌, ℕ, ◌-◌, ◌^◌, ◌<◌, ◌≤◌, ◌↔◌, List, Ok, Err, IfSome};
 ghost use Rattle.qil_checker.specs.Check.{Verdict};
 ghost use Rattle.qil_meaning.specs.State.{State};
 ghost use Rattle.qil_meaning.specs.Start.{start_of};
@@ -36,7 +36,11 @@ fn refuse<P: Put>(out: &mut P, refusal: Refusal) -> Outcome
 }
 
 /// Puts the load lines of a session.
-fn put_loaded<P: Put, A: Allocator + Copy>(out: &mut P, session: &Session<'_, '_, A>, form: &Form<'_>) -> Result<(), Stopped>
+fn put_loaded<P: Put, A: Allocator + Copy>(
+    out: &mut P,
+    session: &Session<'_, '_, A>,
+    form: &Form<'_>,
+) -> Result<(), Stopped>
     requires { P.stops out.old < 2 ^ 64 - 1 }
     ensures text { (start : State) → (sitting session.now).timeline ≡ begun start → Puts result (P.written out.old) (P.written out.new)
         (load_lines (record { program = session.now.program; form = form.now }) start) }

@@ -14,9 +14,9 @@ mod refusal;
 mod run;
 mod serving;
 mod session;
+#[cfg(test)]
+mod tests;
 mod text;
-
-
 
 pub use debugging::debug;
 pub use load::Refusal;

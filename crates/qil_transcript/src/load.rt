@@ -11,11 +11,11 @@ ghost use Rattle.qil_transcript.specs.Load.{Accepts, IsLoadFault, IsSimple, IsSt
 ghost use Rattle.qil_transcript.specs.LoadError.{of_lex, of_parse, of_check};
 ghost use Rattle.qil_transcript.specs.declared.load.Refusal.{Refusal};
 
+use crate::session::Session;
 use qil_checker::{CheckError, Checked, Rule, check};
 use qil_lexer::{LexCode, LexError, tokens};
-use qil_parser::{Block, Func, ParseCode, ParseError, Program, parse};
 use qil_meaning::StartFault;
-use crate::session::Session;
+use qil_parser::{Block, Func, ParseCode, ParseError, Program, parse};
 use std::alloc::Allocator;
 
 /// Why a program is refused, in the order in which the reasons are looked for.
@@ -54,7 +54,10 @@ impl From<ParseError> for LoadError {
 
     fn from(error: ParseError) -> LoadError {
         match error {
-            ParseError::Refused { code, line } => LoadError::Refused(Refusal::Tokens { code, line }),
+            ParseError::Refused { code, line } => LoadError::Refused(Refusal::Tokens {
+                code,
+                line,
+            }),
             ParseError::OutOfMemory => LoadError::OutOfMemory,
         }
     }

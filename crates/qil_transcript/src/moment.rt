@@ -1,13 +1,15 @@
 //! A moment of a run: the whole state by names, as long as a program is one function of one block.
 
-ghost use Rattle.std.specs.Prelude.{◌≡◌, ◌+◌, ◌%◌, ◌^◌, ◌++◌, ◌∷◌, [], List, ℕ, IfOk, ◌<◌, slice_get};
+ghost use Rattle.std.specs.Prelude.{◌≡◌, ◌+◌, ◌%◌, ◌^◌, ◌++◌, ◌∷◌, [], IfOk, ◌<◌, slice_get};
 ghost use Rattle.qil_parser.specs.declared.tree.Class.{Class};
 ghost use Rattle.qil_meaning.specs.Values.{width, Low};
 ghost use Rattle.qil_meaning.specs.Step.{val, eval};
 ghost use Rattle.qil_meaning.specs.State.{is_final};
 ghost use Rattle.qil_transcript.specs.Moment.{temps_of, told, status_of};
 
-use qil_parser::{BinaryOp, Block, Class, Expr, Func, Inst, InstKind, JumpKind, Operand, Target, UnaryOp};
+use qil_parser::{
+    BinaryOp, Block, Class, Expr, Func, Inst, InstKind, JumpKind, Operand, Target, UnaryOp,
+};
 use std::alloc::{AllocError, Allocator};
 
 /// A value that a temporary was set to.
@@ -85,12 +87,20 @@ impl<'a, A: Allocator> Moment<'a, A> {
             Operand::Number(value) => Ok(low(class, *value)),
             Operand::Temp(name) => match self.value(name.bytes()) {
                 Some(value) => Ok(low(class, value)),
-                None => Err(Fault { unset: name.bytes() }),
+                None => Err(Fault {
+                    unset: name.bytes(),
+                }),
             },
         }
     }
 
-    fn binary(&self, class: Class, op: BinaryOp, a: &Operand<'a>, b: &Operand<'a>) -> Result<u64, Fault<'a>>
+    fn binary(
+        &self,
+        class: Class,
+        op: BinaryOp,
+        a: &Operand<'a>,
+        b: &Operand<'a>,
+    ) -> Result<u64, Fault<'a>>
         ensures { told result ≡ eval (temps_of self.now.writes.items) class (Expr.Binary op a.now b.now) }
     {
         let a = self.operand(class, a)?;
@@ -166,7 +176,13 @@ impl<'p, 'a, A: Allocator + Copy> Body<'p, 'a, A> {
     ghost use Rattle.qil_transcript.specs.Moment.{IsStepped, DoesInst};
     ghost use Rattle.qil_transcript.specs.declared.moment.Status.TheVariants.{Running as running};
 
-    fn assigned(&self, alloc: A, moment: &Moment<'a, A>, target: &Target<'a>, expr: &Expr<'a>) -> Result<Moment<'a, A>, AllocError>
+    fn assigned(
+        &self,
+        alloc: A,
+        moment: &Moment<'a, A>,
+        target: &Target<'a>,
+        expr: &Expr<'a>,
+    ) -> Result<Moment<'a, A>, AllocError>
         requires running { moment.now.status ≡ running }
         requires fits { moment.now.index + 1 < 2 ^ 64 }
         ensures { IfOk result (DoesInst self.now.func.now self.now.block.now (InstKind.Assign target.now expr.now) moment.now) }
@@ -180,7 +196,12 @@ impl<'p, 'a, A: Allocator + Copy> Body<'p, 'a, A> {
         }
     }
 
-    fn after_inst(&self, alloc: A, moment: &Moment<'a, A>, inst: &Inst<'a>) -> Result<Moment<'a, A>, AllocError>
+    fn after_inst(
+        &self,
+        alloc: A,
+        moment: &Moment<'a, A>,
+        inst: &Inst<'a>,
+    ) -> Result<Moment<'a, A>, AllocError>
         requires running { moment.now.status ≡ running }
         requires fits { moment.now.index + 1 < 2 ^ 64 }
         ensures { IfOk result (DoesInst self.now.func.now self.now.block.now inst.now.kind moment.now) }

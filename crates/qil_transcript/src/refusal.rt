@@ -1,6 +1,6 @@
 //! The load lines, and the line of a refusal.
 
-ghost use Rattle.std.specs.Prelude.{◌≡◌, ◌-◌, ◌^◌, ◌<◌, ◌++◌, length};
+ghost use Rattle.std.specs.Prelude.{◌≡◌, ◌-◌, ◌^◌, ◌<◌};
 ghost use Rattle.qil_streams.specs.Device.{Counts, Puts};
 ghost use Rattle.qil_transcript.specs.Debug.{parse_code, rule_code, refused_at, refused_line, loaded_line};
 
@@ -41,13 +41,16 @@ fn put_refused_at<P: Put>(out: &mut P, code: &[u8], line: u32) -> Result<(), Sto
     ensures device { P.device out.new ≡ P.device out.old }
 {
     let mut digits = Buffer::new();
-    put_pieces(out, &[
-        b"refused: ".as_slice(),
-        code,
-        b" line ".as_slice(),
-        digits.format(line).as_bytes(),
-        b"\n".as_slice(),
-    ])
+    put_pieces(
+        out,
+        &[
+            b"refused: ".as_slice(),
+            code,
+            b" line ".as_slice(),
+            digits.format(line).as_bytes(),
+            b"\n".as_slice(),
+        ],
+    )
 }
 
 /// Puts the line of a refusal.
@@ -61,7 +64,14 @@ pub fn put_refusal_line<P: Put>(out: &mut P, refusal: Refusal) -> Result<(), Sto
         Refusal::Text { code, line } => put_refused_at(out, code.as_str().as_bytes(), line),
         Refusal::Tokens { code, line } => put_refused_at(out, parse_code(code), line),
         Refusal::Rule { rule, line } => put_refused_at(out, rule_code(rule), line),
-        Refusal::Start(fault) => put_pieces(out, &[b"refused: ".as_slice(), fault.as_str().as_bytes(), b"\n".as_slice()]),
+        Refusal::Start(fault) => put_pieces(
+            out,
+            &[
+                b"refused: ".as_slice(),
+                fault.as_str().as_bytes(),
+                b"\n".as_slice(),
+            ],
+        ),
     }
 }
 
@@ -75,19 +85,25 @@ pub fn put_loaded_line<P: Put>(out: &mut P, funcs: usize, form: &Form<'_>) -> Re
     let mut digits = Buffer::new();
     let count = digits.format(funcs as u64).as_bytes();
     match form {
-        Form::Single => put_pieces(out, &[
-            b"loaded ".as_slice(),
-            count,
-            b" functions 0 data bytes ssa yes\n".as_slice(),
-        ]),
-        Form::Several { func, temp } => put_pieces(out, &[
-            b"loaded ".as_slice(),
-            count,
-            b" functions 0 data bytes ssa no $".as_slice(),
-            func.bytes(),
-            b" %".as_slice(),
-            temp.bytes(),
-            b"\n".as_slice(),
-        ]),
+        Form::Single => put_pieces(
+            out,
+            &[
+                b"loaded ".as_slice(),
+                count,
+                b" functions 0 data bytes ssa yes\n".as_slice(),
+            ],
+        ),
+        Form::Several { func, temp } => put_pieces(
+            out,
+            &[
+                b"loaded ".as_slice(),
+                count,
+                b" functions 0 data bytes ssa no $".as_slice(),
+                func.bytes(),
+                b" %".as_slice(),
+                temp.bytes(),
+                b"\n".as_slice(),
+            ],
+        ),
     }
 }

@@ -48,7 +48,12 @@ impl<'p, 'a, A: Allocator + Copy> Session<'p, 'a, A> {
     ghost use Rattle.qil_meaning.specs.Step.{func_named};
 
     /// A session that has made no move, in a block of a function of the program.
-    pub fn new(alloc: A, program: &'p Program<'a, A>, func: &'p Func<'a, A>, block: &'p Block<'a, A>) -> Session<'p, 'a, A>
+    pub fn new(
+        alloc: A,
+        program: &'p Program<'a, A>,
+        func: &'p Func<'a, A>,
+        block: &'p Block<'a, A>,
+    ) -> Session<'p, 'a, A>
         requires func { func_named program.now.funcs func.now.name ≡ Some func.now }
         requires block { func.now.blocks ≡ block.now ∷ [] }
         ensures program { result.program ≡ program.entry.now }
@@ -79,7 +84,11 @@ impl<'p, 'a, A: Allocator + Copy> Session<'p, 'a, A> {
     }
 
     /// Answers what a line says, if that is no `quit`. Where the writing stops the session has moved all the same.
-    pub fn answer<P: Put>(&mut self, said: Result<Option<Command<'_>>, Refused>, out: &mut P) -> Result<(), Stopped>
+    pub fn answer<P: Put>(
+        &mut self,
+        said: Result<Option<Command<'_>>, Refused>,
+        out: &mut P,
+    ) -> Result<(), Stopped>
         requires { P.stops out.old < 2 ^ 64 - 1 }
         ensures answered { Answers (sitting self.old) (sitting self.new) said.entry result (P.written out.old) (P.written out.new) }
         ensures counted { Counts result (P.stops out.old) (P.stops out.new) }
@@ -97,7 +106,11 @@ impl<'p, 'a, A: Allocator + Copy> Session<'p, 'a, A> {
 }
 
 /// Answers a line, of which the front is kept: a `quit` is no more than told.
-pub fn answer_line<P: Put, A: Allocator + Copy>(session: &mut Session<'_, '_, A>, kept: &[u8], out: &mut P) -> Result<Next, Stopped>
+pub fn answer_line<P: Put, A: Allocator + Copy>(
+    session: &mut Session<'_, '_, A>,
+    kept: &[u8],
+    out: &mut P,
+) -> Result<Next, Stopped>
     requires { P.stops out.old < 2 ^ 64 - 1 }
     ensures answered { AnswersLine result (sitting session.old) (sitting session.new) (command_of kept.now) (P.written out.old) (P.written out.new) }
     ensures counted { Counts result (P.stops out.old) (P.stops out.new) }

@@ -1,7 +1,7 @@
 -- The statuses that the process ends with.
 use Rattle.std.specs.Prelude.{ℕ}
-use Rattle.qil_transcript.specs.declared.Outcome.{Outcome}
-use Rattle.qil_transcript.specs.declared.Outcome.TheVariants as outcome
+use Rattle.qil_transcript.specs.declared.outcome.Outcome.{Outcome}
+use Rattle.qil_transcript.specs.declared.outcome.Outcome.TheVariants as outcome
 use Rattle.qrev.specs.declared.options.Failure.{Failure}
 use Rattle.qrev.specs.declared.options.Failure.TheVariants as failure
 

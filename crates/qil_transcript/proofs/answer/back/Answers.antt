@@ -1,4 +1,5 @@
-use Rattle.std.proofs.Common.{◌≡◌, refl}
+-- Answers to the goals of `back`.
+use Rattle.std.proofs.Common.{refl}
 use Rattle.qil_transcript.specs.Run.{timeline_of}
 use Rattle.qil_transcript.specs.Session.{sitting_of}
 use Rattle.qil_transcript.proofs.AnswerLemmas.{answers_start, answers_back, not_zero}

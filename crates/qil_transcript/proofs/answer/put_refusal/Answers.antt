@@ -1,4 +1,4 @@
-use Rattle.std.proofs.Common.{◌≡◌}
+-- Answers to the goals of `put_refusal`.
 use Rattle.qil_transcript.proofs.answer.put_refusal.Goals as goal
 
 pub returns-in-LineTooLong-clause-text : goal.returns-in-LineTooLong-clause-text

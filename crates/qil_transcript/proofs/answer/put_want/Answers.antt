@@ -1,4 +1,5 @@
-use Rattle.std.proofs.Common.{◌≡◌, codes}
+-- Answers to the goals of `put_want`.
+use Rattle.std.proofs.Common.{codes}
 use Rattle.qil_streams.specs.Text.{line}
 use Rattle.qil_streams.proofs.TextLemmas.{Puts-append, Puts-stop}
 use Rattle.qil_transcript.specs.Text.{place_line}

@@ -1,4 +1,5 @@
-use Rattle.std.proofs.Common.{◌≡◌, sym, ◌∙◌, refl}
+-- Answers to the goals of `step`.
+use Rattle.std.proofs.Common.{sym, refl}
 use Rattle.qil_transcript.specs.Run.{timeline_of}
 use Rattle.qil_transcript.specs.Session.{sitting_of}
 use Rattle.qil_transcript.proofs.AnswerLemmas.{answers_end, answers_step, answers_want}

@@ -1,4 +1,4 @@
-use Rattle.std.proofs.Common.{◌≡◌, refl}
+-- Answers to the goals of `find_func`.
 use Rattle.std.specs.Str.{bytes_eq}
 use Rattle.qil_parser.specs.declared.tree.Func.{Func}
 use Rattle.qil_transcript.proofs.FindLemmas.{find_hit, find_miss, find_none}

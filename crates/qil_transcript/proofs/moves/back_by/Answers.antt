@@ -1,13 +1,15 @@
-use Rattle.std.proofs.Common.{◌≡◌, ◌∙◌, arith}
+-- Answers to the goals of `back_by`.
+use Rattle.std.proofs.Common.{◌∙◌, arith}
 use Rattle.qil_transcript.specs.Run.{timeline_of}
 use Rattle.qil_transcript.proofs.TimelineLemmas.{gone_more, gone_all, gone_to_start}
 use Rattle.qil_transcript.proofs.moves.back_by.Goals as goal
 
 pub loop-gone-preserved : goal.loop-gone-preserved
 loop-gone-preserved g c = record {
-    body = c.back.ensures.body ∙ c.loop-gone.invariant.body;
-    so_far = λ more. gone_more c.loop-gone.gone more (timeline_of c.args.run.now) (timeline_of c.loop-gone.run) (timeline_of c.back.new.self)
-      (c.back.ensures.moved c.if-not-back.false) c.loop-gone.invariant.so_far }
+  body = c.back.ensures.body ∙ c.loop-gone.invariant.body;
+  so_far = λ more. gone_more c.loop-gone.gone more (timeline_of c.args.run.now) (timeline_of c.loop-gone.run) (timeline_of c.back.new.self)
+      (c.back.ensures.moved c.if-not-back.false) c.loop-gone.invariant.so_far;
+}
 
 pub returns-then-not-back-clause-moved : goal.returns-then-not-back-clause-moved
 returns-then-not-back-clause-moved g c =

@@ -1,4 +1,4 @@
-use Rattle.std.proofs.Common.{◌≡◌}
+-- Answers to the goals of `put_loaded_line`.
 use Rattle.qil_transcript.proofs.refusal.put_loaded_line.Goals as goal
 
 pub returns-in-Single-clause-text : goal.returns-in-Single-clause-text
@@ -9,6 +9,14 @@ returns-in-Single-clause-text g c =
 pub returns-in-Several-clause-text : goal.returns-in-Several-clause-text
 returns-in-Several-clause-text g c =
     rw c.in-Several.is
-    (rw (c.as_slice-in-Several.ensures, c.as_bytes-count.ensures.value, c.format.ensures.text, c.as_slice-in-Several-2.ensures, c.bytes.ensures,
-        c.as_slice-in-Several-3.ensures, c.bytes-in-Several.ensures, c.as_slice-in-Several-4.ensures)
-      at c.put_pieces-in-Several.ensures.text)
+    (rw (
+      c.as_slice-in-Several.ensures,
+      c.as_bytes-count.ensures.value,
+      c.format.ensures.text,
+      c.as_slice-in-Several-2.ensures,
+      c.bytes.ensures,
+      c.as_slice-in-Several-3.ensures,
+      c.bytes-in-Several.ensures,
+      c.as_slice-in-Several-4.ensures,
+    )
+    at c.put_pieces-in-Several.ensures.text)

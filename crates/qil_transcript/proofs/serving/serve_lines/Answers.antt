@@ -1,4 +1,5 @@
-use Rattle.std.proofs.Common.{◌≡◌, ℕ, ◌+◌, ◌∙◌, List, [], ◌++◌, ap, sym, arith, refl, Option, Some, None, Ok, Err, Result}
+-- Answers to the goals of `serve_lines`.
+use Rattle.std.proofs.Common.{◌∙◌, refl, None, Ok, Err}
 use Rattle.qil_transcript.specs.declared.session.Next.TheVariants.{Go, Quit}
 use Rattle.qil_streams.proofs.ReaderLemmas.{Reads-append}
 use Rattle.qil_transcript.specs.Session.{sitting}
@@ -10,7 +11,11 @@ pub loop-end-init : goal.loop-end-init
 loop-end-init g c =
     record {
       standing = Standing-start _ _ _ _ _ (prepend_none _ _ c.new-reader.ensures.pending) c.new-reader.ensures.given;
-      reads = Reads-start _ _ c.new-reader.ensures.pending c.new-reader.ensures.given; source = refl; out = refl; device = refl }
+      reads = Reads-start _ _ c.new-reader.ensures.pending c.new-reader.ensures.given;
+      source = refl;
+      out = refl;
+      device = refl;
+    }
 
 pub returns-in_default-clause-served : goal.returns-in_default-clause-served
 returns-in_default-clause-served g c =
@@ -39,7 +44,8 @@ loop-end-preserved g c =
       reads = Reads-append unread _ _ _ _ _ c.loop-end.invariant.reads c.in-Ok.ensures.reads;
       source = c.in-Ok.ensures.counted ∙ c.loop-end.invariant.source;
       out = c.in-Ok-Go.ensures.counted ∙ c.loop-end.invariant.out;
-      device = c.answer_line.ensures.device ∙ c.loop-end.invariant.device }
+      device = c.answer_line.ensures.device ∙ c.loop-end.invariant.device;
+    }
 
 pub returns-in-Ok-Quit-clause-served : goal.returns-in-Ok-Quit-clause-served
 returns-in-Ok-Quit-clause-served g c =

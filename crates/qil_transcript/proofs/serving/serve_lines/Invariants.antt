@@ -1,5 +1,5 @@
 -- The whole lines so far were answered.
-use Rattle.std.proofs.Common.{◌≡◌, ℕ, ◌-◌, ◌≤◌, ◌+◌, ◌^◌, [], List}
+use Rattle.std.proofs.Common.{◌≡◌, ◌-◌, ◌^◌, []}
 use Rattle.qil_streams.specs.Reader.{rest_of, Reads}
 use Rattle.qil_transcript.specs.Session.{sitting}
 use Rattle.qil_transcript.proofs.ServeLemmas.{Standing}

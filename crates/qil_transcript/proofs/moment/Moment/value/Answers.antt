@@ -1,4 +1,4 @@
-use Rattle.std.proofs.Common.{◌≡◌, refl}
+-- Answers to the goals of `value`.
 use Rattle.qil_transcript.proofs.MomentLemmas.{else_at-none, read_match, read_other, read_all}
 use Rattle.qil_transcript.proofs.moment.Moment.value.Goals as goal
 use Rattle.qil_transcript.proofs.moment.Moment.value.Goals.{then-eq, else-eq}

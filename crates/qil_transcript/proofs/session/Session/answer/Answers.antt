@@ -1,4 +1,5 @@
-use Rattle.std.proofs.Common.{◌≡◌, subst}
+-- Answers to the goals of `answer`.
+use Rattle.std.proofs.Common.{subst}
 use Rattle.qil_streams.proofs.DeviceLemmas.{Appends-nil}
 use Rattle.qil_transcript.specs.Kept.{Kept}
 use Rattle.qil_streams.specs.Device.{Puts}
@@ -13,8 +14,8 @@ returns-in-Ok-Some-Print-clause-answered g c =
     let told = rw c.bytes.ensures at (c.print.ensures.text c.self.inside.program.now c.self.invariant) in
     rw (arm.is, arm.field-0-is, arm.field-0-0-is)
     (answers_print (sitting c.args.self.now) arm.name c.print.result _ _
-      (subst (λ (k : Kept g.row.A.Denot). Puts c.print.result (g.P.Put.written c.args.out.now) (g.P.Put.written c.print.new.out)
-          (printed k.program (timeline_of k.run).now.frames arm.name)) c.self.view_is told))
+    (subst (λ (k : Kept g.row.A.Denot). Puts c.print.result (g.P.Put.written c.args.out.now) (g.P.Put.written c.print.new.out)
+    (printed k.program (timeline_of k.run).now.frames arm.name)) c.self.view_is told))
 
 pub returns-in-Ok-Some-Quit-clause-answered : goal.returns-in-Ok-Some-Quit-clause-answered
 returns-in-Ok-Some-Quit-clause-answered g c =

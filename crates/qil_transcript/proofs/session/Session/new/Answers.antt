@@ -1,4 +1,4 @@
-use Rattle.std.proofs.Common.{◌≡◌}
+-- Answers to the goals of `new`.
 use Rattle.qil_transcript.proofs.StartLemmas.{begun_run}
 use Rattle.qil_transcript.proofs.session.Session.new.Goals as goal
 
