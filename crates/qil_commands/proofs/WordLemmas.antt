@@ -20,8 +20,8 @@ words_of-behind (b ∷ line) =
     let next : 1 + prefix_len is_spacing line ≡ suc (prefix_len is_spacing line) = omega arith in
     elim (cases_Bool (is_spacing b)) [
       | inl t ↦
-        let more : prefix_len is_spacing (b ∷ line) ≡ suc (prefix_len is_spacing line) = rw t next in
-        rw more (words_of-behind line ∙ sym (word_behind b line t))
+          let more : prefix_len is_spacing (b ∷ line) ≡ suc (prefix_len is_spacing line) = rw t next in
+          rw more (words_of-behind line ∙ sym (word_behind b line t))
       | inr f ↦ let here : prefix_len is_spacing (b ∷ line) ≡ 0 = rw f refl in rw here refl
     ]
 
@@ -37,13 +37,13 @@ words_of-front b (c ∷ line) h =
     let next : 1 + prefix_len is_word_byte line ≡ suc (prefix_len is_word_byte line) = omega arith in
     elim (cases_Bool (is_spacing c)) [
       | inl t ↦
-        let g : goes_on (c ∷ line) ≡ false = rw t refl in
-        let none : prefix_len is_word_byte (c ∷ line) ≡ 0 = rw t refl in
-        ended b (c ∷ line) h g ∙ rw none refl
+          let g : goes_on (c ∷ line) ≡ false = rw t refl in
+          let none : prefix_len is_word_byte (c ∷ line) ≡ 0 = rw t refl in
+          ended b (c ∷ line) h g ∙ rw none refl
       | inr f ↦
-        let g : goes_on (c ∷ line) ≡ true = rw f refl in
-        let some : prefix_len is_word_byte (c ∷ line) ≡ suc (prefix_len is_word_byte line) = rw f next in
-        joined b (c ∷ line) h g ∙ (ap (onto_first b) (words_of-front c line f) ∙ rw some refl)
+          let g : goes_on (c ∷ line) ≡ true = rw f refl in
+          let some : prefix_len is_word_byte (c ∷ line) ≡ suc (prefix_len is_word_byte line) = rw f next in
+          joined b (c ∷ line) h g ∙ (ap (onto_first b) (words_of-front c line f) ∙ rw some refl)
     ]
 
 -- the first word, by the length of the longest run of its bytes
@@ -51,12 +51,12 @@ pub words_of-first : (line : List ℕ) (n : ℕ) → prefix_len is_word_byte lin
     words_of line ≡ take (suc n) line ∷ words_of (drop (suc n) line)
 words_of-first [] n e = absurd cc
 words_of-first (b ∷ line) n e = elim (cases_Bool (is_spacing b)) [
-    | inl t ↦ let none : prefix_len is_word_byte (b ∷ line) ≡ 0 = rw t refl in absurd (omega (arith, none, e))
-    | inr f ↦
+  | inl t ↦ let none : prefix_len is_word_byte (b ∷ line) ≡ 0 = rw t refl in absurd (omega (arith, none, e))
+  | inr f ↦
       let some : prefix_len is_word_byte (b ∷ line) ≡ 1 + prefix_len is_word_byte line = rw f refl in
       let k : prefix_len is_word_byte line ≡ n = omega (arith, some, e) in
       words_of-front b line f ∙ rw k refl
-  ]
+]
 
 -- where no byte of a word is at the front behind the spacing, there is no word
 pub words_of-none : (line : List ℕ) → prefix_len is_word_byte (drop (prefix_len is_spacing line) line) ≡ 0 → words_of line ≡ []
@@ -65,12 +65,12 @@ words_of-none (b ∷ line) e =
     let next : 1 + prefix_len is_spacing line ≡ suc (prefix_len is_spacing line) = omega arith in
     elim (cases_Bool (is_spacing b)) [
       | inl t ↦
-        let more : prefix_len is_spacing (b ∷ line) ≡ suc (prefix_len is_spacing line) = rw t next in
-        word_behind b line t ∙ words_of-none line (rw more at e)
+          let more : prefix_len is_spacing (b ∷ line) ≡ suc (prefix_len is_spacing line) = rw t next in
+          word_behind b line t ∙ words_of-none line (rw more at e)
       | inr f ↦
-        let here : prefix_len is_spacing (b ∷ line) ≡ 0 = rw f refl in
-        let some : prefix_len is_word_byte (b ∷ line) ≡ 1 + prefix_len is_word_byte line = rw f refl in
-        absurd (omega (arith, some, rw here at e))
+          let here : prefix_len is_spacing (b ∷ line) ≡ 0 = rw f refl in
+          let some : prefix_len is_word_byte (b ∷ line) ≡ 1 + prefix_len is_word_byte line = rw f refl in
+          absurd (omega (arith, some, rw here at e))
     ]
 
 -- the first word behind the spacing, by both lengths

@@ -29,7 +29,6 @@ fn verb_named(word: &[u8]) -> Option<Verb>
     None
 }
 
-
 /// Refuses a word that is left over.
 fn alone<'a>(command: Command<'a>, words: &mut Words<'a>) -> Result<Command<'a>, Refused>
     ensures { result ≡ no_more command.entry (words_of words.old.rest.now) }

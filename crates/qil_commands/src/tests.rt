@@ -32,10 +32,18 @@ fn expect(rt: &impl Abort, line: &str, want: Said) {
 fn counts(rt: HostRuntime) {
     expect(&rt, "step", Said::Step(1));
     expect(&rt, "step 1", Said::Step(1));
-    expect(&rt, "back 0000000000000000000000000000000000007", Said::Back(7));
+    expect(
+        &rt,
+        "back 0000000000000000000000000000000000007",
+        Said::Back(7),
+    );
     expect(&rt, "step 4294967295", Said::Step(4_294_967_295));
     expect(&rt, "step 4294967296", Said::Refused(Refused::BadWord));
-    expect(&rt, "back 18446744073709551617", Said::Refused(Refused::BadWord));
+    expect(
+        &rt,
+        "back 18446744073709551617",
+        Said::Refused(Refused::BadWord),
+    );
     expect(&rt, "step 0", Said::Refused(Refused::BadWord));
     expect(&rt, "back -1", Said::Refused(Refused::BadWord));
     expect(&rt, "step +1", Said::Refused(Refused::BadWord));
@@ -81,6 +89,9 @@ fn long_lines(rt: HostRuntime) {
     let letters = [b'a'; 257];
     assert_eq!(rt; meaning_of(&spaces[..256]), Said::Nothing);
     assert_eq!(rt; meaning_of(&spaces), Said::Refused(Refused::LineTooLong));
-    assert_eq!(rt; meaning_of(&letters[..256]), Said::Refused(Refused::UnknownCommand));
+    assert_eq!(rt;
+        meaning_of(&letters[..256]),
+        Said::Refused(Refused::UnknownCommand)
+    );
     assert_eq!(rt; meaning_of(&letters), Said::Refused(Refused::LineTooLong));
 }

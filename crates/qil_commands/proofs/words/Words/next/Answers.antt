@@ -10,7 +10,7 @@ pub returns-then-len-eq0 : goal.returns-then-len-eq0
 returns-then-len-eq0 c =
     let line = c.args.self.now.rest.now in
     let none : prefix_len is_word_byte (drop c.spacing_len.result line) ≡ 0 =
-        sym (rw (take_rest line c.spacing_len.result) at c.word_len-len.ensures.is) ∙ c.if-len-eq0.true in
+    sym (rw (take_rest line c.spacing_len.result) at c.word_len-len.ensures.is) ∙ c.if-len-eq0.true in
     words_of-none line (rw c.spacing_len.ensures.is at none)
 
 pub returns : goal.returns
@@ -18,4 +18,4 @@ returns c =
     let line = c.args.self.now.rest.now in
     rw (take_rest line c.spacing_len.result, take_rest (drop c.spacing_len.result line) c.word_len-len.result)
     (words_of-split line c.spacing_len.result c.word_len-len.result c.spacing_len.ensures.is
-        (rw (take_rest line c.spacing_len.result) at c.word_len-len.ensures.is) c.if-len-eq0.false)
+    (rw (take_rest line c.spacing_len.result) at c.word_len-len.ensures.is) c.if-len-eq0.false)
