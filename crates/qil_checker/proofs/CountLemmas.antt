@@ -11,8 +11,9 @@ use Rattle.std.proofs.lemmas.Map.Made.{is_some-lookup, length-le_from_is_member,
 use Rattle.std.proofs.lemmas.List.Folds.{list_any_at, Any-from_list_any}
 use Rattle.indexmap.specs.IndexMap.{IndexMap, keys}
 use Rattle.qil_checker.specs.declared.mark.Kind.TheVariants.{Named}
-use Rattle.qil_checker.specs.Text.{Mark}
-use Rattle.qil_checker.specs.Rules.{IsTemporary, HasTooMany}
+use Rattle.qil_checker.specs.Marks.{Mark}
+use Rattle.qil_checker.specs.Text.{IsTemporary}
+use Rattle.qil_checker.specs.Rules.{HasManyTemporaries}
 use Rattle.qil_checker.specs.Tables.{place_of, is_named, first}
 use Rattle.qil_checker.proofs.PlaceLemmas.{same_name, temp_found, temp_absent}
 
@@ -41,14 +42,11 @@ none_there : {X : Type 0} (o : Option X) → (o ≡ None → ⊥) → is_some o 
 none_there None never = absurd (never refl)
 none_there (Some x) never = refl
 
-same_number : (n m : ℕ) → IsTrue (nat_eq n m) → n ≡ m
-same_number n m t = grind (arith, nat_tests)
-
-is_same : (n m : ℕ) → n ≡ m → IsTrue (nat_eq n m)
-is_same n m e = grind (arith, nat_tests)
-
 is_long : (n m : ℕ) → n < m → IsTrue (nat_lt n m)
 is_long n m l = grind (arith, nat_tests)
+
+short : (n m : ℕ) → IsTrue (nat_lt n m) → n < m
+short n m t = grind (arith, nat_tests)
 
 module _ {S : Type 0} (m : IndexMap (Bor (List ℕ)) ℕ S) (text : List Mark)
     (places : (x : List ℕ) → place_of m x ≡ first (is_named Named x) 0 text)
@@ -63,7 +61,7 @@ module _ {S : Type 0} (m : IndexMap (Bor (List ℕ)) ℕ S) (text : List Mark)
     is_listed : (q : List ℕ) → IsTemporary text q → list_any (bytes_eq q) (map (λ k. k.now) (keys m)) ≡ true
     is_listed q t = sym (has_place q) ∙ none_there (place_of m q) (λ none. temp_absent text q (sym (places q) ∙ none) t)
 
-    pub too_many : 65535 < length m.entries → HasTooMany text
+    pub too_many : 65535 < length m.entries → HasManyTemporaries text
     too_many long =
         let all = map (λ k. k.now) (keys m) in (
           all,
@@ -77,17 +75,12 @@ module _ {S : Type 0} (m : IndexMap (Bor (List ℕ)) ℕ S) (text : List Mark)
         let w = Any-from_list_any (bytes_eq q) xs has in
         subst (IsTemporary text) (w.3 ∙ sym ((bytes_eq-Decides q w.1).0 w.4)) (each w.0 w.1 w.2)
 
-    pub few : HasTooMany text → 65535 < length m.entries
+    pub few : HasManyTemporaries text → 65535 < length m.entries
     few many =
         let xs = many.0 in
         let short = length-le_from_is_member nat_list_eq_equiv xs (map (λ k. k.now) (keys m)) (IsDistinct-from_AllPairs bytes_eq-Decides xs many.1)
         (λ q has. is_listed q (among xs many.2 q has)) in
         omega (arith, short, many.3, length_names m.entries)
 
-    pub over : (n r : ℕ) → r ≡ length m.entries → 65535 < r
-        → (IsTrue (nat_lt 65535 r) → (◌≡◌ {A = ℕ} 0 0) × (HasTooMany text ⊎ (n ≡ 1000))) × ((◌≡◌ {A = ℕ} 0 0) × (HasTooMany text ⊎ (n ≡ 1000)) → IsTrue (nat_lt 65535 r))
-    over n r e l = (λ t. (refl, inl (too_many (omega arith))), λ b. is_long 65535 r l)
-
-    pub within : (n r : ℕ) → r ≡ length m.entries → r ≤ 65535
-        → (IsTrue (nat_eq n 1000) → (◌≡◌ {A = ℕ} 0 0) × (HasTooMany text ⊎ (n ≡ 1000))) × ((◌≡◌ {A = ℕ} 0 0) × (HasTooMany text ⊎ (n ≡ 1000)) → IsTrue (nat_eq n 1000))
-    within n r e l = (λ t. (refl, inr (same_number n 1000 t)), λ b. ⊎_elim (λ many. let long = few many in absurd (omega (arith, long))) (λ same. is_same n 1000 same) b.1)
+    pub many : (n r : ℕ) → r ≡ length m.entries → n ≡ 65535 → (IsTrue (nat_lt n r) → HasManyTemporaries text) × (HasManyTemporaries text → IsTrue (nat_lt n r))
+    many n r e limit = (λ t. let l = short n r t in too_many (omega arith), λ names. let l = few names in is_long n r (omega arith))

@@ -1,5 +1,11 @@
 -- The lemmas.
 pub mod TableLemmas
 pub mod PlaceLemmas
+pub mod RuleLemmas
+pub mod SameLemmas
+pub mod EdgeLemmas
 pub mod CountLemmas
+pub mod TextLemmas
+pub mod NameLemmas
 pub mod WholeLemmas
+pub mod ScanLemmas

@@ -5,18 +5,14 @@ use Rattle.std.proofs.lemmas.Option.{slice_get_within}
 use Rattle.std.specs.List.{slice_get}
 use Rattle.std.specs.Str.{bytes_eq}
 use Rattle.std.proofs.lemmas.Slice.Eq.{bytes_eq-Decides}
-use Rattle.qil_parser.specs.declared.tree.Class.{Class}
-use Rattle.qil_parser.specs.declared.tree.Class.TheVariants as classes
-use Rattle.qil_parser.specs.contracts.tree.Class.{the_type}
+use Rattle.qil_parser.specs.declared.ops.Class.{Class}
+use Rattle.qil_parser.specs.declared.ops.Class.TheVariants as classes
+use Rattle.qil_parser.specs.contracts.ops.Class.{the_type}
 use denote.Enum.Bare.{sameb}
-use Rattle.qil_parser.specs.declared.tree.Func.{Func}
-use Rattle.qil_checker.specs.declared.mark.Kind.TheVariants.{Defined, Named}
-use Rattle.qil_checker.specs.declared.rule.Rule.{Rule}
-use Rattle.qil_checker.specs.declared.rule.Rule.TheVariants.{C5, C6, C7, C10, C12}
-use Rattle.qil_checker.specs.Text.{What, Defines, Uses, Gives, Mark, marks, Stands, FirstClass, IsUndefined, IsAgain}
-use Rattle.qil_checker.specs.Rules.{IsTemporary, Breaks, line_at}
-use Rattle.qil_checker.specs.Texts.{Keeps, Breach}
-use Rattle.qil_checker.specs.Tables.{named, is_name, is_named, first}
+use Rattle.qil_checker.specs.declared.mark.Kind.TheVariants.{Defined, Named, Labels}
+use Rattle.qil_checker.specs.Marks.{What, Mark, DataName, FunctionName, Label, Goes, Comes, Merges, Defines, Uses, Global, Gives, Long}
+use Rattle.qil_checker.specs.Text.{Stands, FirstClass, IsUndefined, IsAgain, IsTemporary, LacksLabel}
+use Rattle.qil_checker.specs.Tables.{named, is_name, is_named, first, is}
 
 pub record Found {A : Type 0} (test : A → Bool) (xs : List A) (i : ℕ) : Type 0 where
   pub item : A
@@ -45,7 +41,7 @@ found : {A : Type 0} (test : A → Bool) (n : ℕ) (xs : List A) (k : ℕ) → f
 found test n [] k e = absurd cc
 found test n (x ∷ xs) k e = found_case test n x xs k (test x) refl e (found test (suc n) xs k)
 
-found_here : {A : Type 0} (test : A → Bool) (xs : List A) (k : ℕ) → first test 0 xs ≡ Some k → Found test xs k
+pub found_here : {A : Type 0} (test : A → Bool) (xs : List A) (k : ℕ) → first test 0 xs ≡ Some k → Found test xs k
 found_here test xs k e = let f = found test 0 xs k e in let same : f.0 ≡ k = omega (arith, f.1) in subst (Found test xs) same f.2
 
 absent_case : {A : Type 0} (test : A → Bool) (n : ℕ) (x : A) (xs : List A) (b : Bool) → test x ≡ b
@@ -56,7 +52,7 @@ absent_case test n x xs true passes e later j a there = absurd cc
 absent_case test n x xs false passes e later zero a there = let same : x ≡ a = cc in subst (λ y. test y ≡ false) same passes
 absent_case test n x xs false passes e later (suc j) a there = later e j a there
 
-absent : {A : Type 0} (test : A → Bool) (n : ℕ) (xs : List A) → first test n xs ≡ None → (j : ℕ) (a : A) → slice_get xs j ≡ Some a → test a ≡ false
+pub absent : {A : Type 0} (test : A → Bool) (n : ℕ) (xs : List A) → first test n xs ≡ None → (j : ℕ) (a : A) → slice_get xs j ≡ Some a → test a ≡ false
 absent test n [] e = λ j a there. absurd cc
 absent test n (x ∷ xs) e = absent_case test n x xs (test x) refl e (absent test (suc n) xs)
 
@@ -79,17 +75,49 @@ same_name x = (bytes_eq-Decides x x).1 refl
 
 class_of_mark : (x : List ℕ) (w : What) → is_name x (named w Defined) ≡ true → (c : Class) × (w ≡ Defines x c)
 class_of_mark x (Defines y c) e = (c, ap (λ n. Defines n c) ((bytes_eq-Decides y x).0 e))
+class_of_mark x (Label y) e = absurd cc
 class_of_mark x (Uses y c) e = absurd cc
-class_of_mark x Gives e = absurd cc
+class_of_mark x (DataName y) e = absurd cc
+class_of_mark x (FunctionName y) e = absurd cc
+class_of_mark x (Goes y z) e = absurd cc
+class_of_mark x (Comes y) e = absurd cc
+class_of_mark x (Merges y z) e = absurd cc
+class_of_mark x (Global y) e = absurd cc
+class_of_mark x (Gives y) e = absurd cc
+class_of_mark x (Long y) e = absurd cc
 
 mark_of_temp : (x : List ℕ) (w : What) → is_name x (named w Named) ≡ true → (c : Class) × ((w ≡ Defines x c) ⊎ (w ≡ Uses x c))
 mark_of_temp x (Defines y c) e = (c, inl (ap (λ n. Defines n c) ((bytes_eq-Decides y x).0 e)))
 mark_of_temp x (Uses y c) e = (c, inr (ap (λ n. Uses n c) ((bytes_eq-Decides y x).0 e)))
-mark_of_temp x Gives e = absurd cc
+mark_of_temp x (Label y) e = absurd cc
+mark_of_temp x (DataName y) e = absurd cc
+mark_of_temp x (FunctionName y) e = absurd cc
+mark_of_temp x (Goes y z) e = absurd cc
+mark_of_temp x (Comes y) e = absurd cc
+mark_of_temp x (Merges y z) e = absurd cc
+mark_of_temp x (Global y) e = absurd cc
+mark_of_temp x (Gives y) e = absurd cc
+mark_of_temp x (Long y) e = absurd cc
+
+label_of_mark : (x : List ℕ) (w : What) → is_name x (named w Labels) ≡ true → w ≡ Label x
+label_of_mark x (Label y) e = ap Label ((bytes_eq-Decides y x).0 e)
+label_of_mark x (Defines y c) e = absurd cc
+label_of_mark x (Uses y c) e = absurd cc
+label_of_mark x (DataName y) e = absurd cc
+label_of_mark x (FunctionName y) e = absurd cc
+label_of_mark x (Goes y z) e = absurd cc
+label_of_mark x (Comes y) e = absurd cc
+label_of_mark x (Merges y z) e = absurd cc
+label_of_mark x (Global y) e = absurd cc
+label_of_mark x (Gives y) e = absurd cc
+label_of_mark x (Long y) e = absurd cc
 
 -- a mark that brings x passes the test
 brings_definition : (x : List ℕ) (c : Class) (m : Mark) → m.what ≡ Defines x c → is_named Defined x m ≡ true
 brings_definition x c m e = ap (λ w. is_name x (named w Defined)) e ∙ same_name x
+
+brings_label : (x : List ℕ) (m : Mark) → m.what ≡ Label x → is_named Labels x m ≡ true
+brings_label x m e = ap (λ w. is_name x (named w Labels)) e ∙ same_name x
 
 brings_name : (x : List ℕ) (c : Class) (m : Mark) → (m.what ≡ Defines x c) ⊎ (m.what ≡ Uses x c) → is_named Named x m ≡ true
 brings_name x c m (inl e) = ap (λ w. is_name x (named w Named)) e ∙ same_name x
@@ -232,32 +260,39 @@ temp_at text x k w c e s which =
 pub temp_absent : (text : List Mark) (x : List ℕ) → first (is_named Named x) 0 text ≡ None → IsTemporary text x → ⊥
 temp_absent text x e t = ⊎_elim (λ d. temp_at text x t.0 (Defines x t.1) t.1 e d (inl refl)) (λ u. temp_at text x t.0 (Uses x t.1) t.1 e u (inr refl)) t.2
 
--- ---- the rules of marks
+-- ---- labels
 
-pub line_of_mark : {A : Type 0} (rule : Rule) (f : Func A) (k : ℕ) (m : Mark) → rule ≢ C12 → slice_get (marks f) k ≡ Some m → line_at rule f k ≡ Some m.line
-line_of_mark C5 f k m ne e = ap (option_map (λ m. m.line)) e
-line_of_mark C6 f k m ne e = ap (option_map (λ m. m.line)) e
-line_of_mark C7 f k m ne e = ap (option_map (λ m. m.line)) e
-line_of_mark C10 f k m ne e = ap (option_map (λ m. m.line)) e
-line_of_mark C12 f k m ne e = absurd (ne refl)
+-- what stands at a place is one thing
+pub one_what : (text : List Mark) (k : ℕ) (m : Mark) (w : What) → slice_get text k ≡ Some m → Stands text k w → m.what ≡ w
+one_what text k m w there s =
+    let f = stands_mark text k w s in
+    let same : f.0 ≡ m = cc in
+    ap (λ n. n.what) (sym same) ∙ f.2
 
-pub mark_within : {A : Type 0} (rule : Rule) (f : Func A) (n k : ℕ) → rule ≢ C12 → Breaks rule f n k → k < length (marks f)
-mark_within C5 f n k ne b = stands_within (marks f) k (Defines b.0 b.1) b.3
-mark_within C6 f n k ne b = stands_within (marks f) k (Uses b.0 b.1) b.2
-mark_within C7 f n k ne b = stands_within (marks f) k (Uses b.0 classes.L) b.1
-mark_within C10 f n k ne b = stands_within (marks f) k Gives b.0
-mark_within C12 f n k ne b = absurd (ne refl)
+pub label_found : (text : List Mark) (x : List ℕ) (k : ℕ) → first (is_named Labels x) 0 text ≡ Some k
+    → Stands text k (Label x) × ((j : ℕ) → j < k → Stands text j (Label x) → ⊥)
+label_found text x k e =
+    let f = found_here (is_named Labels x) text k e in (
+      mark_stands text k f.item (Label x) f.there (label_of_mark x f.item.what f.passes),
+      λ j l s. let m = stands_mark text j (Label x) s in
+          let yes : is_named Labels x m.0 ≡ true = brings_label x m.0 m.2 in
+          let not : is_named Labels x m.0 ≡ false = f.earlier j m.0 l m.1 in
+          cc,
+    )
 
--- a rule of marks does not look at the function's number
-pub any_number : {A : Type 0} (rule : Rule) (f : Func A) (n i k : ℕ) → rule ≢ C12 → Breaks rule f n k → Breaks rule f i k
-any_number C5 f n i k ne b = b
-any_number C6 f n i k ne b = b
-any_number C7 f n i k ne b = b
-any_number C10 f n i k ne b = b
-any_number C12 f n i k ne b = absurd (ne refl)
+pub label_absent : (text : List Mark) (x : List ℕ) → first (is_named Labels x) 0 text ≡ None → LacksLabel text x
+label_absent text x e = λ j s. let m = stands_mark text j (Label x) s in
+    let yes : is_named Labels x m.0 ≡ true = brings_label x m.0 m.2 in
+    let not : is_named Labels x m.0 ≡ false = absent (is_named Labels x) 0 text e j m.0 m.1 in
+    cc
 
-pub any_match : {A : Type 0} (rule : Rule) (f : Func A) (n i : ℕ) → rule ≢ C12 → (o : Option ℕ)
-    → MatchOption o (Keeps rule f n) (Breach rule f n) → MatchOption o (Keeps rule f i) (Breach rule f i)
-any_match rule f n i ne None keeps = λ k b. keeps k (any_number rule f i n k ne b)
-any_match rule f n i ne (Some line) b =
-    record { mark = b.mark; breaks = any_number rule f n i b.mark ne b.breaks; first = λ j l h. b.first j l (any_number rule f i n j ne h); line_is = b.line_is }
+-- ---- names of a list
+
+pub name_found : (xs : List (List ℕ)) (x : List ℕ) (i : ℕ) → first (is x) 0 xs ≡ Some i → slice_get xs i ≡ Some x
+name_found xs x i e = let f = found_here (is x) xs i e in f.there ∙ ap Some ((bytes_eq-Decides f.item x).0 f.passes)
+
+pub name_absent : (xs : List (List ℕ)) (x : List ℕ) → first (is x) 0 xs ≡ None → (i : ℕ) → slice_get xs i ≡ Some x → ⊥
+name_absent xs x e i there =
+    let yes : is x x ≡ true = same_name x in
+    let not : is x x ≡ false = absent (is x) 0 xs e i x there in
+    cc

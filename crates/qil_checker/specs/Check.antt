@@ -1,11 +1,12 @@
 -- What `check` answers.
-use Rattle.std.specs.Prelude.{◌≡◌, ℕ, Result, Ok, Err}
+use Rattle.std.specs.Prelude.{◌≡◌, ℕ, List, Result, Ok, Err}
 use Rattle.qil_parser.specs.declared.tree.Program.{Program}
 use Rattle.qil_checker.specs.declared.form.Form.{Form}
 use Rattle.qil_checker.specs.declared.rule.Rule.{Rule}
 use Rattle.qil_checker.specs.declared.checker.CheckError.{CheckError}
 use Rattle.qil_checker.specs.declared.checker.CheckError.TheVariants.{Refused, OutOfMemory}
-use Rattle.qil_checker.specs.Rules.{Broken}
+use Rattle.qil_checker.specs.Marks.{Mark}
+use Rattle.qil_checker.specs.Rules.{AreBroken}
 
 -- a program that was checked, and its form
 pub record Verdict (A : Type 0) : Type 0 where
@@ -13,9 +14,9 @@ pub record Verdict (A : Type 0) : Type 0 where
   pub form : Form
 
 -- a refusal tells what is broken first
-abbrev pub IsTold : {A : Type 0} → Program A → CheckError → Type 0
-IsTold p (Refused rule line) = Broken p rule line
-IsTold p OutOfMemory = Unit {0}
+abbrev pub IsTold : List (List Mark) → CheckError → Type 0
+IsTold all (Refused rule line) = AreBroken all rule line
+IsTold all OutOfMemory = Unit {0}
 
 abbrev pub IsRefusal : Rule → ℕ → CheckError → Type 0
 IsRefusal rule line (Refused r l) = (r ≡ rule) × (l ≡ line)

@@ -1,26 +1,27 @@
 -- Whether each temporary of a program has one definition.
 use Rattle.std.specs.Prelude.{◌≡◌, ℕ, List, Some, slice_get}
-use Rattle.qil_parser.specs.declared.tree.Func.{Func}
 use Rattle.qil_parser.specs.declared.tree.Program.{Program}
 use Rattle.qil_checker.specs.declared.form.Form.{Form}
 use Rattle.qil_checker.specs.declared.form.Form.TheVariants.{Single, Several}
-use Rattle.qil_checker.specs.Text.{marks, IsAgain}
-use Rattle.qil_checker.specs.Rules.{Place, IsEarlier}
+use Rattle.qil_checker.specs.Marks.{Mark, texts}
+use Rattle.qil_checker.specs.Text.{IsAgain}
+use Rattle.qil_checker.specs.Rules.{HasName, Place, IsEarlier}
 
--- at a place a temporary is defined that was defined before
-abbrev pub IsAgainAt : {A : Type 0} → Program A → Place → List ℕ → Type 0
-IsAgainAt {A} p at x = (f : Func A) × (slice_get p.funcs at.func ≡ Some f) × IsAgain (marks f) at.mark x
+-- at a place a temporary is defined that was defined before in the same function
+abbrev pub IsAgainAt : List (List Mark) → Place → List ℕ → Type 0
+IsAgainAt all at x = (text : List Mark) × (slice_get all at.text ≡ Some text) × IsAgain text at.mark x
 
 -- the first such place of the text
-pub record IsFirstAgain {A : Type 0} (p : Program A) (func temp : List ℕ) : Type 0 where
+pub record IsFirstAgain (all : List (List Mark)) (func temp : List ℕ) : Type 0 where
   pub at : Place
-  pub in_func : Func A
-  pub is_func : slice_get p.funcs at.func ≡ Some in_func
-  pub again : IsAgain (marks in_func) at.mark temp
-  pub first : (before : Place) (x : List ℕ) → IsEarlier before at → IsAgainAt p before x → ⊥
-  pub name : in_func.name ≡ func
+  pub again : IsAgainAt all at temp
+  pub first : (before : Place) (x : List ℕ) → IsEarlier before at → IsAgainAt all before x → ⊥
+  pub name : HasName all at.text func
 
 -- each temporary has one definition, or else that one is the first to be defined again
+abbrev pub HaveForm : List (List Mark) → Form → Type 0
+HaveForm all Single = (at : Place) (x : List ℕ) → IsAgainAt all at x → ⊥
+HaveForm all (Several func temp) = IsFirstAgain all func temp
+
 abbrev pub HasForm : {A : Type 0} → Program A → Form → Type 0
-HasForm p Single = (at : Place) (x : List ℕ) → IsAgainAt p at x → ⊥
-HasForm p (Several func temp) = IsFirstAgain p func temp
+HasForm p form = HaveForm (texts p) form

@@ -1,8 +1,10 @@
 -- The definitions.
+pub mod Operands
+pub mod Marks
 pub mod Text
-pub mod Tables
 pub mod Rules
 pub mod Forms
-pub mod Texts
+pub mod Tables
+pub mod Scan
 pub mod Whole
 pub mod Check

@@ -1,11 +1,13 @@
--- What a table of names says: where each name of a kind stands first.
-use Rattle.std.specs.Prelude.{ℕ, suc, List, [], ◌∷◌, Option, Some, None, Bool, false, if◌then◌else◌}
+-- What a table of names says: where each name of a kind stands first; from where each block is reached.
+use Rattle.std.specs.Prelude.{◌≡◌, ◌≢◌, ◌↔◌, ℕ, suc, List, [], ◌∷◌, ◌++◌, Option, Some, None, Bool, false, if◌then◌else◌, slice_get}
 use Rattle.std.specs.Str.{bytes_eq}
+use Rattle.std.specs.declared.vec.Vec.{Vec}
 use Rattle.indexmap.specs.IndexMap.{IndexMap, get_by}
 use denote.Ref.{Bor}
 use Rattle.qil_checker.specs.declared.mark.Kind.{Kind}
-use Rattle.qil_checker.specs.declared.mark.Kind.TheVariants.{Defined, Named}
-use Rattle.qil_checker.specs.Text.{What, Defines, Uses, Gives, Mark}
+use Rattle.qil_checker.specs.declared.mark.Kind.TheVariants.{Defined, Named, Labels}
+use Rattle.qil_checker.specs.Marks.{What, Mark, DataName, FunctionName, Label, Goes, Defines, Uses}
+use Rattle.qil_checker.specs.Text.{AreDistinct, IsAmong}
 
 abbrev pub place_of : {S : Type 0} → IndexMap (Bor (List ℕ)) ℕ S → List ℕ → Option ℕ
 place_of m x = get_by (λ k. bytes_eq x k.now) m
@@ -20,10 +22,11 @@ at_name name place x = if bytes_eq name x then Some place else None
 
 -- the name that a mark brings to a table of this kind
 abbrev pub named : What → Kind → Option (List ℕ)
-named (Defines x c) kind = Some x
+named (Defines x c) Defined = Some x
+named (Defines x c) Named = Some x
 named (Uses x c) Named = Some x
-named (Uses x c) Defined = None
-named Gives kind = None
+named (Label x) Labels = Some x
+named what kind = None
 
 abbrev pub is_name : List ℕ → Option (List ℕ) → Bool
 is_name x None = false
@@ -36,3 +39,47 @@ is_named kind x mark = is_name x (named mark.what kind)
 abbrev pub first : {X : Type 0} → (X → Bool) → ℕ → List X → Option ℕ
 first test n [] = None
 first test n (a ∷ others) = if test a then Some n else first test (suc n) others
+
+-- the global name that a definition begins with
+abbrev pub begun_name : What → Option (List ℕ)
+begun_name (DataName x) = Some x
+begun_name (FunctionName x) = Some x
+begun_name what = None
+
+abbrev pub head_name : List Mark → Option (List ℕ)
+head_name [] = None
+head_name (m ∷ text) = begun_name m.what
+
+abbrev pub has_name : List ℕ → List Mark → Bool
+has_name x text = is_name x (head_name text)
+
+-- ---- names of a list
+
+abbrev pub is : List ℕ → List ℕ → Bool
+is x y = bytes_eq y x
+
+-- each of the names has a place
+abbrev pub AreKnown : List (List ℕ) → (List ℕ → Option ℕ) → Type 0
+AreKnown xs place = (i : ℕ) (x : List ℕ) → slice_get xs i ≡ Some x → place x ≢ None
+
+-- the names stand once each and are those of the other list
+abbrev pub AreSameOnce : List (List ℕ) → List (List ℕ) → Type 0
+AreSameOnce xs ys = AreDistinct xs × ((x : List ℕ) → IsAmong x xs ↔ IsAmong x ys)
+
+-- ---- from where a block is reached
+
+abbrev pub items_of : {X A : Type 0} → Option (Vec X A) → List X
+items_of None = []
+items_of (Some v) = v.items
+
+abbrev pub list_at : {X A S : Type 0} → IndexMap (Bor (List ℕ)) (Vec X A) S → List ℕ → List X
+list_at m x = items_of (get_by (λ k. bytes_eq x k.now) m)
+
+abbrev pub arrival : List ℕ → What → List (List ℕ)
+arrival b (Goes l to) = if bytes_eq to b then l ∷ [] else []
+arrival b what = []
+
+-- the labels of the blocks that go to a block, in the order of the text
+abbrev pub arrivals : List ℕ → List Mark → List (List ℕ)
+arrivals b [] = []
+arrivals b (m ∷ text) = arrival b m.what ++ arrivals b text

@@ -1,54 +1,18 @@
--- The text of a function as a list of marks: what its instructions and jumps define and use, in their order.
-use Rattle.std.specs.Prelude.{◌≡◌, ℕ, ◌<◌, List, [], ◌∷◌, ◌++◌, Option, Some, None, option_map, slice_get, unwrap_or}
-use Rattle.std.specs.List.{flat_map}
-use Rattle.qil_parser.specs.declared.tree.Class.{Class}
-use Rattle.qil_parser.specs.declared.tree.Class.TheVariants as classes
-use Rattle.qil_parser.specs.declared.tree.Operand.{Operand}
-use Rattle.qil_parser.specs.declared.tree.Operand.TheVariants as operands
-use Rattle.qil_parser.specs.declared.tree.Expr.{Expr}
-use Rattle.qil_parser.specs.declared.tree.Expr.TheVariants as exprs
-use Rattle.qil_parser.specs.declared.tree.Inst.{Inst}
-use Rattle.qil_parser.specs.declared.tree.InstKind.{InstKind}
-use Rattle.qil_parser.specs.declared.tree.InstKind.TheVariants as insts
-use Rattle.qil_parser.specs.declared.tree.JumpKind.{JumpKind}
-use Rattle.qil_parser.specs.declared.tree.JumpKind.TheVariants as jumps
-use Rattle.qil_parser.specs.declared.tree.Block.{Block}
-use Rattle.qil_parser.specs.declared.tree.Func.{Func}
-pub use Rattle.qil_checker.specs.declared.mark.What.{What}
-pub use Rattle.qil_checker.specs.declared.mark.What.TheVariants.{Defines, Uses, Gives}
-pub use Rattle.qil_checker.specs.declared.mark.Mark.{Mark}
+-- Places in a text: what stands there, and what a text says of a name.
+use Rattle.std.specs.Prelude.{◌≡◌, ◌≢◌, ℕ, ◌<◌, ◌⊎◌, ◌↔◌, List, Some, option_map, slice_get, map, length, All, AllPairs}
+use Rattle.qil_parser.specs.declared.ops.Class.{Class}
+use Rattle.qil_parser.specs.declared.tree.PhiSource.{PhiSource}
+use Rattle.qil_checker.specs.Marks.{What, Mark, DataName, FunctionName, Label, Goes, Defines, Uses}
 
--- an operand in a context
-abbrev pub operand_marks : ℕ → Class → Operand → List Mark
-operand_marks line c (operands.Number n) = []
-operand_marks line c (operands.Temp x) = record { what = Uses x c; line = line } ∷ []
-
--- the operands of an expression stand in the class of the target
-abbrev pub expr_marks : ℕ → Class → Expr → List Mark
-expr_marks line c (exprs.Unary op a) = operand_marks line c a
-expr_marks line c (exprs.Binary op a b) = operand_marks line c a ++ operand_marks line c b
-
-abbrev pub kind_marks : ℕ → InstKind → List Mark
-kind_marks line (insts.Assign to e) = expr_marks line to.class e ++ record { what = Defines to.name to.class; line = line } ∷ []
-
-abbrev pub inst_marks : Inst → List Mark
-inst_marks inst = kind_marks inst.line inst.kind
-
--- what is returned stands in the return type; without one any value fits
-abbrev pub jump_marks : Option Class → ℕ → JumpKind → List Mark
-jump_marks returns line (jumps.Ret None) = []
-jump_marks returns line (jumps.Ret (Some a)) = operand_marks line (unwrap_or returns classes.W) a ++ record { what = Gives; line = line } ∷ []
-
-abbrev pub block_marks : {A : Type 0} → Option Class → Block A → List Mark
-block_marks returns b = flat_map inst_marks b.insts ++ jump_marks returns b.jump.line b.jump.kind
-
-abbrev pub marks : {A : Type 0} → Func A → List Mark
-marks f = flat_map (λ b. block_marks f.returns b) f.blocks
-
--- ---- places in a text
-
+-- at this place of the text stands this
 abbrev pub Stands : List Mark → ℕ → What → Type 0
 Stands text k what = option_map (λ m. m.what) (slice_get text k) ≡ Some what
+
+-- a definition of that global name begins there
+abbrev pub Names : List Mark → ℕ → List ℕ → Type 0
+Names text k x = Stands text k (DataName x) ⊎ Stands text k (FunctionName x)
+
+-- ---- temporaries
 
 -- the class of the first definition
 abbrev pub FirstClass : List Mark → List ℕ → Class → Type 0
@@ -60,3 +24,34 @@ IsUndefined text x = (j : ℕ) (c : Class) → Stands text j (Defines x c) → �
 -- a definition that is not the first of its temporary
 abbrev pub IsAgain : List Mark → ℕ → List ℕ → Type 0
 IsAgain text k x = (j : ℕ) × (c : Class) × (d : Class) × (j < k) × Stands text j (Defines x d) × Stands text k (Defines x c)
+
+-- a temporary that the text defines or uses
+abbrev pub IsTemporary : List Mark → List ℕ → Type 0
+IsTemporary text x = (k : ℕ) × (c : Class) × (Stands text k (Defines x c) ⊎ Stands text k (Uses x c))
+
+-- ---- blocks
+
+abbrev pub LacksLabel : List Mark → List ℕ → Type 0
+LacksLabel text x = (j : ℕ) → Stands text j (Label x) → ⊥
+
+-- the label of the first block
+abbrev pub IsFirstLabel : List Mark → List ℕ → Type 0
+IsFirstLabel text x = (j : ℕ) × Stands text j (Label x) × ((i : ℕ) (y : List ℕ) → i < j → Stands text i (Label y) → ⊥)
+
+-- control may go from block l to block b
+abbrev pub IsPredecessor : List Mark → List ℕ → List ℕ → Type 0
+IsPredecessor text b l = (j : ℕ) × Stands text j (Goes l b)
+
+-- no name stands twice in a list
+abbrev pub AreDistinct : List (List ℕ) → Type 0
+AreDistinct xs = (i j : ℕ) (x : List ℕ) → slice_get xs i ≡ Some x → slice_get xs j ≡ Some x → i ≡ j
+
+abbrev pub IsAmong : List ℕ → List (List ℕ) → Type 0
+IsAmong x xs = (i : ℕ) × (slice_get xs i ≡ Some x)
+
+-- the labels are the block's predecessors, each once
+abbrev pub ArePredecessors : List Mark → List ℕ → List (List ℕ) → Type 0
+ArePredecessors text b labels = AreDistinct labels × ((l : List ℕ) → IsAmong l labels ↔ IsPredecessor text b l)
+
+abbrev pub labels_of : List PhiSource → List (List ℕ)
+labels_of sources = map (λ s. s.label) sources

@@ -1,7 +1,7 @@
--- The program that texts were made of.
+-- The marks of the texts of a program.
 use Rattle.std.specs.Prelude.{List, map}
-use Rattle.qil_parser.specs.declared.tree.Program.{Program}
 use Rattle.qil_checker.specs.declared.text.Text.{Text}
+use Rattle.qil_checker.specs.Marks.{Mark}
 
-abbrev pub program_of : {A : Type 0} → List (Text A) → Program A
-program_of texts = record { funcs = map (λ t. t.func.now) texts }
+abbrev pub marks_of : {A : Type 0} → List (Text A) → List (List Mark)
+marks_of texts = map (λ t. t.marks.items) texts

@@ -1,18 +1,17 @@
 //! The check of a program.
 
 ghost use Rattle.std.specs.Prelude.{◌≡◌, ℕ, IfOk, IfErr};
+ghost use Rattle.qil_checker.specs.Marks.{texts};
 ghost use Rattle.qil_checker.specs.Rules.{WellFormed, Broken};
 ghost use Rattle.qil_checker.specs.Check.{IsTold, IsAnswered};
 ghost use Rattle.qil_checker.specs.Forms.{HasForm};
-ghost use Rattle.qil_checker.specs.Whole.{program_of};
 ghost use Rattle.qil_checker.specs.declared.rule.Rule.{Rule};
 
 use crate::form::Form;
 use crate::rule::Rule;
-use crate::text::Text;
-use crate::whole::{Refusal, form_of, lowest, texts_of};
+use crate::whole::{Refusal, Whole};
 use qil_parser::Program;
-use std::alloc::Allocator;
+use std::alloc::{AllocError, Allocator};
 use std::marker::Model;
 use thiserror::Error;
 
@@ -24,6 +23,16 @@ pub enum CheckError {
     Refused { rule: Rule, line: u32 },
     #[error("out of memory")]
     OutOfMemory,
+}
+
+impl From<AllocError> for CheckError {
+    ghost use Rattle.qil_checker.specs.declared.checker.CheckError.TheVariants.{OutOfMemory};
+
+    ghost from_gives = { λ _ e. e ≡ OutOfMemory };
+
+    fn from(_error: AllocError) -> Self {
+        CheckError::OutOfMemory
+    }
 }
 
 /// A program that is well-formed.
@@ -66,21 +75,6 @@ impl<'a, A: Allocator> Checked<'a, A> {
     }
 }
 
-/// The form of a well-formed program, from the texts of its functions; why it is not well-formed, otherwise.
-fn judge<'a, A: Allocator + Copy>(texts: &[Text<'_, 'a, A>]) -> Result<Form<'a>, CheckError>
-    ensures well_formed { IfOk result (λ form. WellFormed (program_of texts.now)) }
-    ensures form { IfOk result (λ form. HasForm (program_of texts.now) form) }
-    ensures told { IfErr result (λ error. IsTold (program_of texts.now) error) }
-{
-    match lowest(texts) {
-        Some(refusal) => {
-            let Refusal { rule, line } = refusal;
-            Err(CheckError::Refused { rule, line })
-        }
-        None => Ok(form_of(texts)),
-    }
-}
-
 /// The form of a well-formed program; why it is not well-formed, otherwise.
 fn examine<'a, A: Allocator + Copy>(
     alloc: A,
@@ -88,11 +82,15 @@ fn examine<'a, A: Allocator + Copy>(
 ) -> Result<Form<'a>, CheckError>
     ensures well_formed { IfOk result (λ form. WellFormed program.now) }
     ensures form { IfOk result (λ form. HasForm program.now form) }
-    ensures told { IfErr result (λ error. IsTold program.now error) }
+    ensures told { IfErr result (λ error. IsTold (texts program.now) error) }
 {
-    match texts_of(alloc, program) {
-        Ok(texts) => judge(texts.as_slice()),
-        Err(_) => Err(CheckError::OutOfMemory),
+    let whole = Whole::new(alloc, program)?;
+    match whole.lowest(alloc)? {
+        Some(refusal) => {
+            let Refusal { rule, line } = refusal;
+            Err(CheckError::Refused { rule, line })
+        }
+        None => Ok(whole.form()),
     }
 }
 
@@ -104,7 +102,7 @@ pub fn check<'a, A: Allocator + Copy>(
     ensures same { IfOk result (λ c. c.program ≡ program.entry) }
     ensures kept { IfOk result (λ c. WellFormed c.program × HasForm c.program c.form) }
     ensures handed_back { IfErr result (λ e. e.0 ≡ program.entry) }
-    ensures refused { IfErr result (λ e. IsTold program.entry e.1) }
+    ensures refused { IfErr result (λ e. IsTold (texts program.entry) e.1) }
     // A well-formed program is not refused, and one that breaks a rule is refused so.
     ensures only_kept { WellFormed program.entry → IfErr result (λ e. e.1 ≡ CheckError.OutOfMemory) }
     ensures only_broken { (rule : Rule) (line : ℕ) → Broken program.entry rule line → IsAnswered rule line result }

@@ -1,30 +1,80 @@
-//! What stands in the text of a function, one thing after the other.
+//! What stands in the text of a definition, one thing after the other.
 
-use qil_parser::{Class, Name};
+ghost use Rattle.std.specs.Prelude.{◌≡◌};
+
+use qil_parser::{AbiType, Class, Name, PhiSource};
+use std::marker::Model;
+
+/// The labels and values of a phi, in its order. Specifications see the list of them.
+#[derive(Drop)]
+pub struct Sources<'p, 'a> {
+    items: &'p [PhiSource<'a>],
+}
+
+impl<'p, 'a> Model for Sources<'p, 'a> {
+    ghost use Rattle.std.specs.Prelude.{List};
+    ghost use Rattle.qil_parser.specs.declared.tree.PhiSource.{PhiSource};
+
+    ghost Value = { List PhiSource };
+
+    ghost view = { λ s. s.items.now };
+}
+
+impl<'p, 'a> Sources<'p, 'a> {
+    pub fn new(items: &'p [PhiSource<'a>]) -> Sources<'p, 'a>
+        ensures { result ≡ items.now }
+    {
+        Sources { items }
+    }
+
+    pub fn as_slice(&self) -> &'p [PhiSource<'a>]
+        ensures { result.now ≡ self.now }
+    {
+        self.items
+    }
+}
 
 /// What a mark says.
 #[derive(Drop)]
-pub enum What<'a> {
+pub enum What<'p, 'a> {
+    /// A data object of that name begins.
+    DataName(Name<'a>),
+    /// A function of that name begins.
+    FunctionName(Name<'a>),
+    /// A block begins.
+    Label(Name<'a>),
+    /// Control may go from the first block to the second.
+    Goes(Name<'a>, Name<'a>),
+    /// A phi names a block that control comes from.
+    Comes(Name<'a>),
+    /// A phi of a block.
+    Merges(Name<'a>, Sources<'p, 'a>),
     /// A temporary gets a value of a class.
     Defines(Name<'a>, Class),
     /// A temporary is read in a context of a class.
     Uses(Name<'a>, Class),
-    /// A function returns a value.
-    Gives,
+    /// A global is used.
+    Global(Name<'a>),
+    /// A value is returned by a function of this return type.
+    Gives(Option<AbiType>),
+    /// A result that is always long has this class in the text.
+    Long(Class),
 }
 
-/// A mark, on the line of its instruction or jump.
+/// A mark, on the line of its definition's name, block's label, phi, instruction or jump.
 #[derive(Drop)]
-pub struct Mark<'a> {
-    pub what: What<'a>,
+pub struct Mark<'p, 'a> {
+    pub what: What<'p, 'a>,
     pub line: u32,
 }
 
-/// Which marks of a temporary a table lists.
+/// Which marks of a name a table lists.
 #[derive(Clone, Copy)]
 pub enum Kind {
-    /// Where it is defined.
+    /// Where a temporary is defined.
     Defined,
-    /// Where it is defined or used.
+    /// Where a temporary is defined or used.
     Named,
+    /// Where a block begins.
+    Labels,
 }

@@ -1,29 +1,28 @@
-//! The text of one function: its marks, and where its temporaries stand first.
+//! The text of one definition: its marks, where its names stand first, and what breaks a rule in it.
 
-ghost use Rattle.std.specs.Prelude.{◌≡◌, ◌≢◌, List, ℕ, Some, None, IfOk, IsTrue, ◌↔◌, MatchOption, slice_get};
-ghost use Rattle.qil_checker.specs.Tables.{place_of, first, is_named};
-ghost use Rattle.qil_checker.specs.Text.{marks, marks as marks_in, FirstClass, IsUndefined, IsAgain};
-ghost use Rattle.qil_checker.specs.Rules.{Breaks};
-ghost use Rattle.qil_checker.specs.Texts.{Keeps, Breach, IsSingle, IsAgainFirst};
-ghost use Rattle.qil_checker.specs.declared.rule.Rule.TheVariants.{C12};
-ghost use Rattle.qil_checker.specs.declared.mark.Kind.TheVariants.{Defined, Named};
+ghost use Rattle.std.specs.Prelude.{◌≡◌, List, ℕ, Some, IfOk, IsTrue, ◌↔◌, MatchOption, slice_get, if◌then◌else◌};
+ghost use Rattle.std.specs.List.{count_by};
+ghost use Rattle.qil_checker.specs.Tables.{place_of, first, is_named, list_at, arrivals as arrivals_at, head_name};
+ghost use Rattle.qil_checker.specs.Text.{FirstClass, IsUndefined, IsAgain, LacksLabel, IsFirstLabel};
+ghost use Rattle.qil_checker.specs.Rules.{IsSecondLabel, IsLostLabel, IsJumpToFirst, IsOtherClass, IsUndefinedUse, IsNarrowUse, IsWrongMerge, IsUntypedReturn, IsNarrowResult, HasManyTemporaries, HasManyBlocks, is_label, is_function, begins_function};
+ghost use Rattle.qil_checker.specs.Scan.{IsSingle, IsAgainFirst};
+ghost use Rattle.qil_checker.specs.declared.mark.Kind.TheVariants.{Defined, Named, Labels};
 
+use crate::arrivals::{Arrivals, arrivals_of};
 use crate::mark::{Kind, Mark, What};
-use crate::rule::Rule;
 use crate::table::Table;
-use crate::walk::marks_of;
-use qil_parser::{Class, Func, Name};
+use qil_parser::{Class, Name};
 use std::alloc::{AllocError, Allocator};
 
 /// How many temporaries a function may have.
 const MAX_TEMPORARIES: usize = 65_535;
-/// How many functions a program may have.
-const MAX_FUNCTIONS: usize = 1000;
+/// How many blocks a function may have.
+const MAX_BLOCKS: usize = 65_535;
 
 /// Where each name of a kind stands first.
 fn first_places<'a, A: Allocator + Copy>(
     alloc: A,
-    marks: &[Mark<'a>],
+    marks: &[Mark<'_, 'a>],
     kind: Kind,
 ) -> Result<Table<'a, A>, AllocError>
     ensures { IfOk result (λ t. (x : List ℕ) → place_of t.places x ≡ first (is_named kind x) 0 marks.now) }
@@ -31,38 +30,82 @@ fn first_places<'a, A: Allocator + Copy>(
     let mut table = Table::new(alloc);
     for (place, mark) in marks.iter().enumerate() {
         match (&mark.what, kind) {
-            (What::Defines(name, _), _) => table.note(name, place)?,
+            (What::Defines(name, _), Kind::Defined) => table.note(name, place)?,
+            (What::Defines(name, _), Kind::Named) => table.note(name, place)?,
             (What::Uses(name, _), Kind::Named) => table.note(name, place)?,
+            (What::Label(name), Kind::Labels) => table.note(name, place)?,
             _ => {}
         }
     }
     Ok(table)
 }
 
-/// A function's text.
+fn is_label(mark: &Mark) -> bool
+    ensures { result ≡ is_label mark.now }
+{
+    match &mark.what {
+        What::Label(_) => true,
+        _ => false,
+    }
+}
+
+fn begins_function(mark: &Mark) -> bool
+    ensures { result ≡ begins_function mark.now.what }
+{
+    match &mark.what {
+        What::FunctionName(_) => true,
+        _ => false,
+    }
+}
+
+/// How many blocks begin.
+fn count_blocks(marks: &[Mark]) -> usize
+    ensures { result ≡ count_by is_label marks.now }
+{
+    marks.iter().filter(|mark| is_label(mark)).count()
+}
+
+/// A definition's text.
 #[derive(Drop)]
 pub struct Text<'p, 'a, A: Allocator> {
-    pub func: &'p Func<'a, A>,
-    marks: Vec<Mark<'a>, A>,
+    /// The global name that is defined.
+    pub name: Name<'a>,
+    pub marks: Vec<Mark<'p, 'a>, A>,
+    blocks: usize,
     defined: Table<'a, A>,
     named: Table<'a, A>,
-    ghost marks_are: { marks.items ≡ marks_in func.now },
+    labels: Table<'a, A>,
+    arrivals: Arrivals<'a, A>,
+    ghost name_is: { head_name marks.items ≡ Some name },
+    ghost blocks_are: { blocks ≡ count_by is_label marks.items },
     ghost defined_places: { (x : List ℕ) → place_of defined.places x ≡ first (is_named Defined x) 0 marks.items },
     ghost named_places: { (x : List ℕ) → place_of named.places x ≡ first (is_named Named x) 0 marks.items },
+    ghost label_places: { (x : List ℕ) → place_of labels.places x ≡ first (is_named Labels x) 0 marks.items },
+    ghost arrival_lists: { (x : List ℕ) → list_at arrivals.lists x ≡ arrivals_at x marks.items },
 }
 
 impl<'p, 'a, A: Allocator + Copy> Text<'p, 'a, A> {
-    pub fn new(alloc: A, func: &'p Func<'a, A>) -> Result<Text<'p, 'a, A>, AllocError>
-        ensures { IfOk result (λ t. t.func.now ≡ func.now) }
+    pub fn new(
+        alloc: A,
+        name: Name<'a>,
+        marks: Vec<Mark<'p, 'a>, A>,
+    ) -> Result<Text<'p, 'a, A>, AllocError>
+        requires { head_name marks.items ≡ Some name }
+        ensures { IfOk result (λ t. t.marks.items ≡ marks.entry.items) }
     {
-        let marks = marks_of(alloc, func)?;
+        let blocks = count_blocks(marks.as_slice());
         let defined = first_places(alloc, marks.as_slice(), Kind::Defined)?;
         let named = first_places(alloc, marks.as_slice(), Kind::Named)?;
+        let labels = first_places(alloc, marks.as_slice(), Kind::Labels)?;
+        let arrivals = arrivals_of(alloc, marks.as_slice())?;
         Ok(Text {
-            func,
+            name,
             marks,
+            blocks,
             defined,
             named,
+            labels,
+            arrivals,
         })
     }
 
@@ -79,65 +122,175 @@ impl<'p, 'a, A: Allocator + Copy> Text<'p, 'a, A> {
         }
     }
 
-    /// Whether the mark at a place breaks a rule.
-    fn breaks(&self, rule: Rule, place: usize, mark: &Mark<'a>) -> bool
-        requires there { slice_get self.now.marks.items place ≡ Some mark.now }
-        requires of_marks { rule ≢ C12 }
-        ensures { IsTrue result ↔ Breaks rule self.now.func.now 0 place }
+    fn lacks(&self, label: &Name<'a>) -> bool
+        ensures { IsTrue result ↔ LacksLabel self.now.marks.items label.now }
     {
-        match (rule, &mark.what) {
-            (Rule::C5, What::Defines(name, class)) => match self.class_of(name) {
-                Some(first) => first != *class,
+        match self.labels.place(label) {
+            Some(_) => false,
+            None => true,
+        }
+    }
+
+    fn is_first(&self, label: &Name<'a>) -> bool
+        ensures { IsTrue result ↔ IsFirstLabel self.now.marks.items label.now }
+    {
+        for mark in self.marks.as_slice() {
+            if let What::Label(first) = &mark.what {
+                return first.bytes() == label.bytes();
+            }
+        }
+        false
+    }
+
+    /// How many functions it is the text of.
+    pub fn functions(&self) -> usize
+        ensures { result ≡ (if is_function self.now.marks.items then 1 else 0) }
+    {
+        match self.marks.as_slice() {
+            [first, ..] if begins_function(first) => 1,
+            _ => 0,
+        }
+    }
+
+    // ---- the rules of one text: whether the mark at a place breaks one
+
+    /// Whether the label is that of an earlier block.
+    pub fn is_second_label(&self, place: usize, mark: &Mark<'p, 'a>) -> bool
+        requires { slice_get self.now.marks.items place ≡ Some mark.now }
+        ensures { IsTrue result ↔ IsSecondLabel self.now.marks.items place }
+    {
+        match &mark.what {
+            What::Label(name) => match self.labels.place(name) {
+                Some(first) => first != place,
                 None => false,
             },
-            (Rule::C6, What::Uses(name, _)) => match self.class_of(name) {
-                Some(_) => false,
-                None => true,
-            },
-            (Rule::C7, What::Uses(name, Class::L)) => self.class_of(name) == Some(Class::W),
-            (Rule::C10, What::Gives) => self.func.returns.is_none(),
             _ => false,
         }
     }
 
-    /// The line of the first mark that breaks a rule.
-    fn first_breach(&self, rule: Rule) -> Option<u32>
-        requires { rule ≢ C12 }
-        ensures { MatchOption result (Keeps rule self.now.func.now 0) (Breach rule self.now.func.now 0) }
+    /// Whether a jump or a phi names a label that the function lacks.
+    pub fn is_lost_label(&self, place: usize, mark: &Mark<'p, 'a>) -> bool
+        requires { slice_get self.now.marks.items place ≡ Some mark.now }
+        ensures { IsTrue result ↔ IsLostLabel self.now.marks.items place }
     {
-        for (place, mark) in self.marks.iter().enumerate() {
-            if self.breaks(rule, place, mark) {
-                return Some(mark.line);
-            }
-        }
-        None
-    }
-
-    /// Whether the function, the `number`th from 0, is one too many or has too many temporaries.
-    fn is_too_many(&self, number: usize) -> bool
-        ensures { IsTrue result ↔ Breaks C12 self.now.func.now number 0 }
-    {
-        self.named.len() > MAX_TEMPORARIES || number == MAX_FUNCTIONS
-    }
-
-    /// The line of the first place that breaks a rule, in the `number`th function from 0.
-    pub fn breach(&self, rule: Rule, number: usize) -> Option<u32>
-        ensures { MatchOption result (Keeps rule self.now.func.now number) (Breach rule self.now.func.now number) }
-    {
-        match rule {
-            Rule::C12 => {
-                if self.is_too_many(number) {
-                    Some(self.func.line)
-                } else {
-                    None
-                }
-            }
-            _ => self.first_breach(rule),
+        match &mark.what {
+            What::Goes(_, label) => self.lacks(label),
+            What::Comes(label) => self.lacks(label),
+            _ => false,
         }
     }
+
+    /// Whether a jump names the function's first block.
+    pub fn is_jump_to_first(&self, place: usize, mark: &Mark<'p, 'a>) -> bool
+        requires { slice_get self.now.marks.items place ≡ Some mark.now }
+        ensures { IsTrue result ↔ IsJumpToFirst self.now.marks.items place }
+    {
+        match &mark.what {
+            What::Goes(_, label) => self.is_first(label),
+            _ => false,
+        }
+    }
+
+    /// Whether a definition has another class than the first of its temporary.
+    pub fn is_other_class(&self, place: usize, mark: &Mark<'p, 'a>) -> bool
+        requires { slice_get self.now.marks.items place ≡ Some mark.now }
+        ensures { IsTrue result ↔ IsOtherClass self.now.marks.items place }
+    {
+        match &mark.what {
+            What::Defines(name, class) => match self.class_of(name) {
+                Some(first) => first != *class,
+                None => false,
+            },
+            _ => false,
+        }
+    }
+
+    /// Whether a temporary is used that has no definition.
+    pub fn is_undefined_use(&self, place: usize, mark: &Mark<'p, 'a>) -> bool
+        requires { slice_get self.now.marks.items place ≡ Some mark.now }
+        ensures { IsTrue result ↔ IsUndefinedUse self.now.marks.items place }
+    {
+        match &mark.what {
+            What::Uses(name, _) => match self.class_of(name) {
+                Some(_) => false,
+                None => true,
+            },
+            _ => false,
+        }
+    }
+
+    /// Whether a `w` temporary stands in an `l` context.
+    pub fn is_narrow_use(&self, place: usize, mark: &Mark<'p, 'a>) -> bool
+        requires { slice_get self.now.marks.items place ≡ Some mark.now }
+        ensures { IsTrue result ↔ IsNarrowUse self.now.marks.items place }
+    {
+        match &mark.what {
+            What::Uses(name, Class::L) => match self.class_of(name) {
+                Some(Class::W) => true,
+                _ => false,
+            },
+            _ => false,
+        }
+    }
+
+    /// Whether the labels of a phi aren't exactly the predecessors of its block, each once.
+    pub fn is_wrong_merge(
+        &self,
+        alloc: A,
+        place: usize,
+        mark: &Mark<'p, 'a>,
+    ) -> Result<bool, AllocError>
+        requires { slice_get self.now.marks.items place ≡ Some mark.now }
+        ensures { IfOk result (λ b. IsTrue b ↔ IsWrongMerge self.now.marks.items place) }
+    {
+        match &mark.what {
+            What::Merges(block, sources) => {
+                let marks = self.marks.as_slice();
+                let right = self.arrivals.are_sources(alloc, marks, block, sources)?;
+                Ok(!right)
+            }
+            _ => Ok(false),
+        }
+    }
+
+    /// Whether a value is returned where the function has no return type.
+    pub fn is_untyped_return(&self, place: usize, mark: &Mark<'p, 'a>) -> bool
+        requires { slice_get self.now.marks.items place ≡ Some mark.now }
+        ensures { IsTrue result ↔ IsUntypedReturn self.now.marks.items place }
+    {
+        match &mark.what {
+            What::Gives(None) => true,
+            _ => false,
+        }
+    }
+
+    /// Whether a result that is always long has type `w`.
+    pub fn is_narrow_result(&self, place: usize, mark: &Mark<'p, 'a>) -> bool
+        requires { slice_get self.now.marks.items place ≡ Some mark.now }
+        ensures { IsTrue result ↔ IsNarrowResult self.now.marks.items place }
+    {
+        match &mark.what {
+            What::Long(Class::W) => true,
+            _ => false,
+        }
+    }
+
+    pub fn has_many_temporaries(&self) -> bool
+        ensures { IsTrue result ↔ HasManyTemporaries self.now.marks.items }
+    {
+        self.named.len() > MAX_TEMPORARIES
+    }
+
+    pub fn has_many_blocks(&self) -> bool
+        ensures { IsTrue result ↔ HasManyBlocks self.now.marks.items }
+    {
+        self.blocks > MAX_BLOCKS
+    }
+
+    // ---- what is defined again
 
     /// The temporary that is defined at a place, if it was defined before.
-    fn defined_again(&self, place: usize, mark: &Mark<'a>) -> Option<Name<'a>>
+    fn defined_again(&self, place: usize, mark: &Mark<'p, 'a>) -> Option<Name<'a>>
         requires { slice_get self.now.marks.items place ≡ Some mark.now }
         ensures { MatchOption result ((x : List ℕ) → IsAgain self.now.marks.items place x → ⊥) (IsAgain self.now.marks.items place) }
     {
@@ -158,7 +311,7 @@ impl<'p, 'a, A: Allocator + Copy> Text<'p, 'a, A> {
 
     /// The temporary that is defined again first.
     pub fn second_definition(&self) -> Option<Name<'a>>
-        ensures { MatchOption result (IsSingle (marks self.now.func.now)) (IsAgainFirst (marks self.now.func.now)) }
+        ensures { MatchOption result (IsSingle self.now.marks.items) (IsAgainFirst self.now.marks.items) }
     {
         for (place, mark) in self.marks.iter().enumerate() {
             if let Some(name) = self.defined_again(place, mark) {

@@ -1,15 +1,26 @@
-//! The rules and the form of a whole program, from the texts of its functions.
+//! The texts of a whole program: what breaks a rule in it, and its form.
 
-ghost use Rattle.std.specs.Prelude.{◌≡◌, map, IfOk, IfErr, MatchOption};
-ghost use Rattle.qil_checker.specs.Rules.{WellFormed, Broken, IsKept, IsBrokenFirst};
-ghost use Rattle.qil_checker.specs.Forms.{HasForm};
-ghost use Rattle.qil_checker.specs.Whole.{program_of};
+ghost use Rattle.std.specs.Prelude.{◌≡◌, ◌++◌, ◌∷◌, map, List, ℕ, ◌≤◌, Some, take, IfOk, OnOk, IsTrue, ◌↔◌, MatchOption, slice_get};
+ghost use Rattle.std.specs.List.{count_by};
+ghost use Rattle.qil_checker.specs.Marks.{texts, texts_in, data_marks, func_marks};
+ghost use Rattle.qil_checker.specs.Tables.{place_of, first, has_name};
+ghost use Rattle.qil_checker.specs.Rules.{AreWellFormed, AreBroken, IsKept, IsBrokenFirst, Breaks, IsNamedBefore, IsSecondName, IsUnknown, IsLostGlobal, IsTooMuch, is_built_in, is_function};
+ghost use Rattle.qil_checker.specs.Scan.{Keeps, Breach};
+ghost use Rattle.qil_checker.specs.Whole.{marks_of};
+ghost use Rattle.qil_checker.specs.Forms.{HaveForm};
+ghost use Rattle.qil_parser.specs.declared.tree.Definition.{Definition};
 
 use crate::form::Form;
+use crate::mark::{Mark, What};
 use crate::rule::Rule;
+use crate::table::Table;
 use crate::text::Text;
-use qil_parser::{Name, Program};
+use crate::walk;
+use qil_parser::{Data, Definition, Func, Name, Program};
 use std::alloc::{AllocError, Allocator};
+
+/// How many functions a program may have.
+const MAX_FUNCTIONS: usize = 1000;
 
 /// A rule that is broken, and the line that is told of it.
 #[derive(Clone, Copy)]
@@ -18,78 +29,324 @@ pub struct Refusal {
     pub line: u32,
 }
 
-/// The texts of a program's functions.
-pub fn texts_of<'p, 'a, A: Allocator + Copy>(
+/// The definitions that are left, of each kind.
+#[derive(Drop)]
+struct Left<'p, 'a, A: Allocator> {
+    datas: &'p [Data<'a, A>],
+    funcs: &'p [Func<'a, A>],
+}
+
+impl<'p, 'a, A: Allocator + Copy> Left<'p, 'a, A> {
+    /// Pushes the text of the next definition of a kind, if there is one.
+    fn push_next(
+        &mut self,
+        alloc: A,
+        out: &mut Vec<Text<'p, 'a, A>, A>,
+        definition: Definition,
+    ) -> Result<(), AllocError>
+        ensures { OnOk result ((order : List Definition) → marks_of out.new.items ++ texts_in order self.new.datas.now self.new.funcs.now ≡ marks_of out.old.items ++ texts_in (definition ∷ order) self.old.datas.now self.old.funcs.now) }
+    {
+        match definition {
+            Definition::Data => {
+                if let [object, datas @ ..] = self.datas {
+                    out.push(data_text(alloc, object)?)?;
+                    self.datas = datas;
+                }
+            }
+            Definition::Func => {
+                if let [func, funcs @ ..] = self.funcs {
+                    out.push(func_text(alloc, func)?)?;
+                    self.funcs = funcs;
+                }
+            }
+        }
+        Ok(())
+    }
+}
+
+fn data_text<'p, 'a, A: Allocator + Copy>(
+    alloc: A,
+    object: &'p Data<'a, A>,
+) -> Result<Text<'p, 'a, A>, AllocError>
+    ensures { IfOk result (λ t. t.marks.items ≡ data_marks object.now) }
+{
+    let marks = walk::data_marks(alloc, object)?;
+    Text::new(alloc, Name::new(object.name.bytes()), marks)
+}
+
+fn func_text<'p, 'a, A: Allocator + Copy>(
+    alloc: A,
+    func: &'p Func<'a, A>,
+) -> Result<Text<'p, 'a, A>, AllocError>
+    ensures { IfOk result (λ t. t.marks.items ≡ func_marks func.now) }
+{
+    let marks = walk::func_marks(alloc, func)?;
+    Text::new(alloc, Name::new(func.name.bytes()), marks)
+}
+
+fn push_datas<'p, 'a, A: Allocator + Copy>(
+    alloc: A,
+    out: &mut Vec<Text<'p, 'a, A>, A>,
+    datas: &'p [Data<'a, A>],
+) -> Result<(), AllocError>
+    ensures { OnOk result (marks_of out.new.items ≡ marks_of out.old.items ++ map data_marks datas.now) }
+{
+    for object in datas {
+        out.push(data_text(alloc, object)?)?;
+    }
+    Ok(())
+}
+
+fn push_funcs<'p, 'a, A: Allocator + Copy>(
+    alloc: A,
+    out: &mut Vec<Text<'p, 'a, A>, A>,
+    funcs: &'p [Func<'a, A>],
+) -> Result<(), AllocError>
+    ensures { OnOk result (marks_of out.new.items ≡ marks_of out.old.items ++ map func_marks funcs.now) }
+{
+    for func in funcs {
+        out.push(func_text(alloc, func)?)?;
+    }
+    Ok(())
+}
+
+/// The texts of a program's definitions, in their order.
+fn texts_of<'p, 'a, A: Allocator + Copy>(
     alloc: A,
     program: &'p Program<'a, A>,
 ) -> Result<Vec<Text<'p, 'a, A>, A>, AllocError>
-    ensures { IfOk result (λ v. map (λ t. t.func.now) v.items ≡ program.now.funcs) }
+    ensures { IfOk result (λ v. marks_of v.items ≡ texts program.now) }
 {
-    let mut texts = Vec::new(alloc);
-    for func in program.funcs.as_slice() {
-        texts.push(Text::new(alloc, func)?)?;
+    let mut out = Vec::new(alloc);
+    let mut left = Left {
+        datas: program.datas.as_slice(),
+        funcs: program.funcs.as_slice(),
+    };
+    for definition in program.order.as_slice() {
+        left.push_next(alloc, &mut out, *definition)?;
     }
-    Ok(texts)
+    push_datas(alloc, &mut out, left.datas)?;
+    push_funcs(alloc, &mut out, left.funcs)?;
+    Ok(out)
 }
 
-/// The line of the first place in the text that breaks a rule.
-fn line_of<A: Allocator + Copy>(texts: &[Text<'_, '_, A>], rule: Rule) -> Option<u32>
-    ensures { MatchOption result (IsKept rule (program_of texts.now)) (IsBrokenFirst rule (program_of texts.now)) }
+/// The first definition of each global name.
+fn first_names<'a, A: Allocator + Copy>(
+    alloc: A,
+    texts: &[Text<'_, 'a, A>],
+) -> Result<Table<'a, A>, AllocError>
+    ensures { IfOk result (λ t. (x : List ℕ) → place_of t.places x ≡ first (has_name x) 0 (marks_of texts.now)) }
 {
+    let mut table = Table::new(alloc);
     for (number, text) in texts.iter().enumerate() {
-        if let Some(line) = text.breach(rule, number) {
-            return Some(line);
-        }
+        table.note(&text.name, number)?;
     }
-    None
+    Ok(table)
 }
 
-/// The lowest rule that is broken anywhere, with the line of its first place.
-pub fn lowest<A: Allocator + Copy>(texts: &[Text<'_, '_, A>]) -> Option<Refusal>
-    ensures { MatchOption result (WellFormed (program_of texts.now)) (λ r. Broken (program_of texts.now) r.rule r.line) }
+/// Whether a function of that name is in every program.
+fn is_built_in(name: &Name) -> bool
+    ensures { result ≡ is_built_in name.now }
 {
-    if let Some(line) = line_of(texts, Rule::C5) {
-        return Some(Refusal {
-            rule: Rule::C5,
-            line,
-        });
-    }
-    if let Some(line) = line_of(texts, Rule::C6) {
-        return Some(Refusal {
-            rule: Rule::C6,
-            line,
-        });
-    }
-    if let Some(line) = line_of(texts, Rule::C7) {
-        return Some(Refusal {
-            rule: Rule::C7,
-            line,
-        });
-    }
-    if let Some(line) = line_of(texts, Rule::C10) {
-        return Some(Refusal {
-            rule: Rule::C10,
-            line,
-        });
-    }
-    match line_of(texts, Rule::C12) {
-        Some(line) => Some(Refusal {
-            rule: Rule::C12,
-            line,
-        }),
-        None => None,
-    }
+    name.bytes() == b"putchar".as_slice()
+        || name.bytes() == b"puts".as_slice()
+        || name.bytes() == b"exit".as_slice()
 }
 
-/// Whether each temporary has one definition.
-pub fn form_of<'a, A: Allocator + Copy>(texts: &[Text<'_, 'a, A>]) -> Form<'a>
-    ensures { HasForm (program_of texts.now) result }
-{
-    for text in texts {
-        if let Some(temp) = text.second_definition() {
-            let func = Name::new(text.func.name.bytes());
-            return Form::Several { func, temp };
+/// A text of the program: which one it is, and how many functions stand before it.
+#[derive(Drop)]
+struct Visit<'t, 'p, 'a, A: Allocator> {
+    text: &'t Text<'p, 'a, A>,
+    number: usize,
+    functions: usize,
+}
+
+/// A program as the texts of its definitions.
+#[derive(Drop)]
+pub struct Whole<'p, 'a, A: Allocator> {
+    texts: Vec<Text<'p, 'a, A>, A>,
+    names: Table<'a, A>,
+    ghost first_names: { (x : List ℕ) → place_of names.places x ≡ first (has_name x) 0 (marks_of texts.items) },
+}
+
+impl<'p, 'a, A: Allocator + Copy> Whole<'p, 'a, A> {
+    pub fn new(alloc: A, program: &'p Program<'a, A>) -> Result<Whole<'p, 'a, A>, AllocError>
+        ensures { IfOk result (λ w. marks_of w.texts.items ≡ texts program.now) }
+    {
+        let texts = texts_of(alloc, program)?;
+        let names = first_names(alloc, texts.as_slice())?;
+        Ok(Whole { texts, names })
+    }
+
+    // ---- the rules that look at other texts
+
+    fn is_named_before(&self, name: &Name<'a>, number: usize) -> bool
+        ensures { IsTrue result ↔ IsNamedBefore (marks_of self.now.texts.items) number name.now }
+    {
+        match self.names.place(name) {
+            Some(first) => first < number,
+            None => false,
         }
     }
-    Form::Single
+
+    /// Whether a definition has the name of an earlier one.
+    fn is_second_name(
+        &self,
+        visit: &Visit<'_, 'p, 'a, A>,
+        place: usize,
+        mark: &Mark<'p, 'a>,
+    ) -> bool
+        requires { slice_get visit.now.text.now.marks.items place ≡ Some mark.now }
+        ensures { IsTrue result ↔ IsSecondName (marks_of self.now.texts.items) visit.now.text.now.marks.items visit.now.number place }
+    {
+        match &mark.what {
+            What::DataName(name) => self.is_named_before(name, visit.number),
+            What::FunctionName(name) => self.is_named_before(name, visit.number),
+            _ => false,
+        }
+    }
+
+    fn is_unknown(&self, name: &Name<'a>) -> bool
+        ensures { IsTrue result ↔ IsUnknown (marks_of self.now.texts.items) name.now }
+    {
+        match self.names.place(name) {
+            Some(_) => false,
+            None => !is_built_in(name),
+        }
+    }
+
+    /// Whether a global is used that is neither defined nor built in.
+    fn is_lost_global(
+        &self,
+        visit: &Visit<'_, 'p, 'a, A>,
+        place: usize,
+        mark: &Mark<'p, 'a>,
+    ) -> bool
+        requires { slice_get visit.now.text.now.marks.items place ≡ Some mark.now }
+        ensures { IsTrue result ↔ IsLostGlobal (marks_of self.now.texts.items) visit.now.text.now.marks.items place }
+    {
+        match &mark.what {
+            What::Global(name) => self.is_unknown(name),
+            _ => false,
+        }
+    }
+
+    /// Whether a function has too many temporaries or blocks, or is one too many.
+    fn is_too_much(
+        &self,
+        visit: &Visit<'_, 'p, 'a, A>,
+        place: usize,
+        mark: &Mark<'p, 'a>,
+    ) -> bool
+        requires there { slice_get visit.now.text.now.marks.items place ≡ Some mark.now }
+        requires counted { visit.now.functions ≡ count_by is_function (take visit.now.number (marks_of self.now.texts.items)) }
+        ensures { IsTrue result ↔ IsTooMuch (marks_of self.now.texts.items) visit.now.text.now.marks.items visit.now.number place }
+    {
+        match &mark.what {
+            What::FunctionName(_) => {
+                visit.text.has_many_temporaries()
+                    || visit.text.has_many_blocks()
+                    || visit.functions == MAX_FUNCTIONS
+            }
+            _ => false,
+        }
+    }
+
+    // ---- all rules
+
+    /// Whether the mark at a place of a text breaks a rule.
+    fn breaks(
+        &self,
+        alloc: A,
+        rule: Rule,
+        visit: &Visit<'_, 'p, 'a, A>,
+        place: usize,
+        mark: &Mark<'p, 'a>,
+    ) -> Result<bool, AllocError>
+        requires there { slice_get visit.now.text.now.marks.items place ≡ Some mark.now }
+        requires counted { visit.now.functions ≡ count_by is_function (take visit.now.number (marks_of self.now.texts.items)) }
+        ensures { IfOk result (λ b. IsTrue b ↔ Breaks rule (marks_of self.now.texts.items) visit.now.text.now.marks.items visit.now.number place) }
+    {
+        let text = visit.text;
+        match rule {
+            Rule::C1 => Ok(self.is_second_name(visit, place, mark)),
+            Rule::C2 => Ok(text.is_second_label(place, mark)),
+            Rule::C3 => Ok(text.is_lost_label(place, mark)),
+            Rule::C4 => Ok(text.is_jump_to_first(place, mark)),
+            Rule::C5 => Ok(text.is_other_class(place, mark)),
+            Rule::C6 => Ok(text.is_undefined_use(place, mark)),
+            Rule::C7 => Ok(text.is_narrow_use(place, mark)),
+            Rule::C8 => text.is_wrong_merge(alloc, place, mark),
+            Rule::C9 => Ok(self.is_lost_global(visit, place, mark)),
+            Rule::C10 => Ok(text.is_untyped_return(place, mark)),
+            Rule::C11 => Ok(text.is_narrow_result(place, mark)),
+            Rule::C12 => Ok(self.is_too_much(visit, place, mark)),
+        }
+    }
+
+    /// The line of the first mark of a text that breaks a rule.
+    fn first_breach(
+        &self,
+        alloc: A,
+        rule: Rule,
+        visit: &Visit<'_, 'p, 'a, A>,
+    ) -> Result<Option<u32>, AllocError>
+        requires { visit.now.functions ≡ count_by is_function (take visit.now.number (marks_of self.now.texts.items)) }
+        ensures { IfOk result (λ o. MatchOption o (Keeps rule (marks_of self.now.texts.items) visit.now.text.now.marks.items visit.now.number) (Breach rule (marks_of self.now.texts.items) visit.now.text.now.marks.items visit.now.number)) }
+    {
+        for (place, mark) in visit.text.marks.iter().enumerate() {
+            if self.breaks(alloc, rule, visit, place, mark)? {
+                return Ok(Some(mark.line));
+            }
+        }
+        Ok(None)
+    }
+
+    /// The line of the first place in the program that breaks a rule.
+    fn line_of(&self, alloc: A, rule: Rule) -> Result<Option<u32>, AllocError>
+        ensures { IfOk result (λ o. MatchOption o (IsKept rule (marks_of self.now.texts.items)) (IsBrokenFirst rule (marks_of self.now.texts.items))) }
+    {
+        let mut functions = 0;
+        for (number, text) in self.texts.iter().enumerate() {
+            let visit = Visit {
+                text,
+                number,
+                functions,
+            };
+            if let Some(line) = self.first_breach(alloc, rule, &visit)? {
+                return Ok(Some(line));
+            }
+            functions += text.functions();
+        }
+        Ok(None)
+    }
+
+    /// The lowest rule that is broken anywhere, with the line of its first place.
+    pub fn lowest(&self, alloc: A) -> Result<Option<Refusal>, AllocError>
+        ensures { IfOk result (λ o. MatchOption o (AreWellFormed (marks_of self.now.texts.items)) (λ r. AreBroken (marks_of self.now.texts.items) r.rule r.line)) }
+    {
+        let mut rule = Rule::C1;
+        'rules: loop {
+            if let Some(line) = self.line_of(alloc, rule)? {
+                return Ok(Some(Refusal { rule, line }));
+            }
+            match rule.next() {
+                Some(next) => rule = next,
+                None => return Ok(None),
+            }
+        }
+    }
+
+    /// Whether each temporary has one definition.
+    pub fn form(&self) -> Form<'a>
+        ensures { HaveForm (marks_of self.now.texts.items) result }
+    {
+        for text in self.texts.as_slice() {
+            if let Some(temp) = text.second_definition() {
+                let func = Name::new(text.name.bytes());
+                return Form::Several { func, temp };
+            }
+        }
+        Form::Single
+    }
 }

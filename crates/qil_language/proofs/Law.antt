@@ -634,9 +634,9 @@ pub apart_nil : (xs : List ℕ) → apart xs [] ≡ true
 apart_nil [] = refl
 apart_nil (x ∷ xs) = apart_nil xs
 
-module _ {T A : Type 0} {calm calm2 : Bool} (index : T → ℕ) (C : List T → Unit {0} → Type 0) (c : List T → Read T (Unit {0})) (fc : List ℕ) (k : ℕ) (x : Reads k calm index C c fc false []) (S : List T → A → Type 0) (r : List T → Read T A) (f m : List ℕ) (y : Reads k calm2 index S r f false m) (far : apart fc m ≡ true) where
+module _ {T A : Type 0} {calm calm2 : Bool} (index : T → ℕ) (C : List T → Unit {0} → Type 0) (c : List T → Read T (Unit {0})) (fc mc : List ℕ) (k : ℕ) (x : Reads k calm index C c fc false mc) (S : List T → A → Type 0) (r : List T → Read T A) (f m : List ℕ) (y : Reads k calm2 index S r f false m) (far : apart fc m ≡ true) (near : apart f mc ≡ true) where
   abbrev tail_more : List ℕ
-  tail_more = fc ++ (f ++ m)
+  tail_more = fc ++ (f ++ (m ++ mc))
 
   abbrev Next : List T → List A → Type 0
   Next = Either (Image cons_of (Seq S (Tail C S))) (Nothing [])
@@ -698,15 +698,16 @@ module _ {T A : Type 0} {calm calm2 : Bool} (index : T → ℕ) (C : List T → 
   tail_stop = record { front = []; parts = refl; spelled = inl refl; only = λ p v w z s free eq same. empty_tail p w z v s eq same }
 
   abbrev outer_more : List ℕ
-  outer_more = (((tail_more ++ m) ++ ([] ++ f)) ++ []) ++ ([] ++ fc)
+  outer_more = (((tail_more ++ m) ++ ([] ++ f)) ++ mc) ++ ([] ++ fc)
 
-  enough_tail : (w : List T) → starts index tail_more w ≡ false → starts index ((((tail_more ++ m) ++ ([] ++ f)) ++ []) ++ ([] ++ fc)) w ≡ false
+  enough_tail : (w : List T) → starts index tail_more w ≡ false → starts index ((((tail_more ++ m) ++ ([] ++ f)) ++ mc) ++ ([] ++ fc)) w ≡ false
   enough_tail [] h = refl
   enough_tail (t ∷ w) h =
       let n = index t in
-      let k = has_split fc (f ++ m) n h in
-      let l = has_split f m n k.1 in
-      has_join (((tail_more ++ m) ++ f) ++ []) fc n (has_join ((tail_more ++ m) ++ f) [] n (has_join (tail_more ++ m) f n (has_join tail_more m n h l.1) l.0) refl) k.0
+      let k = has_split fc (f ++ (m ++ mc)) n h in
+      let l = has_split f (m ++ mc) n k.1 in
+      let j = has_split m mc n l.1 in
+      has_join (((tail_more ++ m) ++ f) ++ mc) fc n (has_join ((tail_more ++ m) ++ f) mc n (has_join (tail_more ++ m) f n (has_join tail_more m n h j.0) l.0) j.1) k.0
 
   front_begins : (set : List ℕ) (p l q : List T) → p ≡ l ++ q → Begins index set false l → Begins index set false p
   front_begins set p [] q e b = absurd cc
@@ -735,21 +736,25 @@ module _ {T A : Type 0} {calm calm2 : Bool} (index : T → ℕ) (C : List T → 
   explain_tail zero (t ∷ ts) le lk = absurd (omega arith)
   explain_tail (suc n) ts le lk =
       let next : List T → Read T (List A) = either index f (image cons_of (seq r (tail_at index fc f c r n))) (nothing []) in
-      let inner = explain_seq index C Next [] (f ++ []) ((tail_more ++ m) ++ ([] ++ f)) true ts (c ts) next [] [] (inr (record { none = refl; value = refl })) next_begins (apart_nil (f ++ [])) (x.explains ts lk) (λ a rest g. next_explains n (explain_tail n) rest (shorter_by index fc n ts g.front rest le g.parts (x.begins g.front tt g.spelled)) (omega (arith, ap length g.parts, length-append g.front rest))) in
-      let outer = either_explains index (Image (λ v. v.1) (Seq C Next)) (Nothing []) fc [] (((tail_more ++ m) ++ ([] ++ f)) ++ []) [] true sep_begins no_begins (apart_nil fc) ts (starts index fc ts) (image (λ v. v.1) (seq c next) ts) (nothing [] ts) refl
-      (explain_image index (λ v. v.1) (Seq C Next) (((tail_more ++ m) ++ ([] ++ f)) ++ []) ts (seq c next ts) inner)
+      let inner = explain_seq index C Next mc (f ++ []) ((tail_more ++ m) ++ ([] ++ f)) true ts (c ts) next [] [] (inr (record { none = refl; value = refl })) next_begins (subst (λ (l : List ℕ). apart l mc ≡ true) (sym (append-nil f)) near) (x.explains ts lk) (λ a rest g. next_explains n (explain_tail n) rest (shorter_by index fc n ts g.front rest le g.parts (x.begins g.front tt g.spelled)) (omega (arith, ap length g.parts, length-append g.front rest))) in
+      let outer = either_explains index (Image (λ v. v.1) (Seq C Next)) (Nothing []) fc [] (((tail_more ++ m) ++ ([] ++ f)) ++ mc) [] true sep_begins no_begins (apart_nil fc) ts (starts index fc ts) (image (λ v. v.1) (seq c next) ts) (nothing [] ts) refl
+      (explain_image index (λ v. v.1) (Seq C Next) (((tail_more ++ m) ++ ([] ++ f)) ++ mc) ts (seq c next ts) inner)
       ((nothing_reads index k []).explains ts lk) in
       explain_said index Written (Tail C S) written_there written_back tail_more ts _ (explain_weaker index Written outer_more tail_more enough_tail ts _ outer)
 
-pub tail_reads : {T A : Type 0} {index : T → ℕ} {C : List T → Unit {0} → Type 0} {c : List T → Read T (Unit {0})} {fc : List ℕ} {S : List T → A → Type 0} {r : List T → Read T A} {f m : List ℕ} {n : ℕ} {b d : Bool} → Reads n b index C c fc false [] → Reads n d index S r f false m → apart fc m ≡ true → Reads n (b && d) index (Tail C S) (tail index fc f c r) fc true (fc ++ (f ++ m))
-tail_reads {index} {C} {c} {fc} {S} {r} {f} {m} {n} {b} {d} x y far = record {
-  explains = λ ts le. explain_tail index C c fc n x S r f m y far (length ts) ts (omega arith) le;
-  begins = tail_begins index C c fc n x S r f m y far;
+-- the separator may go on too
+pub loose_tail_reads : {T A : Type 0} {index : T → ℕ} {C : List T → Unit {0} → Type 0} {c : List T → Read T (Unit {0})} {fc mc : List ℕ} {S : List T → A → Type 0} {r : List T → Read T A} {f m : List ℕ} {n : ℕ} {b d : Bool} → Reads n b index C c fc false mc → Reads n d index S r f false m → apart fc m ≡ true → apart f mc ≡ true → Reads n (b && d) index (Tail C S) (tail index fc f c r) fc true (fc ++ (f ++ (m ++ mc)))
+loose_tail_reads {index} {C} {c} {fc} {mc} {S} {r} {f} {m} {n} {b} {d} x y far near = record {
+  explains = λ ts le. explain_tail index C c fc mc n x S r f m y far near (length ts) ts (omega arith) le;
+  begins = tail_begins index C c fc mc n x S r f m y far near;
   text = [];
   value = [];
   example = inl refl;
   quiet = λ h ts. let k = and_true b d h in quiet_tail index fc f c r (x.quiet k.0) (y.quiet k.1) (length ts) ts;
 }
+
+pub tail_reads : {T A : Type 0} {index : T → ℕ} {C : List T → Unit {0} → Type 0} {c : List T → Read T (Unit {0})} {fc : List ℕ} {S : List T → A → Type 0} {r : List T → Read T A} {f m : List ℕ} {n : ℕ} {b d : Bool} → Reads n b index C c fc false [] → Reads n d index S r f false m → apart fc m ≡ true → Reads n (b && d) index (Tail C S) (tail index fc f c r) fc true (fc ++ (f ++ m))
+tail_reads {index} {C} {c} {fc} {S} {r} {f} {m} {n} {b} {d} x y far = subst (λ (l : List ℕ). Reads n (b && d) index (Tail C S) (tail index fc f c r) fc true (fc ++ (f ++ l))) (append-nil m) (loose_tail_reads x y far (apart_nil f))
 
 -- ---- what the laws say of a whole text
 

@@ -69,6 +69,31 @@ module _ {T A : Type 0} (index : T → ℕ) (set : List ℕ) (r : List T → Rea
       let one : many index set r ts ≡ got [] ts = unrolled ts ∙ rw h refl in
       sym so_far ∙ ap (with_front front) one ∙ ap (λ (l : List A). got l ts) (append-nil front)
 
+-- ---- the same, where only how far they go counts
+
+-- many phrases, whatever they stand for
+abbrev pub past : {T A : Type 0} → (T → ℕ) → List ℕ → (List T → Read T A) → List T → Read T (Unit {0})
+past index set r = image (λ v. tt) (many index set r)
+
+module _ {T A : Type 0} (index : T → ℕ) (set : List ℕ) (r : List T → Read T A) (takes : Takes r) where
+  abbrev forget : Read T (List A) → Read T (Unit {0})
+  forget o = o >>= λ x. got tt x.1
+
+  forget_first : (a : A) (o : Read T (List A)) → forget (cons_at a o) ≡ forget o
+  forget_first a (got others rest) = refl
+  forget_first a (failed e rest) = refl
+
+  pub past_goes_on : (ts : List T) (a : A) (rest : List T) → starts index set ts ≡ true → r ts ≡ got a rest → past index set r rest ≡ past index set r ts
+  past_goes_on ts a rest h e =
+      let one : many index set r ts ≡ cons_at a (many index set r rest) = unrolled index set r takes ts ∙ rw (h, e) refl in
+      sym (ap forget one ∙ forget_first a (many index set r rest))
+
+  pub past_fails : (ts : List T) (k : Bool) (rest : List T) → starts index set ts ≡ true → r ts ≡ failed k rest → past index set r ts ≡ failed k rest
+  past_fails ts k rest h e = let one : many index set r ts ≡ failed k rest = unrolled index set r takes ts ∙ rw (h, e) refl in ap forget one
+
+  pub past_stops : (ts : List T) → starts index set ts ≡ false → past index set r ts ≡ got tt ts
+  past_stops ts h = let one : many index set r ts ≡ got [] ts = unrolled index set r takes ts ∙ rw h refl in ap forget one
+
 -- ---- separated items
 
 abbrev pub pair_got : {T B C : Type 0} → B × C → List T → Read T (B × C)
@@ -147,6 +172,12 @@ module _ {T A : Type 0} (index : T → ℕ) (sep set : List ℕ) (c : List T →
   pub separated_fails : (front : List A) (ts : List T) (b : Bool) (rest : List T) (total : Read T (List A)) → starts index set ts ≡ true → r ts ≡ failed b rest → with_front front (separated ts) ≡ total → total ≡ failed b rest
   separated_fails front ts b rest total h e so_far =
       let one : separated ts ≡ failed b rest = rw (h, e) refl in
+      sym so_far ∙ ap (with_front front) one
+
+  pub separated_breaks : (front : List A) (ts : List T) (a : A) (rest : List T) (b : Bool) (us : List T) (total : Read T (List A)) → starts index set ts ≡ true → r ts ≡ got a rest → starts index sep rest ≡ true → c rest ≡ failed b us → with_front front (separated ts) ≡ total → total ≡ failed b us
+  separated_breaks front ts a rest b us total h e k f so_far =
+      let two : tail index sep set c r rest ≡ failed b us = tail_again rest ∙ rw (k, f) refl in
+      let one : separated ts ≡ failed b us = rw (h, e) (cons_pair_is a (tail index sep set c r rest) ∙ ap (cons_at a) two) in
       sym so_far ∙ ap (with_front front) one
 
   pub separated_stops : (front : List A) (ts : List T) (total : Read T (List A)) → starts index set ts ≡ false → with_front front (separated ts) ≡ total → total ≡ got front ts

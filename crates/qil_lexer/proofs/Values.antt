@@ -60,7 +60,7 @@ quoted_some [] shape = absurd shape
 quoted_some (b ∷ tail) shape = omega arith
 
 -- values are of items
-values_items : (values bytes rest : List ℕ) → ItemValues values bytes rest → Items (length values) bytes rest
+pub values_items : (values bytes rest : List ℕ) → ItemValues values bytes rest → Items (length values) bytes rest
 values_items [] bytes rest values = values
 values_items (v ∷ vs) bytes rest values = (values.0, values.1, values_items vs (drop values.0 bytes) rest values.3)
 

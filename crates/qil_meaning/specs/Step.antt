@@ -1,22 +1,22 @@
 -- One step of a program: the instruction or the jump at the place of the innermost frame.
 use Rattle.std.specs.Prelude.{ℕ, suc, ◌+◌, List, [], ◌∷◌, Option, Some, None, Result, Ok, Err, find, slice_get, unwrap_or}
 use Rattle.std.specs.Str.{bytes_eq}
-use Rattle.qil_parser.specs.declared.tree.Class.{Class}
-use Rattle.qil_parser.specs.declared.tree.Class.TheVariants as classes
-use Rattle.qil_parser.specs.declared.tree.Operand.{Operand}
-use Rattle.qil_parser.specs.declared.tree.Operand.TheVariants as operands
-use Rattle.qil_parser.specs.declared.tree.UnaryOp.TheVariants as unary
-use Rattle.qil_parser.specs.declared.tree.Expr.{Expr}
-use Rattle.qil_parser.specs.declared.tree.Expr.TheVariants as exprs
-use Rattle.qil_parser.specs.declared.tree.Inst.{Inst}
-use Rattle.qil_parser.specs.declared.tree.InstKind.{InstKind}
-use Rattle.qil_parser.specs.declared.tree.InstKind.TheVariants as insts
-use Rattle.qil_parser.specs.declared.tree.Jump.{Jump}
-use Rattle.qil_parser.specs.declared.tree.JumpKind.{JumpKind}
-use Rattle.qil_parser.specs.declared.tree.JumpKind.TheVariants as jumps
-use Rattle.qil_parser.specs.declared.tree.Block.{Block}
-use Rattle.qil_parser.specs.declared.tree.Func.{Func}
-use Rattle.qil_parser.specs.declared.tree.Program.{Program}
+use Rattle.qil_parser.specs.declared.ops.Class.{Class}
+use Rattle.qil_parser.specs.declared.ops.Class.TheVariants as classes
+use Rattle.qil_plain.specs.declared.tree.Operand.{Operand}
+use Rattle.qil_plain.specs.declared.tree.Operand.TheVariants as operands
+use Rattle.qil_plain.specs.declared.tree.UnaryOp.TheVariants as unary
+use Rattle.qil_plain.specs.declared.tree.Expr.{Expr}
+use Rattle.qil_plain.specs.declared.tree.Expr.TheVariants as exprs
+use Rattle.qil_plain.specs.declared.tree.Inst.{Inst}
+use Rattle.qil_plain.specs.declared.tree.InstKind.{InstKind}
+use Rattle.qil_plain.specs.declared.tree.InstKind.TheVariants as insts
+use Rattle.qil_plain.specs.declared.tree.Jump.{Jump}
+use Rattle.qil_plain.specs.declared.tree.JumpKind.{JumpKind}
+use Rattle.qil_plain.specs.declared.tree.JumpKind.TheVariants as jumps
+use Rattle.qil_plain.specs.declared.tree.Block.{Block}
+use Rattle.qil_plain.specs.declared.tree.Func.{Func}
+use Rattle.qil_plain.specs.declared.tree.Program.{Program}
 use Rattle.qil_meaning.specs.Values.{width, Low, binary_of}
 use Rattle.qil_meaning.specs.State.{Name, Temps, with_temp, Frame, Fault, unset_temporary, Status, running, done, faulted, State}
 

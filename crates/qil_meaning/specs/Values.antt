@@ -1,9 +1,9 @@
 -- Values: whole numbers, cut to the width of a class.
 use Rattle.std.specs.Prelude.{ℕ, ◌+◌, ◌^◌, ◌%◌}
-use Rattle.qil_parser.specs.declared.tree.Class.{Class}
-use Rattle.qil_parser.specs.declared.tree.Class.TheVariants as classes
-use Rattle.qil_parser.specs.declared.tree.BinaryOp.{BinaryOp}
-use Rattle.qil_parser.specs.declared.tree.BinaryOp.TheVariants as binary
+use Rattle.qil_parser.specs.declared.ops.Class.{Class}
+use Rattle.qil_parser.specs.declared.ops.Class.TheVariants as classes
+use Rattle.qil_plain.specs.declared.tree.BinaryOp.{BinaryOp}
+use Rattle.qil_plain.specs.declared.tree.BinaryOp.TheVariants as binary
 
 -- the bits of a class
 abbrev pub width : Class → ℕ

@@ -1,13 +1,17 @@
 -- Loops that stop at a fault, and the tokens that are left to them.
-use Rattle.std.proofs.Common.{◌≡◌, ℕ, ◌<◌, true, List, [], ◌∷◌, length, arith, refl}
+use Rattle.std.proofs.Common.{◌≡◌, ℕ, ◌<◌, Bool, true, false, ◌||◌, cond, eqb, List, [], ◌∷◌, drop, length, Option, Some, None, arith, refl}
 use Rattle.qil_lexer.specs.declared.token.Token.{Token}
-use Rattle.qil_language.specs.Reading.{Read, starts, many}
+use Rattle.qil_language.specs.Reading.{Read, got, taken, starts, many, tail}
 use Rattle.qil_language.specs.Reads.{Takes}
-use Rattle.qil_language.proofs.Loop.{with_front, many_fails}
+use Rattle.qil_language.proofs.Loop.{with_front, many_fails, past, past_goes_on, past_fails, past_stops, items_then, separated_fails, separated_breaks}
 use Rattle.qil_parser.specs.declared.stop.Stop.{Stop}
 use Rattle.qil_parser.specs.declared.stop.Stop.TheVariants as stops
-use Rattle.qil_parser.specs.Token.{Tok, seen}
+use Rattle.qil_parser.specs.declared.mark.Mark.TheVariants as marks
+use Rattle.qil_parser.specs.Token.{Tok, tok, seen, code, index}
+use Rattle.qil_parser.specs.Parsing.{the, word}
+use Rattle.qil_parser.specs.DataParsing.{newlines}
 use Rattle.qil_parser.specs.Outcome.{Fails}
+use Rattle.qil_parser.proofs.DataProductions.{newline_takes}
 
 seen_length : (ts : List Token) → length (seen ts) ≡ length ts
 seen_length [] = refl
@@ -19,3 +23,42 @@ fewer_left ts us h = omega (arith, seen_length ts, seen_length us)
 pub many_ends : {A : Type 0} (index : Tok → ℕ) (set : List ℕ) (r : List Tok → Read Tok A) (takes : Takes r) (e : Stop) (front : List A) (ts : List Tok) (total : Read Tok (List A)) → starts index set ts ≡ true → Fails e (r ts) → with_front front (many index set r ts) ≡ total → Fails e total
 many_ends index set r takes stops.Memory front ts total h f so_far = tt
 many_ends index set r takes (stops.Refused k at) front ts total h f so_far = many_fails index set r takes front ts k (seen at.now) total h f so_far
+
+pub past_ends : {A : Type 0} (index : Tok → ℕ) (set : List ℕ) (r : List Tok → Read Tok A) (takes : Takes r) (e : Stop) (ts : List Tok) → starts index set ts ≡ true → Fails e (r ts) → Fails e (past index set r ts)
+past_ends index set r takes stops.Memory ts h f = tt
+past_ends index set r takes (stops.Refused k at) ts h f = past_fails index set r takes ts k (seen at.now) h f
+
+pub separated_ends : {A : Type 0} (index : Tok → ℕ) (sep set : List ℕ) (c : List Tok → Read Tok (Unit {0})) (r : List Tok → Read Tok A) (takes_sep : Takes c) (takes : Takes r) (e : Stop) (front : List A) (ts : List Tok) (total : Read Tok (List A)) → starts index set ts ≡ true → Fails e (r ts) → with_front front (items_then index sep set c r takes_sep takes (tail index sep set c r) ts) ≡ total → Fails e total
+separated_ends index sep set c r takes_sep takes stops.Memory front ts total h f so_far = tt
+separated_ends index sep set c r takes_sep takes (stops.Refused k at) front ts total h f so_far = separated_fails index sep set c r takes_sep takes front ts k (seen at.now) total h f so_far
+
+pub separated_breaks_off : {A : Type 0} (index : Tok → ℕ) (sep set : List ℕ) (c : List Tok → Read Tok (Unit {0})) (r : List Tok → Read Tok A) (takes_sep : Takes c) (takes : Takes r) (e : Stop) (front : List A) (ts : List Tok) (a : A) (rest : List Tok) (total : Read Tok (List A)) → starts index set ts ≡ true → r ts ≡ got a rest → starts index sep rest ≡ true → Fails e (c rest) → with_front front (items_then index sep set c r takes_sep takes (tail index sep set c r) ts) ≡ total → Fails e total
+separated_breaks_off index sep set c r takes_sep takes stops.Memory front ts a rest total h g k f so_far = tt
+separated_breaks_off index sep set c r takes_sep takes (stops.Refused b at) front ts a rest total h g k f so_far = separated_breaks index sep set c r takes_sep takes front ts a rest b (seen at.now) total h g k f so_far
+
+pub fewer_still : (ts us vs : List Token) → length (seen us) < length (seen ts) → length (seen vs) < length (seen us) → length vs < length ts
+fewer_still ts us vs h k = omega (arith, seen_length ts, seen_length vs)
+
+pub fewest_left : (ts us vs ws : List Token) → length (seen us) < length (seen ts) → length (seen vs) < length (seen us) → length (seen ws) < length (seen vs) → length ws < length ts
+fewest_left ts us vs ws h k l = omega (arith, seen_length ts, seen_length us, seen_length vs, seen_length ws, h, k, l)
+
+-- ---- newlines
+
+abbrev got_word : List Tok → Read Tok (Unit {0})
+got_word ts = got tt ts
+
+abbrev word_if : Bool → Option (Unit {0})
+word_if b = cond b (Some tt) None
+
+word_at : (b : Bool) (t : Tok) (ts : List Tok) → b || false ≡ true → taken (word_if b) t ts ≡ got_word ts
+word_at true t ts h = refl
+word_at false t ts h = absurd cc
+
+pub newlines_go_on : (ts : List Token) → starts index (the marks.Newline) (seen ts) ≡ true → newlines (seen (drop 1 ts)) ≡ newlines (seen ts)
+unfolding newlines
+newlines_go_on [] h = absurd cc
+newlines_go_on (t ∷ ts) h = past_goes_on index (the marks.Newline) (word marks.Newline) newline_takes (seen (t ∷ ts)) tt (seen ts) h (word_at (eqb (code marks.Newline) (index (tok t))) (tok t) (seen ts) h)
+
+pub newlines_stop : (ts : List Token) → starts index (the marks.Newline) (seen ts) ≡ false → newlines (seen ts) ≡ got tt (seen ts)
+unfolding newlines
+newlines_stop ts h = past_stops index (the marks.Newline) (word marks.Newline) newline_takes (seen ts) h

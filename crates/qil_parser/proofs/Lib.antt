@@ -1,8 +1,19 @@
 -- The lemmas of this crate.
 pub mod Numbers
+pub mod Strings
 pub mod Productions
+pub mod FunctionProductions
+pub mod Insts
+pub mod Body
+pub mod Blocks
+pub mod BodyLoop
+pub mod BlocksLoop
+pub mod FunctionWhole
 pub mod Open
+pub mod DataProductions
+pub mod OpenPrograms
 pub mod Ends
+pub mod Parts
 pub mod Whole
 pub mod Unique
 pub mod Verdict

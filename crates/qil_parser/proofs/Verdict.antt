@@ -8,8 +8,8 @@ use Rattle.qil_parser.specs.declared.error.ParseError.{ParseError}
 use Rattle.qil_parser.specs.declared.error.ParseError.TheVariants as errors
 use Rattle.qil_parser.specs.declared.tree.Program.{Program}
 use Rattle.qil_parser.specs.Token.{Tok, tok, seen}
-use Rattle.qil_parser.specs.Grammar.{Spells}
-use Rattle.qil_parser.specs.Parsing.{program}
+use Rattle.qil_parser.specs.Programs.{Spells}
+use Rattle.qil_parser.specs.DataParsing.{program}
 use Rattle.qil_parser.specs.Fault.{Names, TokenFault, last_line}
 use Rattle.qil_parser.specs.Outcome.{IsAnswered, IsFault, IsProgram, IsRefusal}
 use Rattle.qil_parser.proofs.Whole.{whole, stops_after, stops_at, named_by}
@@ -33,7 +33,7 @@ fault_after ts p [] r e le named = absurd (omega arith)
 fault_after {A} ts p (t ∷ rest) (errors.Refused code line) e le named =
     let s = stops_after (seen ts) p _ (seen rest) e in
     let n = named_by {A = A} (seen ts) s.0 (tok t) (seen rest) false s.1.parts (λ h. absurd cc) (λ h. absurd (not_both (program (seen ts)) p (seen (t ∷ rest)) (seen (t ∷ rest)) e h)) in
-    record { front = s.0; rest = seen (t ∷ rest); stops = s.1; named = (subst (Names s.0 (tok t)) (sym named.0) n, named.1) }
+    record { front = s.0; rest = seen (t ∷ rest); stops = s.1; named = (subst (Names A s.0 (tok t)) (sym named.0) n, named.1) }
 fault_after ts p (t ∷ rest) errors.OutOfMemory e le named = tt
 
 pub fault_at : {A : Type 0} (ts : List Token) (k : Bool) (rest : List Token) (r : ParseError) → program {A = A} (seen ts) ≡ failed k (seen rest) → IsAnswered (seen ts) k (seen rest) r → IsFault A (seen ts) r
@@ -43,7 +43,7 @@ fault_at {A} ts k [] (errors.Refused code line) e named =
 fault_at {A} ts k (t ∷ rest) (errors.Refused code line) e named =
     let s = stops_at {A = A} (seen ts) k (seen (t ∷ rest)) e in
     let n = named_by {A = A} (seen ts) s.0 (tok t) (seen rest) k s.1.parts (λ h. e ∙ ap (λ (b : Bool). failed b (seen (t ∷ rest))) h) (λ h. same_mark (program (seen ts)) k (seen (t ∷ rest)) (seen (t ∷ rest)) e h) in
-    record { front = s.0; rest = seen (t ∷ rest); stops = s.1; named = (subst (Names s.0 (tok t)) (sym named.0) n, named.1) }
+    record { front = s.0; rest = seen (t ∷ rest); stops = s.1; named = (subst (Names A s.0 (tok t)) (sym named.0) n, named.1) }
 fault_at ts k rest errors.OutOfMemory e named = tt
 
 -- ---- nothing else is answered

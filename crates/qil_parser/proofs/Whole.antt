@@ -10,19 +10,20 @@ use Rattle.qil_parser.specs.declared.tree.Program.{Program}
 use Rattle.qil_parser.specs.declared.mark.Mark.TheVariants as marks
 use Rattle.qil_parser.specs.declared.error.ParseCode.TheVariants as codes
 use Rattle.qil_parser.specs.Token.{Tok, kind_mark, code, index}
-use Rattle.qil_parser.specs.Grammar.{Spells, OpenAt}
-use Rattle.qil_parser.specs.Parsing.{program}
+use Rattle.qil_parser.specs.Programs.{Spells, OpenAt}
+use Rattle.qil_parser.specs.Words.{left_out}
+use Rattle.qil_parser.specs.DataParsing.{program, def_firsts}
 use Rattle.qil_parser.specs.Fault.{StopsAt, ClosesOpen, Names}
 use Rattle.qil_parser.specs.Outcome.{closes, code_of}
-use Rattle.qil_parser.proofs.Productions.{program_reads}
-use Rattle.qil_parser.proofs.Open.{program_marks}
+use Rattle.qil_parser.proofs.DataProductions.{program_reads}
+use Rattle.qil_parser.proofs.OpenPrograms.{program_marks}
 
 same_refl : (ts : List Tok) → Same ts ts
 same_refl [] = tt
 same_refl (t ∷ ts) = refl
 
 abbrev more_of : List ℕ
-more_of = code marks.Newline ∷ code marks.Function ∷ []
+more_of = code marks.Newline ∷ def_firsts
 
 explained : {A : Type 0} (ts : List Tok) (o : Read Tok (Program A)) → program ts ≡ o → Explains index Spells more_of ts o
 explained {A} ts o e = subst (λ (x : Read Tok (Program A)). Explains index Spells more_of ts x) e ((program_reads (length ts)).explains ts (omega arith))
@@ -75,12 +76,12 @@ stops_at {A} ts k rest e =
 
 -- ---- the mark
 
-marked_open : {A : Type 0} (ts front rest : List Tok) → ts ≡ front ++ rest → program {A = A} ts ≡ failed true rest → OpenAt front
+marked_open : {A : Type 0} (ts front rest : List Tok) → ts ≡ front ++ rest → program {A = A} ts ≡ failed true rest → OpenAt A front
 marked_open {A} ts front rest e h =
     let k = (program_marks {A = A} (length ts)).opens ts rest (omega arith) h in
-    subst OpenAt (append_cancel_right k.0 front rest (sym k.1 ∙ e)) k.2
+    subst (OpenAt A) (append_cancel_right k.0 front rest (sym k.1 ∙ e)) k.2
 
-open_marked : {A : Type 0} (ts front : List Tok) (t : Tok) (after : List Tok) → ts ≡ front ++ t ∷ after → ClosesOpen front t → program {A = A} ts ≡ failed true (t ∷ after)
+open_marked : {A : Type 0} (ts front : List Tok) (t : Tok) (after : List Tok) → ts ≡ front ++ t ∷ after → ClosesOpen A front t → program {A = A} ts ≡ failed true (t ∷ after)
 open_marked {A} ts front t after e c =
     let h : has (code marks.CloseBrace ∷ []) (index t) ≡ true = ap (λ (k : TokenKind). has (code marks.CloseBrace ∷ []) (code (kind_mark k t.text))) c.1 in
     ap (program {A = A}) e ∙ (program_marks (length (front ++ t ∷ after))).stops front t after (omega arith) h c.0
@@ -92,13 +93,14 @@ closes_is _ h = absurd cc
 is_closes : (kind : TokenKind) → kind ≡ kinds.CloseBrace → closes kind ≡ true
 is_closes kind e = ap closes e
 
-pick : (front : List Tok) (t : Tok) (b : Bool) → (b ≡ true → ClosesOpen front t) → (b ≡ false → ClosesOpen front t → ⊥) → Names front t (if b then codes.P4 else codes.P1)
-pick front t true f g = f refl
-pick front t false f g = g refl
+pick : {A : Type 0} (front : List Tok) (t : Tok) (b left : Bool) → left_out t.kind t.text ≡ left → (b ≡ true → ClosesOpen A front t) → (b ≡ false → ClosesOpen A front t → ⊥) → Names A front t (if b then codes.P4 else (if left then codes.P2 else codes.P1))
+pick front t true left e f g = f refl
+pick front t false true e f g = (g refl, e)
+pick front t false false e f g = (g refl, e)
 
 -- the mark says what the token is called
-pub named_by : {A : Type 0} (ts front : List Tok) (t : Tok) (after : List Tok) (k : Bool) → ts ≡ front ++ t ∷ after → (k ≡ true → program {A = A} ts ≡ failed true (t ∷ after)) → (program {A = A} ts ≡ failed true (t ∷ after) → k ≡ true) → Names front t (code_of k t.kind)
-named_by ts front t after k e there back =
-    pick front t (k && closes t.kind)
+pub named_by : {A : Type 0} (ts front : List Tok) (t : Tok) (after : List Tok) (k : Bool) → ts ≡ front ++ t ∷ after → (k ≡ true → program {A = A} ts ≡ failed true (t ∷ after)) → (program {A = A} ts ≡ failed true (t ∷ after) → k ≡ true) → Names A front t (code_of k t.kind t.text)
+named_by {A} ts front t after k e there back =
+    pick {A = A} front t (k && closes t.kind) (left_out t.kind t.text) refl
     (λ h. let a = and_true k (closes t.kind) h in (marked_open ts front (t ∷ after) e (there a.0), closes_is t.kind a.1))
     (λ h c. let one : k ≡ true = back (open_marked ts front t after e c) in let two : closes t.kind ≡ true = is_closes t.kind c.1 in let both : k && closes t.kind ≡ true = rw (one, two) refl in let bad : true ≡ false = sym both ∙ h in absurd cc)

@@ -1,11 +1,12 @@
 -- Where tokens stop to be a program's, and what the fault is called.
-use Rattle.std.specs.Prelude.{◌≡◌, ℕ, List, [], ◌∷◌, ◌++◌}
+use Rattle.std.specs.Prelude.{◌≡◌, ℕ, true, false, List, [], ◌∷◌, ◌++◌}
 use Rattle.qil_lexer.specs.declared.token.TokenKind.TheVariants as kinds
 use Rattle.qil_parser.specs.declared.error.ParseCode.{ParseCode}
 use Rattle.qil_parser.specs.declared.error.ParseCode.TheVariants as codes
 use Rattle.qil_parser.specs.declared.tree.Program.{Program}
 use Rattle.qil_parser.specs.Token.{Tok}
-use Rattle.qil_parser.specs.Grammar.{Spells, OpenAt}
+use Rattle.qil_parser.specs.Words.{left_out}
+use Rattle.qil_parser.specs.Programs.{Spells, OpenAt}
 
 -- The tokens are front and rest; front is the longest prefix that is a prefix of some program's tokens.
 pub record StopsAt (A : Type 0) (ts front rest : List Tok) : Type 0 where
@@ -20,15 +21,15 @@ pub record StopsAt (A : Type 0) (ts front rest : List Tok) : Type 0 where
   pub begun : Spells (front ++ ending) program
 
 -- a block is closed that has no jump
-abbrev pub ClosesOpen : List Tok → Tok → Type 0
-ClosesOpen front t = OpenAt front × (t.kind ≡ kinds.CloseBrace)
+abbrev pub ClosesOpen : Type 0 → List Tok → Tok → Type 0
+ClosesOpen A front t = OpenAt A front × (t.kind ≡ kinds.CloseBrace)
 
 -- what the first token that fits nothing is called, after these tokens
-abbrev pub Names : List Tok → Tok → ParseCode → Type 0
-Names front t codes.P4 = ClosesOpen front t
-Names front t codes.P1 = ClosesOpen front t → ⊥
-Names front t codes.P2 = ⊥
-Names front t codes.P3 = ⊥
+abbrev pub Names : Type 0 → List Tok → Tok → ParseCode → Type 0
+Names A front t codes.P4 = ClosesOpen A front t
+Names A front t codes.P2 = (ClosesOpen A front t → ⊥) × (left_out t.kind t.text ≡ true)
+Names A front t codes.P1 = (ClosesOpen A front t → ⊥) × (left_out t.kind t.text ≡ false)
+Names A front t codes.P3 = ⊥
 
 abbrev pub last_line : List Tok → ℕ
 last_line [] = 1
@@ -36,13 +37,13 @@ last_line (t ∷ []) = t.line
 last_line (t ∷ (u ∷ ts)) = last_line (u ∷ ts)
 
 -- P3 where the tokens end too early; else the first token that fits nothing names the fault
-abbrev pub Named : List Tok → List Tok → List Tok → ParseCode → ℕ → Type 0
-Named ts front [] code line = (code ≡ codes.P3) × (line ≡ last_line ts)
-Named ts front (t ∷ after) code line = Names front t code × (line ≡ t.line)
+abbrev pub Named : Type 0 → List Tok → List Tok → List Tok → ParseCode → ℕ → Type 0
+Named A ts front [] code line = (code ≡ codes.P3) × (line ≡ last_line ts)
+Named A ts front (t ∷ after) code line = Names A front t code × (line ≡ t.line)
 
 -- The fault of tokens that are no program's. A is the memory that the trees would lie in; it changes nothing.
 pub record TokenFault (A : Type 0) (ts : List Tok) (code : ParseCode) (line : ℕ) : Type 0 where
   pub front : List Tok
   pub rest : List Tok
   pub stops : StopsAt A ts front rest
-  pub named : Named ts front rest code line
+  pub named : Named A ts front rest code line

@@ -1,6 +1,12 @@
 -- The definitions of this crate.
+pub mod Words
 pub mod Token
 pub mod Grammar
-pub mod Fault
+pub mod Functions
+pub mod DataGrammar
+pub mod Programs
 pub mod Parsing
+pub mod FunctionParsing
+pub mod Fault
 pub mod Outcome
+pub mod DataParsing

@@ -1,5 +1,5 @@
 -- What the functions of the parser return.
-use Rattle.std.specs.Prelude.{◌≡◌, ℕ, Bool, true, false, ◌&&◌, List, [], ◌∷◌, Result, Ok, Err, if◌then◌else◌}
+use Rattle.std.specs.Prelude.{◌≡◌, ℕ, Bool, true, false, ◌&&◌, List, [], ◌∷◌, ◌++◌, Result, Ok, Err, if◌then◌else◌}
 use Rattle.qil_lexer.specs.declared.token.TokenKind.{TokenKind}
 use Rattle.qil_lexer.specs.declared.token.TokenKind.TheVariants as kinds
 use Rattle.qil_language.specs.Reading.{Read, got, failed}
@@ -10,6 +10,9 @@ use Rattle.qil_parser.specs.declared.error.ParseError.TheVariants as errors
 use Rattle.qil_parser.specs.declared.stop.Stop.{Stop}
 use Rattle.qil_parser.specs.declared.stop.Stop.TheVariants as stops
 use Rattle.qil_parser.specs.declared.tree.Program.{Program}
+use Rattle.qil_parser.specs.Words.{left_out}
+use Rattle.qil_parser.specs.declared.program_cursor.Defined.{Defined}
+use Rattle.qil_parser.specs.Programs.{program_of}
 use Rattle.qil_parser.specs.Token.{Tok, seen}
 use Rattle.qil_parser.specs.Fault.{TokenFault, last_line}
 
@@ -49,13 +52,23 @@ closes kinds.CloseBrace = true
 closes _ = false
 
 -- the code of the first token that fits nothing: whether reading marked its failure comes first
-abbrev pub code_of : Bool → TokenKind → ParseCode
-code_of marked kind = if marked && closes kind then codes.P4 else codes.P1
+abbrev pub code_of : Bool → TokenKind → List ℕ → ParseCode
+code_of marked kind text = if marked && closes kind then codes.P4 else (if left_out kind text then codes.P2 else codes.P1)
 
 abbrev pub Answered : List Tok → Bool → List Tok → ParseCode → ℕ → Type 0
 Answered ts marked [] code line = (code ≡ codes.P3) × (line ≡ last_line ts)
-Answered ts marked (t ∷ after) code line = (code ≡ code_of marked t.kind) × (line ≡ t.line)
+Answered ts marked (t ∷ after) code line = (code ≡ code_of marked t.kind t.text) × (line ≡ t.line)
 
 abbrev pub IsAnswered : List Tok → Bool → List Tok → ParseError → Type 0
 IsAnswered ts marked rest (errors.Refused code line) = Answered ts marked rest code line
 IsAnswered ts marked rest errors.OutOfMemory = ⊥
+
+-- one program after another's definitions
+abbrev pub extended : {A : Type 0} → Program A → Program A → Program A
+extended p q = record { datas = p.datas ++ q.datas; funcs = p.funcs ++ q.funcs; order = p.order ++ q.order }
+
+-- unless memory ran out, the definition stands behind the others
+abbrev pub Adds : {A : Type 0} → Program A → Defined A → Program A → Result (Unit {0}) Stop → Type 0
+Adds before def after (Ok x) = after ≡ extended before (program_of (def ∷ []))
+Adds before def after (Err stops.Memory) = Unit {0}
+Adds before def after (Err (stops.Refused marked at)) = ⊥

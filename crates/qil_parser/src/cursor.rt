@@ -1,31 +1,29 @@
-//! A cursor over the tokens, with a method for each production.
+//! A cursor over the tokens, with a method for each phrase.
 
 ghost use Rattle.std.specs.Prelude.{◌≡◌, drop};
 ghost use Rattle.qil_language.specs.Reading.{starts};
-ghost use Rattle.qil_parser.specs.Token.{HasNumbers, seen, index};
+ghost use Rattle.qil_parser.specs.Token.{HasNumbers, HasStrings, seen, index};
 ghost use Rattle.qil_parser.specs.Parsing as parsing;
+ghost use Rattle.qil_parser.specs.Grammar.{is_signed};
 ghost use Rattle.qil_parser.specs.Outcome.{Gives};
-ghost use Rattle.qil_parser.specs.declared.mark.Mark.TheVariants.{Newline as newline};
 
 use crate::mark::{Mark, token_mark, token_name};
+use crate::ops::{AbiType, Class};
 use crate::stop::Stop;
-use crate::tree::{
-    BinaryOp, Block, Class, Expr, Func, Inst, InstKind, Items, Jump, JumpKind, Name, Operand,
-    Program, Target, UnaryOp,
-};
+use crate::tree::{Name, Operand};
 use qil_lexer::{Token, TokenKind, number_value};
-use std::alloc::Allocator;
 
 /// The tokens that are left.
 #[derive(Debug, Drop)]
 pub struct Cursor<'t, 'a> {
     pub rest: &'t [Token<'a>],
     ghost numbers: { ∥ HasNumbers rest.now ∥₁ },
+    ghost strings: { ∥ HasStrings rest.now ∥₁ },
 }
 
 impl<'t, 'a> Cursor<'t, 'a> {
     /// The mark of the next token, `Other` at the end.
-    fn next(&self) -> Mark
+    pub fn next(&self) -> Mark
         ensures { result ≡ parsing.next_mark (seen self.now.rest.now) }
     {
         match self.rest {
@@ -34,7 +32,7 @@ impl<'t, 'a> Cursor<'t, 'a> {
         }
     }
 
-    fn starts_with(&self, mark: Mark) -> bool
+    pub fn starts_with(&self, mark: Mark) -> bool
         ensures { result ≡ starts index (parsing.the mark) (seen self.now.rest.now) }
     {
         match self.rest {
@@ -43,8 +41,23 @@ impl<'t, 'a> Cursor<'t, 'a> {
         }
     }
 
+    pub fn starts_class(&self) -> bool
+        ensures { result ≡ starts index parsing.classes (seen self.now.rest.now) }
+    {
+        matches!(self.next(), Mark::W | Mark::L)
+    }
+
+    pub fn starts_type(&self) -> bool
+        ensures { result ≡ starts index parsing.types (seen self.now.rest.now) }
+    {
+        matches!(
+            self.next(),
+            Mark::W | Mark::L | Mark::Sb | Mark::Ub | Mark::Sh | Mark::Uh
+        )
+    }
+
     /// Goes past the next token.
-    fn skip(&mut self)
+    pub fn skip(&mut self)
         ensures { self.new.rest.now ≡ drop 1 self.old.rest.now }
     {
         if let [_, rest @ ..] = self.rest {
@@ -52,7 +65,7 @@ impl<'t, 'a> Cursor<'t, 'a> {
         }
     }
 
-    fn word(&mut self, wanted: Mark) -> Result<(), Stop<'t, 'a>>
+    pub fn word(&mut self, wanted: Mark) -> Result<(), Stop<'t, 'a>>
         ensures { Gives (λ x. tt) (seen self.new.rest.now) result (parsing.word wanted (seen self.old.rest.now)) }
     {
         match self.rest {
@@ -64,7 +77,7 @@ impl<'t, 'a> Cursor<'t, 'a> {
         }
     }
 
-    fn word_line(&mut self, wanted: Mark) -> Result<u32, Stop<'t, 'a>>
+    pub fn word_line(&mut self, wanted: Mark) -> Result<u32, Stop<'t, 'a>>
         ensures { Gives (λ x. x) (seen self.new.rest.now) result (parsing.word_line wanted (seen self.old.rest.now)) }
     {
         match self.rest {
@@ -76,7 +89,7 @@ impl<'t, 'a> Cursor<'t, 'a> {
         }
     }
 
-    fn temp_name(&mut self) -> Result<(u32, Name<'a>), Stop<'t, 'a>>
+    pub fn temp_name(&mut self) -> Result<(u32, Name<'a>), Stop<'t, 'a>>
         ensures { Gives (λ x. (x.0, x.1)) (seen self.new.rest.now) result (parsing.temp_name (seen self.old.rest.now)) }
     {
         match self.rest {
@@ -88,7 +101,7 @@ impl<'t, 'a> Cursor<'t, 'a> {
         }
     }
 
-    fn label_name(&mut self) -> Result<(u32, Name<'a>), Stop<'t, 'a>>
+    pub fn label_name(&mut self) -> Result<(u32, Name<'a>), Stop<'t, 'a>>
         ensures { Gives (λ x. (x.0, x.1)) (seen self.new.rest.now) result (parsing.label_name (seen self.old.rest.now)) }
     {
         match self.rest {
@@ -100,7 +113,7 @@ impl<'t, 'a> Cursor<'t, 'a> {
         }
     }
 
-    fn global_name(&mut self) -> Result<(u32, Name<'a>), Stop<'t, 'a>>
+    pub fn global_name(&mut self) -> Result<(u32, Name<'a>), Stop<'t, 'a>>
         ensures { Gives (λ x. (x.0, x.1)) (seen self.new.rest.now) result (parsing.global_name (seen self.old.rest.now)) }
     {
         match self.rest {
@@ -112,7 +125,7 @@ impl<'t, 'a> Cursor<'t, 'a> {
         }
     }
 
-    fn class(&mut self) -> Result<Class, Stop<'t, 'a>>
+    pub fn class(&mut self) -> Result<Class, Stop<'t, 'a>>
         ensures { Gives (λ x. x) (seen self.new.rest.now) result (parsing.class_word (seen self.old.rest.now)) }
     {
         let class = match self.next() {
@@ -124,8 +137,43 @@ impl<'t, 'a> Cursor<'t, 'a> {
         Ok(class)
     }
 
+    /// One of the types that are parts of a word.
+    pub fn sub_word(&mut self) -> Result<AbiType, Stop<'t, 'a>>
+        ensures { Gives (λ x. x) (seen self.new.rest.now) result (parsing.sub_word (seen self.old.rest.now)) }
+    {
+        let abi_type = match self.next() {
+            Mark::Sb => AbiType::Sb,
+            Mark::Ub => AbiType::Ub,
+            Mark::Sh => AbiType::Sh,
+            Mark::Uh => AbiType::Uh,
+            _ => return Err(Stop::Refused(false, self.rest)),
+        };
+        self.skip();
+        Ok(abi_type)
+    }
+
+    #[tactic(auto, unfolding(crate::specs::Parsing::type_word))]
+    pub fn abi_type(&mut self) -> Result<AbiType, Stop<'t, 'a>>
+        ensures { Gives (λ x. x) (seen self.new.rest.now) result (parsing.type_word (seen self.old.rest.now)) }
+    {
+        if self.starts_class() {
+            let class = self.class()?;
+            return Ok(AbiType::from_class(class));
+        }
+        self.sub_word()
+    }
+
+    pub fn perhaps_type(&mut self) -> Result<Option<AbiType>, Stop<'t, 'a>>
+        ensures { Gives (λ x. x) (seen self.new.rest.now) result (parsing.perhaps parsing.types parsing.type_word (seen self.old.rest.now)) }
+    {
+        if self.starts_type() {
+            return Ok(Some(self.abi_type()?));
+        }
+        Ok(None)
+    }
+
     #[tactic(auto, using(crate::proofs::Numbers::first_shape, crate::proofs::Numbers::first_range))]
-    fn val(&mut self) -> Result<Operand<'a>, Stop<'t, 'a>>
+    pub fn val(&mut self) -> Result<Operand<'a>, Stop<'t, 'a>>
         ensures { Gives (λ x. x) (seen self.new.rest.now) result (parsing.val (seen self.old.rest.now)) }
     {
         match self.rest {
@@ -134,6 +182,10 @@ impl<'t, 'a> Cursor<'t, 'a> {
                     let value = number_value(first.text);
                     self.skip();
                     Ok(Operand::Number(value))
+                }
+                TokenKind::Global => {
+                    self.skip();
+                    Ok(Operand::Global(token_name(first)))
                 }
                 TokenKind::Temp => {
                     self.skip();
@@ -145,43 +197,32 @@ impl<'t, 'a> Cursor<'t, 'a> {
         }
     }
 
-    fn unary_word(&mut self) -> Result<UnaryOp, Stop<'t, 'a>>
-        ensures { Gives (λ x. x) (seen self.new.rest.now) result (parsing.unary_word (seen self.old.rest.now)) }
+    pub fn perhaps_val(&mut self) -> Result<Option<Operand<'a>>, Stop<'t, 'a>>
+        ensures { Gives (λ x. x) (seen self.new.rest.now) result (parsing.perhaps parsing.values parsing.val (seen self.old.rest.now)) }
     {
         match self.next() {
-            Mark::Unary(op) => {
-                self.skip();
-                Ok(op)
-            }
-            _ => Err(Stop::Refused(false, self.rest)),
+            Mark::Number | Mark::Global | Mark::Temp => Ok(Some(self.val()?)),
+            _ => Ok(None),
         }
     }
 
-    fn binary_word(&mut self) -> Result<BinaryOp, Stop<'t, 'a>>
-        ensures { Gives (λ x. x) (seen self.new.rest.now) result (parsing.binary_word (seen self.old.rest.now)) }
+    /// A number without sign.
+    #[tactic(auto, using(crate::proofs::Numbers::first_shape, crate::proofs::Numbers::first_range))]
+    pub fn count(&mut self) -> Result<u64, Stop<'t, 'a>>
+        ensures { Gives (λ x. x) (seen self.new.rest.now) result (parsing.count (seen self.old.rest.now)) }
     {
-        match self.next() {
-            Mark::Binary(op) => {
+        match self.rest {
+            [first, ..] if matches!(first.kind, TokenKind::Number) && !is_signed(first.text) => {
+                let value = number_value(first.text);
                 self.skip();
-                Ok(op)
+                Ok(value)
             }
             _ => Err(Stop::Refused(false, self.rest)),
         }
-    }
-
-    /// A target, and the line of its first token.
-    #[tactic(auto, unfolding(crate::specs::Parsing::target))]
-    fn target(&mut self) -> Result<(u32, Target<'a>), Stop<'t, 'a>>
-        ensures { Gives (λ x. (x.0, x.1)) (seen self.new.rest.now) result (parsing.target (seen self.old.rest.now)) }
-    {
-        let (line, name) = self.temp_name()?;
-        self.word(Mark::Equals)?;
-        let class = self.class()?;
-        Ok((line, Target { name, class }))
     }
 
     #[tactic(auto, unfolding(crate::specs::Parsing::two))]
-    fn two(&mut self) -> Result<(Operand<'a>, Operand<'a>), Stop<'t, 'a>>
+    pub fn two(&mut self) -> Result<(Operand<'a>, Operand<'a>), Stop<'t, 'a>>
         ensures { Gives (λ x. (x.0, x.1)) (seen self.new.rest.now) result (parsing.two (seen self.old.rest.now)) }
     {
         let left = self.val()?;
@@ -190,117 +231,8 @@ impl<'t, 'a> Cursor<'t, 'a> {
         Ok((left, right))
     }
 
-    #[tactic(auto, unfolding(crate::specs::Parsing::expr))]
-    fn expr(&mut self) -> Result<Expr<'a>, Stop<'t, 'a>>
-        ensures { Gives (λ x. x) (seen self.new.rest.now) result (parsing.expr (seen self.old.rest.now)) }
-    {
-        match self.next() {
-            Mark::Unary(_) => {
-                let op = self.unary_word()?;
-                let value = self.val()?;
-                Ok(Expr::Unary(op, value))
-            }
-            _ => {
-                let op = self.binary_word()?;
-                let (left, right) = self.two()?;
-                Ok(Expr::Binary(op, left, right))
-            }
-        }
-    }
-
-    #[tactic(auto, unfolding(crate::specs::Parsing::inst))]
-    fn inst(&mut self) -> Result<Inst<'a>, Stop<'t, 'a>>
-        ensures { Gives (λ x. x) (seen self.new.rest.now) result (parsing.inst (seen self.old.rest.now)) }
-    {
-        let (line, target) = self.target()?;
-        let value = self.expr()?;
-        Ok(Inst {
-            line,
-            kind: InstKind::Assign(target, value),
-        })
-    }
-
-    fn inst_line(&mut self) -> Result<Inst<'a>, Stop<'t, 'a>>
-        ensures { Gives (λ x. x) (seen self.new.rest.now) result (parsing.before parsing.inst newline (seen self.old.rest.now)) }
-    {
-        let inst = self.inst()?;
-        self.word(Mark::Newline)?;
-        Ok(inst)
-    }
-
-    fn lines<A: Allocator + Copy>(&mut self, alloc: A) -> Result<Items<Inst<'a>, A>, Stop<'t, 'a>>
-        ensures { Gives (λ x. x) (seen self.new.rest.now) result (parsing.lines (seen self.old.rest.now)) }
-    {
-        let mut items = Vec::new(alloc);
-        'each: while self.starts_with(Mark::Temp) {
-            let item = self.inst_line()?;
-            items.push(item)?;
-        }
-        Ok(Items::new(items))
-    }
-
-    fn perhaps_val(&mut self) -> Result<Option<Operand<'a>>, Stop<'t, 'a>>
-        ensures { Gives (λ x. x) (seen self.new.rest.now) result (parsing.perhaps parsing.values parsing.val (seen self.old.rest.now)) }
-    {
-        match self.next() {
-            Mark::Number | Mark::Temp => Ok(Some(self.val()?)),
-            _ => Ok(None),
-        }
-    }
-
-    #[tactic(auto, unfolding(crate::specs::Parsing::jump))]
-    fn jump(&mut self) -> Result<Jump<'a>, Stop<'t, 'a>>
-        ensures { Gives (λ x. x) (seen self.new.rest.now) result (parsing.jump (seen self.old.rest.now)) }
-    {
-        let line = self.word_line(Mark::Ret)?;
-        let value = self.perhaps_val()?;
-        Ok(Jump {
-            line,
-            kind: JumpKind::Ret(value),
-        })
-    }
-
-    fn jump_line(&mut self) -> Result<Jump<'a>, Stop<'t, 'a>>
-        ensures { Gives (λ x. x) (seen self.new.rest.now) result (parsing.before parsing.jump newline (seen self.old.rest.now)) }
-    {
-        let jump = self.jump()?;
-        self.word(Mark::Newline)?;
-        Ok(jump)
-    }
-
-    #[tactic(auto, unfolding(crate::specs::Parsing::head))]
-    fn head<A: Allocator + Copy>(
-        &mut self,
-        alloc: A,
-    ) -> Result<((u32, Name<'a>), Items<Inst<'a>, A>), Stop<'t, 'a>>
-        ensures { Gives (λ x. ((x.0.0, x.0.1), x.1)) (seen self.new.rest.now) result (parsing.head (seen self.old.rest.now)) }
-    {
-        let label = self.label_name()?;
-        self.word(Mark::Newline)?;
-        let insts = self.lines(alloc)?;
-        Ok((label, insts))
-    }
-
-    /// A block; the failure is marked where no jump comes.
-    #[tactic(auto, unfolding(crate::specs::Parsing::block))]
-    fn block<A: Allocator + Copy>(&mut self, alloc: A) -> Result<Block<'a, A>, Stop<'t, 'a>>
-        ensures { Gives (λ x. x) (seen self.new.rest.now) result (parsing.block (seen self.old.rest.now)) }
-    {
-        let ((line, label), insts) = self.head(alloc)?;
-        if !self.starts_with(Mark::Ret) {
-            return Err(Stop::Refused(true, self.rest));
-        }
-        let jump = self.jump_line()?;
-        Ok(Block {
-            label,
-            line,
-            insts,
-            jump,
-        })
-    }
-
     #[tactic(auto, unfolding(crate::specs::Parsing::line))]
-    fn line(&mut self) -> Result<(), Stop<'t, 'a>>
+    pub fn line(&mut self) -> Result<(), Stop<'t, 'a>>
         ensures { Gives (λ x. tt) (seen self.new.rest.now) result (parsing.line (seen self.old.rest.now)) }
     {
         if self.starts_with(Mark::Newline) {
@@ -308,75 +240,13 @@ impl<'t, 'a> Cursor<'t, 'a> {
         }
         Ok(())
     }
+}
 
-    #[tactic(auto, unfolding(crate::specs::Parsing::opening))]
-    fn opening(&mut self) -> Result<(), Stop<'t, 'a>>
-        ensures { Gives (λ x. tt) (seen self.new.rest.now) result (parsing.opening (seen self.old.rest.now)) }
-    {
-        self.word(Mark::OpenParen)?;
-        self.word(Mark::CloseParen)?;
-        self.line()?;
-        self.word(Mark::OpenBrace)?;
-        self.line()
-    }
-
-    fn perhaps_class(&mut self) -> Result<Option<Class>, Stop<'t, 'a>>
-        ensures { Gives (λ x. x) (seen self.new.rest.now) result (parsing.perhaps parsing.classes parsing.class_word (seen self.old.rest.now)) }
-    {
-        match self.next() {
-            Mark::W | Mark::L => Ok(Some(self.class()?)),
-            _ => Ok(None),
-        }
-    }
-
-    #[tactic(auto, unfolding(crate::specs::Parsing::top))]
-    fn top(&mut self) -> Result<(Option<Class>, (u32, Name<'a>)), Stop<'t, 'a>>
-        ensures { Gives (λ x. (x.0, (x.1.0, x.1.1))) (seen self.new.rest.now) result (parsing.top (seen self.old.rest.now)) }
-    {
-        self.word(Mark::Function)?;
-        let returns = self.perhaps_class()?;
-        let name = self.global_name()?;
-        self.opening()?;
-        Ok((returns, name))
-    }
-
-    #[tactic(auto, unfolding(crate::specs::Parsing::func))]
-    fn func<A: Allocator + Copy>(&mut self, alloc: A) -> Result<Func<'a, A>, Stop<'t, 'a>>
-        ensures { Gives (λ x. x) (seen self.new.rest.now) result (parsing.func (seen self.old.rest.now)) }
-    {
-        let (returns, (line, name)) = self.top()?;
-        let block = self.block(alloc)?;
-        self.word(Mark::CloseBrace)?;
-        let mut blocks = Vec::new(alloc);
-        blocks.push(block)?;
-        Ok(Func {
-            returns,
-            name,
-            line,
-            blocks: Items::new(blocks),
-        })
-    }
-
-    fn func_line<A: Allocator + Copy>(&mut self, alloc: A) -> Result<Func<'a, A>, Stop<'t, 'a>>
-        ensures { Gives (λ x. x) (seen self.new.rest.now) result (parsing.func_line (seen self.old.rest.now)) }
-    {
-        let func = self.func(alloc)?;
-        self.line()?;
-        Ok(func)
-    }
-
-    #[tactic(auto, unfolding(crate::specs::Parsing::program))]
-    pub fn program<A: Allocator + Copy>(&mut self, alloc: A) -> Result<Program<'a, A>, Stop<'t, 'a>>
-        ensures { Gives (λ x. x) (seen self.new.rest.now) result (parsing.program (seen self.old.rest.now)) }
-    {
-        self.line()?;
-        let mut funcs = Vec::new(alloc);
-        if self.starts_with(Mark::Function) {
-            let func = self.func_line(alloc)?;
-            funcs.push(func)?;
-        }
-        Ok(Program {
-            funcs: Items::new(funcs),
-        })
+fn is_signed(text: &[u8]) -> bool
+    ensures { result ≡ is_signed text.now }
+{
+    match text {
+        [first, ..] => *first == b'-',
+        [] => false,
     }
 }

@@ -1,9 +1,13 @@
 //! What a token is to the grammar.
 
 ghost use Rattle.std.specs.Prelude.{◌≡◌, drop};
-ghost use Rattle.qil_parser.specs.Token.{kind_mark, word_mark, code};
+ghost use Rattle.qil_parser.specs.Token.{kind_mark, code};
 
-use crate::tree::{BinaryOp, Name, UnaryOp};
+use crate::ops::{
+    AllocOp, BinaryOp, Class, CompareOp, Extension, LoadOp, UnaryOp, Width
+};
+use crate::tree::Name;
+use crate::words::word_mark;
 use qil_lexer::{Token, TokenKind};
 
 /// What a token is to the grammar: its kind, or for a word which word.
@@ -23,9 +27,33 @@ pub enum Mark {
     Function,
     W,
     L,
-    Ret,
+    Sb,
+    Ub,
+    Sh,
+    Uh,
     Unary(UnaryOp),
     Binary(BinaryOp),
+    Compare(CompareOp, Class),
+    Extend(Extension),
+    Load(LoadOp),
+    Alloc(AllocOp),
+    Store(Width),
+    Blit,
+    Call,
+    Phi,
+    Jmp,
+    Jnz,
+    Ret,
+    Hlt,
+    Data,
+    Align,
+    Z,
+    B,
+    H,
+    Export,
+    Section,
+    Plus,
+    Quoted,
     /// A token that the grammar has no place for.
     Other,
 }
@@ -50,38 +78,36 @@ impl Mark {
             Mark::Function => 11,
             Mark::W => 12,
             Mark::L => 13,
-            Mark::Ret => 14,
-            Mark::Unary(_) => 15,
-            Mark::Binary(_) => 16,
-            Mark::Other => 17,
+            Mark::Sb => 14,
+            Mark::Ub => 15,
+            Mark::Sh => 16,
+            Mark::Uh => 17,
+            Mark::Unary(_) => 18,
+            Mark::Binary(_) => 19,
+            Mark::Compare(_, _) => 20,
+            Mark::Extend(_) => 21,
+            Mark::Load(_) => 22,
+            Mark::Alloc(_) => 23,
+            Mark::Store(_) => 24,
+            Mark::Blit => 25,
+            Mark::Call => 26,
+            Mark::Phi => 27,
+            Mark::Jmp => 28,
+            Mark::Jnz => 29,
+            Mark::Ret => 30,
+            Mark::Hlt => 31,
+            Mark::Other => 32,
+            Mark::Data => 33,
+            Mark::Align => 34,
+            Mark::Z => 35,
+            Mark::B => 36,
+            Mark::H => 37,
+            Mark::Export => 38,
+            Mark::Section => 39,
+            Mark::Plus => 40,
+            Mark::Quoted => 41,
         }
     }
-}
-
-/// Which word of the grammar a text is.
-#[tactic(auto, unfolding(crate::specs::Token::word_mark))]
-fn word_mark(text: &[u8]) -> Mark
-    ensures { result ≡ word_mark text.now }
-{
-    if text == b"function".as_slice() {
-        return Mark::Function;
-    }
-    if text == b"w".as_slice() {
-        return Mark::W;
-    }
-    if text == b"l".as_slice() {
-        return Mark::L;
-    }
-    if text == b"ret".as_slice() {
-        return Mark::Ret;
-    }
-    if text == b"copy".as_slice() {
-        return Mark::Unary(UnaryOp::Copy);
-    }
-    if text == b"add".as_slice() {
-        return Mark::Binary(BinaryOp::Add);
-    }
-    Mark::Other
 }
 
 pub fn token_mark(token: &Token) -> Mark
@@ -99,6 +125,8 @@ pub fn token_mark(token: &Token) -> Mark
         TokenKind::OpenParen => Mark::OpenParen,
         TokenKind::CloseParen => Mark::CloseParen,
         TokenKind::Newline => Mark::Newline,
+        TokenKind::Plus => Mark::Plus,
+        TokenKind::Quoted => Mark::Quoted,
         TokenKind::Word => word_mark(token.text),
         _ => Mark::Other,
     }

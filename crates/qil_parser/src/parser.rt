@@ -3,7 +3,7 @@
 ghost use Rattle.std.specs.Prelude.{◌≡◌, List, ℕ, IfOk, IfErr};
 ghost use Rattle.qil_lexer.specs.Cut.{Cuts};
 ghost use Rattle.qil_parser.specs.Token.{Tok, seen};
-ghost use Rattle.qil_parser.specs.Grammar.{Spells};
+ghost use Rattle.qil_parser.specs.Programs.{Spells};
 ghost use Rattle.qil_parser.specs.Fault.{TokenFault, last_line};
 ghost use Rattle.qil_parser.specs.Outcome.{IsFault, IsProgram, IsRefusal, IsAnswered, code_of};
 ghost use Rattle.qil_parser.specs.declared.tree.Program.{Program};
@@ -13,6 +13,7 @@ use crate::cursor::Cursor;
 use crate::error::{ParseCode, ParseError};
 use crate::stop::Stop;
 use crate::tree::Program;
+use crate::words::is_left_out;
 use qil_lexer::{Token, TokenKind};
 use std::alloc::Allocator;
 
@@ -27,10 +28,12 @@ fn last_line(tokens: &[Token]) -> u32
 
 /// The code of the first token that fits nothing.
 fn code_of(marked: bool, token: &Token) -> ParseCode
-    ensures { result ≡ code_of marked token.now.kind }
+    ensures { result ≡ code_of marked token.now.kind token.now.text.now }
 {
     if marked && matches!(token.kind, TokenKind::CloseBrace) {
         ParseCode::P4
+    } else if is_left_out(token) {
+        ParseCode::P2
     } else {
         ParseCode::P1
     }

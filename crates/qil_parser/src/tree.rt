@@ -2,6 +2,7 @@
 
 ghost use Rattle.std.specs.Prelude.{◌≡◌};
 
+use crate::ops::{AbiType, AllocOp, BinaryOp, Class, CompareOp, Extension, LoadOp, UnaryOp, Width};
 use std::alloc::Allocator;
 use std::marker::Model;
 
@@ -61,38 +62,20 @@ impl<T, A: Allocator> Items<T, A> {
     }
 }
 
-/// The class of a temporary: a word of 32 bits, or a long word of 64.
-#[derive(Clone, Copy, Debug, PartialEq, Eq)]
-pub enum Class {
-    W,
-    L,
-}
-
-/// What an instruction or a jump reads.
+/// What an instruction or a jump reads (QBE IL, Constants and Vals).
 #[derive(Debug, Drop)]
 pub enum Operand<'a> {
     /// A constant, as its 64 bits in two's complement.
     Number(u64),
+    Global(Name<'a>),
     Temp(Name<'a>),
 }
 
-/// The temporary that an instruction sets, with the class that is written there.
+/// The temporary that an instruction or a phi sets, with the class that is written there.
 #[derive(Debug, Drop)]
 pub struct Target<'a> {
     pub name: Name<'a>,
     pub class: Class,
-}
-
-/// The operations on one operand of the class of the result.
-#[derive(Clone, Copy, Debug, PartialEq, Eq)]
-pub enum UnaryOp {
-    Copy,
-}
-
-/// The operations on two operands of the class of the result.
-#[derive(Clone, Copy, Debug, PartialEq, Eq)]
-pub enum BinaryOp {
-    Add,
 }
 
 /// What a target is set to.
@@ -100,30 +83,78 @@ pub enum BinaryOp {
 pub enum Expr<'a> {
     Unary(UnaryOp, Operand<'a>),
     Binary(BinaryOp, Operand<'a>, Operand<'a>),
+    /// Two operands of the class that the operation's name ends with.
+    Compare(CompareOp, Class, Operand<'a>, Operand<'a>),
+    Extend(Extension, Operand<'a>),
+    /// What lies at an address.
+    Load(LoadOp, Operand<'a>),
+}
+
+/// The temporary that takes what a call gives, with the type that is written there.
+#[derive(Debug, Drop)]
+pub struct CallResult<'a> {
+    pub name: Name<'a>,
+    pub abi_type: AbiType,
+}
+
+/// An argument of a call, with the type that is written there.
+#[derive(Debug, Drop)]
+pub struct Argument<'a> {
+    pub abi_type: AbiType,
+    pub value: Operand<'a>,
 }
 
 /// An instruction, on the line of its first token.
 #[derive(Debug, Drop)]
-pub struct Inst<'a> {
+pub struct Inst<'a, A: Allocator> {
     pub line: u32,
-    pub kind: InstKind<'a>,
+    pub kind: InstKind<'a, A>,
 }
 
+/// What an instruction does.
 #[derive(Debug, Drop)]
-pub enum InstKind<'a> {
+pub enum InstKind<'a, A: Allocator> {
     Assign(Target<'a>, Expr<'a>),
+    /// The target is set to the address of that many new bytes of the stack.
+    Alloc(Target<'a>, AllocOp, Operand<'a>),
+    /// The low bytes of the first operand go to the address that is the second.
+    Store(Width, Operand<'a>, Operand<'a>),
+    /// That many bytes from the first address to the second.
+    Blit(Operand<'a>, Operand<'a>, u64),
+    Call(Option<CallResult<'a>>, Operand<'a>, Items<Argument<'a>, A>),
 }
 
-/// A jump, on the line of its first token.
+/// The value that a phi takes where control comes from the block of that label.
+#[derive(Debug, Drop)]
+pub struct PhiSource<'a> {
+    pub label: Name<'a>,
+    pub value: Operand<'a>,
+}
+
+/// A phi, on the line of its first token (QBE IL, Phi).
+#[derive(Debug, Drop)]
+pub struct Phi<'a, A: Allocator> {
+    pub line: u32,
+    pub target: Target<'a>,
+    /// One or more.
+    pub sources: Items<PhiSource<'a>, A>,
+}
+
+/// A jump, on the line of its first token; one that the text leaves out, on the line of the next block's label.
 #[derive(Debug, Drop)]
 pub struct Jump<'a> {
     pub line: u32,
     pub kind: JumpKind<'a>,
 }
 
+/// Where control goes (QBE IL, Jumps).
 #[derive(Debug, Drop)]
 pub enum JumpKind<'a> {
+    Jmp(Name<'a>),
+    /// To the first label unless the low 32 bits of the operand are zero, else to the second.
+    Jnz(Operand<'a>, Name<'a>, Name<'a>),
     Ret(Option<Operand<'a>>),
+    Hlt,
 }
 
 /// A block, on the line of its label.
@@ -131,23 +162,75 @@ pub enum JumpKind<'a> {
 pub struct Block<'a, A: Allocator> {
     pub label: Name<'a>,
     pub line: u32,
-    pub insts: Items<Inst<'a>, A>,
+    pub phis: Items<Phi<'a, A>, A>,
+    pub insts: Items<Inst<'a, A>, A>,
     pub jump: Jump<'a>,
 }
 
-/// A function, on the line of its name.
+/// A parameter of a function.
+#[derive(Debug, Drop)]
+pub struct Param<'a> {
+    pub abi_type: AbiType,
+    pub name: Name<'a>,
+}
+
+/// A function, on the line of its name, where its parameters stand too.
 #[derive(Debug, Drop)]
 pub struct Func<'a, A: Allocator> {
-    /// The class of what it returns, if it returns a value.
-    pub returns: Option<Class>,
+    /// The type of what it returns, if it returns a value.
+    pub returns: Option<AbiType>,
     pub name: Name<'a>,
     pub line: u32,
+    pub params: Items<Param<'a>, A>,
     /// One or more.
     pub blocks: Items<Block<'a, A>, A>,
+}
+
+/// An item of a field of data.
+#[derive(Debug, Drop)]
+pub enum Item<'a, A: Allocator> {
+    /// A constant, as its 64 bits in two's complement.
+    Number(u64),
+    /// The bytes that a string stands for.
+    Text(Items<u8, A>),
+    /// The address of a name, and what is added to it.
+    Address(Name<'a>, u64),
+}
+
+/// A field of data.
+#[derive(Debug, Drop)]
+pub enum Field<'a, A: Allocator> {
+    /// One or more items; a number or an address has that width.
+    Values(Width, Items<Item<'a, A>, A>),
+    /// That many zero bytes.
+    Zeros(u64),
+}
+
+/// A data object, on the line of its name (QBE IL, Data).
+#[derive(Debug, Drop)]
+pub struct Data<'a, A: Allocator> {
+    pub name: Name<'a>,
+    pub line: u32,
+    /// The alignment that is written there.
+    pub align: Option<u64>,
+    pub fields: Items<Field<'a, A>, A>,
+}
+
+/// What a definition defines.
+#[derive(Clone, Copy, Debug, PartialEq, Eq)]
+pub enum Definition {
+    Data,
+    Func,
 }
 
 /// A program.
 #[derive(Debug, Drop)]
 pub struct Program<'a, A: Allocator> {
+    /// In the order of the text.
+    pub datas: Items<Data<'a, A>, A>,
+    /// In the order of the text.
     pub funcs: Items<Func<'a, A>, A>,
+    /// The definitions of both kinds in the order of the text: the n-th `Data` here is the n-th of `datas`, and so
+    /// with `Func`.
+    pub order: Items<Definition, A>,
 }

@@ -2,9 +2,9 @@
 use Rattle.std.proofs.Common.{◌≡◌, ℕ, ◌^◌, List, ◌++◌, take, sym, ◌∙◌, ap, refl, subst, append_assoc, inl, inr}
 use Rattle.std.specs.Prelude.{Option, Some, None, Ok, Err}
 use Rattle.std.specs.Io.KnownBytes.{Appends}
-use Rattle.qil_parser.specs.declared.tree.Program.{Program}
+use Rattle.qil_plain.specs.declared.tree.Program.{Program}
 use Rattle.qil_checker.specs.declared.form.Form.{Form}
-use Rattle.qil_checker.specs.Check.{Verdict}
+use Rattle.qil_transcript.specs.declared.load.Loaded.{Loaded}
 use Rattle.qil_meaning.specs.State.{State}
 use Rattle.qil_meaning.specs.Timeline.{begun}
 use Rattle.qil_streams.specs.Device.{IsFrontOf}
@@ -16,38 +16,35 @@ use Rattle.qil_transcript.specs.declared.load.Refusal.{Refusal}
 use Rattle.qil_transcript.specs.Session.{Sitting, IsAnswered, answers}
 use Rattle.std.proofs.Common.{true, false}
 use Rattle.std.proofs.lemmas.Bool.{false≢true}
-use Rattle.qil_parser.specs.declared.tree.Func.{Func}
-use Rattle.qil_parser.specs.Token.{Tok}
-use Rattle.qil_parser.specs.Grammar.{Spells, FuncLine, FuncOf, Perhaps, func_of, program_of}
+use Rattle.qil_transcript.proofs.SimpleLemmas.{plain_simple}
 use Rattle.qil_meaning.specs.declared.start.StartFault.{StartFault}
 use Rattle.qil_meaning.specs.Start.{start_of}
 use Rattle.qil_transcript.specs.declared.load.Refusal.TheVariants as refusals
 use Rattle.qil_transcript.specs.declared.outcome.Outcome.{Outcome}
-use Rattle.qil_transcript.specs.Find.{IsOneBlock}
 use Rattle.qil_transcript.specs.Load.{Accepts, IsSimple, Refuses, RefusesText}
 use Rattle.qil_transcript.specs.Debug.{Begins, IsSession, IsNoSession, IsRefused, Written, load_lines, refused_line}
 use Rattle.qil_transcript.proofs.ServeLemmas.{Promise, ample}
 
--- the load lines of a program and a form are those of their verdict
-pub load_lines-is : {A : Type 0} (p : Program A) (form : Form) (verdict : Verdict A) (start : State) → form ≡ verdict.form → p ≡ verdict.program →
-    load_lines (record { program = p; form = form }) start ≡ load_lines verdict start
-load_lines-is {A} p form verdict start f e = ap (λ (v : Verdict A). load_lines v start) (λ i. record { program = e i; form = f i })
+-- the load lines of a program and a form are those of their loaded
+pub load_lines-is : {A : Type 0} (p : Program A) (form : Form) (loaded : Loaded A) (start : State) → form ≡ loaded.form → p ≡ loaded.program →
+    load_lines p form start ≡ load_lines loaded.program loaded.form start
+load_lines-is p form loaded start f e = ap (λ q. load_lines q form start) e ∙ ap (λ x. load_lines loaded.program x start) f
 
 -- a session that begins is at the start of its program
 pub sitting-is : {A : Type 0} (s : Sitting A) (p : Program A) (start : State) → s.program ≡ p → s.timeline ≡ begun start → s ≡ record { program = p; timeline = begun start }
 sitting-is s p start e t = λ i. record { program = e i; timeline = t i }
 
 -- what a session began with, and what was written of it before the answers
-pub record Opened {A : Type 0} (text entry args : List ℕ) (verdict : Verdict A) (start : State) (first : Sitting A) (w0 w1 : Option (List ℕ)) : Type 0 where
-  pub begins : Begins text entry args verdict start
-  pub first_is : first ≡ record { program = verdict.program; timeline = begun start }
-  pub loaded : Appends w0 w1 (load_lines verdict start)
+pub record Opened {A : Type 0} (text entry args : List ℕ) (loaded : Loaded A) (start : State) (first : Sitting A) (w0 w1 : Option (List ℕ)) : Type 0 where
+  pub begins : Begins text entry args loaded start
+  pub first_is : first ≡ record { program = loaded.program; timeline = begun start }
+  pub told : Appends w0 w1 (load_lines loaded.program loaded.form start)
 
-is_session : {A : Type 0} (text entry args : List ℕ) (verdict : Verdict A) (start : State) (first : Sitting A) (lines : List (List ℕ)) (told : List ℕ) →
-    Begins text entry args verdict start → first ≡ record { program = verdict.program; timeline = begun start } → IsAnswered first lines told →
-    IsSession A text entry args lines (load_lines verdict start ++ told)
-is_session {A} text entry args verdict start first lines told begins first_is answered = record {
-  verdict = verdict;
+is_session : {A : Type 0} (text entry args : List ℕ) (loaded : Loaded A) (start : State) (first : Sitting A) (lines : List (List ℕ)) (told : List ℕ) →
+    Begins text entry args loaded start → first ≡ record { program = loaded.program; timeline = begun start } → IsAnswered first lines told →
+    IsSession A text entry args lines (load_lines loaded.program loaded.form start ++ told)
+is_session {A} text entry args loaded start first lines told begins first_is answered = record {
+  loaded = loaded;
   start = start;
   begins = begins;
   answered = told;
@@ -55,66 +52,66 @@ is_session {A} text entry args verdict start first lines told begins first_is an
   written_is = refl;
 }
 
-pub Written-ended : {A T : Type 0} (v : T) (text entry args : List ℕ) (verdict : Verdict A) (start : State) (first : Sitting A) (known left w0 w1 w2 : Option (List ℕ))
-    → Opened text entry args verdict start first w0 w1 → Promise (Ok v) first known left w1 w2
+pub Written-ended : {A T : Type 0} (v : T) (text entry args : List ℕ) (loaded : Loaded A) (start : State) (first : Sitting A) (known left w0 w1 w2 : Option (List ℕ))
+    → Opened text entry args loaded start first w0 w1 → Promise (Ok v) first known left w1 w2
     → Written A outcomes.Ended text entry args known left w0 w2
-Written-ended v text entry args verdict start first None left w0 w1 w2 o p = tt
-Written-ended v text entry args verdict start first (Some script) left w0 w1 w2 o p = (
-  load_lines verdict start ++ p.0,
-  Appends-append w0 w1 w2 (load_lines verdict start) p.0 o.loaded p.1,
-  (is_session text entry args verdict start first (lines_of script) p.0 o.begins o.first_is p.2.0, p.2.1),
+Written-ended v text entry args loaded start first None left w0 w1 w2 o p = tt
+Written-ended v text entry args loaded start first (Some script) left w0 w1 w2 o p = (
+  load_lines loaded.program loaded.form start ++ p.0,
+  Appends-append w0 w1 w2 (load_lines loaded.program loaded.form start) p.0 o.told p.1,
+  (is_session text entry args loaded start first (lines_of script) p.0 o.begins o.first_is p.2.0, p.2.1),
 )
 
-pub Written-too_long : {A : Type 0} (T : Type 0) (text entry args : List ℕ) (verdict : Verdict A) (start : State) (first : Sitting A) (known left w0 w1 w2 : Option (List ℕ))
-    → Opened text entry args verdict start first w0 w1 → Promise {T = T} (Err TooLong) first known left w1 w2
+pub Written-too_long : {A : Type 0} (T : Type 0) (text entry args : List ℕ) (loaded : Loaded A) (start : State) (first : Sitting A) (known left w0 w1 w2 : Option (List ℕ))
+    → Opened text entry args loaded start first w0 w1 → Promise {T = T} (Err TooLong) first known left w1 w2
     → Written A outcomes.TooLong text entry args known left w0 w2
-Written-too_long T text entry args verdict start first None left w0 w1 w2 o p = tt
-Written-too_long T text entry args verdict start first (Some script) left w0 w1 w2 o p = (
-  load_lines verdict start ++ p.0,
-  Appends-append w0 w1 w2 (load_lines verdict start) p.0 o.loaded p.1,
-  (is_session text entry args verdict start first (whole_lines_of (take (2 ^ 24) script)) p.0 o.begins o.first_is p.2.0, p.2.1),
+Written-too_long T text entry args loaded start first None left w0 w1 w2 o p = tt
+Written-too_long T text entry args loaded start first (Some script) left w0 w1 w2 o p = (
+  load_lines loaded.program loaded.form start ++ p.0,
+  Appends-append w0 w1 w2 (load_lines loaded.program loaded.form start) p.0 o.told p.1,
+  (is_session text entry args loaded start first (whole_lines_of (take (2 ^ 24) script)) p.0 o.begins o.first_is p.2.0, p.2.1),
 )
 
-pub Written-read : {A : Type 0} (T : Type 0) (text entry args : List ℕ) (verdict : Verdict A) (start : State) (first : Sitting A) (known left w0 w1 w2 : Option (List ℕ))
-    → Opened text entry args verdict start first w0 w1 → Promise {T = T} (Err Read) first known left w1 w2
+pub Written-read : {A : Type 0} (T : Type 0) (text entry args : List ℕ) (loaded : Loaded A) (start : State) (first : Sitting A) (known left w0 w1 w2 : Option (List ℕ))
+    → Opened text entry args loaded start first w0 w1 → Promise {T = T} (Err Read) first known left w1 w2
     → Written A outcomes.ReadFault text entry args known left w0 w2
-Written-read T text entry args verdict start first None left w0 w1 w2 o p = tt
-Written-read T text entry args verdict start first (Some script) left w0 w1 w2 o p =
+Written-read T text entry args loaded start first None left w0 w1 w2 o p = tt
+Written-read T text entry args loaded start first (Some script) left w0 w1 w2 o p =
     let (read, taken, answered) = p.2 in (
-      load_lines verdict start ++ p.0,
-      Appends-append w0 w1 w2 (load_lines verdict start) p.0 o.loaded p.1,
-      (read, taken, is_session text entry args verdict start first (whole_lines_of read) p.0 o.begins o.first_is answered),
+      load_lines loaded.program loaded.form start ++ p.0,
+      Appends-append w0 w1 w2 (load_lines loaded.program loaded.form start) p.0 o.told p.1,
+      (read, taken, is_session text entry args loaded start first (whole_lines_of read) p.0 o.begins o.first_is answered),
     )
 
-pub Written-write : {A : Type 0} (T : Type 0) (text entry args : List ℕ) (verdict : Verdict A) (start : State) (first : Sitting A) (known left w0 w1 w2 : Option (List ℕ))
-    → Opened text entry args verdict start first w0 w1 → Promise {T = T} (Err Write) first known left w1 w2
+pub Written-write : {A : Type 0} (T : Type 0) (text entry args : List ℕ) (loaded : Loaded A) (start : State) (first : Sitting A) (known left w0 w1 w2 : Option (List ℕ))
+    → Opened text entry args loaded start first w0 w1 → Promise {T = T} (Err Write) first known left w1 w2
     → Written A outcomes.WriteFault text entry args known left w0 w2
-Written-write T text entry args verdict start first None left w0 w1 w2 o p = tt
-Written-write T text entry args verdict start first (Some script) left w0 w1 w2 o p =
+Written-write T text entry args loaded start first None left w0 w1 w2 o p = tt
+Written-write T text entry args loaded start first (Some script) left w0 w1 w2 o p =
     let (all, answered, front) = p.2 in (
-      load_lines verdict start ++ p.0,
-      Appends-append w0 w1 w2 (load_lines verdict start) p.0 o.loaded p.1,
+      load_lines loaded.program loaded.form start ++ p.0,
+      Appends-append w0 w1 w2 (load_lines loaded.program loaded.form start) p.0 o.told p.1,
       (
-        load_lines verdict start ++ all,
-        inr (is_session text entry args verdict start first (lines_of script) all o.begins o.first_is answered),
-        (front.0, ap (λ v. load_lines verdict start ++ v) front.1 ∙ sym (append_assoc (load_lines verdict start) p.0 front.0)),
+        load_lines loaded.program loaded.form start ++ all,
+        inr (is_session text entry args loaded start first (lines_of script) all o.begins o.first_is answered),
+        (front.0, ap (λ v. load_lines loaded.program loaded.form start ++ v) front.1 ∙ sym (append_assoc (load_lines loaded.program loaded.form start) p.0 front.0)),
       ),
     )
 
 -- the load lines stopped
-pub Written-load : {A : Type 0} (text entry args : List ℕ) (verdict : Verdict A) (start : State) (known left w0 w1 : Option (List ℕ))
-    → Begins text entry args verdict start → ((front : List ℕ) × IsFrontOf front (load_lines verdict start) × Appends w0 w1 front)
+pub Written-load : {A : Type 0} (text entry args : List ℕ) (loaded : Loaded A) (start : State) (known left w0 w1 : Option (List ℕ))
+    → Begins text entry args loaded start → ((front : List ℕ) × IsFrontOf front (load_lines loaded.program loaded.form start) × Appends w0 w1 front)
     → Written A outcomes.WriteFault text entry args known left w0 w1
-Written-load text entry args verdict start None left w0 w1 begins p = tt
-Written-load {A} text entry args verdict start (Some script) left w0 w1 begins p =
-    let first : Sitting A = record { program = verdict.program; timeline = begun start } in
+Written-load text entry args loaded start None left w0 w1 begins p = tt
+Written-load {A} text entry args loaded start (Some script) left w0 w1 begins p =
+    let first : Sitting A = record { program = loaded.program; timeline = begun start } in
     let more = ample first (lines_of script) in
     let told = answers first (lines_of script) more.0 in (
       p.0,
       p.2,
       (
-        load_lines verdict start ++ told,
-        inr (is_session text entry args verdict start first (lines_of script) told begins refl (more.0, more.1, refl)),
+        load_lines loaded.program loaded.form start ++ told,
+        inr (is_session text entry args loaded start first (lines_of script) told begins refl (more.0, more.1, refl)),
         (p.1.0 ++ told, ap (λ v. v ++ told) p.1.1 ∙ append_assoc p.0 p.1.0 told),
       ),
     )
@@ -135,27 +132,28 @@ Written-refusal_stopped A text entry args refusal None left w0 w1 refuses p = tt
 Written-refusal_stopped A text entry args refusal (Some script) left w0 w1 refuses p =
     (p.0, p.2, (refused_line refusal, inl (record { refusal = refusal; refuses = refuses; written_is = refl }), p.1))
 
-pub opened : {A : Type 0} (text entry args : List ℕ) (verdict : Verdict A) (start : State) (first : Sitting A) (form : Form) (w0 w1 : Option (List ℕ))
-    → Begins text entry args verdict start → form ≡ verdict.form → first.program ≡ verdict.program → first.timeline ≡ begun start
-    → Appends w0 w1 (load_lines (record { program = first.program; form = form }) start)
-    → Opened text entry args verdict start first w0 w1
-opened text entry args verdict start first form w0 w1 begins f e t loaded = record {
+pub opened : {A : Type 0} (text entry args : List ℕ) (loaded : Loaded A) (start : State) (first : Sitting A) (form : Form) (w0 w1 : Option (List ℕ))
+    → Begins text entry args loaded start → form ≡ loaded.form → first.program ≡ loaded.program → first.timeline ≡ begun start
+    → Appends w0 w1 (load_lines first.program form start)
+    → Opened text entry args loaded start first w0 w1
+opened text entry args loaded start first form w0 w1 begins f e t told = record {
   begins = begins;
-  first_is = sitting-is first verdict.program start e t;
-  loaded = subst (λ (lines : List ℕ). Appends w0 w1 lines) (load_lines-is first.program form verdict start f e) loaded;
+  first_is = sitting-is first loaded.program start e t;
+  told = subst (λ (lines : List ℕ). Appends w0 w1 lines) (load_lines-is first.program form loaded start f e) told;
 }
 
-pub stopped_lines : {A : Type 0} (p : Program A) (form : Form) (verdict : Verdict A) (start : State) (w0 w1 : Option (List ℕ)) → form ≡ verdict.form → p ≡ verdict.program
-    → ((front : List ℕ) × IsFrontOf front (load_lines (record { program = p; form = form }) start) × Appends w0 w1 front)
-    → (front : List ℕ) × IsFrontOf front (load_lines verdict start) × Appends w0 w1 front
-stopped_lines p form verdict start w0 w1 f e stopped =
-    (stopped.0, subst (λ (lines : List ℕ). IsFrontOf stopped.0 lines) (load_lines-is p form verdict start f e) stopped.1, stopped.2)
+pub stopped_lines : {A : Type 0} (p : Program A) (form : Form) (loaded : Loaded A) (start : State) (w0 w1 : Option (List ℕ)) → form ≡ loaded.form → p ≡ loaded.program
+    → ((front : List ℕ) × IsFrontOf front (load_lines p form start) × Appends w0 w1 front)
+    → (front : List ℕ) × IsFrontOf front (load_lines loaded.program loaded.form start) × Appends w0 w1 front
+stopped_lines p form loaded start w0 w1 f e stopped =
+    (stopped.0, subst (λ (lines : List ℕ). IsFrontOf stopped.0 lines) (load_lines-is p form loaded start f e) stopped.1, stopped.2)
 
 -- a text that is refused whatever its entry is
 pub refuses_text : (A : Type 0) (text entry args : List ℕ) (refusal : Refusal) → RefusesText A text refusal → Refuses A text entry args refusal
 refuses_text A text entry args (refusals.Text code line) h = h
 refuses_text A text entry args (refusals.Tokens code line) h = h
 refuses_text A text entry args (refusals.Rule rule line) h = h
+refuses_text A text entry args (refusals.NotRun line) h = h
 refuses_text A text entry args (refusals.Start fault) h = absurd h
 
 -- what was refused and how that was put
@@ -170,33 +168,19 @@ Written-refuse A outcomes.Memory text entry args refusal known left w0 w1 refuse
 
 -- ---- where no session can be, and where one must be
 
-pub no_session : (A : Type 0) (text entry args : List ℕ) (checked : Verdict A) (outcome : Outcome) (refusal : Refusal) → Refuses A text entry args refusal →
+pub no_session : (A : Type 0) (text entry args : List ℕ) (checked : Loaded A) (outcome : Outcome) (refusal : Refusal) → Refuses A text entry args refusal →
     ((r : Refusal) → RefusesText A text r → false ≡ true) →
-    ((verdict : Verdict A) → Accepts text verdict → checked.program ≡ verdict.program) →
+    ((loaded : Loaded A) → Accepts text loaded → checked.program ≡ loaded.program) →
     ((fault : StartFault) → start_of checked.program entry args ≡ Err fault → IsNoSession outcome) → IsNoSession outcome
 no_session A text entry args checked outcome (refusals.Text code line) h only_refused only_accepted only_start = absurd (false≢true (only_refused (refusals.Text code line) h))
 no_session A text entry args checked outcome (refusals.Tokens code line) h only_refused only_accepted only_start = absurd (false≢true (only_refused (refusals.Tokens code line) h))
 no_session A text entry args checked outcome (refusals.Rule rule line) h only_refused only_accepted only_start = absurd (false≢true (only_refused (refusals.Rule rule line) h))
+no_session A text entry args checked outcome (refusals.NotRun line) h only_refused only_accepted only_start = absurd (false≢true (only_refused (refusals.NotRun line) h))
 no_session A text entry args checked outcome (refusals.Start fault) h only_refused only_accepted only_start =
-    let (verdict, accepts, starts) = h in
-    only_start fault (ap (λ (p : Program A). start_of p entry args) (only_accepted verdict accepts) ∙ starts)
+    let (loaded, accepts, starts) = h in
+    only_start fault (ap (λ (p : Program A). start_of p entry args) (only_accepted loaded accepts) ∙ starts)
 
--- ---- programs of this grammar are of one block each
+-- ---- what is run is of one block each
 
-func_simple : {A : Type 0} (ts : List Tok) (f : Func A) → FuncLine ts f → IsOneBlock f
-func_simple {A} ts f line =
-    let of : FuncOf line.spelled.left line.value.0 = line.spelled.first in
-    let made : func_of of.value ≡ f = of.made ∙ line.made in
-    (of.value.1, sym (ap (λ (g : Func A). g.blocks) made))
-
-simple_of : {A : Type 0} (ts : List Tok) (o : Option (Func A)) (p : Program A) → Perhaps FuncLine ts o → program_of o ≡ p → IsSimple p
-simple_of {A} ts None p phrase made = subst (λ (q : Program A). IsSimple q) made tt
-simple_of {A} ts (Some f) p (inl phrase) made =
-    let same : phrase.value ≡ f = let e = phrase.made in cc in
-    subst (λ (q : Program A). IsSimple q) made (subst (λ (h : Func A). IsOneBlock h) same (func_simple ts phrase.value phrase.spelled), tt)
-simple_of {A} ts (Some f) p (inr phrase) made = let e = phrase.value in absurd cc
-
-pub is_simple : {A : Type 0} (ts : List Tok) (p : Program A) → Spells ts p → IsSimple p
-is_simple ts p spelled =
-    let inner = spelled.spelled in
-    simple_of inner.spelled.right spelled.value p (subst (λ o. Perhaps FuncLine inner.spelled.right o) inner.made inner.spelled.second) spelled.made
+pub is_simple : {A : Type 0} (text : List ℕ) (loaded : Loaded A) → Accepts text loaded → IsSimple loaded.program
+is_simple text loaded accepts = plain_simple accepts.verdict.program loaded.program accepts.run

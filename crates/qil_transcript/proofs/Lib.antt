@@ -10,4 +10,6 @@ pub mod FewLemmas
 pub mod FindLemmas
 pub mod StartLemmas
 pub mod LoadLemmas
+pub mod PlainLemmas
+pub mod SimpleLemmas
 pub mod DebugLemmas

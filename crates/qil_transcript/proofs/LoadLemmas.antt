@@ -14,19 +14,20 @@ use Rattle.qil_parser.specs.declared.error.ParseError.{ParseError}
 use Rattle.qil_parser.specs.declared.error.ParseError.TheVariants as parse
 use Rattle.qil_parser.specs.declared.tree.Program.{Program}
 use Rattle.qil_parser.specs.Token.{Tok, tok, seen}
-use Rattle.qil_parser.specs.Grammar.{Spells}
+use Rattle.qil_parser.specs.Programs.{Spells}
 use Rattle.qil_parser.specs.Fault.{TokenFault}
 use Rattle.qil_parser.specs.Outcome.{IsFault, IsProgram}
 use Rattle.qil_checker.specs.declared.rule.Rule.{Rule}
 use Rattle.qil_checker.specs.declared.checker.CheckError.{CheckError}
 use Rattle.qil_checker.specs.declared.checker.CheckError.TheVariants as check
+use Rattle.qil_checker.specs.Marks.{texts}
 use Rattle.qil_checker.specs.Rules.{WellFormed, Broken}
 use Rattle.qil_checker.specs.Check.{Verdict, IsTold}
 use Rattle.qil_transcript.specs.declared.load.Refusal.{Refusal}
 use Rattle.qil_transcript.specs.declared.load.Refusal.TheVariants as refusals
 use Rattle.qil_transcript.specs.declared.load.LoadError.{LoadError}
 use Rattle.qil_transcript.specs.declared.load.LoadError.TheVariants.{OutOfMemory}
-use Rattle.qil_transcript.specs.Load.{IsProgramOf, Accepts, RefusesText, IsLoadFault}
+use Rattle.qil_transcript.specs.Load.{IsProgramOf, Checks, RefusesCheck, IsCheckFault}
 use Rattle.qil_transcript.specs.LoadError.{of_lex, of_parse, of_check}
 
 -- ---- tokens that say the same are the same to the parser
@@ -44,7 +45,7 @@ same_seen ts us same = seen-pieces us ∙ ap (λ (pieces : List Piece). map tok_
 
 -- ---- what the lexer refuses
 
-pub lex_refused : (A : Type 0) (text : List ℕ) (e : LexError) (load : LoadError) → IfRefused e (TextFault text) → load ≡ of_lex e → IsLoadFault A text load
+pub lex_refused : (A : Type 0) (text : List ℕ) (e : LexError) (load : LoadError) → IfRefused e (TextFault text) → load ≡ of_lex e → IsCheckFault A text load
 lex_refused A text (lex.Refused code line) load told is = rw is told
 lex_refused A text lex.OutOfMemory load told is = rw is tt
 
@@ -53,7 +54,7 @@ lex_wanting (lex.Refused code line) told = absurd told
 lex_wanting lex.OutOfMemory told = refl
 
 -- a text with a program is not refused by it
-pub lex_accepts : {A : Type 0} (text : List ℕ) (e : LexError) (load : LoadError) (verdict : Verdict A) → Accepts text verdict →
+pub lex_accepts : {A : Type 0} (text : List ℕ) (e : LexError) (load : LoadError) (verdict : Verdict A) → Checks text verdict →
     ((ts : List Token) → length text ≤ 2 ^ 20 → Cuts text ts → IfRefused e (λ code line. ⊥)) → load ≡ of_lex e → load ≡ OutOfMemory
 lex_accepts text e load verdict accepts only_cut is =
     is ∙ lex_wanting e (only_cut accepts.of_text.tokens accepts.of_text.short accepts.of_text.cut)
@@ -68,7 +69,7 @@ short_text text only_fault = elim (cases_lt (2 ^ 20) (length text)) [
 -- ---- what the parser refuses
 
 pub parse_refused : (A : Type 0) (text : List ℕ) (ts : List Token) (e : ParseError) (load : LoadError) → length text ≤ 2 ^ 20 → Cuts text ts →
-    IsFault A (seen ts) e → load ≡ of_parse e → IsLoadFault A text load
+    IsFault A (seen ts) e → load ≡ of_parse e → IsCheckFault A text load
 parse_refused A text ts (parse.Refused code line) load short cut fault is = rw is (record { tokens = ts; short = short; cut = cut; fault = fault })
 parse_refused A text ts parse.OutOfMemory load short cut fault is = rw is tt
 
@@ -82,7 +83,7 @@ pub spelled_here : {A : Type 0} (text : List ℕ) (ts : List Token) (p : Program
 spelled_here text ts p only_cut of_text =
     subst (λ (toks : List Tok). Spells toks p) (same_seen ts of_text.tokens (only_cut of_text.tokens of_text.short of_text.cut)) of_text.spelled
 
-pub parse_accepts : {A : Type 0} (text : List ℕ) (ts : List Token) (e : ParseError) (load : LoadError) (verdict : Verdict A) → Accepts text verdict →
+pub parse_accepts : {A : Type 0} (text : List ℕ) (ts : List Token) (e : ParseError) (load : LoadError) (verdict : Verdict A) → Checks text verdict →
     ((us : List Token) → length text ≤ 2 ^ 20 → Cuts text us → SameTokens ts us) →
     ((p : Program A) → Spells (seen ts) p → IsProgram p (Err e)) → load ≡ of_parse e → load ≡ OutOfMemory
 parse_accepts text ts e load verdict accepts only_cut only_spelled is =
@@ -90,11 +91,11 @@ parse_accepts text ts e load verdict accepts only_cut only_spelled is =
 
 -- ---- what the checker refuses
 
-pub check_refused : {A : Type 0} (text : List ℕ) (p : Program A) (e : CheckError) (load : LoadError) → IsProgramOf text p → IsTold p e → load ≡ of_check e → IsLoadFault A text load
+pub check_refused : {A : Type 0} (text : List ℕ) (p : Program A) (e : CheckError) (load : LoadError) → IsProgramOf text p → IsTold (texts p) e → load ≡ of_check e → IsCheckFault A text load
 check_refused text p (check.Refused rule line) load of_text told is = rw is (record { program = p; of_text = of_text; breaks = told })
 check_refused text p check.OutOfMemory load of_text told is = rw is tt
 
-pub check_accepts : {A : Type 0} (text : List ℕ) (ts : List Token) (p : Program A) (e : CheckError) (load : LoadError) (verdict : Verdict A) → Accepts text verdict →
+pub check_accepts : {A : Type 0} (text : List ℕ) (ts : List Token) (p : Program A) (e : CheckError) (load : LoadError) (verdict : Verdict A) → Checks text verdict →
     ((us : List Token) → length text ≤ 2 ^ 20 → Cuts text us → SameTokens ts us) →
     ((q : Program A) → Spells (seen ts) q → IsProgram q (Ok p)) →
     (WellFormed p → e ≡ check.OutOfMemory) → load ≡ of_check e → load ≡ OutOfMemory
@@ -104,7 +105,7 @@ check_accepts {A} text ts p e load verdict accepts only_cut only_spelled only_ke
     is ∙ ap (λ (x : CheckError). of_check x) wanting
 
 -- a text that is refused gives no program
-pub none_refused : (A : Type 0) (text : List ℕ) (ts : List Token) (p : Program A) (refusal : Refusal) → RefusesText A text refusal →
+pub none_refused : (A : Type 0) (text : List ℕ) (ts : List Token) (p : Program A) (refusal : Refusal) → RefusesCheck A text refusal →
     ((code : LexCode) (line : ℕ) → TextFault text code line → ⊥) →
     ((us : List Token) → length text ≤ 2 ^ 20 → Cuts text us → SameTokens ts us) →
     ((code : ParseCode) (line : ℕ) → TokenFault A (seen ts) code line → ⊥) →
@@ -116,6 +117,7 @@ none_refused A text ts p (refusals.Tokens code line) h only_fault only_cut no_fa
 none_refused A text ts p (refusals.Rule rule line) h only_fault only_cut no_fault only_spelled no_broken =
     let same : p ≡ h.program = only_spelled h.program (spelled_here text ts h.program only_cut h.of_text) in
     no_broken rule line (subst (λ (q : Program A). Broken q rule line) (sym same) h.breaks)
+none_refused A text ts p (refusals.NotRun line) h only_fault only_cut no_fault only_spelled no_broken = absurd h
 none_refused A text ts p (refusals.Start fault) h only_fault only_cut no_fault only_spelled no_broken = absurd h
 
 -- what is said of each error that comes so is said of the result
@@ -128,6 +130,6 @@ err_match (Ok x) Q P R h f = absurd h
 err_match (Err e) Q P R h f = f e h
 
 -- the program that was found is that of any verdict on the text
-pub same_program : {A : Type 0} (text : List ℕ) (ts : List Token) (p : Program A) (verdict : Verdict A) → Accepts text verdict →
+pub same_program : {A : Type 0} (text : List ℕ) (ts : List Token) (p : Program A) (verdict : Verdict A) → Checks text verdict →
     ((us : List Token) → length text ≤ 2 ^ 20 → Cuts text us → SameTokens ts us) → ((q : Program A) → Spells (seen ts) q → IsProgram q (Ok p)) → p ≡ verdict.program
 same_program text ts p verdict accepts only_cut only_spelled = only_spelled verdict.program (spelled_here text ts verdict.program only_cut accepts.of_text)

@@ -2,8 +2,8 @@
 use Rattle.std.proofs.Common.{◌≡◌, ℕ, List, [], ◌∷◌, sym, ap, ◌∙◌}
 use Rattle.std.specs.Prelude.{Some}
 use Rattle.std.specs.Str.{bytes_eq}
-use Rattle.qil_parser.specs.declared.tree.Block.{Block}
-use Rattle.qil_parser.specs.declared.tree.Func.{Func}
+use Rattle.qil_plain.specs.declared.tree.Block.{Block}
+use Rattle.qil_plain.specs.declared.tree.Func.{Func}
 use Rattle.qil_meaning.specs.State.{none_set, running}
 use Rattle.qil_meaning.specs.Step.{func_named}
 use Rattle.qil_meaning.specs.Start.{started}

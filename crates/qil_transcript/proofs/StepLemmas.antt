@@ -1,11 +1,11 @@
 -- A step that sets a temporary.
 use Rattle.std.proofs.Common.{◌≡◌, ℕ, ◌+◌, List, [], ◌∷◌, ◌++◌, ap, ◌∙◌}
 use Rattle.std.specs.Prelude.{Result, Ok, Err, IfOk}
-use Rattle.qil_parser.specs.declared.tree.Block.{Block}
-use Rattle.qil_parser.specs.declared.tree.Func.{Func}
+use Rattle.qil_plain.specs.declared.tree.Block.{Block}
+use Rattle.qil_plain.specs.declared.tree.Func.{Func}
 use Rattle.qil_parser.specs.declared.tree.Target.{Target}
-use Rattle.qil_parser.specs.declared.tree.Expr.{Expr}
-use Rattle.qil_parser.specs.declared.tree.InstKind.TheVariants.{Assign}
+use Rattle.qil_plain.specs.declared.tree.Expr.{Expr}
+use Rattle.qil_plain.specs.declared.tree.InstKind.TheVariants.{Assign}
 use Rattle.qil_meaning.specs.Step.{eval}
 use Rattle.qil_meaning.specs.State.{with_temp}
 use Rattle.qil_transcript.specs.declared.moment.Write.{Write}

@@ -2,7 +2,7 @@
 use Rattle.std.proofs.Common.{◌≡◌, ℕ, zero, suc, ◌+◌, ◌-◌, ◌≤◌, arith, true, false, List, [], ◌∷◌, refl, sym, ap, ◌∙◌, subst}
 use Rattle.std.specs.Prelude.{Some, None, slice_get}
 use Rattle.std.proofs.lemmas.Bool.{cond-true, cond-false}
-use Rattle.qil_parser.specs.declared.tree.Program.{Program}
+use Rattle.qil_plain.specs.declared.tree.Program.{Program}
 use Rattle.qil_meaning.specs.State.{State, is_final}
 use Rattle.qil_meaning.specs.Step.{step_of, settled, does}
 use Rattle.qil_meaning.specs.Timeline.{Timeline, forward, back, forward_by, back_by, back_by_to, at_end}

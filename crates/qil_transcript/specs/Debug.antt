@@ -5,10 +5,10 @@ use Rattle.qil_lexer.specs.Text.{code_text}
 use Rattle.qil_parser.specs.declared.error.ParseCode.{ParseCode}
 use Rattle.qil_parser.specs.declared.error.ParseCode.TheVariants.{P1, P2, P3, P4}
 use Rattle.qil_checker.specs.declared.rule.Rule.{Rule}
-use Rattle.qil_checker.specs.declared.rule.Rule.TheVariants.{C5, C6, C7, C10, C12}
+use Rattle.qil_checker.specs.declared.rule.Rule.TheVariants.{C1, C2, C3, C4, C5, C6, C7, C8, C9, C10, C11, C12}
 use Rattle.qil_checker.specs.declared.form.Form.{Form}
 use Rattle.qil_checker.specs.declared.form.Form.TheVariants.{Single, Several}
-use Rattle.qil_checker.specs.Check.{Verdict}
+use Rattle.qil_plain.specs.declared.tree.Program.{Program}
 use Rattle.qil_meaning.specs.State.{State}
 use Rattle.qil_meaning.specs.StartCode.{start_code}
 use Rattle.qil_meaning.specs.Start.{start_of}
@@ -17,6 +17,7 @@ use Rattle.qil_streams.specs.Device.{IsFrontOf}
 use Rattle.qil_streams.specs.Script.{lines_of, whole_lines_of}
 use Rattle.qil_transcript.specs.declared.load.Refusal.{Refusal}
 use Rattle.qil_transcript.specs.declared.load.Refusal.TheVariants as refusals
+use Rattle.qil_transcript.specs.declared.load.Loaded.{Loaded}
 use Rattle.qil_transcript.specs.declared.outcome.Outcome.{Outcome}
 use Rattle.qil_transcript.specs.declared.outcome.Outcome.TheVariants.{Ended, Refused, ReadFault, WriteFault, TooLong, Memory}
 use Rattle.qil_transcript.specs.Text.{text_of, place_line}
@@ -33,10 +34,17 @@ parse_code P3 = codes "P3"
 parse_code P4 = codes "P4"
 
 abbrev pub rule_code : Rule → List ℕ
+rule_code C1 = codes "C1"
+rule_code C2 = codes "C2"
+rule_code C3 = codes "C3"
+rule_code C4 = codes "C4"
 rule_code C5 = codes "C5"
 rule_code C6 = codes "C6"
 rule_code C7 = codes "C7"
+rule_code C8 = codes "C8"
+rule_code C9 = codes "C9"
 rule_code C10 = codes "C10"
+rule_code C11 = codes "C11"
 rule_code C12 = codes "C12"
 
 abbrev pub refused_at : List ℕ → ℕ → List ℕ
@@ -46,6 +54,7 @@ abbrev pub refused_line : Refusal → List ℕ
 refused_line (refusals.Text code line) = refused_at (code_text code) line
 refused_line (refusals.Tokens code line) = refused_at (parse_code code) line
 refused_line (refusals.Rule rule line) = refused_at (rule_code rule) line
+refused_line (refusals.NotRun line) = refused_at (parse_code P2) line
 refused_line (refusals.Start fault) = text_of (codes "refused: " ∷ start_code fault ∷ codes "\n" ∷ [])
 
 -- ---- the load lines
@@ -55,24 +64,24 @@ loaded_line funcs Single = text_of (codes "loaded " ∷ decimal funcs ∷ codes 
 loaded_line funcs (Several func temp) =
     text_of (codes "loaded " ∷ decimal funcs ∷ codes " functions 0 data bytes ssa no $" ∷ func ∷ codes " %" ∷ temp ∷ codes "\n" ∷ [])
 
-abbrev pub load_lines : {A : Type 0} → Verdict A → State → List ℕ
-load_lines verdict start = loaded_line (length verdict.program.funcs) verdict.form ++ place_line (begun start)
+abbrev pub load_lines : {A : Type 0} → Program A → Form → State → List ℕ
+load_lines p form start = loaded_line (length p.funcs) form ++ place_line (begun start)
 
 -- ---- transcripts
 
 -- the text is a program, which starts in this state
-pub record Begins {A : Type 0} (text entry args : List ℕ) (verdict : Verdict A) (start : State) : Type 0 where
-  pub accepts : Accepts text verdict
-  pub starts : start_of verdict.program entry args ≡ Ok start
+pub record Begins {A : Type 0} (text entry args : List ℕ) (loaded : Loaded A) (start : State) : Type 0 where
+  pub accepts : Accepts text loaded
+  pub starts : start_of loaded.program entry args ≡ Ok start
 
 -- the load lines of an accepted text, and the answers to the lines of a script
 pub record IsSession (A : Type 0) (text entry args : List ℕ) (lines : List (List ℕ)) (written : List ℕ) : Type 0 where
-  pub verdict : Verdict A
+  pub loaded : Loaded A
   pub start : State
-  pub begins : Begins text entry args verdict start
+  pub begins : Begins text entry args loaded start
   pub answered : List ℕ
-  pub answers : IsAnswered (record { program = verdict.program; timeline = begun start }) lines answered
-  pub written_is : written ≡ load_lines verdict start ++ answered
+  pub answers : IsAnswered (record { program = loaded.program; timeline = begun start }) lines answered
+  pub written_is : written ≡ load_lines loaded.program loaded.form start ++ answered
 
 -- the one line of a refused text
 pub record IsRefusal (A : Type 0) (text entry args : List ℕ) (written : List ℕ) : Type 0 where

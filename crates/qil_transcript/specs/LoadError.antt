@@ -5,6 +5,8 @@ use Rattle.qil_parser.specs.declared.error.ParseError.{ParseError}
 use Rattle.qil_parser.specs.declared.error.ParseError.TheVariants as parse
 use Rattle.qil_checker.specs.declared.checker.CheckError.{CheckError}
 use Rattle.qil_checker.specs.declared.checker.CheckError.TheVariants as check
+use Rattle.qil_plain.specs.declared.narrow.PlainError.{PlainError}
+use Rattle.qil_plain.specs.declared.narrow.PlainError.TheVariants as plain
 use Rattle.qil_transcript.specs.declared.load.Refusal.TheVariants as refusals
 use Rattle.qil_transcript.specs.declared.load.LoadError.{LoadError}
 use Rattle.qil_transcript.specs.declared.load.LoadError.TheVariants.{Refused, OutOfMemory}
@@ -20,3 +22,7 @@ of_parse parse.OutOfMemory = OutOfMemory
 abbrev pub of_check : CheckError → LoadError
 of_check (check.Refused rule line) = Refused (refusals.Rule rule line)
 of_check check.OutOfMemory = OutOfMemory
+
+abbrev pub of_plain : PlainError → LoadError
+of_plain (plain.NotRun line) = Refused (refusals.NotRun line)
+of_plain plain.OutOfMemory = OutOfMemory

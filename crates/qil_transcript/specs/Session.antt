@@ -3,17 +3,17 @@ use Rattle.std.specs.Prelude.{◌≡◌, ℕ, ◌<◌, ◌==◌, List, [], ◌�
 use Rattle.std.specs.List.{list_any}
 use Rattle.std.specs.Str.{bytes_eq}
 use Rattle.std.specs.Bool.{MatchBool}
-use Rattle.qil_parser.specs.declared.tree.Operand.{Operand}
-use Rattle.qil_parser.specs.declared.tree.Operand.TheVariants as operands
-use Rattle.qil_parser.specs.declared.tree.Expr.{Expr}
-use Rattle.qil_parser.specs.declared.tree.Expr.TheVariants as exprs
-use Rattle.qil_parser.specs.declared.tree.InstKind.{InstKind}
-use Rattle.qil_parser.specs.declared.tree.InstKind.TheVariants as insts
-use Rattle.qil_parser.specs.declared.tree.JumpKind.{JumpKind}
-use Rattle.qil_parser.specs.declared.tree.JumpKind.TheVariants as jumps
-use Rattle.qil_parser.specs.declared.tree.Block.{Block}
-use Rattle.qil_parser.specs.declared.tree.Func.{Func}
-use Rattle.qil_parser.specs.declared.tree.Program.{Program}
+use Rattle.qil_plain.specs.declared.tree.Operand.{Operand}
+use Rattle.qil_plain.specs.declared.tree.Operand.TheVariants as operands
+use Rattle.qil_plain.specs.declared.tree.Expr.{Expr}
+use Rattle.qil_plain.specs.declared.tree.Expr.TheVariants as exprs
+use Rattle.qil_plain.specs.declared.tree.InstKind.{InstKind}
+use Rattle.qil_plain.specs.declared.tree.InstKind.TheVariants as insts
+use Rattle.qil_plain.specs.declared.tree.JumpKind.{JumpKind}
+use Rattle.qil_plain.specs.declared.tree.JumpKind.TheVariants as jumps
+use Rattle.qil_plain.specs.declared.tree.Block.{Block}
+use Rattle.qil_plain.specs.declared.tree.Func.{Func}
+use Rattle.qil_plain.specs.declared.tree.Program.{Program}
 use Rattle.qil_commands.specs.declared.command.Command.{Command}
 use Rattle.qil_commands.specs.declared.command.Command.TheVariants.{Step, Back, Print, Quit}
 use Rattle.qil_commands.specs.declared.command.Refused.{Refused}

@@ -1,7 +1,7 @@
 //! The answers to commands, put as they are made.
 
 ghost use Rattle.std.specs.Prelude.{◌≡◌, ◌-◌, ◌^◌, ◌<◌, ◌++◌, codes, Ok, Err, Some};
-ghost use Rattle.qil_parser.specs.declared.tree.Program.{Program};
+ghost use Rattle.qil_plain.specs.declared.tree.Program.{Program};
 ghost use Rattle.qil_commands.specs.declared.command.Command.TheVariants.{Step as step_command, Back as back_command};
 ghost use Rattle.qil_streams.specs.Device.{Counts, Puts};
 ghost use Rattle.qil_streams.specs.Text.{line};

@@ -1,7 +1,6 @@
 //! `debug`: from the bytes of a program and a script to the bytes of the transcript.
 
 ghost use Rattle.std.specs.Prelude.{◌≡◌, ◌≢◌, ℕ, ◌-◌, ◌^◌, ◌<◌, ◌≤◌, ◌↔◌, List, Ok, Err, IfSome};
-ghost use Rattle.qil_checker.specs.Check.{Verdict};
 ghost use Rattle.qil_meaning.specs.State.{State};
 ghost use Rattle.qil_meaning.specs.Start.{start_of};
 ghost use Rattle.qil_meaning.specs.declared.start.StartFault.{StartFault};
@@ -11,14 +10,15 @@ ghost use Rattle.qil_transcript.specs.Load.{Accepts, Refuses, IsSimple};
 ghost use Rattle.qil_transcript.specs.Serve.{TakesFew};
 ghost use Rattle.qil_transcript.specs.Session.{sitting};
 ghost use Rattle.qil_transcript.specs.Debug.{Begins, CountsDebug, IsNoSession, IsRefused, IsUntouched, Written, load_lines, refused_line};
+ghost use Rattle.qil_transcript.specs.declared.load.Loaded.{Loaded};
 ghost use Rattle.qil_transcript.specs.declared.load.Refusal.{Refusal};
 
-use crate::load::{LoadError, Refusal, load, start};
+use crate::load::{LoadError, Loaded, Refusal, load, start};
 use crate::outcome::Outcome;
 use crate::refusal::{put_loaded_line, put_refusal_line};
 use crate::serving::{IoFault, serve_lines};
 use crate::session::Session;
-use qil_checker::{Checked, Form};
+use qil_checker::Form;
 use qil_streams::{Outlet, Put, Sink, Source, Stopped};
 use std::alloc::Allocator;
 
@@ -43,7 +43,7 @@ fn put_loaded<P: Put, A: Allocator + Copy>(
 ) -> Result<(), Stopped>
     requires { P.stops out.old < 2 ^ 64 - 1 }
     ensures text { (start : State) → (sitting session.now).timeline ≡ begun start → Puts result (P.written out.old) (P.written out.new)
-        (load_lines (record { program = session.now.program; form = form.now }) start) }
+        (load_lines session.now.program form.now start) }
     ensures counted { Counts result (P.stops out.old) (P.stops out.new) }
     ensures device { P.device out.new ≡ P.device out.old }
 {
@@ -60,8 +60,8 @@ fn run<A: Allocator + Copy, S: Source, P: Put>(
 ) -> Outcome
     requires reads { S.failures source.old < 2 ^ 64 - 1 }
     requires writes { P.stops out.old < 2 ^ 64 - 1 }
-    ensures written { (text entry args : List ℕ) (verdict : Verdict A) (start : State) → Begins text entry args verdict start
-        → form.now ≡ verdict.form → session.entry.program ≡ verdict.program → (sitting session.entry).timeline ≡ begun start
+    ensures written { (text entry args : List ℕ) (loaded : Loaded A) (start : State) → Begins text entry args loaded start
+        → form.now ≡ loaded.form → session.entry.program ≡ loaded.program → (sitting session.entry).timeline ≡ begun start
         → Written A result text entry args (S.remaining source.old) (S.remaining source.new) (P.written out.old) (P.written out.new) }
     ensures served { result ≢ Outcome.Refused }
     ensures untouched { IsUntouched result source.old source.new }
@@ -81,10 +81,10 @@ fn run<A: Allocator + Copy, S: Source, P: Put>(
     }
 }
 
-/// Starts a checked program and serves a script on it.
-fn debug_checked<A: Allocator + Copy, S: Source, P: Put>(
+/// Starts a loaded program and serves a script on it.
+fn debug_loaded<A: Allocator + Copy, S: Source, P: Put>(
     alloc: A,
-    checked: &Checked<'_, A>,
+    loaded: &Loaded<'_, A>,
     entry: &[u8],
     args: &[u64],
     source: &mut S,
@@ -92,18 +92,18 @@ fn debug_checked<A: Allocator + Copy, S: Source, P: Put>(
 ) -> Outcome
     requires reads { S.failures source.old < 2 ^ 64 - 1 }
     requires writes { P.stops out.old < 2 ^ 64 - 1 }
-    requires simple { IsSimple checked.now.program }
-    ensures written { (text : List ℕ) → Accepts text checked.now
+    requires simple { IsSimple loaded.now.program }
+    ensures written { (text : List ℕ) → Accepts text loaded.now
         → Written A result text entry.now args.now (S.remaining source.old) (S.remaining source.new) (P.written out.old) (P.written out.new) }
-    ensures only_started { (start : State) → start_of checked.now.program entry.now args.now ≡ Ok start → result ≢ Outcome.Refused }
-    ensures only_refused { (fault : StartFault) → start_of checked.now.program entry.now args.now ≡ Err fault → IsNoSession result }
+    ensures only_started { (start : State) → start_of loaded.now.program entry.now args.now ≡ Ok start → result ≢ Outcome.Refused }
+    ensures only_refused { (fault : StartFault) → start_of loaded.now.program entry.now args.now ≡ Err fault → IsNoSession result }
     ensures untouched { IsUntouched result source.old source.new }
     ensures few { IfSome (S.remaining source.old) (λ script. TakesFew script (S.remaining source.new)) }
     ensures counted { CountsDebug result (S.failures source.old) (S.failures source.new) (P.stops out.old) (P.stops out.new) }
     ensures device { P.device out.new ≡ P.device out.old }
 {
-    match start(alloc, checked.program(), entry, args) {
-        Ok(session) => run(session, checked.form(), source, out),
+    match start(alloc, &loaded.program, entry, args) {
+        Ok(session) => run(session, &loaded.form, source, out),
         Err(fault) => refuse(out, Refusal::Start(fault)),
     }
 }
@@ -120,7 +120,7 @@ fn debug_into<A: Allocator + Copy, S: Source, P: Put>(
     requires reads { S.failures source.old < 2 ^ 64 - 1 }
     requires writes { P.stops out.old < 2 ^ 64 - 1 }
     ensures written { Written A result text.now entry.now args.now (S.remaining source.old) (S.remaining source.new) (P.written out.old) (P.written out.new) }
-    ensures only_begun { (verdict : Verdict A) (start : State) → Begins text.now entry.now args.now verdict start → result ≢ Outcome.Refused }
+    ensures only_begun { (loaded : Loaded A) (start : State) → Begins text.now entry.now args.now loaded start → result ≢ Outcome.Refused }
     ensures only_refused { (refusal : Refusal) → Refuses A text.now entry.now args.now refusal → IsNoSession result }
     ensures untouched { IsUntouched result source.old source.new }
     ensures few { IfSome (S.remaining source.old) (λ script. TakesFew script (S.remaining source.new)) }
@@ -128,7 +128,7 @@ fn debug_into<A: Allocator + Copy, S: Source, P: Put>(
     ensures device { P.device out.new ≡ P.device out.old }
 {
     match load(alloc, text) {
-        Ok(checked) => debug_checked(alloc, &checked, entry, args, source, out),
+        Ok(loaded) => debug_loaded(alloc, &loaded, entry, args, source, out),
         Err(LoadError::Refused(refusal)) => refuse(out, refusal),
         Err(LoadError::OutOfMemory) => Outcome::Memory,
     }
@@ -161,7 +161,7 @@ pub fn debug<A: Allocator + Copy, S: Source, W: Sink>(
         (W.contents sink.old) (W.contents sink.new) }
 
     // An accepted text is not refused, and a refused one has no session.
-    ensures only_begun { (verdict : Verdict A) (start : State) → Begins text.now entry.now args.now verdict start
+    ensures only_begun { (loaded : Loaded A) (start : State) → Begins text.now entry.now args.now loaded start
         → result ≢ Outcome.Refused }
     ensures only_refused { (refusal : Refusal) → Refuses A text.now entry.now args.now refusal → IsNoSession result }
 

@@ -2,20 +2,22 @@
 
 ghost use Rattle.std.specs.Prelude.{◌≡◌, ◌∷◌, [], MatchResult, IfOk, IfErr, IsErr, Err};
 ghost use Rattle.std.specs.Option.{option_copied};
-ghost use Rattle.qil_parser.specs.declared.tree.Block.{Block};
+ghost use Rattle.qil_plain.specs.declared.tree.Block.{Block};
 ghost use Rattle.qil_checker.specs.Check.{Verdict};
 ghost use Rattle.qil_meaning.specs.Step.{func_named};
 ghost use Rattle.qil_meaning.specs.Start.{start_of};
 ghost use Rattle.qil_transcript.specs.Find.{IsOneBlock};
-ghost use Rattle.qil_transcript.specs.Load.{Accepts, IsLoadFault, IsSimple, IsStarted, RefusesText};
-ghost use Rattle.qil_transcript.specs.LoadError.{of_lex, of_parse, of_check};
+ghost use Rattle.qil_transcript.specs.Load.{Accepts, Checks, IsCheckFault, IsLoadFault, IsSimple, IsStarted, RefusesCheck, RefusesText};
+ghost use Rattle.qil_transcript.specs.LoadError.{of_lex, of_parse, of_check, of_plain};
+ghost use Rattle.qil_transcript.specs.declared.load.Loaded.{Loaded};
 ghost use Rattle.qil_transcript.specs.declared.load.Refusal.{Refusal};
 
 use crate::session::Session;
-use qil_checker::{CheckError, Checked, Rule, check};
+use qil_checker::{CheckError, Checked, Form, Rule, check};
 use qil_lexer::{LexCode, LexError, tokens};
 use qil_meaning::StartFault;
-use qil_parser::{Block, Func, ParseCode, ParseError, Program, parse};
+use qil_parser::{Name, ParseCode, ParseError, parse};
+use qil_plain::{Block, Func, PlainError, Program, plain_of};
 use std::alloc::Allocator;
 
 /// Why a program is refused, in the order in which the reasons are looked for.
@@ -27,6 +29,8 @@ pub enum Refusal {
     Tokens { code: ParseCode, line: u32 },
     /// The program breaks a rule.
     Rule { rule: Rule, line: u32 },
+    /// The program has something that isn't run yet.
+    NotRun { line: u32 },
     /// The run does not start.
     Start(StartFault),
 }
@@ -74,6 +78,24 @@ impl From<CheckError> for LoadError {
     }
 }
 
+impl From<PlainError> for LoadError {
+    ghost from_gives = { λ error load. load ≡ of_plain error };
+
+    fn from(error: PlainError) -> LoadError {
+        match error {
+            PlainError::NotRun { line } => LoadError::Refused(Refusal::NotRun { line }),
+            PlainError::OutOfMemory => LoadError::OutOfMemory,
+        }
+    }
+}
+
+/// What is run of a program, and the form of the whole.
+#[derive(Debug, Drop)]
+pub struct Loaded<'a, A: Allocator> {
+    pub program: Program<'a, A>,
+    pub form: Form<'a>,
+}
+
 /// The function of that name.
 fn find_func<'p, 'a, A: Allocator>(funcs: &'p [Func<'a, A>], name: &[u8]) -> Option<&'p Func<'a, A>>
     ensures { option_copied result ≡ func_named funcs.entry.now name.now }
@@ -118,12 +140,15 @@ pub fn start<'p, 'a, A: Allocator + Copy>(
 }
 
 /// The checked program that a text is. The tree borrows the text.
-pub fn load<'a, A: Allocator + Copy>(alloc: A, text: &'a [u8]) -> Result<Checked<'a, A>, LoadError>
-    ensures accepted { IfOk result (Accepts text.entry.now) }
-    ensures refused { IfErr result (IsLoadFault A text.entry.now) }
+fn check_text<'a, A: Allocator + Copy>(
+    alloc: A,
+    text: &'a [u8],
+) -> Result<Checked<'a, A>, LoadError>
+    ensures accepted { IfOk result (Checks text.entry.now) }
+    ensures refused { IfErr result (IsCheckFault A text.entry.now) }
     // A text that is refused is not accepted, and an accepted one is not refused.
-    ensures only_refused { (refusal : Refusal) → RefusesText A text.entry.now refusal → IsErr result }
-    ensures only_accepted { (verdict : Verdict A) → Accepts text.entry.now verdict
+    ensures only_refused { (refusal : Refusal) → RefusesCheck A text.entry.now refusal → IsErr result }
+    ensures only_accepted { (verdict : Verdict A) → Checks text.entry.now verdict
         → MatchResult result (λ checked. checked.program ≡ verdict.program) (λ e. e ≡ LoadError.OutOfMemory) }
 {
     let tokens = tokens(alloc, text)?;
@@ -135,4 +160,31 @@ pub fn load<'a, A: Allocator + Copy>(alloc: A, text: &'a [u8]) -> Result<Checked
             Err(LoadError::from(error))
         }
     }
+}
+
+fn same_form<'a>(form: &Form<'a>) -> Form<'a>
+    ensures { result ≡ form.now }
+{
+    match form {
+        Form::Single => Form::Single,
+        Form::Several { func, temp } => Form::Several {
+            func: Name::new(func.bytes()),
+            temp: Name::new(temp.bytes()),
+        },
+    }
+}
+
+/// What is run of the program that a text is. The tree borrows the text.
+pub fn load<'a, A: Allocator + Copy>(alloc: A, text: &'a [u8]) -> Result<Loaded<'a, A>, LoadError>
+    ensures accepted { IfOk result (Accepts text.entry.now) }
+    ensures refused { IfErr result (IsLoadFault A text.entry.now) }
+    // A text that is refused is not accepted, and an accepted one is not refused.
+    ensures only_refused { (refusal : Refusal) → RefusesText A text.entry.now refusal → IsErr result }
+    ensures only_accepted { (accepted : Loaded A) → Accepts text.entry.now accepted
+        → MatchResult result (λ loaded. loaded.program ≡ accepted.program) (λ e. e ≡ LoadError.OutOfMemory) }
+{
+    let checked = check_text(alloc, text)?;
+    let program = plain_of(alloc, checked.program())?;
+    let form = same_form(checked.form());
+    Ok(Loaded { program, form })
 }

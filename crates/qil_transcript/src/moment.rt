@@ -1,15 +1,14 @@
 //! A moment of a run: the whole state by names, as long as a program is one function of one block.
 
 ghost use Rattle.std.specs.Prelude.{◌≡◌, ◌+◌, ◌%◌, ◌^◌, ◌++◌, ◌∷◌, [], IfOk, ◌<◌, slice_get};
-ghost use Rattle.qil_parser.specs.declared.tree.Class.{Class};
+ghost use Rattle.qil_parser.specs.declared.ops.Class.{Class};
 ghost use Rattle.qil_meaning.specs.Values.{width, Low};
 ghost use Rattle.qil_meaning.specs.Step.{val, eval};
 ghost use Rattle.qil_meaning.specs.State.{is_final};
 ghost use Rattle.qil_transcript.specs.Moment.{temps_of, told, status_of};
 
-use qil_parser::{
-    BinaryOp, Block, Class, Expr, Func, Inst, InstKind, JumpKind, Operand, Target, UnaryOp,
-};
+use qil_parser::{Class, Target};
+use qil_plain::{BinaryOp, Block, Expr, Func, Inst, InstKind, JumpKind, Operand, UnaryOp};
 use std::alloc::{AllocError, Allocator};
 
 /// A value that a temporary was set to.

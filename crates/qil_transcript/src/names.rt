@@ -4,7 +4,7 @@ ghost use Rattle.std.specs.Prelude.{◌≡◌};
 ghost use Rattle.std.specs.List.{list_any};
 ghost use Rattle.qil_transcript.specs.Session.{operand_names, expr_names, inst_names, jump_names, block_names, func_names};
 
-use qil_parser::{Block, Expr, Func, Inst, InstKind, Jump, JumpKind, Operand};
+use qil_plain::{Block, Expr, Func, Inst, InstKind, Jump, JumpKind, Operand};
 use std::alloc::Allocator;
 
 fn is_in_operand(operand: &Operand<'_>, name: &[u8]) -> bool

@@ -26,10 +26,17 @@ fn rule_code(rule: Rule) -> &'static [u8]
     ensures { result.now ≡ rule_code rule }
 {
     match rule {
+        Rule::C1 => b"C1",
+        Rule::C2 => b"C2",
+        Rule::C3 => b"C3",
+        Rule::C4 => b"C4",
         Rule::C5 => b"C5",
         Rule::C6 => b"C6",
         Rule::C7 => b"C7",
+        Rule::C8 => b"C8",
+        Rule::C9 => b"C9",
         Rule::C10 => b"C10",
+        Rule::C11 => b"C11",
         Rule::C12 => b"C12",
     }
 }
@@ -64,6 +71,7 @@ pub fn put_refusal_line<P: Put>(out: &mut P, refusal: Refusal) -> Result<(), Sto
         Refusal::Text { code, line } => put_refused_at(out, code.as_str().as_bytes(), line),
         Refusal::Tokens { code, line } => put_refused_at(out, parse_code(code), line),
         Refusal::Rule { rule, line } => put_refused_at(out, rule_code(rule), line),
+        Refusal::NotRun { line } => put_refused_at(out, b"P2", line),
         Refusal::Start(fault) => put_pieces(
             out,
             &[

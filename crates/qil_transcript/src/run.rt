@@ -5,7 +5,7 @@ ghost use Rattle.qil_meaning.specs.Timeline.{back, position, at_end};
 ghost use Rattle.qil_transcript.specs.declared.moment.Status.TheVariants.{Running as running};
 
 use crate::moment::{Body, Moment};
-use qil_parser::{Block, Func};
+use qil_plain::{Block, Func};
 use std::alloc::{AllocError, Allocator};
 use std::mem;
 

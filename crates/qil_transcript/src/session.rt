@@ -10,7 +10,7 @@ use crate::answer::{back, print, put_refusal, step};
 use crate::run::Run;
 use crate::text::put_place;
 use qil_commands::{Command, Refused, read_command};
-use qil_parser::{Block, Func, Program};
+use qil_plain::{Block, Func, Program};
 use qil_streams::{Put, Stopped};
 use std::alloc::Allocator;
 use std::marker::Model;

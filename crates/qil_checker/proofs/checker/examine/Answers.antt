@@ -1,23 +1,18 @@
--- What is judged of the texts holds of the program that they were made of.
-use Rattle.std.proofs.Common.{◌∙◌, ap, subst, map, IfOk, IfErr}
-use Rattle.qil_parser.specs.declared.tree.Program.{Program}
-use Rattle.qil_checker.specs.Check.{IsTold}
-use Rattle.qil_checker.specs.Forms.{HasForm}
-use Rattle.qil_checker.specs.Rules.{WellFormed}
-use Rattle.qil_checker.proofs.WholeLemmas.{same_program}
+-- What is found of the texts holds of the program that they were made of.
+use Rattle.std.proofs.Common.{subst, List, Option, MatchOption}
+use Rattle.qil_checker.specs.declared.whole.Refusal.{Refusal}
+use Rattle.qil_checker.specs.Marks.{Mark, texts}
+use Rattle.qil_checker.specs.Rules.{AreBroken, AreWellFormed}
 use Rattle.qil_checker.proofs.checker.examine.Goals as goal
 
-pub returns-in-Ok-clause-well_formed : goal.returns-in-Ok-clause-well_formed
-returns-in-Ok-clause-well_formed g c =
-    let e = same_program c.as_slice.result.now c.args.program.now (ap (map (λ t. t.func.now)) c.as_slice.ensures.value ∙ c.in-Ok.ensures) in
-    subst (λ (p : Program g.row.A.Denot). IfOk c.judge.result (λ form. WellFormed p)) e c.judge.ensures.well_formed
+pub returns-in-Some-clause-told : goal.returns-in-Some-clause-told
+returns-in-Some-clause-told g c =
+    let found = subst (λ (all : List (List Mark)). MatchOption c.in_ok-refusal.field-0 (AreWellFormed all) (λ r. AreBroken all r.rule r.line)) c.in_ok-whole.ensures c.in_ok-refusal.ensures in
+    let all = texts c.args.program.now in
+    subst (λ (o : Option Refusal). MatchOption o (AreWellFormed all) (λ r. AreBroken all r.rule r.line)) c.in-Some.is found
 
-pub returns-in-Ok-clause-form : goal.returns-in-Ok-clause-form
-returns-in-Ok-clause-form g c =
-    let e = same_program c.as_slice.result.now c.args.program.now (ap (map (λ t. t.func.now)) c.as_slice.ensures.value ∙ c.in-Ok.ensures) in
-    subst (λ (p : Program g.row.A.Denot). IfOk c.judge.result (λ form. HasForm p form)) e c.judge.ensures.form
-
-pub returns-in-Ok-clause-told : goal.returns-in-Ok-clause-told
-returns-in-Ok-clause-told g c =
-    let e = same_program c.as_slice.result.now c.args.program.now (ap (map (λ t. t.func.now)) c.as_slice.ensures.value ∙ c.in-Ok.ensures) in
-    subst (λ (p : Program g.row.A.Denot). IfErr c.judge.result (λ error. IsTold p error)) e c.judge.ensures.told
+pub returns-clause-well_formed : goal.returns-clause-well_formed
+returns-clause-well_formed g c =
+    let found = subst (λ (all : List (List Mark)). MatchOption c.in_ok-refusal.field-0 (AreWellFormed all) (λ r. AreBroken all r.rule r.line)) c.in_ok-whole.ensures c.in_ok-refusal.ensures in
+    let all = texts c.args.program.now in
+    subst (λ (o : Option Refusal). MatchOption o (AreWellFormed all) (λ r. AreBroken all r.rule r.line)) c.in-None.is found

@@ -1,7 +1,7 @@
 -- The marks so far, and those of the instructions that are left, are all marks.
 use Rattle.std.proofs.Common.{◌≡◌, ◌++◌, drop}
 use Rattle.std.specs.List.{flat_map}
-use Rattle.qil_checker.specs.Text.{inst_marks}
+use Rattle.qil_checker.specs.Marks.{inst_marks}
 use Rattle.qil_checker.proofs.walk.push_insts.Given as goal
 
 abbrev pub invariant-loop-inst : goal.invariant-loop-inst

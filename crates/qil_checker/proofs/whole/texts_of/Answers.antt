@@ -1,12 +1,9 @@
--- One more text is that of one more function.
-use Rattle.std.proofs.Common.{arith}
-use Rattle.qil_checker.proofs.WholeLemmas.{one_more, all_texts}
+-- One definition fewer is left.
+use Rattle.std.proofs.Common.{◌+◌, drop, arith}
+use Rattle.qil_checker.proofs.TextLemmas.{one_fewer}
 use Rattle.qil_checker.proofs.whole.texts_of.Goals as goal
 
-pub loop-func-preserved : goal.loop-func-preserved
-loop-func-preserved g c =
-    one_more c.loop-func.texts.items c.push.new.self.items c.in_ok-new.field-0 c.as_slice-func-items.result.now c.loop-func.func-index c.func-item.result
-    c.loop-func.invariant (omega arith) c.func-item.is c.in_ok-new.ensures c.in_ok-push.ensures.items
-
-pub returns : goal.returns
-returns g c = all_texts c.loop-func.texts.items c.as_slice-func-items.result.now c.args.program.now.funcs c.loop-func.func-index c.loop-func.invariant (omega arith) c.as_slice-func-items.ensures
+pub loop-definition-preserved : goal.loop-definition-preserved
+loop-definition-preserved g c =
+    let order = c.as_slice-definition-items.result.now in
+    one_fewer order c.loop-definition.definition-index _ _ _ _ c.loop-definition.left.datas.now c.loop-definition.left.funcs.now (omega arith) (c.in_ok-push_next.ensures (drop (c.loop-definition.definition-index + 1) order)) c.loop-definition.invariant

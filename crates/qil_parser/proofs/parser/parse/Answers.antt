@@ -2,11 +2,12 @@
 use Rattle.std.proofs.Common.{sym, arith}
 use Rattle.qil_parser.specs.Token.{seen}
 use Rattle.qil_parser.proofs.Numbers.{cut_numbers}
+use Rattle.qil_parser.proofs.Strings.{cut_strings}
 use Rattle.qil_parser.proofs.Verdict.{spelled_all, fault_after, fault_at, no_program, no_fault, that_fault}
 use Rattle.qil_parser.proofs.parser.parse.Goals as goal
 
 pub invariant_of-cursor : goal.invariant_of-cursor
-invariant_of-cursor g c = record { numbers = cut_numbers c.requires.cut.0 c.args.tokens.now c.requires.cut.1 }
+invariant_of-cursor g c = record { numbers = cut_numbers c.requires.cut.0 c.args.tokens.now c.requires.cut.1; strings = cut_strings c.requires.cut.0 c.args.tokens.now c.requires.cut.1 }
 
 pub returns-in-empty-clause-spelled : goal.returns-in-empty-clause-spelled
 returns-in-empty-clause-spelled g c = spelled_all c.args.tokens.now c.in-Ok.program c.program.new.self.rest.now c.in-Ok.ensures (omega (arith, c.in-empty.len_below))

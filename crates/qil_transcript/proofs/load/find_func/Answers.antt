@@ -1,6 +1,6 @@
 -- Answers to the goals of `find_func`.
 use Rattle.std.specs.Str.{bytes_eq}
-use Rattle.qil_parser.specs.declared.tree.Func.{Func}
+use Rattle.qil_plain.specs.declared.tree.Func.{Func}
 use Rattle.qil_transcript.proofs.FindLemmas.{find_hit, find_miss, find_none}
 use Rattle.qil_transcript.proofs.load.find_func.Goals as goal
 

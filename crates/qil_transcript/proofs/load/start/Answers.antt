@@ -1,6 +1,6 @@
 -- Answers to the goals of `start`.
 use Rattle.std.specs.Str.{bytes_eq}
-use Rattle.qil_parser.specs.declared.tree.Func.{Func}
+use Rattle.qil_plain.specs.declared.tree.Func.{Func}
 use Rattle.qil_transcript.specs.Find.{IsOneBlock}
 use Rattle.qil_transcript.proofs.FindLemmas.{find-all}
 use Rattle.qil_transcript.proofs.StartLemmas.{found_is_named, named_along}

@@ -1,23 +1,22 @@
 -- The first definition that is not the first of its temporary.
-use Rattle.std.proofs.Common.{◌≡◌, List, ℕ, ◌<◌, sym, ap, subst, length, arith, below_more}
-use Rattle.qil_checker.specs.Text.{IsAgain, marks}
+use Rattle.std.proofs.Common.{List, ℕ, ◌<◌, length, arith, below_more}
+use Rattle.qil_checker.specs.Text.{IsAgain}
 use Rattle.qil_checker.proofs.PlaceLemmas.{again_within}
 use Rattle.qil_checker.proofs.text.Text.second_definition.Goals as goal
 
 pub returns-in-Some : goal.returns-in-Some
 returns-in-Some g c = record {
   mark = c.loop-place.place;
-  again = subst (λ t. IsAgain t c.loop-place.place c.in-Some.name) c.args.self.now.marks_are c.in-Some.ensures;
+  again = c.in-Some.ensures;
   first = c.loop-place.invariant;
 }
 
 pub loop-place-preserved : goal.loop-place-preserved
 loop-place-preserved g c = λ j x l.
-    below_more (λ k. (y : List ℕ) → IsAgain (marks c.args.self.now.func.now) k y → ⊥) c.loop-place.place (λ k h y. c.loop-place.invariant k y h)
-    (λ y b. c.in_default.ensures y (subst (λ t. IsAgain t c.loop-place.place y) (sym c.args.self.now.marks_are) b)) j l x
+    below_more (λ k. (y : List ℕ) → IsAgain c.args.self.now.marks.items k y → ⊥) c.loop-place.place (λ k h y. c.loop-place.invariant k y h)
+    (λ y b. c.in_default.ensures y b) j l x
 
 pub returns : goal.returns
 returns g c = λ k x a.
-    let l : k < length (marks c.args.self.now.func.now) = again_within (marks c.args.self.now.func.now) k x a in
-    let e : length c.args.self.now.marks.items ≡ length (marks c.args.self.now.func.now) = ap length c.args.self.now.marks_are in
+    let l : k < length c.args.self.now.marks.items = again_within c.args.self.now.marks.items k x a in
     c.loop-place.invariant k x (omega arith) a

@@ -1,0 +1,336 @@
+//! The methods of the cursor for instructions.
+
+ghost use Rattle.std.specs.Prelude.{◌≡◌};
+ghost use Rattle.qil_language.specs.Reading.{starts, image};
+ghost use Rattle.qil_parser.specs.Token.{seen, index};
+ghost use Rattle.qil_parser.specs.Parsing as parsing;
+ghost use Rattle.qil_parser.specs.FunctionParsing as functions;
+ghost use Rattle.qil_parser.specs.Outcome.{Gives};
+ghost use Rattle.qil_parser.specs.declared.mark.Mark.TheVariants.{Newline as newline};
+
+use crate::cursor::Cursor;
+use crate::mark::Mark;
+use crate::ops::{
+    AbiType, AllocOp, BinaryOp, Class, CompareOp, Extension, LoadOp, UnaryOp, Width
+};
+use crate::stop::Stop;
+use crate::tree::{Argument, CallResult, Expr, Inst, InstKind, Items, Name, Operand, Target};
+use std::alloc::Allocator;
+
+impl<'t, 'a> Cursor<'t, 'a> {
+    fn unary_word(&mut self) -> Result<UnaryOp, Stop<'t, 'a>>
+        ensures { Gives (λ x. x) (seen self.new.rest.now) result (functions.unary_word (seen self.old.rest.now)) }
+    {
+        match self.next() {
+            Mark::Unary(op) => {
+                self.skip();
+                Ok(op)
+            }
+            _ => Err(Stop::Refused(false, self.rest)),
+        }
+    }
+
+    fn binary_word(&mut self) -> Result<BinaryOp, Stop<'t, 'a>>
+        ensures { Gives (λ x. x) (seen self.new.rest.now) result (functions.binary_word (seen self.old.rest.now)) }
+    {
+        match self.next() {
+            Mark::Binary(op) => {
+                self.skip();
+                Ok(op)
+            }
+            _ => Err(Stop::Refused(false, self.rest)),
+        }
+    }
+
+    /// A comparison and the class of its operands.
+    fn compare_word(&mut self) -> Result<(CompareOp, Class), Stop<'t, 'a>>
+        ensures { Gives (λ x. (x.0, x.1)) (seen self.new.rest.now) result (functions.compare_word (seen self.old.rest.now)) }
+    {
+        match self.next() {
+            Mark::Compare(op, class) => {
+                self.skip();
+                Ok((op, class))
+            }
+            _ => Err(Stop::Refused(false, self.rest)),
+        }
+    }
+
+    fn extend_word(&mut self) -> Result<Extension, Stop<'t, 'a>>
+        ensures { Gives (λ x. x) (seen self.new.rest.now) result (functions.extend_word (seen self.old.rest.now)) }
+    {
+        match self.next() {
+            Mark::Extend(op) => {
+                self.skip();
+                Ok(op)
+            }
+            _ => Err(Stop::Refused(false, self.rest)),
+        }
+    }
+
+    fn load_word(&mut self) -> Result<LoadOp, Stop<'t, 'a>>
+        ensures { Gives (λ x. x) (seen self.new.rest.now) result (functions.load_word (seen self.old.rest.now)) }
+    {
+        match self.next() {
+            Mark::Load(op) => {
+                self.skip();
+                Ok(op)
+            }
+            _ => Err(Stop::Refused(false, self.rest)),
+        }
+    }
+
+    fn alloc_word(&mut self) -> Result<AllocOp, Stop<'t, 'a>>
+        ensures { Gives (λ x. x) (seen self.new.rest.now) result (functions.alloc_word (seen self.old.rest.now)) }
+    {
+        match self.next() {
+            Mark::Alloc(op) => {
+                self.skip();
+                Ok(op)
+            }
+            _ => Err(Stop::Refused(false, self.rest)),
+        }
+    }
+
+    /// How wide a store is, and the line of its word.
+    fn store_word(&mut self) -> Result<(u32, Width), Stop<'t, 'a>>
+        ensures { Gives (λ x. (x.0, x.1)) (seen self.new.rest.now) result (functions.store_word (seen self.old.rest.now)) }
+    {
+        match (self.next(), self.rest) {
+            (Mark::Store(width), [first, ..]) => {
+                self.skip();
+                Ok((first.line, width))
+            }
+            _ => Err(Stop::Refused(false, self.rest)),
+        }
+    }
+
+    /// A temporary and `=`, with the line of the temporary.
+    #[tactic(auto, unfolding(crate::specs::FunctionParsing::dest))]
+    pub fn dest(&mut self) -> Result<(u32, Name<'a>), Stop<'t, 'a>>
+        ensures { Gives (λ x. (x.0, x.1)) (seen self.new.rest.now) result (functions.dest (seen self.old.rest.now)) }
+    {
+        let (line, name) = self.temp_name()?;
+        self.word(Mark::Equals)?;
+        Ok((line, name))
+    }
+
+    #[tactic(auto, unfolding(crate::specs::FunctionParsing::extend_or_load))]
+    fn extend_or_load(&mut self) -> Result<Expr<'a>, Stop<'t, 'a>>
+        ensures { Gives (λ x. x) (seen self.new.rest.now) result (functions.extend_or_load (seen self.old.rest.now)) }
+    {
+        match self.next() {
+            Mark::Extend(_) => {
+                let op = self.extend_word()?;
+                let value = self.val()?;
+                Ok(Expr::Extend(op, value))
+            }
+            _ => {
+                let op = self.load_word()?;
+                let at = self.val()?;
+                Ok(Expr::Load(op, at))
+            }
+        }
+    }
+
+    #[tactic(auto, unfolding(crate::specs::FunctionParsing::expr))]
+    fn expr(&mut self) -> Result<Expr<'a>, Stop<'t, 'a>>
+        ensures { Gives (λ x. x) (seen self.new.rest.now) result (functions.expr (seen self.old.rest.now)) }
+    {
+        match self.next() {
+            Mark::Unary(_) => {
+                let op = self.unary_word()?;
+                let value = self.val()?;
+                Ok(Expr::Unary(op, value))
+            }
+            Mark::Binary(_) => {
+                let op = self.binary_word()?;
+                let (left, right) = self.two()?;
+                Ok(Expr::Binary(op, left, right))
+            }
+            Mark::Compare(_, _) => {
+                let (op, class) = self.compare_word()?;
+                let (left, right) = self.two()?;
+                Ok(Expr::Compare(op, class, left, right))
+            }
+            _ => self.extend_or_load(),
+        }
+    }
+
+    #[tactic(auto, unfolding(crate::specs::FunctionParsing::argument))]
+    fn argument(&mut self) -> Result<Argument<'a>, Stop<'t, 'a>>
+        ensures { Gives (λ x. x) (seen self.new.rest.now) result (functions.argument (seen self.old.rest.now)) }
+    {
+        let abi_type = self.abi_type()?;
+        let value = self.val()?;
+        Ok(Argument { abi_type, value })
+    }
+
+    /// Arguments with commas between them, and perhaps one at the end.
+    fn arguments<A: Allocator + Copy>(&mut self, alloc: A) -> Result<Items<Argument<'a>, A>, Stop<'t, 'a>>
+        ensures { Gives (λ x. x) (seen self.new.rest.now) result (functions.arguments (seen self.old.rest.now)) }
+    {
+        let mut items = Vec::new(alloc);
+        'each: while self.starts_type() {
+            let item = self.argument()?;
+            items.push(item)?;
+            if !self.starts_with(Mark::Comma) {
+                return Ok(Items::new(items));
+            }
+            self.word(Mark::Comma)?;
+        }
+        Ok(Items::new(items))
+    }
+
+    /// What is called, and its arguments.
+    #[tactic(auto, unfolding(crate::specs::FunctionParsing::callee))]
+    fn callee<A: Allocator + Copy>(
+        &mut self,
+        alloc: A,
+    ) -> Result<(Operand<'a>, Items<Argument<'a>, A>), Stop<'t, 'a>>
+        ensures { Gives (λ x. (x.0, x.1)) (seen self.new.rest.now) result (functions.callee (seen self.old.rest.now)) }
+    {
+        let callee = self.val()?;
+        self.word(Mark::OpenParen)?;
+        let arguments = self.arguments(alloc)?;
+        self.word(Mark::CloseParen)?;
+        Ok((callee, arguments))
+    }
+
+    #[tactic(auto, unfolding(crate::specs::FunctionParsing::called))]
+    fn called<A: Allocator + Copy>(
+        &mut self,
+        alloc: A,
+    ) -> Result<(Operand<'a>, Items<Argument<'a>, A>), Stop<'t, 'a>>
+        ensures { Gives (λ x. (x.0, x.1)) (seen self.new.rest.now) result (functions.called (seen self.old.rest.now)) }
+    {
+        self.word(Mark::Call)?;
+        let (callee, arguments) = self.callee(alloc)?;
+        Ok((callee, arguments))
+    }
+
+    /// An instruction without a destination.
+    #[tactic(auto, unfolding(crate::specs::FunctionParsing::plain))]
+    pub fn plain<A: Allocator + Copy>(&mut self, alloc: A) -> Result<Inst<'a, A>, Stop<'t, 'a>>
+        ensures { Gives (λ x. x) (seen self.new.rest.now) result (functions.plain (seen self.old.rest.now)) }
+    {
+        match self.next() {
+            Mark::Store(_) => {
+                let (line, width) = self.store_word()?;
+                let (value, at) = self.two()?;
+                Ok(Inst {
+                    line,
+                    kind: InstKind::Store(width, value, at),
+                })
+            }
+            Mark::Blit => {
+                let line = self.word_line(Mark::Blit)?;
+                let (from, to) = self.two()?;
+                self.word(Mark::Comma)?;
+                let count = self.count()?;
+                Ok(Inst {
+                    line,
+                    kind: InstKind::Blit(from, to, count),
+                })
+            }
+            _ => {
+                let line = self.word_line(Mark::Call)?;
+                let (callee, arguments) = self.callee(alloc)?;
+                Ok(Inst {
+                    line,
+                    kind: InstKind::Call(None, callee, arguments),
+                })
+            }
+        }
+    }
+
+    /// The rest of an instruction whose destination has a class.
+    #[tactic(auto, unfolding(crate::specs::FunctionParsing::of_class))]
+    pub fn of_class<A: Allocator + Copy>(
+        &mut self,
+        line: u32,
+        name: Name<'a>,
+        class: Class,
+        alloc: A,
+    ) -> Result<Inst<'a, A>, Stop<'t, 'a>>
+        ensures { Gives (λ x. x) (seen self.new.rest.now) result (image (λ f. f class (line, name.entry)) functions.of_class (seen self.old.rest.now)) }
+    {
+        match self.next() {
+            Mark::Unary(_) | Mark::Binary(_) | Mark::Compare(_, _) | Mark::Extend(_) | Mark::Load(_) => {
+                let value = self.expr()?;
+                Ok(Inst {
+                    line,
+                    kind: InstKind::Assign(Target { name, class }, value),
+                })
+            }
+            Mark::Alloc(_) => {
+                let op = self.alloc_word()?;
+                let size = self.val()?;
+                Ok(Inst {
+                    line,
+                    kind: InstKind::Alloc(Target { name, class }, op, size),
+                })
+            }
+            _ => {
+                let (callee, arguments) = self.called(alloc)?;
+                let abi_type = AbiType::from_class(class);
+                Ok(Inst {
+                    line,
+                    kind: InstKind::Call(Some(CallResult { name, abi_type }), callee, arguments),
+                })
+            }
+        }
+    }
+
+    /// The rest of an instruction whose destination takes a part of a word.
+    #[tactic(auto, unfolding(crate::specs::FunctionParsing::of_sub))]
+    pub fn of_sub<A: Allocator + Copy>(
+        &mut self,
+        line: u32,
+        name: Name<'a>,
+        alloc: A,
+    ) -> Result<Inst<'a, A>, Stop<'t, 'a>>
+        ensures { Gives (λ x. x) (seen self.new.rest.now) result (image (λ f. f (line, name.entry)) functions.of_sub (seen self.old.rest.now)) }
+    {
+        let abi_type = self.sub_word()?;
+        let (callee, arguments) = self.called(alloc)?;
+        Ok(Inst {
+            line,
+            kind: InstKind::Call(Some(CallResult { name, abi_type }), callee, arguments),
+        })
+    }
+
+    #[tactic(auto, unfolding(crate::specs::FunctionParsing::of_dest))]
+    fn of_dest<A: Allocator + Copy>(
+        &mut self,
+        line: u32,
+        name: Name<'a>,
+        alloc: A,
+    ) -> Result<Inst<'a, A>, Stop<'t, 'a>>
+        ensures { Gives (λ x. x) (seen self.new.rest.now) result (image (λ f. f (line, name.entry)) functions.of_dest (seen self.old.rest.now)) }
+    {
+        if self.starts_class() {
+            let class = self.class()?;
+            return self.of_class(line, name, class, alloc);
+        }
+        self.of_sub(line, name, alloc)
+    }
+
+    #[tactic(auto, unfolding(crate::specs::FunctionParsing::inst))]
+    fn inst<A: Allocator + Copy>(&mut self, alloc: A) -> Result<Inst<'a, A>, Stop<'t, 'a>>
+        ensures { Gives (λ x. x) (seen self.new.rest.now) result (functions.inst (seen self.old.rest.now)) }
+    {
+        if self.starts_with(Mark::Temp) {
+            let (line, name) = self.dest()?;
+            return self.of_dest(line, name, alloc);
+        }
+        self.plain(alloc)
+    }
+
+    pub fn inst_line<A: Allocator + Copy>(&mut self, alloc: A) -> Result<Inst<'a, A>, Stop<'t, 'a>>
+        ensures { Gives (λ x. x) (seen self.new.rest.now) result (parsing.before functions.inst newline (seen self.old.rest.now)) }
+    {
+        let inst = self.inst(alloc)?;
+        self.word(Mark::Newline)?;
+        Ok(inst)
+    }
+}

@@ -1,0 +1,3 @@
+-- The definitions.
+pub mod Plain
+pub mod Answer
