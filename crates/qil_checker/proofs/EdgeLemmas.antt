@@ -49,9 +49,10 @@ arrives b l (m ∷ text) (suc j) e = behind l (arrival b m.what) (arrivals b tex
 
 -- the sources of a phi are right where its labels are the arrivals, each once
 pub sources : (text : List Mark) (b : List ℕ) (ls : List (List ℕ)) → AreSameOnce ls (arrivals b text) ↔ ArePredecessors text b ls
-sources text b ls =
-    (λ s. (s.0, λ l. (λ a. arrived b l text ((s.1 l).0 a), λ p. (s.1 l).1 (arrives b l text p.0 p.1))),
-     λ s. (s.0, λ l. (λ a. let p = (s.1 l).0 a in arrives b l text p.0 p.1, λ a. (s.1 l).1 (arrived b l text a))))
+sources text b ls = (
+  λ s. (s.0, λ l. (λ a. arrived b l text ((s.1 l).0 a), λ p. (s.1 l).1 (arrives b l text p.0 p.1))),
+  λ s. (s.0, λ l. (λ a. let p = (s.1 l).0 a in arrives b l text p.0 p.1, λ a. (s.1 l).1 (arrived b l text a))),
+)
 
 pub answer_is : {E : Type 0} (r : Result Bool E) (text : List Mark) (b : List ℕ) (ls xs ys : List (List ℕ)) → xs ≡ ls → ys ≡ arrivals b text
     → IfOk r (λ t. IsTrue t ↔ AreSameOnce xs ys) → IfOk r (λ t. IsTrue t ↔ ArePredecessors text b ls)

@@ -18,6 +18,7 @@ pub known_to : (xs ys : List (List ℕ)) (place : (List ℕ) → Option ℕ) →
 known_to xs ys place tie known x a = among_case ys x (place x) (tie x) (known a.0 x a.1)
 
 pub same_both : (xs ys : List (List ℕ)) (here there : (List ℕ) → Option ℕ) → Lists here xs → Lists there ys → AreDistinct xs → AreKnown xs there → AreKnown ys here ↔ AreSameOnce xs ys
-same_both xs ys here there tie_here tie_there d known =
-    (λ k. (d, λ x. (known_to xs ys there tie_there known x, known_to ys xs here tie_here k x)),
-     λ s. known_of ys xs here tie_here (λ x. (s.1 x).1))
+same_both xs ys here there tie_here tie_there d known = (
+  λ k. (d, λ x. (known_to xs ys there tie_there known x, known_to ys xs here tie_here k x)),
+  λ s. known_of ys xs here tie_here (λ x. (s.1 x).1),
+)

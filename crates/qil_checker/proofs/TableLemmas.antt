@@ -40,7 +40,7 @@ pub one_more : {X A S : Type 0} (key name : List ℕ) (a : X) (v : Vec X A) (m n
 one_more key name a v m n updates same more x =
     ap items_of (hash_map_updates_str name m n (Some v) (subst (λ k. UpdatesBy (λ x y. bytes_eq x.now y.now) (λ b. bytes_eq k b.now) m n (Some v)) same updates) x)
     ∙ items_by_test (get_by (λ k. bytes_eq x k.now) m) v a (bytes_eq name x)
-        (λ e. subst (λ y. v.items ≡ list_at m y ++ a ∷ []) (same ∙ (bytes_eq-Decides name x).0 e) more)
+    (λ e. subst (λ y. v.items ≡ list_at m y ++ a ∷ []) (same ∙ (bytes_eq-Decides name x).0 e) more)
 
 pub one_new : {X A S : Type 0} (key name : List ℕ) (a : X) (v : Vec X A) (m old n : IndexMap (Bor (List ℕ)) (Vec X A) S)
     → m ≡ old

@@ -15,3 +15,6 @@ mod whole;
 pub use checker::{CheckError, Checked, check};
 pub use form::Form;
 pub use rule::Rule;
+
+#[cfg(test)]
+mod tests;

@@ -232,12 +232,7 @@ impl<'p, 'a, A: Allocator + Copy> Whole<'p, 'a, A> {
     }
 
     /// Whether a function has too many temporaries or blocks, or is one too many.
-    fn is_too_much(
-        &self,
-        visit: &Visit<'_, 'p, 'a, A>,
-        place: usize,
-        mark: &Mark<'p, 'a>,
-    ) -> bool
+    fn is_too_much(&self, visit: &Visit<'_, 'p, 'a, A>, place: usize, mark: &Mark<'p, 'a>) -> bool
         requires there { slice_get visit.now.text.now.marks.items place ≡ Some mark.now }
         requires counted { visit.now.functions ≡ count_by is_function (take visit.now.number (marks_of self.now.texts.items)) }
         ensures { IsTrue result ↔ IsTooMuch (marks_of self.now.texts.items) visit.now.text.now.marks.items visit.now.number place }

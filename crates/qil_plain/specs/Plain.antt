@@ -109,7 +109,7 @@ no_phi (phi ∷ phis) = Err phi.line
 abbrev pub plain_block : {A : Type 0} → whole_block.Block A → Plain (Block A)
 plain_block b =
     then (no_phi b.phis) (λ none. then (plain_insts b.insts) (λ is. then (plain_jump b.jump) (λ jump.
-        Ok (record { label = b.label; line = b.line; insts = is; jump = jump }))))
+    Ok (record { label = b.label; line = b.line; insts = is; jump = jump }))))
 
 -- a first block and no other
 abbrev pub no_block : {A : Type 0} → List (whole_block.Block A) → Plain (Unit {0})
@@ -134,7 +134,7 @@ no_param line (p ∷ ps) = Err line
 abbrev pub plain_func : {A : Type 0} → whole_func.Func A → Plain (Func A)
 plain_func f =
     then (or_line f.line (plain_returns f.returns)) (λ returns. then (no_param f.line f.params) (λ none. then (plain_blocks f.line f.blocks) (λ blocks.
-        Ok (record { returns = returns; name = f.name; line = f.line; blocks = blocks }))))
+    Ok (record { returns = returns; name = f.name; line = f.line; blocks = blocks }))))
 
 -- ---- the program
 

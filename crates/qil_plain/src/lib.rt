@@ -10,3 +10,5 @@ pub use tree::{
     BinaryOp, Block, Expr, Func, Inst, InstKind, Jump, JumpKind, Operand, Program, UnaryOp,
 };
 
+#[cfg(test)]
+mod tests;

@@ -6,9 +6,12 @@ use Rattle.qil_checker.proofs.SameLemmas.{known_of, same_both}
 use Rattle.qil_checker.proofs.sources.same_once.Goals as goal
 
 pub returns-then-not-all_known : goal.returns-then-not-all_known
-returns-then-not-all_known g c = (λ t. absurd cc, λ s.
-    let known : c.all_known.result ≡ true = c.all_known.ensures.1 (known_of c.args.names.now c.args.others.now (place_of c.in_ok-there.there.places) c.in_ok-there.ensures (λ x. (s.1 x).0)) in
-    absurd (grind arith))
+returns-then-not-all_known g c = (
+  λ t. absurd cc,
+  λ s.
+      let known : c.all_known.result ≡ true = c.all_known.ensures.1 (known_of c.args.names.now c.args.others.now (place_of c.in_ok-there.there.places) c.in_ok-there.ensures (λ x. (s.1 x).0)) in
+      absurd (grind arith),
+)
 
 pub returns : goal.returns
 returns g c =

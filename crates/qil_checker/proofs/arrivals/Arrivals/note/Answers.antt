@@ -15,6 +15,6 @@ returns-in_ok-push-in-Some g c =
 pub returns-in_ok-insert-in-None : goal.returns-in_ok-insert-in-None
 returns-in_ok-insert-in-None g c =
     let one : c.push-in-None.new.self.items ≡ c.args.from.now ∷ [] =
-        c.in_ok-push-in-None.ensures.items ∙ ap (λ xs. xs ++ c.new-name.result ∷ []) c.new-list.ensures.items ∙ ap (λ n. n ∷ []) (c.new-name.ensures ∙ c.bytes.ensures) in
+    c.in_ok-push-in-None.ensures.items ∙ ap (λ xs. xs ++ c.new-name.result ∷ []) c.new-list.ensures.items ∙ ap (λ n. n ∷ []) (c.new-name.ensures ∙ c.bytes.ensures) in
     one_new _ _ _ c.push-in-None.new.self c.get_mut.follows.lender-at-none c.args.self.now.lists c.insert.new.self c.get_mut.follows.holds-at-none
-        c.in_ok-insert-in-None.ensures.updates c.bytes-key.ensures c.in-None.ensures.value one
+    c.in_ok-insert-in-None.ensures.updates c.bytes-key.ensures c.in-None.ensures.value one
