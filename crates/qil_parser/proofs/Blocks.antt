@@ -1,21 +1,19 @@
 -- Blocks are read as they are spelled.
 use Rattle.std.proofs.Common.{◌≡◌, ℕ, zero, suc, true, false, List, [], ◌∷◌, ◌++◌, length, Option, Some, None, refl, sym, ap, subst, ◌∙◌, inl, inr, arith, append_assoc, append-nil}
-use Rattle.qil_language.specs.Language.{Nothing, Seq, Image, Either, Many}
+use Rattle.qil_language.specs.Language.{Seq, Image, Either, Many}
 use Rattle.qil_language.specs.Reads.{Reads, Begins, Takes}
 use Rattle.qil_language.proofs.Law.{seq_reads, seq_after, image_reads, said_reads, either_reads, wider_reads, zero_reads, flagged_reads, front_first}
 use Rattle.qil_language.proofs.Loop.{takes_by}
 use Rattle.qil_parser.specs.declared.mark.Mark.TheVariants as marks
 use Rattle.qil_parser.specs.declared.tree.Jump.{Jump}
-use Rattle.qil_parser.specs.declared.tree.Block.{Block}
-use Rattle.qil_parser.specs.declared.tree.Func.{Func}
 use Rattle.qil_parser.specs.Token.{Tok, index}
 use Rattle.qil_parser.specs.Grammar.{Before, Perhaps}
-use Rattle.qil_parser.specs.Functions.{Front, Head, JumpOf, BlockOf, LastBlock, Blocks, FuncOf, blocks_of, func_of}
+use Rattle.qil_parser.specs.Functions.{Front, Head, JumpOf, BlockOf, LastBlock}
 use Rattle.qil_parser.specs.Parsing.{the}
-use Rattle.qil_parser.specs.FunctionParsing
-use Rattle.qil_parser.specs.FunctionParsing.{inst_starts, Parts, jumped_of, fallen_of, parts_of, parts_at, parts, head}
-use Rattle.qil_parser.proofs.Productions.{at, newline, close_brace, label_reads, before_reads, perhaps_reads}
-use Rattle.qil_parser.proofs.FunctionProductions.{jump_line_reads, top_reads}
+use Rattle.qil_parser.specs.FunctionParsing.{inst_starts, head}
+use Rattle.qil_parser.proofs.Parts.{Parts, jumped_of, fallen_of, parts_of, parts_at, parts}
+use Rattle.qil_parser.proofs.Productions.{at, newline, label_reads, before_reads, perhaps_reads}
+use Rattle.qil_parser.proofs.FunctionProductions.{jump_line_reads}
 use Rattle.qil_parser.proofs.Body.{body_reads}
 
 abbrev pub JumpLine : List Tok → Jump → Type 0

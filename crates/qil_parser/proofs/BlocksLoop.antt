@@ -11,9 +11,10 @@ use Rattle.qil_parser.specs.declared.tree.Jump.{Jump}
 use Rattle.qil_parser.specs.declared.tree.Block.{Block}
 use Rattle.qil_parser.specs.Token.{Tok, index}
 use Rattle.qil_parser.specs.Grammar.{label_at, list_of}
-use Rattle.qil_parser.specs.Functions.{Front, Head, BlockOf, LastBlock, block_of, blocks_of, jump_or, first_label}
+use Rattle.qil_parser.specs.Functions.{Front, Head, BlockOf, block_of, blocks_of, jump_or, first_label}
 use Rattle.qil_parser.specs.Parsing.{the}
-use Rattle.qil_parser.specs.FunctionParsing.{jump_starts, Parts, jumped_of, fallen_of, parts_of, parts_then, parts_at, parts, head, next_name, jump_line, ending, block, more_blocks, blocks}
+use Rattle.qil_parser.specs.FunctionParsing.{jump_starts, head, next_name, jump_line, ending, block, more_blocks, blocks}
+use Rattle.qil_parser.proofs.Parts.{Parts, jumped_of, fallen_of, parts_of, parts_then, parts_at, parts}
 use Rattle.qil_parser.proofs.FunctionProductions.{jump_line_takes}
 use Rattle.qil_parser.proofs.Blocks.{AllParts, head_takes, parts_at_reads}
 
@@ -34,6 +35,7 @@ ending_left ts j rest e = by_jump (starts index jump_starts ts) refl
     by_label : (b : Bool) → starts index jump_starts ts ≡ false → starts index (the marks.Label) ts ≡ b → length rest ≤ length ts
     by_label true s l = let one : got (jump_or None (next_name ts)) ts ≡ got j rest = sym (rw (s, l) refl) ∙ e in let two : ts ≡ rest = cc in omega (arith, ap length two)
     by_label false s l = let one : failed true ts ≡ got j rest = sym (rw (s, l) refl) ∙ e in absurd cc
+
     by_jump : (b : Bool) → starts index jump_starts ts ≡ b → length rest ≤ length ts
     by_jump true s = let one : jump_line ts ≡ got j rest = sym (rw s refl) ∙ e in omega (arith, jump_line_takes.fewer ts j rest one)
     by_jump false s = by_label (starts index (the marks.Label) ts) s refl
@@ -50,10 +52,13 @@ module _ {A : Type 0} where
     where
       t : Tok
       t = d.first.spelled.first.token
+
       means : (t.line, drop 1 t.text) ≡ h.0
       means = label_is t.kind t.text t.line d.first.value.0 d.first.spelled.first.means ∙ d.first.made
+
       all : d.left ≡ t ∷ d.first.spelled.right
       all = d.first.spelled.parts ∙ ap (λ (x : List Tok). x ++ d.first.spelled.right) d.first.spelled.first.alone
+
       go : (m : List Tok) → m ≡ d.left ++ d.right → next_name (m ++ more) ≡ h.0
       go m e = ap (λ (x : List Tok). next_name (x ++ more)) (e ∙ ap (λ (x : List Tok). x ++ d.right) all) ∙ means
 
@@ -81,6 +86,7 @@ module _ {A : Type 0} where
       ended : (h : Front A) (us rest : List Tok) (b : Block A) (o : Read Tok Jump) → ending us ≡ o → ((o >>= λ y. pair_got (h, y.0) y.1) >>= λ v. got (block_of v.0.0 v.0.1) v.1) ≡ got b rest → length rest ≤ length us
       ended h us rest b (got j after) e f = let same : after ≡ rest = cc in subst (λ (l : List Tok). length l ≤ length us) same (ending_left us j after e)
       ended h us rest b (failed k after) e f = absurd cc
+
       by_head : (ts : List Tok) (b : Block A) (rest : List Tok) (o : Read Tok (Front A)) → head ts ≡ o → block ts ≡ got b rest → length rest < length ts
       by_head ts b rest (got h us) e f = omega (arith, head_takes.fewer ts h us e, ended h us rest b (ending us) refl (sym (rw e refl) ∙ f))
       by_head ts b rest (failed k us) e f = let bad : failed k us ≡ got b rest = sym (rw e refl) ∙ f in absurd cc

@@ -1,5 +1,5 @@
 -- Phis and then instructions: as they are spelled, and as they are told apart after the destination and its class.
-use Rattle.std.proofs.Common.{◌≡◌, ℕ, zero, suc, ◌≤◌, true, false, List, [], ◌∷◌, ◌++◌, length, refl, sym, ap, subst, ◌∙◌, inl, inr, arith, append_assoc}
+use Rattle.std.proofs.Common.{◌≡◌, ℕ, zero, suc, true, false, List, [], ◌∷◌, ◌++◌, length, refl, sym, ap, subst, ◌∙◌, inl, inr, arith, append_assoc}
 use Rattle.qil_language.specs.Language.{Nothing, Seq, Image, Either, Many}
 use Rattle.qil_language.specs.Reading.{Read}
 use Rattle.qil_language.specs.Reads.{Reads, Begins}
@@ -215,6 +215,7 @@ module _ {A : Type 0} where
       loose : (q : List Tok) (set : List ℕ) → Begins index set false q → Begins index set true q
       loose [] set k = refl
       loose (t ∷ q) set k = k
+
       go : (q : List Tok) (u : Lines A) → Written q u → Begins index inst_starts true q
       go q u (inl i) = loose q inst_starts (widen q (front_first index (the marks.Temp) q i.spelled.left i.spelled.right i.spelled.parts ((dest_reads 0).begins i.spelled.left i.value.0 i.spelled.first)))
         where

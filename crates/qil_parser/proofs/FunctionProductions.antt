@@ -1,5 +1,5 @@
 -- The instructions, the jumps and the top of a function are read as they are spelled.
-use Rattle.std.proofs.Common.{◌≡◌, ℕ, true, false, List, [], ◌∷◌, ◌++◌, Some, None, refl}
+use Rattle.std.proofs.Common.{◌≡◌, ℕ, true, false, [], ◌∷◌, Some, refl}
 use Rattle.std.specs.Prelude.{codes}
 use Rattle.qil_language.specs.Language.{Seq, Image}
 use Rattle.qil_language.specs.Reading.{has, seq}
@@ -25,7 +25,7 @@ use Rattle.qil_parser.specs.declared.ops.AllocOp.TheVariants as alloc_ops
 use Rattle.qil_parser.specs.declared.ops.Width.{Width}
 use Rattle.qil_parser.specs.declared.ops.Width.TheVariants as widths
 use Rattle.qil_parser.specs.Words.{word_mark}
-use Rattle.qil_parser.specs.Token.{Tok, mark, code, index}
+use Rattle.qil_parser.specs.Token.{mark, code, index}
 use Rattle.qil_parser.specs.Grammar.{WordLine, LabelName, Val, After, Before, list_of}
 use Rattle.qil_parser.specs.Functions
 use Rattle.qil_parser.specs.Functions.{unary_at, binary_at, compare_at, extend_at, load_at, alloc_at, store_at}

@@ -1,6 +1,6 @@
 -- Functions are read as they are spelled.
-use Rattle.std.proofs.Common.{◌≡◌, ℕ, true, false, [], refl, subst, List}
-use Rattle.qil_language.specs.Reading.{Read, image}
+use Rattle.std.proofs.Common.{ℕ, false, [], refl, subst, List}
+use Rattle.qil_language.specs.Reading.{Read}
 use Rattle.qil_language.specs.Reads.{Reads}
 use Rattle.qil_language.proofs.Law.{seq_reads, image_reads}
 use Rattle.qil_parser.specs.declared.mark.Mark.TheVariants as marks
@@ -8,7 +8,7 @@ use Rattle.qil_parser.specs.declared.tree.Block.{Block}
 use Rattle.qil_parser.specs.Token.{Tok, index}
 use Rattle.qil_parser.specs.Functions.{Blocks, FuncOf, blocks_of, func_of}
 use Rattle.qil_parser.specs.Parsing.{the}
-use Rattle.qil_parser.specs.FunctionParsing.{parts, blocks, func}
+use Rattle.qil_parser.specs.FunctionParsing.{blocks, func}
 use Rattle.qil_parser.proofs.Productions.{at, close_brace, before_reads}
 use Rattle.qil_parser.proofs.FunctionProductions.{top_reads}
 use Rattle.qil_parser.proofs.Blocks.{parts_reads}

@@ -7,12 +7,10 @@ use Rattle.qil_language.proofs.Loop.{takes_by}
 use Rattle.qil_parser.specs.declared.mark.Mark.TheVariants as marks
 use Rattle.qil_parser.specs.declared.ops.Class.{Class}
 use Rattle.qil_parser.specs.declared.ops.AbiType.{AbiType}
-use Rattle.qil_parser.specs.declared.ops.AllocOp.{AllocOp}
 use Rattle.qil_parser.specs.declared.tree.Operand.{Operand}
 use Rattle.qil_parser.specs.declared.tree.Argument.{Argument}
 use Rattle.qil_parser.specs.declared.tree.Target.{Target}
 use Rattle.qil_parser.specs.declared.tree.CallResult.{CallResult}
-use Rattle.qil_parser.specs.declared.tree.Expr.{Expr}
 use Rattle.qil_parser.specs.declared.tree.Inst.{Inst}
 use Rattle.qil_parser.specs.Token.{Tok, index}
 use Rattle.qil_parser.specs.Grammar.{ClassWord, SubWord, TypeWord, Val, After, Before, type_of}

@@ -5,6 +5,7 @@ pub mod Productions
 pub mod FunctionProductions
 pub mod Insts
 pub mod Body
+pub mod Parts
 pub mod Blocks
 pub mod BodyLoop
 pub mod BlocksLoop
@@ -13,7 +14,9 @@ pub mod Open
 pub mod DataProductions
 pub mod OpenPrograms
 pub mod Ends
-pub mod Parts
+pub mod Gathering
 pub mod Whole
 pub mod Unique
 pub mod Verdict
+pub mod CanonicalLemmas
+pub mod CanonicalCuts

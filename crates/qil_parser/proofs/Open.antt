@@ -1,11 +1,11 @@
 -- Where reading a function marks its failure: after a block without a jump.
-use Rattle.std.proofs.Common.{◌≡◌, ℕ, zero, suc, true, false, List, [], ◌∷◌, ◌++◌, length, Option, Some, None, refl, sym, ap, subst, ◌∙◌, inl, inr, arith, append_assoc, append-nil}
+use Rattle.std.proofs.Common.{◌≡◌, ℕ, zero, suc, false, List, [], ◌∷◌, ◌++◌, length, Option, Some, None, refl, sym, ap, subst, ◌∙◌, inl, inr, arith, append_assoc, append-nil}
 use Rattle.std.proofs.lemmas.List.{length-append}
-use Rattle.qil_language.specs.Language.{Seq, Many, Then, Phrase}
+use Rattle.qil_language.specs.Language.{Many, Then, Phrase}
 use Rattle.qil_language.specs.Reading.{Read}
 use Rattle.qil_language.specs.Reads.{Marks, Begins}
 use Rattle.qil_language.proofs.Law.{front_first, quiet_one}
-use Rattle.qil_language.proofs.Marks.{Or, Never, Empty, seq_marks, marks_after, first_marks, image_marks, said_marks, quiet_marks, marked_marks, either_marks, perhaps_marks}
+use Rattle.qil_language.proofs.Marks.{Or, Empty, seq_marks, marks_after, first_marks, image_marks, said_marks, marked_marks, either_marks, perhaps_marks}
 use Rattle.qil_parser.specs.declared.mark.Mark.TheVariants as marks
 use Rattle.qil_parser.specs.declared.tree.Jump.{Jump}
 use Rattle.qil_parser.specs.declared.tree.Block.{Block}
@@ -13,7 +13,8 @@ use Rattle.qil_parser.specs.Token.{Tok, index}
 use Rattle.qil_parser.specs.Grammar.{exactly, Perhaps}
 use Rattle.qil_parser.specs.Functions.{Front, Head, BlockOf, FuncTop, blocks_of, func_of}
 use Rattle.qil_parser.specs.Parsing.{the, word}
-use Rattle.qil_parser.specs.FunctionParsing.{jumped_of, fallen_of, parts_of, parts_at, parts, blocks, func}
+use Rattle.qil_parser.specs.FunctionParsing.{blocks, func}
+use Rattle.qil_parser.proofs.Parts.{jumped_of, fallen_of, parts_of, parts_at, parts}
 use Rattle.qil_parser.proofs.FunctionProductions.{jump_line_reads, top_reads}
 use Rattle.qil_parser.proofs.Blocks.{JumpLine, head_reads}
 use Rattle.qil_parser.proofs.BlocksLoop.{blocks_are}

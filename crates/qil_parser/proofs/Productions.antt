@@ -1,12 +1,12 @@
 -- The phrases of the grammar are read as they are spelled.
-use Rattle.std.proofs.Common.{◌&&◌, ◌≡◌, ℕ, Bool, true, false, cond, eqb, List, [], ◌∷◌, ◌++◌, Option, Some, None, refl}
+use Rattle.std.proofs.Common.{◌&&◌, ◌≡◌, ℕ, Bool, true, false, cond, eqb, List, [], ◌∷◌, ◌++◌, Some, None, refl}
 use Rattle.std.specs.Prelude.{codes}
 use Rattle.qil_lexer.specs.declared.token.TokenKind.{TokenKind}
 use Rattle.qil_lexer.specs.declared.token.TokenKind.TheVariants as kinds
 use Rattle.qil_lexer.specs.Shape.{number_value}
 use Rattle.qil_language.specs.Reading.{Read, has}
 use Rattle.qil_language.specs.Reads.{Reads, Takes, apart, when}
-use Rattle.qil_language.proofs.Law.{seq_reads, image_reads, one_reads, nothing_reads, either_reads, tail_reads, wider_reads, apart_nil}
+use Rattle.qil_language.proofs.Law.{seq_reads, image_reads, one_reads, nothing_reads, either_reads, tail_reads, apart_nil}
 use Rattle.qil_language.proofs.Loop.{takes_by}
 use Rattle.qil_parser.specs.declared.mark.Mark.{Mark}
 use Rattle.qil_parser.specs.declared.mark.Mark.TheVariants as marks

@@ -1,6 +1,6 @@
 -- The grammar of functions read from left to right, production by production.
-use Rattle.std.specs.Prelude.{ℕ, zero, suc, true, false, List, [], ◌∷◌, length, drop, Option, Some, None}
-use Rattle.qil_language.specs.Reading.{Read, got, failed, one, nothing, seq, image, either, many, flagged, cons_of}
+use Rattle.std.specs.Prelude.{ℕ, zero, suc, List, [], ◌∷◌, length, drop, Option, None}
+use Rattle.qil_language.specs.Reading.{Read, got, one, nothing, seq, image, either, many, flagged, cons_of}
 use Rattle.qil_parser.specs.declared.mark.Mark.TheVariants as marks
 use Rattle.qil_parser.specs.declared.ops.Class.{Class}
 use Rattle.qil_parser.specs.declared.ops.Class.TheVariants as class_names
@@ -32,7 +32,7 @@ use Rattle.qil_parser.specs.declared.tree.Func.{Func}
 use Rattle.qil_parser.specs.Token.{Tok, mark, code, index}
 use Rattle.qil_parser.specs.Grammar.{list_of, type_of}
 use Rattle.qil_parser.specs.Functions.{unary_at, binary_at, compare_at, extend_at, load_at, alloc_at, store_at, target_of, result_of, unary_of, binary_of, compare_of, extend_of, load_of, argument_of, assign_of, alloc_of, call_of, plain_call_of, store_of, blit_of, source_of, phi_of, Front, jmp_of, jnz_of, ret_of, hlt_of, block_of, jump_or, param_of, func_of}
-use Rattle.qil_parser.specs.Parsing.{the, classes, types, values, word, word_line, temp_name, label_name, global_name, class_word, sub_word, type_word, val, count, two, after, before, perhaps, listed, line}
+use Rattle.qil_parser.specs.Parsing.{the, classes, types, values, word_line, temp_name, label_name, global_name, class_word, sub_word, type_word, val, count, two, after, before, perhaps, listed, line}
 
 -- ---- marks that begin a phrase; any mark of a shape stands for all of it
 
@@ -232,36 +232,6 @@ unfoldable pub jump : List Tok → Read Tok Jump
 jump = either index (the marks.Jmp) (image jmp_of (seq (word_line marks.Jmp) label_name))
     (either index (the marks.Jnz) jnz
     (either index (the marks.Ret) (image ret_of (seq (word_line marks.Ret) (perhaps values val))) (image hlt_of (word_line marks.Hlt))))
-
--- blocks as they are written, and the last of them
-abbrev pub Parts : Type 0 → Type 0
-Parts A = List (Front A × Option Jump) × (Front A × Jump)
-
--- after the front of a block: a jump and perhaps other blocks, or other blocks alone
-abbrev pub jumped_of : {A : Type 0} → Jump × Option (Parts A) → Front A → Parts A
-jumped_of (j, None) h = ([], (h, j))
-jumped_of (j, Some v) h = ((h, Some j) ∷ v.0, v.1)
-
-abbrev pub fallen_of : {A : Type 0} → Parts A → Front A → Parts A
-fallen_of v h = ((h, None) ∷ v.0, v.1)
-
-abbrev pub parts_of : {A : Type 0} → Front A × (Front A → Parts A) → Parts A
-parts_of v = v.1 v.0
-
--- a failure is marked where neither a jump nor a label comes
-abbrev pub parts_then : {A : Type 0} → (List Tok → Read Tok (Parts A)) → List Tok → Read Tok (Parts A)
-parts_then s = image parts_of (seq head
-    (either index jump_starts (image jumped_of (seq (before jump marks.Newline) (perhaps (the marks.Label) s)))
-    (flagged index (the marks.Label) (image fallen_of s))))
-
-abbrev pub parts_at : {A : Type 0} → ℕ → List Tok → Read Tok (Parts A)
-parts_at zero ts = failed false ts
-parts_at (suc n) ts = parts_then (parts_at n) ts
-
-unfoldable pub parts : {A : Type 0} → List Tok → Read Tok (Parts A)
-parts ts = parts_at (length ts) ts
-
--- ---- blocks one by one
 
 -- the line of the next token, and its text without the sigil
 abbrev pub next_name : List Tok → ℕ × List ℕ

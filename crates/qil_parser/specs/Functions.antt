@@ -28,7 +28,7 @@ use Rattle.qil_parser.specs.declared.tree.Block.{Block}
 use Rattle.qil_parser.specs.declared.tree.Param.{Param}
 use Rattle.qil_parser.specs.declared.tree.Func.{Func}
 use Rattle.qil_parser.specs.Token.{Tok, mark}
-use Rattle.qil_parser.specs.Grammar.{Word, WordLine, TempName, LabelName, GlobalName, ClassWord, TypeWord, Val, Count, Two, After, Before, Perhaps, list_of, Listed, Line}
+use Rattle.qil_parser.specs.Grammar.{WordLine, TempName, LabelName, GlobalName, ClassWord, TypeWord, Val, Count, Two, After, Before, Perhaps, list_of, Listed, Line}
 
 -- ---- words of operations
 

@@ -10,3 +10,5 @@ pub mod FunctionParsing
 pub mod Fault
 pub mod Outcome
 pub mod DataParsing
+pub mod Canonical
+pub mod Pieces

@@ -6,6 +6,7 @@ ghost use Rattle.qil_parser.specs.Token.{HasNumbers, HasStrings, seen, index};
 ghost use Rattle.qil_parser.specs.Parsing as parsing;
 ghost use Rattle.qil_parser.specs.Grammar.{is_signed};
 ghost use Rattle.qil_parser.specs.Outcome.{Gives};
+ghost use Rattle.qil_parser.specs.declared.mark.Mark.TheVariants.{Comma as comma};
 
 use crate::mark::{Mark, token_mark, token_name};
 use crate::ops::{AbiType, Class};
@@ -229,6 +230,14 @@ impl<'t, 'a> Cursor<'t, 'a> {
         self.word(Mark::Comma)?;
         let right = self.val()?;
         Ok((left, right))
+    }
+
+    /// The comma behind an item of a list: another item may come after it, or none.
+    pub fn separator(&mut self) -> Result<(), Stop<'t, 'a>>
+        ensures { Gives (λ x. tt) (seen self.new.rest.now) result (parsing.word comma (seen self.old.rest.now)) }
+    {
+        let comma = Mark::Comma;
+        self.word(comma)
     }
 
     #[tactic(auto, unfolding(crate::specs::Parsing::line))]

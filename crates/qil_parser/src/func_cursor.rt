@@ -12,9 +12,7 @@ use crate::cursor::Cursor;
 use crate::mark::{Mark, token_name};
 use crate::ops::{AbiType, Class};
 use crate::stop::Stop;
-use crate::tree::{
-    Block, Func, Inst, Items, Jump, JumpKind, Name, Param, Phi, PhiSource, Target
-};
+use crate::tree::{Block, Func, Inst, Items, Jump, JumpKind, Name, Param, Phi, PhiSource, Target};
 use std::alloc::Allocator;
 
 impl<'t, 'a> Cursor<'t, 'a> {
@@ -36,10 +34,7 @@ impl<'t, 'a> Cursor<'t, 'a> {
     fn starts_jump(&self) -> bool
         ensures { result ≡ starts index functions.jump_starts (seen self.now.rest.now) }
     {
-        matches!(
-            self.next(),
-            Mark::Jmp | Mark::Jnz | Mark::Ret | Mark::Hlt
-        )
+        matches!(self.next(), Mark::Jmp | Mark::Jnz | Mark::Ret | Mark::Hlt)
     }
 
     #[tactic(auto, unfolding(crate::specs::FunctionParsing::source))]
@@ -191,7 +186,10 @@ impl<'t, 'a> Cursor<'t, 'a> {
         &mut self,
         alloc: A,
     ) -> Result<
-        ((u32, Name<'a>), (Items<Phi<'a, A>, A>, Items<Inst<'a, A>, A>)),
+        (
+            (u32, Name<'a>),
+            (Items<Phi<'a, A>, A>, Items<Inst<'a, A>, A>),
+        ),
         Stop<'t, 'a>,
     >
         ensures { Gives (λ x. ((x.0.0, x.0.1), (x.1.0, x.1.1))) (seen self.new.rest.now) result (functions.head (seen self.old.rest.now)) }
@@ -305,7 +303,10 @@ impl<'t, 'a> Cursor<'t, 'a> {
     }
 
     #[tactic(auto, using(crate::proofs::BlocksLoop::listed), unfolding(crate::specs::FunctionParsing::blocks))]
-    fn blocks<A: Allocator + Copy>(&mut self, alloc: A) -> Result<Items<Block<'a, A>, A>, Stop<'t, 'a>>
+    fn blocks<A: Allocator + Copy>(
+        &mut self,
+        alloc: A,
+    ) -> Result<Items<Block<'a, A>, A>, Stop<'t, 'a>>
         ensures { Gives (λ x. x) (seen self.new.rest.now) result (functions.blocks (seen self.old.rest.now)) }
     {
         let first = self.block(alloc)?;
@@ -334,7 +335,7 @@ impl<'t, 'a> Cursor<'t, 'a> {
             if !self.starts_with(Mark::Comma) {
                 return Ok(Items::new(items));
             }
-            self.word(Mark::Comma)?;
+            self.separator()?;
         }
         Ok(Items::new(items))
     }
@@ -366,10 +367,7 @@ impl<'t, 'a> Cursor<'t, 'a> {
     fn top<A: Allocator + Copy>(
         &mut self,
         alloc: A,
-    ) -> Result<
-        (Option<AbiType>, ((u32, Name<'a>), Items<Param<'a>, A>)),
-        Stop<'t, 'a>,
-    >
+    ) -> Result<(Option<AbiType>, ((u32, Name<'a>), Items<Param<'a>, A>)), Stop<'t, 'a>>
         ensures { Gives (λ x. (x.0, ((x.1.0.0, x.1.0.1), x.1.1))) (seen self.new.rest.now) result (functions.top (seen self.old.rest.now)) }
     {
         self.word(Mark::Function)?;

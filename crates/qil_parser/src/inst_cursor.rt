@@ -10,9 +10,7 @@ ghost use Rattle.qil_parser.specs.declared.mark.Mark.TheVariants.{Newline as new
 
 use crate::cursor::Cursor;
 use crate::mark::Mark;
-use crate::ops::{
-    AbiType, AllocOp, BinaryOp, Class, CompareOp, Extension, LoadOp, UnaryOp, Width
-};
+use crate::ops::{AbiType, AllocOp, BinaryOp, Class, CompareOp, Extension, LoadOp, UnaryOp, Width};
 use crate::stop::Stop;
 use crate::tree::{Argument, CallResult, Expr, Inst, InstKind, Items, Name, Operand, Target};
 use std::alloc::Allocator;
@@ -166,7 +164,10 @@ impl<'t, 'a> Cursor<'t, 'a> {
     }
 
     /// Arguments with commas between them, and perhaps one at the end.
-    fn arguments<A: Allocator + Copy>(&mut self, alloc: A) -> Result<Items<Argument<'a>, A>, Stop<'t, 'a>>
+    fn arguments<A: Allocator + Copy>(
+        &mut self,
+        alloc: A,
+    ) -> Result<Items<Argument<'a>, A>, Stop<'t, 'a>>
         ensures { Gives (λ x. x) (seen self.new.rest.now) result (functions.arguments (seen self.old.rest.now)) }
     {
         let mut items = Vec::new(alloc);
@@ -176,7 +177,7 @@ impl<'t, 'a> Cursor<'t, 'a> {
             if !self.starts_with(Mark::Comma) {
                 return Ok(Items::new(items));
             }
-            self.word(Mark::Comma)?;
+            self.separator()?;
         }
         Ok(Items::new(items))
     }
@@ -255,7 +256,11 @@ impl<'t, 'a> Cursor<'t, 'a> {
         ensures { Gives (λ x. x) (seen self.new.rest.now) result (image (λ f. f class (line, name.entry)) functions.of_class (seen self.old.rest.now)) }
     {
         match self.next() {
-            Mark::Unary(_) | Mark::Binary(_) | Mark::Compare(_, _) | Mark::Extend(_) | Mark::Load(_) => {
+            Mark::Unary(_)
+            | Mark::Binary(_)
+            | Mark::Compare(_, _)
+            | Mark::Extend(_)
+            | Mark::Load(_) => {
                 let value = self.expr()?;
                 Ok(Inst {
                     line,

@@ -5,6 +5,7 @@
 //! what they say.
 #![tactic(auto)]
 
+mod canonical;
 mod cursor;
 mod data_cursor;
 mod error;
@@ -18,16 +19,18 @@ mod stop;
 mod tree;
 mod words;
 
+pub use canonical::{inst_text, jump_text, phi_text};
 pub use error::{ParseCode, ParseError};
-pub use ops::{
-    AbiType, AllocOp, BinaryOp, Class, CompareOp, Extension, LoadOp, UnaryOp, Width
-};
+pub use ops::{AbiType, AllocOp, BinaryOp, Class, CompareOp, Extension, LoadOp, UnaryOp, Width};
 pub use parser::{one_fault, parse};
+pub use qil_streams::{Put, Stopped};
 pub use tree::{
-    Argument, Block, CallResult, Data, Definition, Expr, Field, Func, Inst, InstKind, Item, Items, Jump, JumpKind,
-    Name, Operand, Param, Phi, PhiSource, Program, Target,
+    Argument, Block, CallResult, Data, Definition, Expr, Field, Func, Inst, InstKind, Item, Items,
+    Jump, JumpKind, Name, Operand, Param, Phi, PhiSource, Program, Target,
 };
 
+#[cfg(test)]
+mod canonical_tests;
 #[cfg(test)]
 mod data_tests;
 #[cfg(test)]

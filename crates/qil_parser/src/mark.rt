@@ -3,9 +3,7 @@
 ghost use Rattle.std.specs.Prelude.{◌≡◌, drop};
 ghost use Rattle.qil_parser.specs.Token.{kind_mark, code};
 
-use crate::ops::{
-    AllocOp, BinaryOp, Class, CompareOp, Extension, LoadOp, UnaryOp, Width
-};
+use crate::ops::{AllocOp, BinaryOp, Class, CompareOp, Extension, LoadOp, UnaryOp, Width};
 use crate::tree::Name;
 use crate::words::word_mark;
 use qil_lexer::{Token, TokenKind};

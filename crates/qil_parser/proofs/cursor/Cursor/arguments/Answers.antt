@@ -13,7 +13,7 @@ use Rattle.qil_parser.proofs.cursor.Cursor.arguments.Goals as goal
 
 pub each-preserved : goal.each-preserved
 unfolding functions.arguments
-each-preserved g c = rw c.in_ok-push.ensures.items (separated_goes_on index (parsing.the marks.Comma) parsing.types (parsing.word marks.Comma) functions.argument comma_takes argument_takes _ _ _ _ _ _ (sym c.starts_type.ensures ∙ c.each-test.true) c.in_ok-item.ensures (sym c.starts_with.ensures ∙ c.if-not-starts_with.false) c.in_ok-word.ensures c.each.invariant)
+each-preserved g c = rw c.in_ok-push.ensures.items (separated_goes_on index (parsing.the marks.Comma) parsing.types (parsing.word marks.Comma) functions.argument comma_takes argument_takes _ _ _ _ _ _ (sym c.starts_type.ensures ∙ c.each-test.true) c.in_ok-item.ensures (sym c.starts_with.ensures ∙ c.if-not-starts_with.false) c.in_ok-separator.ensures c.each.invariant)
 
 pub returns-then-not-starts_with : goal.returns-then-not-starts_with
 unfolding functions.arguments
@@ -30,4 +30,4 @@ unfolding functions.arguments
 returns g c = rw c.new-2.ensures (separated_stops index (parsing.the marks.Comma) parsing.types (parsing.word marks.Comma) functions.argument comma_takes argument_takes _ _ _ (sym c.starts_type.ensures ∙ c.each-test.false) c.each.invariant)
 
 pub each-smaller : goal.each-smaller
-each-smaller g c = fewer_still _ _ _ (argument_takes.fewer _ _ _ c.in_ok-item.ensures) (comma_takes.fewer _ _ _ c.in_ok-word.ensures)
+each-smaller g c = fewer_still _ _ _ (argument_takes.fewer _ _ _ c.in_ok-item.ensures) (comma_takes.fewer _ _ _ c.in_ok-separator.ensures)

@@ -2,7 +2,7 @@
 use Rattle.std.proofs.Common.{sym, ◌∙◌}
 use Rattle.std.proofs.lemmas.Result.{err_from_is_err_and}
 use Rattle.qil_parser.proofs.Ends.{fewer_left}
-use Rattle.qil_parser.proofs.Parts.{defs_go_on, defs_stop, defs_end}
+use Rattle.qil_parser.proofs.Gathering.{defs_go_on, defs_stop, defs_end}
 use Rattle.qil_parser.proofs.DataProductions.{def_line_takes}
 use Rattle.qil_parser.proofs.cursor.Cursor.defs.Goals as goal
 

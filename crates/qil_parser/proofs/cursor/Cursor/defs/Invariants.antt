@@ -2,7 +2,7 @@
 use Rattle.std.proofs.Common.{◌≡◌, length}
 use Rattle.qil_language.specs.Reading.{image}
 use Rattle.qil_parser.specs.Programs.{program_of}
-use Rattle.qil_parser.proofs.Parts.{extending}
+use Rattle.qil_parser.proofs.Gathering.{extending}
 use Rattle.qil_parser.specs.Token.{seen}
 use Rattle.qil_parser.specs.DataParsing as reading
 use Rattle.qil_parser.proofs.cursor.Cursor.defs.Given as goal
