@@ -605,6 +605,27 @@ fn left_out(rt: HostRuntime) {
     );
 }
 
+/// How a fault is told.
+#[test]
+fn told(rt: HostRuntime) -> Result<(), Fail> {
+    let codes = [
+        (ParseCode::P1, "P1 line 7"),
+        (ParseCode::P2, "P2 line 7"),
+        (ParseCode::P3, "P3 line 7"),
+        (ParseCode::P4, "P4 line 7"),
+    ];
+    for (code, wanted) in codes {
+        let refused = ParseError::Refused { code, line: 7 };
+        assert_eq!(rt; format!(in rt.alloc(); "{refused}")?.as_str(), wanted);
+    }
+    let memory = ParseError::OutOfMemory;
+    assert_eq!(rt;
+        format!(in rt.alloc(); "{memory}")?.as_str(),
+        "out of memory"
+    );
+    Ok(())
+}
+
 /// Every front of the first program that has tokens: those of its fronts that end within a word are `P1` there, the
 /// others are `P3` at the line of the last token.
 #[test]

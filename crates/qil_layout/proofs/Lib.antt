@@ -1,0 +1,4 @@
+-- The lemmas.
+pub mod RoomLemmas
+pub mod TableLemmas
+pub mod FewFunctions

@@ -1,0 +1,16 @@
+//! What a call may go to.
+
+/// A function of the program: its number among the functions of the text, from 0.
+#[derive(Clone, Copy, Debug, PartialEq, Eq)]
+pub struct FuncId {
+    pub index: usize,
+}
+
+/// The function that lies at an address.
+#[derive(Clone, Copy, Debug, PartialEq, Eq)]
+pub enum Callee {
+    Defined(FuncId),
+    PutChar,
+    Puts,
+    Exit,
+}

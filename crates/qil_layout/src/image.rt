@@ -1,0 +1,136 @@
+//! The layout of a program.
+
+ghost use Rattle.std.specs.Prelude.{◌≡◌, ℕ, List, Some, None, IfOk, IfErr, option_map, slice_get};
+ghost use Rattle.qil_layout.specs.Layout.{address_of, bytes_of, fault_of};
+ghost use Rattle.qil_layout.specs.Answer.{IsFault};
+ghost use Rattle.qil_layout.specs.Callee.{lies, func_at, callee_at};
+
+use crate::callee::{Callee, FuncId};
+use crate::error::LayoutError;
+use crate::fill;
+use crate::names::{EXIT, FUNC_BASE, FUNC_STRIDE, PUTCHAR, PUTS, names_of};
+use crate::table::Table;
+use qil_checker::Checked;
+use qil_parser::{Name, Program};
+use std::alloc::Allocator;
+use std::marker::Model;
+
+/// Where the names of a program lie, and the bytes of its data.
+#[derive(Debug, Drop)]
+pub struct Image<'c, 'a, A: Allocator> {
+    program: &'c Program<'a, A>,
+    names: Table<'a, A>,
+    bytes: Vec<u8, A>,
+}
+
+impl<'c, 'a, A: Allocator> Model for Image<'c, 'a, A> {
+    ghost use Rattle.std.specs.Prelude.{◌≡◌, ℕ, List};
+    ghost use Rattle.qil_parser.specs.declared.tree.Program.{Program};
+    ghost use Rattle.qil_layout.specs.Layout.{address_of, bytes_of};
+    ghost use Rattle.qil_layout.specs.Table.{found};
+
+    ghost Value = { Program A };
+
+    ghost view = { λ image. image.program.now };
+
+    ghost invariant = { λ image. ((x : List ℕ) → found image.names.addresses x ≡ address_of image.program.now x) × (image.bytes.items ≡ bytes_of image.program.now) };
+}
+
+/// Lays a program out: its data from 65,536 on in the order of the text, each object at the next multiple of its
+/// alignment; its functions from 4096 on, 16 apart.
+///
+/// # Errors
+///
+/// `Y2` where an alignment is no power of two from 1 to 4096, `Y1` where the data passes 2^20 bytes, of the first
+/// object that has either, at the line of its name.
+pub fn layout<'c, 'a, A: Allocator + Copy>(
+    alloc: A,
+    checked: &'c Checked<'a, A>,
+) -> Result<Image<'c, 'a, A>, LayoutError>
+    ensures program { IfOk result (λ image. image ≡ checked.entry.now.program) }
+    ensures no_fault { IfOk result (λ image. fault_of checked.entry.now.program ≡ None) }
+    ensures fault { IfErr result (IsFault (fault_of checked.entry.now.program)) }
+{
+    let program = checked.program();
+    let names = names_of(alloc, program)?;
+    let bytes = fill::bytes_of(alloc, &names, program.datas.as_slice())?;
+    Ok(Image {
+        program,
+        names,
+        bytes,
+    })
+}
+
+impl<'c, 'a, A: Allocator + Copy> Image<'c, 'a, A> {
+    /// The address of a name, if the program defines it or it is built in.
+    pub fn address(&self, name: &[u8]) -> Option<u64>
+        ensures { result ≡ address_of self.now name.now }
+    {
+        self.names.address(name)
+    }
+
+    /// The bytes of the data, the first at 65,536; zeros stand between objects.
+    pub fn bytes(&self) -> &[u8]
+        ensures { result.now ≡ bytes_of self.now }
+    {
+        self.bytes.as_slice()
+    }
+
+    fn lies(&self, name: &[u8], at: u64, address: u64) -> bool
+        ensures { result ≡ lies self.now name.now at address }
+    {
+        if address != at {
+            return false;
+        }
+        match self.address(name) {
+            Some(found) => found == at,
+            None => false,
+        }
+    }
+
+    fn func_at(&self, address: u64) -> Option<u64>
+        ensures { result ≡ func_at self.now address }
+    {
+        if address < FUNC_BASE {
+            return None;
+        }
+        let index = (address - FUNC_BASE) / FUNC_STRIDE;
+        let count = self.program.funcs.as_slice().len() as u64;
+        if (address - FUNC_BASE) % FUNC_STRIDE == 0 && index < count {
+            Some(index)
+        } else {
+            None
+        }
+    }
+
+    /// The function that lies at an address. A built-in whose name the program defines lies nowhere.
+    pub fn function_at(&self, address: u64) -> Option<Callee>
+        ensures { result ≡ callee_at self.now address }
+    {
+        if self.lies(b"putchar", PUTCHAR, address) {
+            return Some(Callee::PutChar);
+        }
+        if self.lies(b"puts", PUTS, address) {
+            return Some(Callee::Puts);
+        }
+        if self.lies(b"exit", EXIT, address) {
+            return Some(Callee::Exit);
+        }
+        match self.func_at(address) {
+            Some(index) => Some(Callee::Defined(FuncId {
+                index: index as usize,
+            })),
+            None => None,
+        }
+    }
+
+    /// The name of a function of the program, without its sigil.
+    pub fn name_of(&self, func: FuncId) -> Option<Name<'a>>
+        ensures { result ≡ option_map (λ f. f.name) (slice_get self.now.funcs func.index) }
+    {
+        match self.program.funcs.as_slice().get(func.index) {
+            Some(found) => Some(Name::new(found.name.bytes())),
+            None => None,
+        }
+    }
+}

@@ -1,0 +1,71 @@
+//! Numbers as bytes, the least significant first.
+
+ghost use Rattle.std.specs.Prelude.{◌≡◌, ◌+◌, ◌≤◌, length, IfOk};
+ghost use Rattle.qil_memory.specs.Bytes.{number, bytes_of, over, zeros};
+
+use std::alloc::{AllocError, Allocator};
+
+/// The number that at most eight bytes spell.
+pub fn number_of(bytes: &[u8]) -> u64
+    requires { length bytes.now ≤ 8 }
+    ensures { result ≡ number bytes.now }
+{
+    match bytes {
+        [a] => u64::from(*a),
+        [a, b] => u64::from(u16::from_le_bytes([*a, *b])),
+        [a, b, c, d] => u64::from(u32::from_le_bytes([*a, *b, *c, *d])),
+        [a, b, c, d, e, f, g, h] => u64::from_le_bytes([*a, *b, *c, *d, *e, *f, *g, *h]),
+        _ => number_of_any(bytes),
+    }
+}
+
+/// The same for a number of bytes that no width has.
+fn number_of_any(bytes: &[u8]) -> u64
+    requires { length bytes.now ≤ 8 }
+    ensures { result ≡ number bytes.now }
+{
+    let mut padded = [0; 8];
+    padded[..bytes.len()].copy_from_slice(bytes);
+    u64::from_le_bytes(padded)
+}
+
+/// Writes bytes over those from a place on.
+pub fn write(target: &mut [u8], at: usize, bytes: &[u8])
+    requires { at + length bytes.now ≤ length target.old }
+    ensures { target.new ≡ over target.old at bytes.now }
+{
+    target[at..at + bytes.len()].copy_from_slice(bytes);
+}
+
+/// Makes `n` bytes from a place on zero.
+#[tactic(auto, unfolding(crate::specs::Bytes::zeros))]
+pub fn clear(target: &mut [u8], at: usize, n: usize)
+    requires { at + n ≤ length target.old }
+    ensures { target.new ≡ over target.old at (zeros n) }
+{
+    target[at..at + n].fill(0);
+}
+
+/// Writes the `n` low bytes of a number over those from a place on.
+pub fn write_number(target: &mut [u8], at: usize, n: usize, v: u64)
+    requires few { n ≤ 8 }
+    requires inside { at + n ≤ length target.old }
+    ensures { target.new ≡ over target.old at (bytes_of n v) }
+{
+    match n {
+        1 => write(target, at, &[(v % 0x100) as u8]),
+        2 => write(target, at, &((v % 0x1_0000) as u16).to_le_bytes()),
+        4 => write(target, at, &((v % 0x1_0000_0000) as u32).to_le_bytes()),
+        8 => write(target, at, &v.to_le_bytes()),
+        _ => write(target, at, &v.to_le_bytes()[..n]),
+    }
+}
+
+/// So many zero bytes.
+#[tactic(auto, unfolding(crate::specs::Bytes::zeros))]
+pub fn zeroed<A: Allocator>(alloc: A, n: usize) -> Result<Vec<u8, A>, AllocError>
+    ensures items { IfOk result (λ v. v.items ≡ zeros n) }
+    ensures len { IfOk result (λ v. length v.items ≡ n) }
+{
+    vec![in alloc; 0; n]
+}

@@ -1,0 +1,400 @@
+//! The memory of a run: the bytes of the data, and a stack that grows upward and keeps its dead bytes.
+
+ghost use Rattle.std.specs.Prelude.{◌≡◌, ◌≢◌, ◌+◌, ◌-◌, ◌<◌, ◌≤◌, ◌^◌, ◌↔◌, [], length, IsTrue, OnOk, OnErr, IfOk, IfErr};
+ghost use Rattle.qil_memory.specs.Bytes.{bytes_of, over, zeros};
+ghost use Rattle.qil_memory.specs.Buffers.{stack_base, stack_end, fresh, IsMemory};
+ghost use Rattle.qil_memory.specs.Live.{live, laid, below};
+ghost use Rattle.qil_memory.specs.Calls.{IsWidth, IsAlignment, loaded, stored, overlap, blitted, Explains, rounded};
+ghost use Rattle.qil_memory.specs.Undo.{Fits, undone, with_bytes, with_top};
+ghost use Rattle.qil_memory.specs.Places.{IsLive, HasBytes, HasPlaces, bytes_at, end_of};
+ghost use Rattle.qil_memory.specs.Kept.{listed, IsThrifty};
+
+use crate::bytes::{clear, number_of, write, write_number, zeroed};
+use crate::fault::{AllocFault, BlitFault, Dead};
+use crate::saved::{KeptBytes, Saved, keep, keep_few};
+use std::alloc::{AllocError, Allocator};
+use std::marker::Model;
+
+/// The address of the first byte of the data.
+pub const DATA_BASE: u64 = 65_536;
+
+/// The address of the first byte of the stack.
+pub const STACK_BASE: u64 = 16_777_216;
+
+/// How many bytes the stack has, and the data has at most.
+pub const CAPACITY: u64 = 1_048_576;
+
+/// The highest top.
+const STACK_END: u64 = STACK_BASE + CAPACITY;
+
+/// The bytes of the data from `DATA_BASE` on, all bytes of the stack from `STACK_BASE` on, and the stack's top, the first
+/// dead address of the stack. Specifications see these three as they are; `live` makes of them the map from each live
+/// address to its byte.
+#[derive(Debug, Drop)]
+pub struct Memory<A: Allocator> {
+    data_bytes: Vec<u8, A>,
+    stack_bytes: Vec<u8, A>,
+    top: u64,
+}
+
+impl<A: Allocator> Model for Memory<A> {
+    ghost use Rattle.qil_memory.specs.Buffers.{Buffers, IsMemory};
+
+    ghost Value = { Buffers };
+
+    ghost view = { λ m. record { data_bytes = m.data_bytes.items; stack_bytes = m.stack_bytes.items; top = m.top } };
+
+    ghost invariant = { λ m. IsMemory (record { data_bytes = m.data_bytes.items; stack_bytes = m.stack_bytes.items; top = m.top }) };
+}
+
+impl<A: Allocator + Copy> Memory<A> {
+    /// A memory with these bytes as data, and an empty stack. All bytes of the stack are reserved here.
+    pub fn new(alloc: A, data_bytes: &[u8]) -> Result<Memory<A>, AllocError>
+        requires { length data_bytes.now ≤ 2 ^ 20 }
+        ensures { IfOk result (λ m. m ≡ fresh data_bytes.now) }
+    {
+        Ok(Memory {
+            data_bytes: Vec::from_slice(alloc, data_bytes)?,
+            stack_bytes: zeroed(alloc, CAPACITY as usize)?,
+            top: STACK_BASE,
+        })
+    }
+
+    /// An equal memory, with dead bytes too.
+    pub fn try_clone(&self) -> Result<Memory<A>, AllocError>
+        ensures { IfOk result (λ m. m ≡ self.now) }
+    {
+        Ok(Memory {
+            data_bytes: self.data_bytes.clone()?,
+            stack_bytes: self.stack_bytes.clone()?,
+            top: self.top,
+        })
+    }
+
+    /// Whether two memories are equal in all that they hold, dead bytes too.
+    pub fn same(&self, other: &Memory<A>) -> bool
+        ensures { IsTrue result ↔ (self.now ≡ other.now) }
+    {
+        self.top == other.top
+            && self.data_bytes.as_slice() == other.data_bytes.as_slice()
+            && self.stack_bytes.as_slice() == other.stack_bytes.as_slice()
+    }
+
+    /// The address from which on the stack is dead: new bytes are made there.
+    pub fn top(&self) -> u64
+        ensures value { result ≡ self.now.top }
+        ensures memory { IsMemory self.now }
+    {
+        self.end_of(STACK_BASE)
+    }
+
+    /// The number in the `n` bytes from an address on, the least significant first. It takes no memory.
+    ///
+    /// # Errors
+    ///
+    /// The bytes aren't all live.
+    pub fn load(&self, address: u64, n: u64) -> Result<u64, Dead>
+        requires { IsWidth n }
+        ensures { result ≡ loaded (live self.now) address n }
+    {
+        if !self.is_live(address, n) {
+            return Err(Dead { address });
+        }
+        Ok(number_of(self.bytes_at(address, n as usize)))
+    }
+
+    /// Writes the `n` low bytes of a number from an address on, the least significant first. It takes no memory.
+    ///
+    /// # Errors
+    ///
+    /// The bytes aren't all live; nothing is changed.
+    pub fn store(&mut self, address: u64, n: u64, v: u64) -> Result<Saved<A>, Dead>
+        requires { IsWidth n }
+        ensures ok { OnOk result (stored (live self.old) address n v ≡ Ok (live self.new)) }
+        ensures dead { IfErr result (λ e. stored (live self.old) address n v ≡ Err e) }
+        ensures top { self.new.top ≡ self.old.top }
+        ensures kept { IfOk result (λ saved. length saved.bytes ≡ n) }
+        ensures fits { IfOk result (λ saved. Fits saved self.new) }
+        ensures undo { IfOk result (λ saved. undone saved self.new ≡ self.old) }
+        ensures err { OnErr result (self.new ≡ self.old) }
+    {
+        if !self.is_live(address, n) {
+            return Err(Dead { address });
+        }
+        let count = n as usize;
+        let kept = keep_few(self.bytes_at(address, count));
+        self.put_number(address, count, v);
+        Ok(Saved::new(address, kept, self.top()))
+    }
+
+    /// Copies `n` bytes from one address to another (QBE IL, Memory). No bytes are copied from and to anywhere, live or
+    /// not. Up to eight bytes take no memory.
+    ///
+    /// # Errors
+    ///
+    /// Nothing is changed. `Source` and `Target` where these bytes aren't all live, `Source` first; `Overlap` where the
+    /// two share some bytes and aren't the same; `OutOfMemory` only where none of these comes.
+    pub fn blit(&mut self, source: u64, target: u64, n: u64) -> Result<Saved<A>, BlitFault>
+        ensures ok { OnOk result (blitted (live self.old) source target n ≡ Ok (live self.new)) }
+        ensures fault { IfErr result (λ e. Explains e (blitted (live self.old) source target n)) }
+        ensures few { n ≤ 8 → result ≢ Err BlitFault.OutOfMemory }
+        ensures top { self.new.top ≡ self.old.top }
+        ensures kept { IfOk result (λ saved. length saved.bytes ≡ n) }
+        ensures fits { IfOk result (λ saved. Fits saved self.new) }
+        ensures undo { IfOk result (λ saved. undone saved self.new ≡ self.old) }
+        ensures err { OnErr result (self.new ≡ self.old) }
+    {
+        if n == 0 {
+            return Ok(Saved::new(STACK_BASE, KeptBytes::Few(0, 0), self.top()));
+        }
+        if !self.is_live(source, n) {
+            return Err(BlitFault::Source(source));
+        }
+        if !self.is_live(target, n) {
+            return Err(BlitFault::Target(target));
+        }
+        if overlaps(source, target, n) {
+            return Err(BlitFault::Overlap);
+        }
+        let count = n as usize;
+        let kept = keep(self.allocator(), self.bytes_at(target, count))?;
+        self.copy(source, target, count);
+        Ok(Saved::new(target, kept, self.top()))
+    }
+
+    /// Makes `n` bytes on top of the stack, at the least multiple of `align` that isn't below the top, and answers their
+    /// address (QBE IL, Memory). They are zero, and so are those that are skipped. Up to eight bytes in all take no
+    /// memory.
+    ///
+    /// # Errors
+    ///
+    /// Nothing is changed. `Full` where the new top would pass the end of the stack; `OutOfMemory` only where it
+    /// wouldn't.
+    pub fn alloc(&mut self, align: u64, n: u64) -> Result<(u64, Saved<A>), AllocFault>
+        requires { IsAlignment align }
+        ensures address { IfOk result (λ r. r.0 ≡ rounded align self.old.top) }
+        ensures top { OnOk result (self.new.top ≡ rounded align self.old.top + n) }
+        ensures bytes { OnOk result (live self.new ≡ laid (live self.old) self.old.top (zeros (self.new.top - self.old.top))) }
+        ensures full { (result ≡ Err AllocFault.Full) ↔ (stack_end < rounded align self.old.top + n) }
+        ensures few { rounded align self.old.top + n ≤ self.old.top + 8 → result ≢ Err AllocFault.OutOfMemory }
+        ensures kept { IfOk result (λ r. length r.1.bytes ≡ self.new.top - self.old.top) }
+        ensures fits { IfOk result (λ r. Fits r.1 self.new) }
+        ensures undo { IfOk result (λ r. undone r.1 self.new ≡ self.old) }
+        ensures err { OnErr result (self.new ≡ self.old) }
+    {
+        let top = self.top();
+        let address = rounded_up(top, align);
+        if address > STACK_END || n > STACK_END - address {
+            return Err(AllocFault::Full);
+        }
+        let end = address + n;
+        let count = (end - top) as usize;
+        let kept = keep(self.allocator(), self.bytes_at(top, count))?;
+        self.clear(top, count);
+        self.set_top(end);
+        Ok((address, Saved::new(top, kept, top)))
+    }
+
+    /// Takes the stack back down to a floor. The bytes from there on are dead, and kept. It takes no memory.
+    pub fn release(&mut self, floor: u64) -> Saved<A>
+        requires low { STACK_BASE ≤ floor }
+        requires high { floor ≤ self.old.top }
+        ensures bytes { live self.new ≡ below (live self.old) floor }
+        ensures top { self.new.top ≡ floor }
+        ensures kept { result.bytes ≡ [] }
+        ensures fits { Fits result self.new }
+        ensures undo { undone result self.new ≡ self.old }
+    {
+        let top = self.top();
+        self.set_top(floor);
+        Saved::new(floor, KeptBytes::Few(0, 0), top)
+    }
+
+    /// Puts back what a call kept: the bytes, live or dead, and the top. It takes no memory. `Saved::fits` is the test of
+    /// its condition.
+    pub fn undo(&mut self, saved: Saved<A>)
+        requires { Fits saved self.old }
+        ensures { self.new ≡ undone saved self.old }
+    {
+        // The facts that the type keeps are known from where a field is read.
+        let _ = &self.top;
+        let Saved {
+            address,
+            top,
+            bytes,
+        } = saved;
+        self.put_kept(u64::from(address), &bytes);
+        self.set_top(u64::from(top));
+    }
+}
+
+/// The parts of the calls: each goes to the one buffer that has the address.
+impl<A: Allocator + Copy> Memory<A> {
+    /// The end of the live addresses among which an address would be.
+    fn end_of(&self, address: u64) -> u64
+        ensures value { result ≡ end_of self.now address }
+        ensures high { result ≤ STACK_END }
+        ensures memory { IsMemory self.now }
+    {
+        if address < STACK_BASE {
+            DATA_BASE + self.data_bytes.len() as u64
+        } else {
+            self.top
+        }
+    }
+
+    /// Whether `n` bytes from an address on are live.
+    #[tactic(auto, using(crate::proofs::Undoing::has_live))]
+    fn is_live(&self, address: u64, n: u64) -> bool
+        ensures live { IsTrue result ↔ IsLive self.now address n }
+        ensures places { IsTrue result → HasBytes self.now address n }
+        ensures inside { IsTrue result → address + n ≤ STACK_END }
+        ensures memory { IsMemory self.now }
+    {
+        let end = self.end_of(address);
+        DATA_BASE <= address && address <= end && n <= end - address
+    }
+
+    /// Whether the buffers have `n` bytes from an address on, be they live or dead.
+    pub(crate) fn has_bytes(&self, address: u64, n: usize) -> bool
+        ensures places { IsTrue result ↔ HasBytes self.now address n }
+        ensures memory { IsMemory self.now }
+    {
+        let end = if address < STACK_BASE {
+            DATA_BASE + self.data_bytes.len() as u64
+        } else {
+            STACK_END
+        };
+        DATA_BASE <= address && address <= end && n as u64 <= end - address
+    }
+
+    fn bytes_at(&self, address: u64, n: usize) -> &[u8]
+        requires { HasBytes self.now address n }
+        ensures { result.now ≡ bytes_at self.now address n }
+    {
+        if address < STACK_BASE {
+            let from = (address - DATA_BASE) as usize;
+            &self.data_bytes[from..from + n]
+        } else {
+            let from = (address - STACK_BASE) as usize;
+            &self.stack_bytes[from..from + n]
+        }
+    }
+
+    fn put_number(&mut self, address: u64, n: usize, v: u64)
+        requires few { n ≤ 8 }
+        requires places { HasBytes self.old address n }
+        ensures { self.new ≡ with_bytes self.old address (bytes_of n v) }
+    {
+        if address < STACK_BASE {
+            write_number(&mut self.data_bytes, (address - DATA_BASE) as usize, n, v);
+        } else {
+            write_number(&mut self.stack_bytes, (address - STACK_BASE) as usize, n, v);
+        }
+    }
+
+    fn put(&mut self, address: u64, bytes: &[u8])
+        requires { HasBytes self.old address (length bytes.now) }
+        ensures { self.new ≡ with_bytes self.old address bytes.now }
+    {
+        if address < STACK_BASE {
+            write(&mut self.data_bytes, (address - DATA_BASE) as usize, bytes);
+        } else {
+            write(
+                &mut self.stack_bytes,
+                (address - STACK_BASE) as usize,
+                bytes,
+            );
+        }
+    }
+
+    /// Writes kept bytes over those from an address on.
+    fn put_kept(&mut self, address: u64, kept: &KeptBytes<A>)
+        requires thrifty { IsThrifty kept.now }
+        requires places { HasPlaces self.old address (listed kept.now) }
+        ensures { self.new ≡ with_bytes self.old address (listed kept.now) }
+    {
+        match kept {
+            KeptBytes::Few(count, number) => {
+                if *count > 0 {
+                    self.put_number(address, usize::from(*count), *number);
+                }
+            }
+            KeptBytes::Many(bytes) => self.put(address, bytes),
+        }
+    }
+
+    /// Copies `n` bytes from one address to another.
+    fn copy(&mut self, source: u64, target: u64, n: usize)
+        requires source { HasBytes self.old source n }
+        requires target { HasBytes self.old target n }
+        ensures { self.new ≡ with_bytes self.old target (bytes_at self.old source n) }
+    {
+        if source < STACK_BASE {
+            let from = (source - DATA_BASE) as usize;
+            if target < STACK_BASE {
+                let to = (target - DATA_BASE) as usize;
+                self.data_bytes.copy_within(from..from + n, to);
+            } else {
+                let to = (target - STACK_BASE) as usize;
+                write(&mut self.stack_bytes, to, &self.data_bytes[from..from + n]);
+            }
+        } else {
+            let from = (source - STACK_BASE) as usize;
+            if target < STACK_BASE {
+                let to = (target - DATA_BASE) as usize;
+                write(&mut self.data_bytes, to, &self.stack_bytes[from..from + n]);
+            } else {
+                let to = (target - STACK_BASE) as usize;
+                self.stack_bytes.copy_within(from..from + n, to);
+            }
+        }
+    }
+
+    /// Makes bytes of the stack zero.
+    fn clear(&mut self, address: u64, n: usize)
+        requires stack { stack_base ≤ address }
+        requires places { HasBytes self.old address n }
+        ensures { self.new ≡ with_bytes self.old address (zeros n) }
+    {
+        let from = (address - STACK_BASE) as usize;
+        clear(&mut self.stack_bytes, from, n);
+    }
+
+    fn set_top(&mut self, top: u64)
+        requires low { stack_base ≤ top }
+        requires high { top ≤ stack_end }
+        ensures after { self.new ≡ with_top self.old top }
+        ensures memory { IsMemory self.new }
+    {
+        self.top = top;
+    }
+
+    fn allocator(&self) -> A {
+        *self.stack_bytes.allocator()
+    }
+}
+
+/// Whether two spans of `n` bytes share some bytes and aren't the same.
+fn overlaps(source: u64, target: u64, n: u64) -> bool
+    requires source { source + n < 2 ^ 64 }
+    requires target { target + n < 2 ^ 64 }
+    ensures { result ≡ overlap source target n }
+{
+    source != target && source < target + n && target < source + n
+}
+
+/// The least multiple of an alignment that isn't below an address.
+fn rounded_up(address: u64, align: u64) -> u64
+    requires align { IsAlignment align }
+    requires small { address < 2 ^ 60 }
+    ensures value { result ≡ rounded align address }
+    ensures low { address ≤ result }
+    ensures high { result < address + 16 }
+{
+    match align {
+        4 => (address + 3) / 4 * 4,
+        8 => (address + 7) / 8 * 8,
+        _ => (address + 15) / 16 * 16,
+    }
+}

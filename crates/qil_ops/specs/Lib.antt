@@ -1,0 +1,4 @@
+-- The definitions of this crate.
+pub mod Values
+pub mod Operations
+pub mod Division

@@ -1,0 +1,22 @@
+-- Values: whole numbers, and what is left of them in a number of bits (QBE IL, Types and Constants).
+use Rattle.std.specs.Prelude.{ℕ, ◌-◌, ◌%◌, ◌^◌, nat_lt, if◌then◌else◌, ℤ, pos, ◌-ℤ◌, unsigned_abs}
+use Rattle.std.specs.Int.{int_rem_euclid}
+use Rattle.qil_parser.specs.declared.ops.Class.{Class}
+use Rattle.qil_parser.specs.declared.ops.Class.TheVariants as classes
+
+-- the bits of a class
+abbrev pub width : Class → ℕ
+width classes.W = 32
+width classes.L = 64
+
+-- the low n bits
+abbrev pub Low : ℕ → ℕ → ℕ
+Low n v = v % 2 ^ n
+
+-- the low n bits in two's complement
+abbrev pub Signed : ℕ → ℕ → ℤ
+Signed n v = if nat_lt (Low n v) (2 ^ (n - 1)) then pos (Low n v) else (pos (Low n v) -ℤ pos (2 ^ n))
+
+-- a whole number modulo 2 ^ n, as n bits
+abbrev pub Cut : ℕ → ℤ → ℕ
+Cut n z = unsigned_abs (int_rem_euclid z (pos (2 ^ n)))
