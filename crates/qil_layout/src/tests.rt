@@ -69,6 +69,7 @@ fn fields(rt: HostRuntime) -> Result<(), Fail> {
         b"data $a = {\nw 1 2,\nb \"x\\000\" 7,\n}\ndata $b = align 4096 { h -1, z 2, l $a + 18446744073709551615 }\n";
     let checked = checked(alloc, text)?;
     let image = layout(alloc, &checked)?;
+    assert_eq!(rt; image.bytes().len(), 4108);
     assert_eq!(rt;
         &image.bytes()[..11],
         [1, 0, 0, 0, 2, 0, 0, 0, b'x', 0, 7].as_slice()

@@ -1,7 +1,7 @@
 -- Canonical texts are cut into the tokens that they are written with.
-use Rattle.std.proofs.Common.{◌≡◌, ℕ, zero, suc, ◌+◌, ◌-◌, ◌*◌, ◌^◌, ◌<◌, ◌≤◌, Bool, true, false, cond, eqb, ◌&&◌, ◌||◌, List, [], ◌∷◌, ◌++◌, length, take, drop, Option, Some, None, refl, sym, ap, subst, ◌∙◌, ◌⊎◌, inl, inr, append_assoc, append-nil, arith, rules}
+use Rattle.std.proofs.Common.{◌≡◌, ℕ, zero, suc, ◌+◌, ◌-◌, ◌^◌, ◌<◌, ◌≤◌, Bool, true, false, eqb, ◌||◌, List, [], ◌∷◌, ◌++◌, length, take, drop, Some, None, refl, sym, ap, subst, ◌∙◌, ◌⊎◌, inl, inr, append_assoc, arith, rules}
 use Rattle.std.specs.Fmt as fmt
-use Rattle.std.specs.List.{prefix_len, flat_map}
+use Rattle.std.specs.List.{prefix_len}
 use Rattle.std.specs.Char.{is_ascii_digit, is_ascii_alphabetic}
 use Rattle.std.proofs.Math.Seq.{take-append_seam, drop-append_seam}
 use Rattle.std.proofs.lemmas.Bool.{cond-true, cond-false, eqb-true, cases_Bool}
@@ -12,7 +12,7 @@ use Rattle.qil_lexer.specs.declared.token.TokenKind.{TokenKind}
 use Rattle.qil_lexer.specs.declared.token.TokenKind.TheVariants as kinds
 use Rattle.qil_lexer.specs.declared.token.Token.{Token}
 use Rattle.qil_lexer.specs.Shape.{Are, begins, is_spacing, is_name_byte, is_word_byte, decimal, decimal_after, number_value, first_kind, IsName, HasShape, IsInRange}
-use Rattle.qil_lexer.specs.Cut.{IsLongest, IsLongestGap, IsGapBetween, IsTokenOf, CutsBetween, Cuts, line_of, end_of}
+use Rattle.qil_lexer.specs.Cut.{IsLongest, IsLongestGap, CutsBetween, Cuts, line_of}
 use Rattle.qil_lexer.specs.Front.{IsLongestTail}
 use Rattle.qil_lexer.proofs.Tails.{name_tail, word_tail, number_tail, longest_token}
 use Rattle.qil_lexer.proofs.Gaps.{gap_of, gap_of-spacing, gap_of-none, gap_of-nil, gap_longest}
@@ -20,11 +20,11 @@ use Rattle.qil_parser.specs.Canonical.{Written, written, text_of}
 
 -- ---- numbers
 
-own : IsNumeralModel (Are is_ascii_digit) decimal
+pub own : IsNumeralModel (Are is_ascii_digit) decimal
 own = numerals_by_fold (Are is_ascii_digit) (search rules) decimal_after (search rules)
 
 -- a byte that passes a test is none that fails it
-differs : (p : ℕ → Bool) (b k : ℕ) → p b ≡ true → p k ≡ false → eqb b k ≡ false
+pub differs : (p : ℕ → Bool) (b k : ℕ) → p b ≡ true → p k ≡ false → eqb b k ≡ false
 differs p b k h f = elim (cases_Bool (eqb b k)) [
   | inl t ↦ let bad : true ≡ false = sym h ∙ ap p (eqb-true b k t) ∙ f in absurd cc
   | inr e ↦ e

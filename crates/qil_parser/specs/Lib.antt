@@ -12,3 +12,4 @@ pub mod Outcome
 pub mod DataParsing
 pub mod Canonical
 pub mod Pieces
+pub mod Respelled

@@ -1,10 +1,18 @@
 //! Canonical texts: how an instruction, a phi or a jump of the tree is written. Nothing here takes memory.
 
-ghost use Rattle.std.specs.Prelude.{◌≡◌, ◌-◌, ◌^◌, ◌<◌, ◌++◌, ◌∷◌, []};
+ghost use Rattle.std.specs.Prelude.{◌≡◌, List, All, ◌-◌, ◌^◌, ◌<◌, ◌++◌, ◌∷◌, []};
 ghost use Rattle.std.specs.List.{flat_map};
 ghost use Rattle.qil_streams.specs.Device.{Counts, Puts};
 ghost use Rattle.qil_parser.specs.Pieces.{piece_bytes, more_argument_text, more_source_text};
 ghost use Rattle.qil_parser.specs.Canonical.{class_name, type_name, unary_name, binary_name, compare_name, extension_name, load_name, alloc_name, store_name, operand_bytes, text_of, target_words, one_value, two_values, expr_words, close_paren, phi_start, call_words, argument_words, arguments_words, source_words, sources_words, inst_text, phi_text, jump_text};
+ghost use Rattle.qil_lexer.specs.declared.token.Token.{Token};
+ghost use Rattle.qil_lexer.specs.Cut.{IsShaped};
+ghost use Rattle.qil_parser.specs.declared.tree.Inst.{Inst};
+ghost use Rattle.qil_parser.specs.declared.tree.Phi.{Phi};
+ghost use Rattle.qil_parser.specs.declared.tree.Jump.{Jump};
+ghost use Rattle.qil_parser.specs.Token.{seen};
+ghost use Rattle.qil_parser.specs.Functions.{InstOf, PhiOf, JumpOf};
+ghost use Rattle.qil_parser.specs.Respelled.{InstRespelled, PhiRespelled, JumpRespelled};
 
 use crate::ops::{AbiType, AllocOp, BinaryOp, Class, CompareOp, Extension, LoadOp, UnaryOp, Width};
 use crate::tree::{
@@ -572,3 +580,11 @@ pub fn jump_text<P: Put>(jump: &Jump, out: &mut P) -> Result<(), Stopped>
         JumpKind::Hlt => out.put(b"hlt"),
     }
 }
+
+/// The canonical text of an instruction, phi or jump that tokens of a text spell is cut into tokens that spell the
+/// same, its line aside.
+pub fn canonical_spells<A>()
+    ensures inst { (ts : List Token) (i : Inst A) → All IsShaped ts → InstOf (seen ts) i → InstRespelled i }
+    ensures phi { (ts : List Token) (p : Phi A) → All IsShaped ts → PhiOf (seen ts) p → PhiRespelled p }
+    ensures jump { (ts : List Token) (j : Jump) → All IsShaped ts → JumpOf (seen ts) j → JumpRespelled j }
+{}

@@ -19,7 +19,7 @@ mod stop;
 mod tree;
 mod words;
 
-pub use canonical::{inst_text, jump_text, phi_text};
+pub use canonical::{canonical_spells, inst_text, jump_text, phi_text};
 pub use error::{ParseCode, ParseError};
 pub use ops::{AbiType, AllocOp, BinaryOp, Class, CompareOp, Extension, LoadOp, UnaryOp, Width};
 pub use parser::{one_fault, parse};
