@@ -1,5 +1,5 @@
 -- How many temporaries a text has: as many as its table has names.
-use Rattle.std.proofs.Common.{◌≡◌, ◌∙◌, sym, ap, refl, subst, ℕ, ◌<◌, ◌≤◌, List, [], ◌∷◌, ◌||◌, Option, Some, None, true, false, IsTrue, nat_lt, nat_eq, ◌⊎◌, inl, inr, ⊎_elim, length, get_or, map, All, Bor, arith}
+use Rattle.std.proofs.Common.{◌≡◌, ◌∙◌, sym, ap, refl, subst, ℕ, ◌<◌, List, [], ◌∷◌, ◌||◌, Option, Some, None, true, false, IsTrue, nat_lt, length, get_or, map, All, Bor, arith}
 use Rattle.std.proofs.lemmas.Bool.Decides.{nat_tests}
 use Rattle.std.specs.Option.{is_some}
 use Rattle.std.specs.Str.{bytes_eq}

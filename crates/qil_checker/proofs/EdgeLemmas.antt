@@ -1,9 +1,9 @@
 -- The arrivals at a block are its predecessors.
-use Rattle.std.proofs.Common.{◌≡◌, ◌∙◌, ◌↔◌, sym, refl, ap, subst, ℕ, zero, suc, List, [], ◌∷◌, ◌++◌, Some, None, Bool, true, false, if◌then◌else◌, slice_get, Result, Ok, Err, IfOk, IsTrue}
+use Rattle.std.proofs.Common.{◌≡◌, ◌∙◌, ◌↔◌, sym, refl, ap, subst, ℕ, zero, suc, List, [], ◌∷◌, ◌++◌, Bool, true, false, if◌then◌else◌, Result, Ok, Err, IfOk, IsTrue}
 use Rattle.std.specs.Str.{bytes_eq}
 use Rattle.std.proofs.lemmas.Slice.Eq.{bytes_eq-Decides}
 use Rattle.qil_checker.specs.Marks.{What, Mark, DataName, FunctionName, Label, Goes, Comes, Merges, Defines, Uses, Global, Gives, Long}
-use Rattle.qil_checker.specs.Text.{Stands, IsAmong, IsPredecessor, AreDistinct, ArePredecessors}
+use Rattle.qil_checker.specs.Text.{Stands, IsAmong, IsPredecessor, ArePredecessors}
 use Rattle.qil_checker.specs.Tables.{arrival, arrivals, AreSameOnce}
 
 later : (b l : List ℕ) (m : Mark) (text : List Mark) → IsPredecessor text b l → IsPredecessor (m ∷ text) b l

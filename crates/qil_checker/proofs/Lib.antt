@@ -9,3 +9,4 @@ pub mod TextLemmas
 pub mod NameLemmas
 pub mod WholeLemmas
 pub mod ScanLemmas
+pub mod HomeLemmas

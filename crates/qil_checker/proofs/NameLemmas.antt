@@ -1,10 +1,9 @@
 -- What the table of global names says of a program.
-use Rattle.std.proofs.Common.{◌≡◌, ◌∙◌, ◌↔◌, sym, ap, refl, subst, not, IsTrue, nat_lt, ℕ, ◌<◌, inl, inr, ⊎_elim, List, [], ◌∷◌, Option, Some, None, Bool, true, false, slice_get, arith}
+use Rattle.std.proofs.Common.{◌≡◌, ◌∙◌, ◌↔◌, sym, ap, refl, subst, not, IsTrue, nat_lt, ℕ, ◌<◌, inl, inr, List, [], ◌∷◌, Option, Some, None, Bool, true, false, slice_get, arith}
 use Rattle.std.proofs.lemmas.Bool.Decides.{nat_tests}
 use Rattle.std.proofs.lemmas.Slice.Eq.{bytes_eq-Decides}
-use Rattle.std.specs.Str.{bytes_eq}
 use Rattle.qil_checker.specs.Marks.{What, Mark, DataName, FunctionName, Label, Goes, Comes, Merges, Defines, Uses, Global, Gives, Long}
-use Rattle.qil_checker.specs.Text.{Stands, Names}
+use Rattle.qil_checker.specs.Text.{Names}
 use Rattle.qil_checker.specs.Rules.{HasName, IsNamedBefore, IsUnknown, IsLostGlobal, is_built_in}
 use Rattle.qil_checker.specs.Tables.{begun_name, head_name, has_name, is_name, first}
 use Rattle.qil_checker.proofs.PlaceLemmas.{found_here, absent, mark_stands, one_what, same_name}

@@ -1,11 +1,11 @@
 -- What the tables say of the rules of one text.
-use Rattle.std.proofs.Common.{◌≡◌, ◌≢◌, ◌∙◌, ◌↔◌, sym, ap, refl, subst, not, IsTrue, nat_eq, ℕ, ◌<◌, List, Option, Some, None, Bool, true, false, slice_get, arith}
+use Rattle.std.proofs.Common.{◌≡◌, ◌≢◌, ◌∙◌, ◌↔◌, sym, ap, refl, subst, not, IsTrue, nat_eq, ℕ, ◌<◌, List, Some, None, Bool, true, false, slice_get, arith}
 use Rattle.std.proofs.lemmas.Bool.Decides.{nat_tests}
 use Rattle.std.proofs.lemmas.Slice.Eq.{bytes_eq-Decides}
 use Rattle.std.specs.Str.{bytes_eq}
 use Rattle.qil_parser.specs.declared.tree.PhiSource.{PhiSource}
 use Rattle.qil_checker.specs.declared.mark.Kind.TheVariants.{Labels}
-use Rattle.qil_checker.specs.Marks.{What, Mark, Label, Goes, Merges}
+use Rattle.qil_checker.specs.Marks.{Mark, Label, Merges}
 use Rattle.qil_checker.specs.Text.{Stands, LacksLabel, IsFirstLabel, ArePredecessors, labels_of}
 use Rattle.qil_checker.specs.Rules.{IsSecondLabel, IsWrongMerge}
 use Rattle.qil_checker.specs.Tables.{first, is_named}

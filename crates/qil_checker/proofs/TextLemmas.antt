@@ -8,7 +8,7 @@ use Rattle.qil_parser.specs.declared.tree.Definition.{Definition}
 use Rattle.qil_parser.specs.declared.tree.Definition.TheVariants as definitions
 use Rattle.qil_checker.specs.declared.text.Text.{Text}
 use Rattle.qil_checker.specs.Marks.{Mark, data_marks, func_marks, texts_in}
-use Rattle.qil_checker.specs.Tables.{or_else, at_name, first, has_name, head_name, is_name}
+use Rattle.qil_checker.specs.Tables.{or_else, at_name, first, has_name, is_name}
 use Rattle.qil_checker.specs.Whole.{marks_of}
 
 behind : (front rest : List (List Mark)) (x : List Mark) → (front ++ x ∷ []) ++ rest ≡ front ++ x ∷ rest

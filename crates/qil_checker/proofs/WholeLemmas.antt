@@ -1,5 +1,5 @@
 -- The first place of a whole program, from those of its texts; the rules in their order.
-use Rattle.std.proofs.Common.{◌≡◌, ◌∙◌, sym, refl, subst, ap, Bool, true, false, ℕ, zero, suc, ◌+◌, ◌<◌, ◌≤◌, ◌==◌, List, [], ◌∷◌, take, get_or, Some, None, slice_get, length, map, ⊎_elim, inl, inr, arith, below_more, if◌then◌else◌}
+use Rattle.std.proofs.Common.{◌≡◌, ◌∙◌, sym, refl, subst, ap, Bool, true, false, ℕ, zero, suc, ◌+◌, ◌<◌, ◌≤◌, ◌==◌, List, [], ◌∷◌, take, get_or, Some, slice_get, length, ⊎_elim, inl, inr, arith, below_more, if◌then◌else◌}
 use Rattle.std.specs.Option.{option_map}
 use Rattle.std.specs.List.{count_by}
 use Rattle.std.proofs.lemmas.List.{length-take-le}

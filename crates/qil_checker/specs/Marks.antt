@@ -25,7 +25,7 @@ use Rattle.qil_parser.specs.declared.tree.Definition.{Definition}
 use Rattle.qil_parser.specs.declared.tree.Definition.TheVariants as definitions
 use Rattle.qil_parser.specs.declared.tree.Program.{Program}
 use Rattle.qil_parser.specs.Grammar.{class_of}
-use Rattle.qil_checker.specs.Operands.{Read, as_class, inst_reads, inst_target, inst_long_class}
+use Rattle.qil_checker.specs.Operands.{Read, inst_reads, inst_target, inst_long_class}
 pub use Rattle.qil_checker.specs.declared.mark.What.{What}
 pub use Rattle.qil_checker.specs.declared.mark.What.TheVariants.{DataName, FunctionName, Label, Goes, Comes, Merges, Defines, Uses, Global, Gives, Long}
 pub use Rattle.qil_checker.specs.declared.mark.Mark.{Mark}

@@ -8,7 +8,7 @@ use Rattle.qil_parser.specs.declared.tree.PhiSource.{PhiSource}
 use Rattle.qil_parser.specs.declared.tree.Program.{Program}
 use Rattle.qil_checker.specs.declared.rule.Rule.{Rule}
 use Rattle.qil_checker.specs.declared.rule.Rule.TheVariants.{C1, C2, C3, C4, C5, C6, C7, C8, C9, C10, C11, C12}
-use Rattle.qil_checker.specs.Marks.{What, Mark, DataName, FunctionName, Label, Goes, Comes, Merges, Defines, Uses, Global, Gives, Long, texts}
+use Rattle.qil_checker.specs.Marks.{What, Mark, FunctionName, Label, Goes, Comes, Merges, Defines, Uses, Global, Gives, Long, texts}
 use Rattle.qil_checker.specs.Text.{Stands, Names, FirstClass, IsUndefined, IsTemporary, LacksLabel, IsFirstLabel, ArePredecessors, labels_of}
 
 -- ---- the rules of one text: what breaks them at a place

@@ -1,13 +1,14 @@
 -- What a table of names says: where each name of a kind stands first; from where each block is reached.
-use Rattle.std.specs.Prelude.{◌≡◌, ◌≢◌, ◌↔◌, ℕ, suc, List, [], ◌∷◌, ◌++◌, Option, Some, None, Bool, false, if◌then◌else◌, slice_get}
+use Rattle.std.specs.Prelude.{◌≡◌, ◌≢◌, ◌↔◌, ℕ, zero, suc, List, [], ◌∷◌, ◌++◌, Option, Some, None, Bool, false, if◌then◌else◌, slice_get}
 use Rattle.std.specs.Str.{bytes_eq}
 use Rattle.std.specs.declared.vec.Vec.{Vec}
 use Rattle.indexmap.specs.IndexMap.{IndexMap, get_by}
 use denote.Ref.{Bor}
 use Rattle.qil_checker.specs.declared.mark.Kind.{Kind}
 use Rattle.qil_checker.specs.declared.mark.Kind.TheVariants.{Defined, Named, Labels}
-use Rattle.qil_checker.specs.Marks.{What, Mark, DataName, FunctionName, Label, Goes, Defines, Uses}
-use Rattle.qil_checker.specs.Text.{AreDistinct, IsAmong}
+use Rattle.qil_parser.specs.declared.tree.PhiSource.{PhiSource}
+use Rattle.qil_checker.specs.Marks.{What, Mark, DataName, FunctionName, Label, Goes, Merges, Defines, Uses}
+use Rattle.qil_checker.specs.Text.{Stands, AreDistinct, IsAmong}
 
 abbrev pub place_of : {S : Type 0} → IndexMap (Bor (List ℕ)) ℕ S → List ℕ → Option ℕ
 place_of m x = get_by (λ k. bytes_eq x k.now) m
@@ -83,3 +84,35 @@ arrival b what = []
 abbrev pub arrivals : List ℕ → List Mark → List (List ℕ)
 arrivals b [] = []
 arrivals b (m ∷ text) = arrival b m.what ++ arrivals b text
+
+-- ---- labels on the way through a text
+
+-- the label of the first block
+abbrev pub begun_label : List Mark → Option (List ℕ)
+begun_label [] = None
+begun_label (m ∷ text) = or_else (named m.what Labels) (begun_label text)
+
+-- the label of the block behind a mark
+abbrev pub behind : Option (List ℕ) → Mark → Option (List ℕ)
+behind block m = or_else (named m.what Labels) block
+
+-- the label of the block that a place stands in: the last one before it
+abbrev pub block_from : Option (List ℕ) → List Mark → ℕ → Option (List ℕ)
+block_from block text zero = block
+block_from block [] (suc k) = block
+block_from block (m ∷ text) (suc k) = block_from (behind block m) text k
+
+abbrev pub block_at : List Mark → ℕ → Option (List ℕ)
+block_at text k = block_from None text k
+
+-- each phi stands in its block
+abbrev pub AreAtHome : List Mark → Type 0
+AreAtHome text = (k : ℕ) (x : List ℕ) (sources : List PhiSource) → Stands text k (Merges x sources) → block_at text k ≡ Some x
+
+abbrev pub names_in : {X A : Type 0} → Option (Bor (Vec X A)) → List X
+names_in None = []
+names_in (Some v) = v.now.items
+
+-- the arrivals at the block that a place stands in
+abbrev pub AreArrived : List Mark → ℕ → List (List ℕ) → Type 0
+AreArrived text k labels = (x : List ℕ) → block_at text k ≡ Some x → labels ≡ arrivals x text

@@ -3,7 +3,7 @@
 ghost use Rattle.std.specs.Prelude.{◌≡◌, List, ℕ, OnOk, IfOk, IsTrue, ◌↔◌, ◌∷◌, [], ◌++◌, if◌then◌else◌};
 ghost use Rattle.std.specs.Str.{bytes_eq};
 ghost use Rattle.qil_checker.specs.Text.{ArePredecessors, labels_of};
-ghost use Rattle.qil_checker.specs.Tables.{list_at, arrivals};
+ghost use Rattle.qil_checker.specs.Tables.{list_at, arrivals, names_in};
 
 use crate::mark::{Mark, Sources, What};
 use crate::sources::{labels_of, same_once};
@@ -44,39 +44,32 @@ impl<'a, A: Allocator + Copy> Arrivals<'a, A> {
         Ok(())
     }
 
-    /// Whether the labels are the arrivals at a block, each once.
-    fn are_arrivals(
-        &self,
-        alloc: A,
-        marks: &[Mark<'_, 'a>],
-        block: &Name<'a>,
-        labels: &[Name<'a>],
-    ) -> Result<bool, AllocError>
-        requires { (x : List ℕ) → list_at self.now.lists x ≡ arrivals x marks.now }
-        ensures { IfOk result (λ b. IsTrue b ↔ ArePredecessors marks.now block.now labels.now) }
+    /// The labels of the blocks that go to a block.
+    pub fn at(&self, block: &Name<'a>) -> Option<&Vec<Name<'a>, A>>
+        ensures { names_in result ≡ list_at self.now.lists block.now }
     {
-        match self.lists.get(&block.bytes()) {
-            Some(list) => same_once(alloc, labels, list.as_slice()),
-            None => {
-                let none = Vec::new(alloc);
-                same_once(alloc, labels, none.as_slice())
-            }
-        }
+        self.lists.get(&block.bytes())
     }
+}
 
-    /// Whether the labels of a phi are the predecessors of its block, each once.
-    pub fn are_sources(
-        &self,
-        alloc: A,
-        marks: &[Mark<'_, 'a>],
-        block: &Name<'a>,
-        sources: &Sources<'_, 'a>,
-    ) -> Result<bool, AllocError>
-        requires { (x : List ℕ) → list_at self.now.lists x ≡ arrivals x marks.now }
-        ensures { IfOk result (λ b. IsTrue b ↔ ArePredecessors marks.now block.now (labels_of sources.now)) }
-    {
-        let labels = labels_of(alloc, sources.as_slice())?;
-        self.are_arrivals(alloc, marks, block, labels.as_slice())
+/// Whether the labels of a phi are the arrivals at its block, each once.
+pub fn are_sources<'a, A: Allocator + Copy>(
+    alloc: A,
+    marks: &[Mark<'_, 'a>],
+    block: &Name<'a>,
+    arrived: Option<&Vec<Name<'a>, A>>,
+    sources: &Sources<'_, 'a>,
+) -> Result<bool, AllocError>
+    requires { names_in arrived ≡ arrivals block.now marks.now }
+    ensures { IfOk result (λ b. IsTrue b ↔ ArePredecessors marks.now block.now (labels_of sources.now)) }
+{
+    let labels = labels_of(alloc, sources.as_slice())?;
+    match arrived {
+        Some(list) => same_once(alloc, labels.as_slice(), list.as_slice()),
+        None => {
+            let none = Vec::new(alloc);
+            same_once(alloc, labels.as_slice(), none.as_slice())
+        }
     }
 }
 

@@ -1,14 +1,14 @@
 //! The text of one definition: its marks, where its names stand first, and what breaks a rule in it.
 
-ghost use Rattle.std.specs.Prelude.{◌≡◌, List, ℕ, Some, IfOk, IsTrue, ◌↔◌, MatchOption, slice_get, if◌then◌else◌};
+ghost use Rattle.std.specs.Prelude.{◌≡◌, List, ℕ, Some, IfOk, IsTrue, ◌↔◌, ◌+◌, MatchOption, slice_get, if◌then◌else◌};
 ghost use Rattle.std.specs.List.{count_by};
-ghost use Rattle.qil_checker.specs.Tables.{place_of, first, is_named, list_at, arrivals as arrivals_at, head_name};
+ghost use Rattle.qil_checker.specs.Tables.{place_of, first, is_named, list_at, arrivals as arrivals_at, head_name, begun_label, names_in, AreAtHome, AreArrived};
 ghost use Rattle.qil_checker.specs.Text.{FirstClass, IsUndefined, IsAgain, LacksLabel, IsFirstLabel};
 ghost use Rattle.qil_checker.specs.Rules.{IsSecondLabel, IsLostLabel, IsJumpToFirst, IsOtherClass, IsUndefinedUse, IsNarrowUse, IsWrongMerge, IsUntypedReturn, IsNarrowResult, HasManyTemporaries, HasManyBlocks, is_label, is_function, begins_function};
 ghost use Rattle.qil_checker.specs.Scan.{IsSingle, IsAgainFirst};
 ghost use Rattle.qil_checker.specs.declared.mark.Kind.TheVariants.{Defined, Named, Labels};
 
-use crate::arrivals::{Arrivals, arrivals_of};
+use crate::arrivals::{Arrivals, are_sources, arrivals_of};
 use crate::mark::{Kind, Mark, What};
 use crate::table::Table;
 use qil_parser::{Class, Name};
@@ -65,6 +65,18 @@ fn count_blocks(marks: &[Mark]) -> usize
     marks.iter().filter(|mark| is_label(mark)).count()
 }
 
+/// The label of the first block.
+fn first_label<'a>(marks: &[Mark<'_, 'a>]) -> Option<Name<'a>>
+    ensures { result ≡ begun_label marks.now }
+{
+    for mark in marks {
+        if let What::Label(label) = &mark.what {
+            return Some(Name::new(label.bytes()));
+        }
+    }
+    None
+}
+
 /// A definition's text.
 #[derive(Drop)]
 pub struct Text<'p, 'a, A: Allocator> {
@@ -72,11 +84,14 @@ pub struct Text<'p, 'a, A: Allocator> {
     pub name: Name<'a>,
     pub marks: Vec<Mark<'p, 'a>, A>,
     blocks: usize,
+    first_label: Option<Name<'a>>,
     defined: Table<'a, A>,
     named: Table<'a, A>,
     labels: Table<'a, A>,
     arrivals: Arrivals<'a, A>,
     ghost name_is: { head_name marks.items ≡ Some name },
+    ghost phis_are: { AreAtHome marks.items },
+    ghost first_is: { first_label ≡ begun_label marks.items },
     ghost blocks_are: { blocks ≡ count_by is_label marks.items },
     ghost defined_places: { (x : List ℕ) → place_of defined.places x ≡ first (is_named Defined x) 0 marks.items },
     ghost named_places: { (x : List ℕ) → place_of named.places x ≡ first (is_named Named x) 0 marks.items },
@@ -90,10 +105,12 @@ impl<'p, 'a, A: Allocator + Copy> Text<'p, 'a, A> {
         name: Name<'a>,
         marks: Vec<Mark<'p, 'a>, A>,
     ) -> Result<Text<'p, 'a, A>, AllocError>
-        requires { head_name marks.items ≡ Some name }
+        requires begun { head_name marks.items ≡ Some name }
+        requires at_home { AreAtHome marks.items }
         ensures { IfOk result (λ t. t.marks.items ≡ marks.entry.items) }
     {
         let blocks = count_blocks(marks.as_slice());
+        let first_label = first_label(marks.as_slice());
         let defined = first_places(alloc, marks.as_slice(), Kind::Defined)?;
         let named = first_places(alloc, marks.as_slice(), Kind::Named)?;
         let labels = first_places(alloc, marks.as_slice(), Kind::Labels)?;
@@ -102,6 +119,7 @@ impl<'p, 'a, A: Allocator + Copy> Text<'p, 'a, A> {
             name,
             marks,
             blocks,
+            first_label,
             defined,
             named,
             labels,
@@ -134,12 +152,27 @@ impl<'p, 'a, A: Allocator + Copy> Text<'p, 'a, A> {
     fn is_first(&self, label: &Name<'a>) -> bool
         ensures { IsTrue result ↔ IsFirstLabel self.now.marks.items label.now }
     {
-        for mark in self.marks.as_slice() {
-            if let What::Label(first) = &mark.what {
-                return first.bytes() == label.bytes();
-            }
+        match &self.first_label {
+            Some(first) => first.bytes() == label.bytes(),
+            None => false,
         }
-        false
+    }
+
+    /// The arrivals at the block of the next place: `arrived` are those at the block of this one.
+    pub fn arrived_behind<'t>(
+        &'t self,
+        place: usize,
+        mark: &Mark<'p, 'a>,
+        arrived: Option<&'t Vec<Name<'a>, A>>,
+    ) -> Option<&'t Vec<Name<'a>, A>>
+        requires there { slice_get self.now.marks.items place ≡ Some mark.now }
+        requires arrived { AreArrived self.now.marks.items place (names_in arrived) }
+        ensures { AreArrived self.now.marks.items (place + 1) (names_in result) }
+    {
+        match &mark.what {
+            What::Label(label) => self.arrivals.at(label),
+            _ => arrived,
+        }
     }
 
     /// How many functions it is the text of.
@@ -239,14 +272,16 @@ impl<'p, 'a, A: Allocator + Copy> Text<'p, 'a, A> {
         alloc: A,
         place: usize,
         mark: &Mark<'p, 'a>,
+        arrived: Option<&Vec<Name<'a>, A>>,
     ) -> Result<bool, AllocError>
-        requires { slice_get self.now.marks.items place ≡ Some mark.now }
+        requires there { slice_get self.now.marks.items place ≡ Some mark.now }
+        requires arrived { AreArrived self.now.marks.items place (names_in arrived) }
         ensures { IfOk result (λ b. IsTrue b ↔ IsWrongMerge self.now.marks.items place) }
     {
         match &mark.what {
             What::Merges(block, sources) => {
                 let marks = self.marks.as_slice();
-                let right = self.arrivals.are_sources(alloc, marks, block, sources)?;
+                let right = are_sources(alloc, marks, block, arrived, sources)?;
                 Ok(!right)
             }
             _ => Ok(false),

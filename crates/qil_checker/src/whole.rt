@@ -3,7 +3,7 @@
 ghost use Rattle.std.specs.Prelude.{◌≡◌, ◌++◌, ◌∷◌, map, List, ℕ, ◌≤◌, Some, take, IfOk, OnOk, IsTrue, ◌↔◌, MatchOption, slice_get};
 ghost use Rattle.std.specs.List.{count_by};
 ghost use Rattle.qil_checker.specs.Marks.{texts, texts_in, data_marks, func_marks};
-ghost use Rattle.qil_checker.specs.Tables.{place_of, first, has_name};
+ghost use Rattle.qil_checker.specs.Tables.{place_of, first, has_name, names_in, AreArrived};
 ghost use Rattle.qil_checker.specs.Rules.{AreWellFormed, AreBroken, IsKept, IsBrokenFirst, Breaks, IsNamedBefore, IsSecondName, IsUnknown, IsLostGlobal, IsTooMuch, is_built_in, is_function};
 ghost use Rattle.qil_checker.specs.Scan.{Keeps, Breach};
 ghost use Rattle.qil_checker.specs.Whole.{marks_of};
@@ -249,7 +249,7 @@ impl<'p, 'a, A: Allocator + Copy> Whole<'p, 'a, A> {
 
     // ---- all rules
 
-    /// Whether the mark at a place of a text breaks a rule.
+    /// Whether the mark at a place of a text breaks a rule; `arrived` are the arrivals at its block.
     fn breaks(
         &self,
         alloc: A,
@@ -257,8 +257,10 @@ impl<'p, 'a, A: Allocator + Copy> Whole<'p, 'a, A> {
         visit: &Visit<'_, 'p, 'a, A>,
         place: usize,
         mark: &Mark<'p, 'a>,
+        arrived: Option<&Vec<Name<'a>, A>>,
     ) -> Result<bool, AllocError>
         requires there { slice_get visit.now.text.now.marks.items place ≡ Some mark.now }
+        requires arrived { AreArrived visit.now.text.now.marks.items place (names_in arrived) }
         requires counted { visit.now.functions ≡ count_by is_function (take visit.now.number (marks_of self.now.texts.items)) }
         ensures { IfOk result (λ b. IsTrue b ↔ Breaks rule (marks_of self.now.texts.items) visit.now.text.now.marks.items visit.now.number place) }
     {
@@ -271,7 +273,7 @@ impl<'p, 'a, A: Allocator + Copy> Whole<'p, 'a, A> {
             Rule::C5 => Ok(text.is_other_class(place, mark)),
             Rule::C6 => Ok(text.is_undefined_use(place, mark)),
             Rule::C7 => Ok(text.is_narrow_use(place, mark)),
-            Rule::C8 => text.is_wrong_merge(alloc, place, mark),
+            Rule::C8 => text.is_wrong_merge(alloc, place, mark, arrived),
             Rule::C9 => Ok(self.is_lost_global(visit, place, mark)),
             Rule::C10 => Ok(text.is_untyped_return(place, mark)),
             Rule::C11 => Ok(text.is_narrow_result(place, mark)),
@@ -289,10 +291,13 @@ impl<'p, 'a, A: Allocator + Copy> Whole<'p, 'a, A> {
         requires { visit.now.functions ≡ count_by is_function (take visit.now.number (marks_of self.now.texts.items)) }
         ensures { IfOk result (λ o. MatchOption o (Keeps rule (marks_of self.now.texts.items) visit.now.text.now.marks.items visit.now.number) (Breach rule (marks_of self.now.texts.items) visit.now.text.now.marks.items visit.now.number)) }
     {
+        // looked up once for a block, since a block's phis don't spell its label
+        let mut arrived = None;
         for (place, mark) in visit.text.marks.iter().enumerate() {
-            if self.breaks(alloc, rule, visit, place, mark)? {
+            if self.breaks(alloc, rule, visit, place, mark, arrived)? {
                 return Ok(Some(mark.line));
             }
+            arrived = visit.text.arrived_behind(place, mark, arrived);
         }
         Ok(None)
     }

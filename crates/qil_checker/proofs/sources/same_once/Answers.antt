@@ -1,4 +1,4 @@
-use Rattle.std.proofs.Common.{◌≡◌, ◌∙◌, sym, refl, arith, true, Bool, IsTrue}
+use Rattle.std.proofs.Common.{◌≡◌, arith, true}
 use Rattle.qil_checker.specs.Tables.{place_of}
 use Rattle.qil_checker.specs.Text.{AreDistinct}
 use Rattle.qil_checker.specs.Tables.{AreKnown}

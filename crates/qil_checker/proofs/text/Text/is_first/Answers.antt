@@ -1,30 +1,14 @@
--- The first mark that begins a block has the first label.
-use Rattle.std.proofs.Common.{◌≡◌, ◌∙◌, ap, subst, List, ℕ, ◌<◌, Some, slice_get, length, arith, below_more}
-use Rattle.qil_checker.specs.Marks.{Mark, Label}
-use Rattle.qil_checker.specs.Text.{Stands}
-use Rattle.qil_checker.proofs.PlaceLemmas.{read_there, one_what, stands_within}
-use Rattle.qil_checker.proofs.RuleLemmas.{first_label_test}
+-- The first label is one.
+use Rattle.std.proofs.Common.{◌∙◌, sym}
+use Rattle.qil_checker.proofs.HomeLemmas.{begun_test, begun_nowhere}
 use Rattle.qil_checker.proofs.text.Text.is_first.Goals as goal
 
-pub returns-in-Label : goal.returns-in-Label
-returns-in-Label g c =
-    let items = c.as_slice-mark-items.result.now in
-    let there = subst (λ (t : List Mark). slice_get t c.loop-mark.mark-index ≡ Some c.mark-item.result) c.as_slice-mark-items.ensures.value (read_there items c.loop-mark.mark-index c.mark-item.result (omega arith) c.mark-item.is) in
-    first_label_test c.args.self.now.marks.items c.args.label.now c.in-Label.first c.bytes.result.now c.bytes-in-Label.result.now c.eq.result c.loop-mark.mark-index c.mark-item.result c.eq.ensures c.bytes.ensures
-    c.bytes-in-Label.ensures there c.in-Label.is c.loop-mark.invariant
+pub returns-in-Some : goal.returns-in-Some
+returns-in-Some g c =
+    let s = c.args.self.now in
+    begun_test s.marks.items c.args.label.now c.in-Some.first c.bytes.result.now c.bytes-in-Some.result.now c.eq.result c.eq.ensures c.bytes.ensures c.bytes-in-Some.ensures (sym s.first_is ∙ c.in-Some.is)
 
-pub loop-mark-preserved : goal.loop-mark-preserved
-loop-mark-preserved g c = λ j x l.
-    let items = c.as_slice-mark-items.result.now in
-    let there = subst (λ (t : List Mark). slice_get t c.loop-mark.mark-index ≡ Some c.mark-item.result) c.as_slice-mark-items.ensures.value (read_there items c.loop-mark.mark-index c.mark-item.result (omega arith) c.mark-item.is) in
-    below_more (λ k. (y : List ℕ) → Stands c.args.self.now.marks.items k (Label y) → ⊥) c.loop-mark.mark-index (λ k h y. c.loop-mark.invariant k y h)
-    (λ y s. c.in_default.not-Label y (one_what c.args.self.now.marks.items c.loop-mark.mark-index c.mark-item.result (Label y) there s)) j l x
-
-pub returns : goal.returns
-returns g c = (
-  λ t. absurd cc,
-  λ f.
-      let l : f.0 < length c.args.self.now.marks.items = stands_within c.args.self.now.marks.items f.0 (Label c.args.label.now) f.1 in
-      let e : length c.as_slice-mark-items.result.now ≡ length c.args.self.now.marks.items = ap length c.as_slice-mark-items.ensures.value in
-      absurd (c.loop-mark.invariant f.0 c.args.label.now (omega arith) f.1),
-)
+pub returns-in-None : goal.returns-in-None
+returns-in-None g c =
+    let s = c.args.self.now in
+    (λ t. absurd cc, λ f. absurd (begun_nowhere s.marks.items (sym s.first_is ∙ c.in-None.is) c.args.label.now f))

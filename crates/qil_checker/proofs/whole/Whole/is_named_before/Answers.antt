@@ -1,5 +1,5 @@
 -- The first definition of a name comes before the others.
-use Rattle.std.proofs.Common.{◌∙◌, sym, refl}
+use Rattle.std.proofs.Common.{◌∙◌, sym}
 use Rattle.qil_checker.specs.Whole.{marks_of}
 use Rattle.qil_checker.proofs.NameLemmas.{named_before, not_named}
 use Rattle.qil_checker.proofs.whole.Whole.is_named_before.Goals as goal

@@ -1,5 +1,5 @@
 -- A name that has no first definition is defined nowhere.
-use Rattle.std.proofs.Common.{◌∙◌, sym, refl}
+use Rattle.std.proofs.Common.{◌∙◌, sym}
 use Rattle.qil_checker.specs.Whole.{marks_of}
 use Rattle.qil_checker.proofs.NameLemmas.{named_first, unknown}
 use Rattle.qil_checker.proofs.whole.Whole.is_unknown.Goals as goal

@@ -1,5 +1,5 @@
 -- The first place of a text is the first of the program where no earlier text has one.
-use Rattle.std.proofs.Common.{◌≡◌, ◌∙◌, ap, subst, List, ℕ, length, slice_get, Some, None, Option, MatchOption, arith}
+use Rattle.std.proofs.Common.{◌≡◌, ap, subst, List, ℕ, length, slice_get, Some, Option, MatchOption, arith}
 use Rattle.qil_checker.specs.declared.text.Text.{Text}
 use Rattle.qil_checker.specs.Scan.{Keeps, Breach}
 use Rattle.qil_checker.specs.Whole.{marks_of}
