@@ -2,3 +2,4 @@
 pub mod RoomLemmas
 pub mod TableLemmas
 pub mod FewFunctions
+pub mod BytesLemmas

@@ -1,6 +1,6 @@
 //! The layout of a program.
 
-ghost use Rattle.std.specs.Prelude.{◌≡◌, ℕ, List, Some, None, IfOk, IfErr, option_map, slice_get};
+ghost use Rattle.std.specs.Prelude.{◌≡◌, ◌≤◌, ◌^◌, ℕ, List, Some, None, IfOk, IfErr, length, option_map, slice_get};
 ghost use Rattle.qil_layout.specs.Layout.{address_of, bytes_of, fault_of};
 ghost use Rattle.qil_layout.specs.Answer.{IsFault};
 ghost use Rattle.qil_layout.specs.Callee.{lies, func_at, callee_at};
@@ -24,16 +24,16 @@ pub struct Image<'c, 'a, A: Allocator> {
 }
 
 impl<'c, 'a, A: Allocator> Model for Image<'c, 'a, A> {
-    ghost use Rattle.std.specs.Prelude.{◌≡◌, ℕ, List};
+    ghost use Rattle.std.specs.Prelude.{◌≡◌, ℕ, List, None};
     ghost use Rattle.qil_parser.specs.declared.tree.Program.{Program};
-    ghost use Rattle.qil_layout.specs.Layout.{address_of, bytes_of};
+    ghost use Rattle.qil_layout.specs.Layout.{address_of, bytes_of, fault_of};
     ghost use Rattle.qil_layout.specs.Table.{found};
 
     ghost Value = { Program A };
 
     ghost view = { λ image. image.program.now };
 
-    ghost invariant = { λ image. ((x : List ℕ) → found image.names.addresses x ≡ address_of image.program.now x) × (image.bytes.items ≡ bytes_of image.program.now) };
+    ghost invariant = { λ image. ((x : List ℕ) → found image.names.addresses x ≡ address_of image.program.now x) × (image.bytes.items ≡ bytes_of image.program.now) × (fault_of image.program.now ≡ None) };
 }
 
 /// Lays a program out: its data from 65,536 on in the order of the text, each object at the next multiple of its
@@ -71,7 +71,8 @@ impl<'c, 'a, A: Allocator + Copy> Image<'c, 'a, A> {
 
     /// The bytes of the data, the first at 65,536; zeros stand between objects.
     pub fn bytes(&self) -> &[u8]
-        ensures { result.now ≡ bytes_of self.now }
+        ensures value { result.now ≡ bytes_of self.now }
+        ensures few { length result.now ≤ 2 ^ 20 }
     {
         self.bytes.as_slice()
     }

@@ -1,6 +1,7 @@
 //! The memory of a run: the bytes of the data, and a stack that grows upward and keeps its dead bytes.
 
 ghost use Rattle.std.specs.Prelude.{◌≡◌, ◌≢◌, ◌+◌, ◌-◌, ◌<◌, ◌≤◌, ◌^◌, ◌↔◌, [], length, IsTrue, OnOk, OnErr, IfOk, IfErr};
+ghost use Rattle.qil_layout.specs.Layout as layout;
 ghost use Rattle.qil_memory.specs.Bytes.{bytes_of, over, zeros};
 ghost use Rattle.qil_memory.specs.Buffers.{stack_base, stack_end, fresh, IsMemory};
 ghost use Rattle.qil_memory.specs.Live.{live, laid, below};
@@ -12,6 +13,7 @@ ghost use Rattle.qil_memory.specs.Kept.{listed, IsThrifty};
 use crate::bytes::{clear, number_of, write, write_number, zeroed};
 use crate::fault::{AllocFault, BlitFault, Dead};
 use crate::saved::{KeptBytes, Saved, keep, keep_few};
+use qil_layout::Image;
 use std::alloc::{AllocError, Allocator};
 use std::marker::Model;
 
@@ -48,13 +50,13 @@ impl<A: Allocator> Model for Memory<A> {
 }
 
 impl<A: Allocator + Copy> Memory<A> {
-    /// A memory with these bytes as data, and an empty stack. All bytes of the stack are reserved here.
-    pub fn new(alloc: A, data_bytes: &[u8]) -> Result<Memory<A>, AllocError>
-        requires { length data_bytes.now ≤ 2 ^ 20 }
-        ensures { IfOk result (λ m. m ≡ fresh data_bytes.now) }
+    /// The memory at the start of a run: the bytes of the image's data, and an empty stack, all bytes of which are
+    /// reserved here.
+    pub fn new(alloc: A, image: &Image<'_, '_, A>) -> Result<Memory<A>, AllocError>
+        ensures { IfOk result (λ m. m ≡ fresh (layout.bytes_of image.now)) }
     {
         Ok(Memory {
-            data_bytes: Vec::from_slice(alloc, data_bytes)?,
+            data_bytes: Vec::from_slice(alloc, image.bytes())?,
             stack_bytes: zeroed(alloc, CAPACITY as usize)?,
             top: STACK_BASE,
         })
