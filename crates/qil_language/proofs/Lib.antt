@@ -2,4 +2,3 @@
 pub mod Law
 pub mod Marks
 pub mod Loop
-pub mod Loose

@@ -6,7 +6,7 @@
 //! reader reads a language. The laws are in `proofs/`: `Law.antt` proves for each way of putting languages together
 //! that its reader gives the only value that the tokens stand for, takes as many tokens as any other reading could,
 //! and where it fails has read the longest front that some phrase begins with. `Marks.antt` says after which phrases
-//! a failure is marked, `Loop.antt` how a loop reads many phrases, `Loose.antt` what is spelled with tokens dropped.
+//! a failure is marked, `Loop.antt` how a loop reads many phrases.
 //!
 //! Nothing here runs: a parser states its grammar and its readers by these words, and takes the laws from here.
 #![tactic(auto)]

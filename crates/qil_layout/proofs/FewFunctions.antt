@@ -1,5 +1,5 @@
 -- A well-formed program has at most 1,000 functions.
-use Rattle.std.proofs.Common.{◌≡◌, ◌∙◌, sym, ap, refl, subst, ℕ, zero, suc, ◌+◌, ◌<◌, ◌≤◌, ◌⊎◌, inl, inr, ⊎_elim, Bool, true, false, cond, List, [], ◌∷◌, ◌++◌, map, take, get_or, length, Option, Some, None, slice_get, arith}
+use Rattle.std.proofs.Common.{◌≡◌, ◌∙◌, sym, ap, refl, subst, ℕ, zero, suc, ◌+◌, ◌<◌, ◌≤◌, ◌⊎◌, inl, inr, ⊎_elim, Bool, true, false, cond, List, [], ◌∷◌, ◌++◌, map, take, get_or, length, Some, slice_get, arith}
 use Rattle.std.specs.List.{count_by}
 use Rattle.std.proofs.lemmas.Bool.{cases_lt}
 use Rattle.std.proofs.lemmas.List.{take_all}
@@ -17,7 +17,7 @@ use Rattle.qil_checker.specs.declared.mark.What.TheVariants.{DataName, FunctionN
 use Rattle.qil_checker.specs.declared.mark.Mark.{Mark}
 use Rattle.qil_checker.specs.Marks.{data_marks, func_marks, texts_in, texts}
 use Rattle.qil_checker.specs.Text.{Stands}
-use Rattle.qil_checker.specs.Rules.{WellFormed, is_function, begins_function, Place}
+use Rattle.qil_checker.specs.Rules.{WellFormed, is_function, begins_function}
 
 -- ---- as many function texts as functions
 

@@ -1,9 +1,8 @@
 -- The room that is left behind a list, item by item.
-use Rattle.std.proofs.Common.{◌≡◌, ◌∙◌, sym, ap, refl, subst, ℕ, ◌+◌, ◌<◌, ◌≤◌, List, [], ◌∷◌, drop, get_or, length, Option, Some, None, MatchOption, arith}
+use Rattle.std.proofs.Common.{◌≡◌, ap, ℕ, ◌+◌, ◌<◌, ◌≤◌, List, drop, get_or, length, arith}
 use Rattle.std.specs.List.{sum_by}
 use Rattle.std.proofs.lemmas.List.{drop_all}
 use Rattle.std.proofs.lemmas.List.Sums.{sum_by-drop_more}
-use Rattle.qil_layout.specs.Room.{IsLeft}
 
 module _ {X : Type 0} (size : X → ℕ) (xs : List X) (room : ℕ) where
   -- what is left, and what is still to come, together

@@ -1,5 +1,5 @@
 -- Which function lies at an address.
-use Rattle.std.specs.Prelude.{ℕ, ◌-◌, ◌/◌, ◌%◌, Bool, true, false, ◌==◌, ◌&&◌, nat_lt, nat_le, if◌then◌else◌, List, length, codes, Option, Some, None, option_map, slice_get}
+use Rattle.std.specs.Prelude.{ℕ, ◌-◌, ◌/◌, ◌%◌, Bool, false, ◌==◌, ◌&&◌, nat_lt, if◌then◌else◌, List, length, codes, Option, Some, None, option_map}
 use Rattle.qil_parser.specs.declared.tree.Program.{Program}
 use Rattle.qil_layout.specs.declared.callee.Callee.{Callee}
 use Rattle.qil_layout.specs.declared.callee.Callee.TheVariants.{Defined, PutChar, Puts, Exit}

@@ -1,6 +1,5 @@
 -- How far moves go along a timeline.
-use Rattle.std.proofs.Common.{◌≡◌, ℕ, zero, suc, ◌+◌, ◌≤◌, Bool, true, false, cond, List, [], ◌∷◌, length, arith, inl, inr}
-use Rattle.std.proofs.lemmas.Bool.{cases_Bool}
+use Rattle.std.proofs.Common.{ℕ, zero, suc, ◌+◌, ◌≤◌, Bool, true, false, cond, List, [], ◌∷◌, length, arith}
 use Rattle.qil_plain.specs.declared.tree.Program.{Program}
 use Rattle.qil_meaning.specs.State.{State}
 use Rattle.qil_meaning.specs.Timeline.{Timeline, position, at_end, forward, forward_by, back_by, back_by_to}

@@ -1,9 +1,9 @@
 -- How a run starts.
-use Rattle.std.specs.Prelude.{ℕ, ◌==◌, List, [], ◌∷◌, length, Option, Some, None, Result, Ok, Err, if◌then◌else◌}
+use Rattle.std.specs.Prelude.{ℕ, List, [], ◌∷◌, Option, Some, None, Result, Ok, Err}
 use Rattle.qil_plain.specs.declared.tree.Block.{Block}
 use Rattle.qil_plain.specs.declared.tree.Func.{Func}
 use Rattle.qil_plain.specs.declared.tree.Program.{Program}
-use Rattle.qil_meaning.specs.State.{Name, none_set, Frame, running, State}
+use Rattle.qil_meaning.specs.State.{Name, none_set, running, State}
 use Rattle.qil_meaning.specs.declared.start.StartFault.{StartFault}
 use Rattle.qil_meaning.specs.declared.start.StartFault.TheVariants.{NoEntry, ArgumentCount}
 use Rattle.qil_meaning.specs.Step.{func_named}

@@ -1,5 +1,5 @@
 -- One step of a program: the instruction or the jump at the place of the innermost frame.
-use Rattle.std.specs.Prelude.{ℕ, suc, ◌+◌, List, [], ◌∷◌, Option, Some, None, Result, Ok, Err, find, slice_get, unwrap_or}
+use Rattle.std.specs.Prelude.{ℕ, ◌+◌, List, [], ◌∷◌, Option, Some, None, Result, Ok, Err, find, slice_get, unwrap_or}
 use Rattle.std.specs.Str.{bytes_eq}
 use Rattle.qil_parser.specs.declared.ops.Class.{Class}
 use Rattle.qil_parser.specs.declared.ops.Class.TheVariants as classes

@@ -1,5 +1,5 @@
 -- The timeline of a session: every whole state from the start to now.
-use Rattle.std.specs.Prelude.{◌≡◌, ℕ, zero, suc, Bool, true, false, cond, List, [], ◌∷◌, length, Option, Some, None}
+use Rattle.std.specs.Prelude.{ℕ, zero, suc, Bool, cond, List, [], ◌∷◌, length, Option, Some, None}
 use Rattle.qil_plain.specs.declared.tree.Program.{Program}
 use Rattle.qil_meaning.specs.State.{State, is_final}
 use Rattle.qil_meaning.specs.Step.{step_of}

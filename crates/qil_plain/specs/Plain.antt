@@ -1,5 +1,5 @@
 -- What of a program is run, and the line of the first thing in its text that isn't.
-use Rattle.std.specs.Prelude.{◌≡◌, ℕ, List, [], ◌∷◌, ◌++◌, Option, Some, None, option_map, Result, Ok, Err}
+use Rattle.std.specs.Prelude.{ℕ, List, [], ◌∷◌, Option, Some, None, option_map, Result, Ok, Err}
 use Rattle.qil_parser.specs.declared.ops.Class.{Class}
 use Rattle.qil_parser.specs.declared.ops.Class.TheVariants as classes
 use Rattle.qil_parser.specs.declared.ops.AbiType.{AbiType}

@@ -1,7 +1,6 @@
 -- The lemmas of this crate, from a moment of a run up to whole transcripts.
 pub mod MomentLemmas
 pub mod StepLemmas
-pub mod PieceLemmas
 pub mod TimelineLemmas
 pub mod AnswerLemmas
 pub mod KeptLemmas

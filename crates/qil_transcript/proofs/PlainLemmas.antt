@@ -1,5 +1,5 @@
 -- From the contract of what is run to that of loading.
-use Rattle.std.proofs.Common.{◌≡◌, ◌∙◌, sym, ap, List, ℕ, Result, Ok, Err, false, true}
+use Rattle.std.proofs.Common.{◌≡◌, ◌∙◌, sym, ap, List, ℕ, Ok, Err, false, true}
 use Rattle.qil_parser.specs.declared.tree.Program as whole
 use Rattle.qil_plain.specs.declared.tree.Program.{Program}
 use Rattle.qil_plain.specs.declared.narrow.PlainError.{PlainError}

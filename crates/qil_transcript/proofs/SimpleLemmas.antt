@@ -1,5 +1,5 @@
 -- What is run of a program is functions of one block each.
-use Rattle.std.proofs.Common.{◌≡◌, ◌∙◌, sym, ap, refl, subst, ℕ, List, [], ◌∷◌, Option, Some, None, Result, Ok, Err}
+use Rattle.std.proofs.Common.{◌≡◌, ◌∙◌, sym, ap, refl, subst, ℕ, List, [], ◌∷◌, Option, Ok, Err}
 use Rattle.std.specs.List.{AllByRecursion}
 use Rattle.qil_parser.specs.declared.ops.Class.{Class}
 use Rattle.qil_parser.specs.declared.tree.Block as whole_block
@@ -36,7 +36,7 @@ of_blocks f returns blocks = record { returns = returns; name = f.name; line = f
 one_block_func : {A : Type 0} (f : whole_func.Func A) (x : Func A) → plain_func f ≡ Ok x → IsOneBlock x
 one_block_func {A} f x e =
     let p = then_ok (or_line f.line (plain_returns f.returns)) (λ returns. then (no_param f.line f.params) (λ none. then (plain_blocks f.line f.blocks) (λ blocks.
-            Ok (record { returns = returns; name = f.name; line = f.line; blocks = blocks })))) x e in
+    Ok (record { returns = returns; name = f.name; line = f.line; blocks = blocks })))) x e in
     let q = then_ok (no_param f.line f.params) (λ none. then (plain_blocks f.line f.blocks) (λ blocks. Ok (record { returns = p.0; name = f.name; line = f.line; blocks = blocks }))) x p.1 in
     blocks_of f p.0 x (plain_blocks f.line f.blocks) refl q.1
   where

@@ -1,5 +1,5 @@
 -- Data first, then functions, then what is built in.
-use Rattle.std.proofs.Common.{◌∙◌, ap, sym, None}
+use Rattle.std.proofs.Common.{◌∙◌, ap, None}
 use Rattle.qil_layout.specs.Layout.{or_else, data_address, func_address}
 use Rattle.qil_layout.specs.Table.{found}
 use Rattle.qil_layout.proofs.TableLemmas.{three_noted}

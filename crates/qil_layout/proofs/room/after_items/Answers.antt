@@ -1,5 +1,5 @@
 -- One item more.
-use Rattle.std.proofs.Common.{◌∙◌, arith}
+use Rattle.std.proofs.Common.{arith}
 use Rattle.qil_layout.specs.Layout.{item_size}
 use Rattle.qil_layout.proofs.RoomLemmas.{one_more, too_little, all_left}
 use Rattle.qil_layout.proofs.room.after_items.Goals as goal

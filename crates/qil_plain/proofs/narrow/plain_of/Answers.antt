@@ -1,5 +1,5 @@
 -- One definition fewer is left.
-use Rattle.std.proofs.Common.{◌+◌, ◌∙◌, ap, drop, arith}
+use Rattle.std.proofs.Common.{◌+◌, drop, arith}
 use Rattle.qil_plain.proofs.PlainLemmas.{one_fewer, told}
 use Rattle.qil_plain.proofs.narrow.plain_of.Goals as goal
 

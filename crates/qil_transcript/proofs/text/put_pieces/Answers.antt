@@ -1,7 +1,7 @@
 -- Answers to the goals of `put_pieces`.
 use Rattle.std.proofs.Common.{◌∙◌, refl, List, ℕ, Bor}
 use Rattle.qil_streams.proofs.DeviceLemmas.{Appends-nil}
-use Rattle.qil_transcript.proofs.PieceLemmas.{put_more, put_stop, put_all}
+use Rattle.qil_streams.proofs.PieceLemmas.{put_more, put_stop, put_all}
 use Rattle.qil_transcript.proofs.text.put_pieces.Goals as goal
 
 abbrev bytes : Bor (List ℕ) → List ℕ
