@@ -436,3 +436,32 @@ fn memory_refused_in_turn(rt: HostRuntime) {
     let refused = refuse_each(&heap, |heap| checked(heap));
     assert!(rt; refused.is_ok_and(|count| count > 8));
 }
+
+/// How a refusal is told.
+#[test]
+fn told(rt: HostRuntime) -> Result<(), Fail> {
+    let rules = [
+        (Rule::C1, "C1 line 7"),
+        (Rule::C2, "C2 line 7"),
+        (Rule::C3, "C3 line 7"),
+        (Rule::C4, "C4 line 7"),
+        (Rule::C5, "C5 line 7"),
+        (Rule::C6, "C6 line 7"),
+        (Rule::C7, "C7 line 7"),
+        (Rule::C8, "C8 line 7"),
+        (Rule::C9, "C9 line 7"),
+        (Rule::C10, "C10 line 7"),
+        (Rule::C11, "C11 line 7"),
+        (Rule::C12, "C12 line 7"),
+    ];
+    for (rule, wanted) in rules {
+        let refused = CheckError::Refused { rule, line: 7 };
+        assert_eq!(rt; format!(in rt.alloc(); "{refused}")?.as_str(), wanted);
+    }
+    let memory = CheckError::OutOfMemory;
+    assert_eq!(rt;
+        format!(in rt.alloc(); "{memory}")?.as_str(),
+        "out of memory"
+    );
+    Ok(())
+}

@@ -1,7 +1,6 @@
--- The data of a program without a fault has at most 2 ^ 20 bytes.
-use Rattle.std.proofs.Common.{◌≡◌, ◌∙◌, ap, refl, ℕ, zero, suc, ◌+◌, ◌-◌, ◌*◌, ◌/◌, ◌^◌, ◌<◌, ◌≤◌, Bool, true, false, not, nat_lt, if◌then◌else◌, List, [], ◌∷◌, length, Option, Some, None, length-append, arith}
+-- How many bytes numbers, zeros and data have: the data of a program without a fault at most 2 ^ 20.
+use Rattle.std.proofs.Common.{◌≡◌, ◌∙◌, ap, refl, ℕ, zero, suc, ◌+◌, ◌-◌, ◌/◌, ◌^◌, ◌<◌, ◌≤◌, Bool, true, false, not, nat_lt, if◌then◌else◌, List, [], ◌∷◌, length, Option, Some, None, length-append, arith}
 use Rattle.std.specs.List.{sum_by}
-use Rattle.std.proofs.Math.Nat.{lt-div-mul-add}
 use Rattle.std.proofs.lemmas.Bool.{ltb-false}
 use Rattle.std.proofs.lemmas.List.{length-replicate}
 use Rattle.std.proofs.lemmas.List.Concat.{length-flat_map}
@@ -18,11 +17,11 @@ use Rattle.qil_layout.specs.Layout.{width_bytes, item_size, field_size, size_of,
 
 -- ---- as many bytes as the size
 
-length-low_bytes : (n v : ℕ) → length (low_bytes n v) ≡ n
+pub length-low_bytes : (n v : ℕ) → length (low_bytes n v) ≡ n
 length-low_bytes zero v = refl
 length-low_bytes (suc n) v = ap suc (length-low_bytes n (v / 256))
 
-length-zeros : (n : ℕ) → length (zeros n) ≡ n
+pub length-zeros : (n : ℕ) → length (zeros n) ≡ n
 unfolding zeros
 length-zeros n = length-replicate n 0
 
@@ -39,17 +38,16 @@ module _ {A : Type 0} (address : List ℕ → Option ℕ) where
   length-object : (d : Data A) → length (object_bytes address d) ≡ size_of d
   length-object d = length-flat_map (field_bytes address) d.fields ∙ ap (λ (size : Field A → ℕ). sum_by size d.fields) (λ i field. length-field field i)
 
+-- ---- nothing is rounded down
+
+pub rounded_low : (align n : ℕ) → 0 < align → n ≤ rounded align n
+rounded_low align n some = omega arith
+
 -- ---- what has no fault
 
 some_alignment : (align : ℕ) → is_alignment align ≡ true → 0 < align
 some_alignment zero is = absurd cc
 some_alignment (suc align) is = omega arith
-
-not_before : (align at : ℕ) → is_alignment align ≡ true → at ≤ rounded align at
-not_before align at is =
-    let some = some_alignment align is in
-    let up : at + (align - 1) < (at + (align - 1)) / align * align + align = lt-div-mul-add {a = at + (align - 1)} {b = align} some in
-    omega (arith, up, some)
 
 neither : (aligned past : Bool) → (if not aligned then Some Y2 else (if past then Some Y1 else None)) ≡ None → (aligned ≡ true) × (past ≡ false)
 neither true false is = (refl, refl)
@@ -67,7 +65,7 @@ within address at [] low none = omega arith
 within address at (d ∷ ds) low none =
     let both = untold d (object_fault at d) (fault_from (end_of at d) ds) none in
     let fits = neither (is_alignment (align_of d)) (nat_lt data_limit (end_of at d)) both.0 in
-    let start : at ≤ start_of at d = not_before (align_of d) at fits.0 in
+    let start : at ≤ start_of at d = rounded_low (align_of d) at (some_alignment (align_of d) fits.0) in
     let more = within address (end_of at d) ds (ltb-false data_limit (end_of at d) fits.1) both.1 in
     let gap = length-zeros (start_of at d - at) in
     let object = length-object address d in

@@ -1,8 +1,8 @@
 //! The bytes of the data.
 
-ghost use Rattle.std.specs.Prelude.{◌≡◌, ◌++◌, ◌+◌, ◌≤◌, None, List, ℕ, OnOk, IfOk, length};
+ghost use Rattle.std.specs.Prelude.{◌≡◌, ◌++◌, None, OnOk, IfOk};
 ghost use Rattle.std.specs.List.{flat_map};
-ghost use Rattle.qil_layout.specs.Layout.{width_bytes, low_bytes, zeros, item_bytes, field_bytes, object_bytes, bytes_from, fault_from};
+ghost use Rattle.qil_layout.specs.Layout.{width_bytes, low_bytes, zeros, item_bytes, field_bytes, bytes_from, fault_from};
 ghost use Rattle.qil_layout.specs.Table.{found};
 
 use crate::place::{DATA_BASE, span_of};

@@ -13,6 +13,7 @@ mod table;
 pub use callee::{Callee, FuncId};
 pub use error::{LayoutCode, LayoutError};
 pub use image::{Image, layout};
+pub use place::{DATA_BASE, rounded_up};
 
 #[cfg(test)]
 mod tests;

@@ -1,6 +1,6 @@
 //! The addresses of all names of a program.
 
-ghost use Rattle.std.specs.Prelude.{◌≡◌, ◌≤◌, ◌<◌, ◌*◌, ◌+◌, List, ℕ, None, OnOk, IfOk, IfErr, length};
+ghost use Rattle.std.specs.Prelude.{◌≡◌, ◌≤◌, ◌<◌, ◌+◌, List, ℕ, None, OnOk, IfOk, IfErr, length};
 ghost use Rattle.qil_layout.specs.Layout.{or_else, data_address, func_address, built_in_address, address_of, fault_from, fault_of};
 ghost use Rattle.qil_layout.specs.Table.{found};
 ghost use Rattle.qil_layout.specs.Answer.{IsFault};

@@ -1,6 +1,6 @@
 //! Where one object stands behind another, or why it can't.
 
-ghost use Rattle.std.specs.Prelude.{◌≡◌, ◌≤◌, ℕ, true, Some, None, IfOk, IfErr};
+ghost use Rattle.std.specs.Prelude.{◌≡◌, ◌+◌, ◌^◌, ◌<◌, ◌≤◌, Some, None, IfOk, IfErr};
 ghost use Rattle.qil_layout.specs.Layout.{rounded, is_alignment, align_of, start_of, end_of, object_fault};
 
 use crate::error::LayoutCode;
@@ -35,11 +35,12 @@ fn is_alignment(align: u64) -> bool
         || align == 4096
 }
 
-/// The least multiple that isn't below an address.
-fn rounded_up(align: u64, at: u64) -> u64
-    requires align { is_alignment align ≡ true }
-    requires at { at ≤ 1114112 }
-    ensures { result ≡ rounded align at }
+/// The least multiple of an alignment that isn't below an address.
+pub fn rounded_up(align: u64, at: u64) -> u64
+    requires some { 0 < align }
+    requires room { at + align ≤ 2 ^ 64 }
+    ensures value { result ≡ rounded align at }
+    ensures low { at ≤ result }
 {
     (at + (align - 1)) / align * align
 }

@@ -202,15 +202,17 @@ fn memory_refused_in_turn(rt: HostRuntime) {
     assert!(rt; refused.is_ok_and(|count| count > 8));
 }
 
+/// How a fault is told.
 #[test]
-fn texts_of_refusals(rt: HostRuntime) -> Result<(), Fail> {
-    let alloc = rt.alloc();
-    let refused = LayoutError::Refused {
-        code: LayoutCode::Y1,
-        line: 7,
-    };
-    assert_eq!(rt; format!(in alloc; "{refused}")?.as_str(), "Y1 line 7");
-    let code = LayoutCode::Y2;
-    assert_eq!(rt; format!(in alloc; "{code}")?.as_str(), "Y2");
+fn told(rt: HostRuntime) -> Result<(), Fail> {
+    for (code, wanted) in [(LayoutCode::Y1, "Y1 line 7"), (LayoutCode::Y2, "Y2 line 7")] {
+        let refused = LayoutError::Refused { code, line: 7 };
+        assert_eq!(rt; format!(in rt.alloc(); "{refused}")?.as_str(), wanted);
+    }
+    let memory = LayoutError::OutOfMemory;
+    assert_eq!(rt;
+        format!(in rt.alloc(); "{memory}")?.as_str(),
+        "out of memory"
+    );
     Ok(())
 }

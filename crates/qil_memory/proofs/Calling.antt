@@ -1,8 +1,9 @@
 -- What the calls did, in words of the map of live bytes.
 use Rattle.std.proofs.Common.{◌≡◌, ℕ, ◌+◌, ◌<◌, ◌≤◌, List, [], length, Option, Some, None, Result, Ok, Err, IsErrAnd, IfErr, inl, true, false, ◌==◌, if◌then◌else◌, ◌-◌, IsTrue, refl, sym, ap, subst, ◌∙◌, arith, ⊎_elim}
 use Rattle.std.proofs.lemmas.Bool.Decides.{nat_tests}
-use Rattle.std.proofs.lemmas.List.{length-replicate}
-use Rattle.qil_memory.specs.Bytes.{number, bytes_of, zeros}
+use Rattle.qil_layout.specs.Layout.{low_bytes, zeros}
+use Rattle.qil_layout.proofs.BytesLemmas.{length-low_bytes, length-zeros}
+use Rattle.qil_memory.specs.Bytes.{number}
 use Rattle.qil_memory.specs.Buffers.{Buffers, IsMemory, stack_base, stack_end}
 use Rattle.qil_memory.specs.Live.{Live, live, read, laid}
 use Rattle.qil_memory.specs.Calls.{IsWidth, if_live, loaded, stored, overlap, copied, blitted, Explains}
@@ -10,7 +11,6 @@ use Rattle.qil_memory.specs.declared.fault.BlitFault.TheVariants.{Source, Target
 use Rattle.qil_memory.specs.declared.fault.BlitFault.{BlitFault}
 use Rattle.qil_memory.specs.Undo.{Kept, with_bytes, with_top, undone, Fits}
 use Rattle.qil_memory.specs.Places.{IsLive, HasBytes, HasPlaces, bytes_at}
-use Rattle.qil_memory.proofs.Numbers.{length-bytes_of}
 use Rattle.qil_memory.proofs.LiveBytes.{live-with_bytes, live-grown, read-live, read-dead}
 use Rattle.qil_memory.proofs.Undoing.{length-bytes_at, with_bytes-nil, top_stays, Keeps, fits_of}
 
@@ -23,13 +23,13 @@ loaded_live m a n i l = ap (if_live a number) (read-live m a n i l)
 pub loaded_dead : (m : Buffers) (a n : ℕ) → IsMemory m → IsWidth n → (IsLive m a n → IsTrue false) → loaded (live m) a n ≡ Err (record { address = a })
 loaded_dead m a n i w d = ap (if_live a number) (read-dead m a n i (some_width n w) (λ l. let e : IsTrue false = d l in cc))
 
-pub stored_live : (m w : Buffers) (a n v : ℕ) → IsMemory m → IsLive m a n → w ≡ with_bytes m a (bytes_of n v) → stored (live m) a n v ≡ Ok (live w)
+pub stored_live : (m w : Buffers) (a n v : ℕ) → IsMemory m → IsLive m a n → w ≡ with_bytes m a (low_bytes n v) → stored (live m) a n v ≡ Ok (live w)
 stored_live m w a n v i l e =
-    let n_bytes : IsLive m a (length (bytes_of n v)) = rw (length-bytes_of n v) l in
-    ap (if_live a (λ _. laid (live m) a (bytes_of n v))) (read-live m a n i l) ∙ ap Ok (sym (live-with_bytes m a (bytes_of n v) i n_bytes) ∙ ap live (sym e))
+    let n_bytes : IsLive m a (length (low_bytes n v)) = rw (length-low_bytes n v) l in
+    ap (if_live a (λ _. laid (live m) a (low_bytes n v))) (read-live m a n i l) ∙ ap Ok (sym (live-with_bytes m a (low_bytes n v) i n_bytes) ∙ ap live (sym e))
 
 pub stored_dead : (m : Buffers) (a n v : ℕ) → IsMemory m → IsWidth n → (IsLive m a n → IsTrue false) → stored (live m) a n v ≡ Err (record { address = a })
-stored_dead m a n v i w d = ap (if_live a (λ _. laid (live m) a (bytes_of n v))) (read-dead m a n i (some_width n w) (λ l. let e : IsTrue false = d l in cc))
+stored_dead m a n v i w d = ap (if_live a (λ _. laid (live m) a (low_bytes n v))) (read-dead m a n i (some_width n w) (λ l. let e : IsTrue false = d l in cc))
 
 pub written_keeps : (m w : Buffers) (saved : Kept) (a n t s : ℕ) (new kept xs : List ℕ) → HasBytes m a n → n ≡ length new → w ≡ with_top (with_bytes m a new) t → kept ≡ xs → xs ≡ bytes_at m a n → s ≡ m.top → saved ≡ record { address = a; bytes = kept; top = s } → Keeps m w saved
 written_keeps m w saved a n t s new kept xs h count e f g top is = rw is (record {
@@ -56,10 +56,10 @@ some_places m a n bs some e h = ⊎_elim
     (λ (x : HasBytes m a (length bs)). subst (HasBytes m a) e x)
     h
 
-pub store_keeps : (m w : Buffers) (saved : Kept) (a n v t : ℕ) (kept xs : List ℕ) → HasBytes m a n → w ≡ with_bytes m a (bytes_of n v) → kept ≡ xs → xs ≡ bytes_at m a n → t ≡ w.top → saved ≡ record { address = a; bytes = kept; top = t } → Keeps m w saved
+pub store_keeps : (m w : Buffers) (saved : Kept) (a n v t : ℕ) (kept xs : List ℕ) → HasBytes m a n → w ≡ with_bytes m a (low_bytes n v) → kept ≡ xs → xs ≡ bytes_at m a n → t ≡ w.top → saved ≡ record { address = a; bytes = kept; top = t } → Keeps m w saved
 store_keeps m w saved a n v t kept xs h e f g s is =
-    let stays : w ≡ with_top (with_bytes m a (bytes_of n v)) m.top = top_stays m w a (bytes_of n v) e in
-    written_keeps m w saved a n m.top t (bytes_of n v) kept xs h (sym (length-bytes_of n v)) stays f g (s ∙ ap (λ (x : Buffers). x.top) stays) is
+    let stays : w ≡ with_top (with_bytes m a (low_bytes n v)) m.top = top_stays m w a (low_bytes n v) e in
+    written_keeps m w saved a n m.top t (low_bytes n v) kept xs h (sym (length-low_bytes n v)) stays f g (s ∙ ap (λ (x : Buffers). x.top) stays) is
 
 -- ---- blit
 
@@ -92,10 +92,6 @@ blit_done m w s t n i some l h k e same =
     blit_free m s t n i some l k e ∙ ap Ok (sym (live-with_bytes m t (bytes_at m s n) i (rw count k)) ∙ ap live (sym same))
 
 -- ---- alloc
-
-length-zeros : (n : ℕ) → length (zeros n) ≡ n
-unfolding zeros
-length-zeros n = length-replicate n 0
 
 pub alloc_bytes : (m c w : Buffers) (top end n : ℕ) → IsMemory m → top ≡ m.top → end ≡ top + n → end ≤ stack_end → c ≡ with_bytes m top (zeros n) → w ≡ with_top c end → live w ≡ laid (live m) m.top (zeros (w.top - m.top))
 alloc_bytes m c w top end n i e f high g h =

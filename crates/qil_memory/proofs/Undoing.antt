@@ -1,7 +1,8 @@
 -- What was kept, put back.
 use Rattle.std.proofs.Common.{◌≡◌, ℕ, ◌+◌, ◌-◌, ◌<◌, ◌≤◌, List, [], ◌∷◌, length, inl, inr, refl, sym, ap, subst, ◌∙◌, arith, ⊎_elim}
 use Rattle.std.proofs.lemmas.Bool.{cases_lt, lt-ltb, le-ltb}
-use Rattle.qil_memory.specs.Buffers.{Buffers, IsMemory, data_base, stack_base, stack_end}
+use Rattle.qil_layout.specs.Layout.{data_base}
+use Rattle.qil_memory.specs.Buffers.{Buffers, IsMemory, stack_base, stack_end}
 use Rattle.qil_memory.specs.Undo.{Kept, with_bytes, with_top, undone, IsPlace, Fits}
 use Rattle.qil_memory.specs.Places.{IsLive, HasBytes, HasPlaces, bytes_at}
 use Rattle.qil_memory.proofs.Spans.{length-slice_range, length-over, over-nil, over_back}

@@ -1,7 +1,8 @@
 //! Numbers as bytes, the least significant first.
 
 ghost use Rattle.std.specs.Prelude.{◌≡◌, ◌+◌, ◌≤◌, length, IfOk};
-ghost use Rattle.qil_memory.specs.Bytes.{number, bytes_of, over, zeros};
+ghost use Rattle.qil_layout.specs.Layout.{low_bytes, zeros};
+ghost use Rattle.qil_memory.specs.Bytes.{number, over};
 
 use std::alloc::{AllocError, Allocator};
 
@@ -38,7 +39,7 @@ pub fn write(target: &mut [u8], at: usize, bytes: &[u8])
 }
 
 /// Makes `n` bytes from a place on zero.
-#[tactic(auto, unfolding(crate::specs::Bytes::zeros))]
+#[tactic(auto, unfolding(qil_layout::specs::Layout::zeros))]
 pub fn clear(target: &mut [u8], at: usize, n: usize)
     requires { at + n ≤ length target.old }
     ensures { target.new ≡ over target.old at (zeros n) }
@@ -50,7 +51,7 @@ pub fn clear(target: &mut [u8], at: usize, n: usize)
 pub fn write_number(target: &mut [u8], at: usize, n: usize, v: u64)
     requires few { n ≤ 8 }
     requires inside { at + n ≤ length target.old }
-    ensures { target.new ≡ over target.old at (bytes_of n v) }
+    ensures { target.new ≡ over target.old at (low_bytes n v) }
 {
     match n {
         1 => write(target, at, &[(v % 0x100) as u8]),
@@ -62,7 +63,7 @@ pub fn write_number(target: &mut [u8], at: usize, n: usize, v: u64)
 }
 
 /// So many zero bytes.
-#[tactic(auto, unfolding(crate::specs::Bytes::zeros))]
+#[tactic(auto, unfolding(qil_layout::specs::Layout::zeros))]
 pub fn zeroed<A: Allocator>(alloc: A, n: usize) -> Result<Vec<u8, A>, AllocError>
     ensures items { IfOk result (λ v. v.items ≡ zeros n) }
     ensures len { IfOk result (λ v. length v.items ≡ n) }

@@ -1,11 +1,10 @@
 //! The memory of a run: the bytes of the data, and a stack that grows upward and keeps its dead bytes.
 
 ghost use Rattle.std.specs.Prelude.{◌≡◌, ◌≢◌, ◌+◌, ◌-◌, ◌<◌, ◌≤◌, ◌^◌, ◌↔◌, [], length, IsTrue, OnOk, OnErr, IfOk, IfErr};
-ghost use Rattle.qil_layout.specs.Layout as layout;
-ghost use Rattle.qil_memory.specs.Bytes.{bytes_of, over, zeros};
+ghost use Rattle.qil_layout.specs.Layout.{rounded, low_bytes, zeros, bytes_of};
 ghost use Rattle.qil_memory.specs.Buffers.{stack_base, stack_end, fresh, IsMemory};
 ghost use Rattle.qil_memory.specs.Live.{live, laid, below};
-ghost use Rattle.qil_memory.specs.Calls.{IsWidth, IsAlignment, loaded, stored, overlap, blitted, Explains, rounded};
+ghost use Rattle.qil_memory.specs.Calls.{IsWidth, IsAlignment, loaded, stored, overlap, blitted, Explains};
 ghost use Rattle.qil_memory.specs.Undo.{Fits, undone, with_bytes, with_top};
 ghost use Rattle.qil_memory.specs.Places.{IsLive, HasBytes, HasPlaces, bytes_at, end_of};
 ghost use Rattle.qil_memory.specs.Kept.{listed, IsThrifty};
@@ -13,12 +12,9 @@ ghost use Rattle.qil_memory.specs.Kept.{listed, IsThrifty};
 use crate::bytes::{clear, number_of, write, write_number, zeroed};
 use crate::fault::{AllocFault, BlitFault, Dead};
 use crate::saved::{KeptBytes, Saved, keep, keep_few};
-use qil_layout::Image;
+use qil_layout::{DATA_BASE, Image, rounded_up};
 use std::alloc::{AllocError, Allocator};
 use std::marker::Model;
-
-/// The address of the first byte of the data.
-pub const DATA_BASE: u64 = 65_536;
 
 /// The address of the first byte of the stack.
 pub const STACK_BASE: u64 = 16_777_216;
@@ -53,7 +49,7 @@ impl<A: Allocator + Copy> Memory<A> {
     /// The memory at the start of a run: the bytes of the image's data, and an empty stack, all bytes of which are
     /// reserved here.
     pub fn new(alloc: A, image: &Image<'_, '_, A>) -> Result<Memory<A>, AllocError>
-        ensures { IfOk result (λ m. m ≡ fresh (layout.bytes_of image.now)) }
+        ensures { IfOk result (λ m. m ≡ fresh (bytes_of image.now)) }
     {
         Ok(Memory {
             data_bytes: Vec::from_slice(alloc, image.bytes())?,
@@ -185,7 +181,7 @@ impl<A: Allocator + Copy> Memory<A> {
         ensures err { OnErr result (self.new ≡ self.old) }
     {
         let top = self.top();
-        let address = rounded_up(top, align);
+        let address = rounded_up(align, top);
         if address > STACK_END || n > STACK_END - address {
             return Err(AllocFault::Full);
         }
@@ -286,7 +282,7 @@ impl<A: Allocator + Copy> Memory<A> {
     fn put_number(&mut self, address: u64, n: usize, v: u64)
         requires few { n ≤ 8 }
         requires places { HasBytes self.old address n }
-        ensures { self.new ≡ with_bytes self.old address (bytes_of n v) }
+        ensures { self.new ≡ with_bytes self.old address (low_bytes n v) }
     {
         if address < STACK_BASE {
             write_number(&mut self.data_bytes, (address - DATA_BASE) as usize, n, v);
@@ -384,19 +380,4 @@ fn overlaps(source: u64, target: u64, n: u64) -> bool
     ensures { result ≡ overlap source target n }
 {
     source != target && source < target + n && target < source + n
-}
-
-/// The least multiple of an alignment that isn't below an address.
-fn rounded_up(address: u64, align: u64) -> u64
-    requires align { IsAlignment align }
-    requires small { address < 2 ^ 60 }
-    ensures value { result ≡ rounded align address }
-    ensures low { address ≤ result }
-    ensures high { result < address + 16 }
-{
-    match align {
-        4 => (address + 3) / 4 * 4,
-        8 => (address + 7) / 8 * 8,
-        _ => (address + 15) / 16 * 16,
-    }
 }

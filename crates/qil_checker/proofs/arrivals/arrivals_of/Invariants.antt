@@ -1,3 +1,4 @@
+-- The lists so far with the arrivals among the marks that are left are all arrivals.
 use Rattle.std.proofs.Common.{◌≡◌, List, ℕ, drop, ◌++◌}
 use Rattle.qil_checker.specs.Tables.{list_at}
 use Rattle.qil_checker.specs.Tables.{arrivals}

@@ -1,3 +1,4 @@
+-- Each name so far has a place.
 use Rattle.std.proofs.Common.{◌≡◌, ◌≢◌, List, ℕ, ◌<◌, Some, None, slice_get}
 use Rattle.qil_checker.specs.Tables.{place_of}
 use Rattle.qil_checker.proofs.sources.all_known.Given as goal

@@ -1,3 +1,4 @@
+-- No name stands twice where each stands first at its own place.
 use Rattle.std.proofs.Common.{◌≡◌, ◌∙◌, sym, refl, subst, arith, List, ℕ, Some, slice_get, ◌<◌, length, below_more}
 use Rattle.std.proofs.lemmas.Option.{slice_get_within}
 use Rattle.qil_checker.specs.Tables.{first, is}

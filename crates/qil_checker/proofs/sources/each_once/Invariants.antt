@@ -1,3 +1,4 @@
+-- Each name so far stands first at its own place.
 use Rattle.std.proofs.Common.{◌≡◌, List, ℕ, ◌<◌, Some, slice_get}
 use Rattle.qil_checker.specs.Tables.{first, is}
 use Rattle.qil_checker.proofs.sources.each_once.Given as goal

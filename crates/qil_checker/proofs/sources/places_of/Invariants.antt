@@ -1,3 +1,4 @@
+-- The table's place of a name, or else its first place among the names that are left, is its first place.
 use Rattle.std.proofs.Common.{◌≡◌, List, ℕ, drop}
 use Rattle.qil_checker.specs.Tables.{place_of, or_else}
 use Rattle.qil_checker.specs.Tables.{first, is}

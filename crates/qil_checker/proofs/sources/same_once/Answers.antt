@@ -1,3 +1,4 @@
+-- The names stand once each and each list has all names of the other.
 use Rattle.std.proofs.Common.{◌≡◌, arith, true}
 use Rattle.qil_checker.specs.Tables.{place_of}
 use Rattle.qil_checker.specs.Text.{AreDistinct}

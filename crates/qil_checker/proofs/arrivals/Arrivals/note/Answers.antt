@@ -1,3 +1,4 @@
+-- A list that a block is noted in has one label more; the other lists stay.
 use Rattle.std.proofs.Common.{rules, ◌≡◌, ◌∙◌, sym, ap, Some, [], ◌∷◌, ◌++◌}
 use Rattle.qil_checker.specs.Tables.{list_at, items_of}
 use Rattle.std.specs.Str.{bytes_eq}
