@@ -1,5 +1,4 @@
 -- The definitions of this crate.
-pub mod Values
 pub mod State
 pub mod Step
 pub mod Start

@@ -3,9 +3,12 @@ use Rattle.std.specs.Prelude.{ℕ, ◌+◌, List, [], ◌∷◌, Option, Some, N
 use Rattle.std.specs.Str.{bytes_eq}
 use Rattle.qil_parser.specs.declared.ops.Class.{Class}
 use Rattle.qil_parser.specs.declared.ops.Class.TheVariants as classes
+use Rattle.qil_ops.specs.Values.{width, Low}
 use Rattle.qil_plain.specs.declared.tree.Operand.{Operand}
 use Rattle.qil_plain.specs.declared.tree.Operand.TheVariants as operands
 use Rattle.qil_plain.specs.declared.tree.UnaryOp.TheVariants as unary
+use Rattle.qil_plain.specs.declared.tree.BinaryOp.{BinaryOp}
+use Rattle.qil_plain.specs.declared.tree.BinaryOp.TheVariants as binary
 use Rattle.qil_plain.specs.declared.tree.Expr.{Expr}
 use Rattle.qil_plain.specs.declared.tree.Expr.TheVariants as exprs
 use Rattle.qil_plain.specs.declared.tree.Inst.{Inst}
@@ -17,7 +20,6 @@ use Rattle.qil_plain.specs.declared.tree.JumpKind.TheVariants as jumps
 use Rattle.qil_plain.specs.declared.tree.Block.{Block}
 use Rattle.qil_plain.specs.declared.tree.Func.{Func}
 use Rattle.qil_plain.specs.declared.tree.Program.{Program}
-use Rattle.qil_meaning.specs.Values.{width, Low, binary_of}
 use Rattle.qil_meaning.specs.State.{Name, Temps, with_temp, Frame, Fault, unset_temporary, Status, running, done, faulted, State}
 
 -- what comes of a value, if there was no fault
@@ -36,6 +38,10 @@ known c x None = Err (unset_temporary x)
 abbrev pub val : Temps → Class → Operand → Result ℕ Fault
 val temps c (operands.Number n) = Ok (Low (width c) n)
 val temps c (operands.Temp x) = known c x (temps x)
+
+-- what an operation gives on two values of a class
+abbrev pub binary_of : BinaryOp → Class → ℕ → ℕ → ℕ
+binary_of binary.Add c a b = Low (width c) (a + b)
 
 -- what a target of a class is set to; operands are read from the left
 abbrev pub eval : Temps → Class → Expr → Result ℕ Fault

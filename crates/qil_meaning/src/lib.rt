@@ -1,5 +1,5 @@
-//! What programs mean: values, states, one step, the start, and the timeline that a session moves along. The
-//! definitions stand in specs/; the functions here are laws about them, with nothing to run.
+//! What programs mean: states, one step, the start, and the timeline that a session moves along. The definitions stand
+//! in specs/; the functions here are laws about them, with nothing to run.
 #![tactic(auto)]
 
 mod start;
