@@ -16,13 +16,13 @@ enum Place {
 }
 
 impl Place {
-    /// One of its first 4,096 addresses.
+    /// An address of its first 4,096, a multiple of 8.
     fn address(self, number: u64) -> u64 {
         let base = match self {
             Place::Data => DATA_BASE,
             Place::Stack => STACK_BASE,
         };
-        base + number % 4096
+        base + number % 512 * 8
     }
 }
 
