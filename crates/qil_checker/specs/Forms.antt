@@ -2,7 +2,7 @@
 use Rattle.std.specs.Prelude.{◌≡◌, ℕ, List, Some, slice_get}
 use Rattle.qil_parser.specs.declared.tree.Program.{Program}
 use Rattle.qil_checker.specs.declared.form.Form.{Form}
-use Rattle.qil_checker.specs.declared.form.Form.TheVariants.{Single, Several}
+use Rattle.qil_checker.specs.declared.form.Form.TheVariants.{Single, Multiple}
 use Rattle.qil_checker.specs.Marks.{Mark, texts}
 use Rattle.qil_checker.specs.Text.{IsAgain}
 use Rattle.qil_checker.specs.Rules.{HasName, Place, IsEarlier}
@@ -21,7 +21,7 @@ pub record IsFirstAgain (all : List (List Mark)) (func temp : List ℕ) : Type 0
 -- each temporary has one definition, or else that one is the first to be defined again
 abbrev pub HaveForm : List (List Mark) → Form → Type 0
 HaveForm all Single = (at : Place) (x : List ℕ) → IsAgainAt all at x → ⊥
-HaveForm all (Several func temp) = IsFirstAgain all func temp
+HaveForm all (Multiple func temp) = IsFirstAgain all func temp
 
 abbrev pub HasForm : {A : Type 0} → Program A → Form → Type 0
 HasForm p form = HaveForm (texts p) form

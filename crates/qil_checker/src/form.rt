@@ -8,5 +8,5 @@ pub enum Form<'a> {
     Single,
     /// The first function of the text in which a temporary has several, and of its temporaries the one whose second
     /// definition comes first.
-    Several { func: Name<'a>, temp: Name<'a> },
+    Multiple { func: Name<'a>, temp: Name<'a> },
 }

@@ -54,7 +54,7 @@ fn is_several<A: Allocator + Copy>(alloc: A, text: &[u8], name: &[u8], temporary
     };
     match check(alloc, program) {
         Ok(checked) => match checked.form() {
-            Form::Several { func, temp } => func.bytes() == name && temp.bytes() == temporary,
+            Form::Multiple { func, temp } => func.bytes() == name && temp.bytes() == temporary,
             Form::Single => false,
         },
         Err(_) => false,

@@ -344,7 +344,7 @@ impl<'p, 'a, A: Allocator + Copy> Whole<'p, 'a, A> {
         for text in self.texts.as_slice() {
             if let Some(temp) = text.second_definition() {
                 let func = Name::new(text.name.bytes());
-                return Form::Several { func, temp };
+                return Form::Multiple { func, temp };
             }
         }
         Form::Single

@@ -7,7 +7,7 @@ use Rattle.qil_parser.specs.declared.error.ParseCode.TheVariants.{P1, P2, P3, P4
 use Rattle.qil_checker.specs.declared.rule.Rule.{Rule}
 use Rattle.qil_checker.specs.declared.rule.Rule.TheVariants.{C1, C2, C3, C4, C5, C6, C7, C8, C9, C10, C11, C12}
 use Rattle.qil_checker.specs.declared.form.Form.{Form}
-use Rattle.qil_checker.specs.declared.form.Form.TheVariants.{Single, Several}
+use Rattle.qil_checker.specs.declared.form.Form.TheVariants.{Single, Multiple}
 use Rattle.qil_plain.specs.declared.tree.Program.{Program}
 use Rattle.qil_meaning.specs.State.{State}
 use Rattle.qil_meaning.specs.StartCode.{start_code}
@@ -61,7 +61,7 @@ refused_line (refusals.Start fault) = text_of (codes "refused: " ∷ start_code 
 
 abbrev pub loaded_line : ℕ → Form → List ℕ
 loaded_line funcs Single = text_of (codes "loaded " ∷ decimal funcs ∷ codes " functions 0 data bytes ssa yes\n" ∷ [])
-loaded_line funcs (Several func temp) =
+loaded_line funcs (Multiple func temp) =
     text_of (codes "loaded " ∷ decimal funcs ∷ codes " functions 0 data bytes ssa no $" ∷ func ∷ codes " %" ∷ temp ∷ codes "\n" ∷ [])
 
 abbrev pub load_lines : {A : Type 0} → Program A → Form → State → List ℕ

@@ -167,7 +167,7 @@ fn same_form<'a>(form: &Form<'a>) -> Form<'a>
 {
     match form {
         Form::Single => Form::Single,
-        Form::Several { func, temp } => Form::Several {
+        Form::Multiple { func, temp } => Form::Multiple {
             func: Name::new(func.bytes()),
             temp: Name::new(temp.bytes()),
         },

@@ -101,7 +101,7 @@ pub fn put_loaded_line<P: Put>(out: &mut P, funcs: usize, form: &Form<'_>) -> Re
                 b" functions 0 data bytes ssa yes\n".as_slice(),
             ],
         ),
-        Form::Several { func, temp } => put_pieces(
+        Form::Multiple { func, temp } => put_pieces(
             out,
             &[
                 b"loaded ".as_slice(),

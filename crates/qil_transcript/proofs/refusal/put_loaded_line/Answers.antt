@@ -6,17 +6,17 @@ returns-in-Single-clause-text g c =
     rw c.in-Single.is
     (rw (c.as_slice.ensures, c.as_bytes-count.ensures.value, c.format.ensures.text, c.as_slice-in-Single.ensures) at c.put_pieces.ensures.text)
 
-pub returns-in-Several-clause-text : goal.returns-in-Several-clause-text
-returns-in-Several-clause-text g c =
-    rw c.in-Several.is
+pub returns-in-Multiple-clause-text : goal.returns-in-Multiple-clause-text
+returns-in-Multiple-clause-text g c =
+    rw c.in-Multiple.is
     (rw (
-      c.as_slice-in-Several.ensures,
+      c.as_slice-in-Multiple.ensures,
       c.as_bytes-count.ensures.value,
       c.format.ensures.text,
-      c.as_slice-in-Several-2.ensures,
+      c.as_slice-in-Multiple-2.ensures,
       c.bytes.ensures,
-      c.as_slice-in-Several-3.ensures,
-      c.bytes-in-Several.ensures,
-      c.as_slice-in-Several-4.ensures,
+      c.as_slice-in-Multiple-3.ensures,
+      c.bytes-in-Multiple.ensures,
+      c.as_slice-in-Multiple-4.ensures,
     )
-    at c.put_pieces-in-Several.ensures.text)
+    at c.put_pieces-in-Multiple.ensures.text)
