@@ -1,8 +1,8 @@
 //! `qil_benchmark THOUSANDS`: how long an operation takes, and a call of a memory, each done so many thousand times.
 //!
-//! Standard output has a line for each: what was done, and a value that came of it. The value goes from each round into
-//! the next, so that no round can be left out, and is the same on every machine. Standard error has the picoseconds that
-//! a round took.
+//! Standard output has a line for each: what was done, and a value that came of it, which is the same on every machine.
+//! The value goes from each round into the next, so that no compiler leaves a round out. Standard error has the
+//! picoseconds that a round took.
 #![tactic(auto)]
 
 mod memory;

@@ -90,7 +90,7 @@ fn alloc_rounds(memory: &mut Memory<Global>, n: u64, rounds: u64) -> u64 {
     for round in 0..rounds {
         match memory.alloc(8, n) {
             Ok((address, saved)) => {
-                value = address ^ round;
+                value = value ^ address ^ round;
                 memory.undo(saved);
             }
             Err(_) => value = 0,
@@ -143,7 +143,7 @@ fn time_bytes<R: Clock + Print + Eprint>(
     watch.tell(format_args!("Alloc and undo {n}"), start, value)
 }
 
-/// Times each call that a step makes.
+/// Times loads, stores, blits and allocations, and the undoing of what they change.
 pub fn time<R: Clock + Print + Eprint>(
     watch: &Stopwatch<'_, R>,
     memory: &mut Memory<Global>,

@@ -9,46 +9,47 @@ use std::time::Clock;
 /// What the operands are mixed with, so that they have many digits.
 const SEED: u64 = 0x0123_4567_89AB_CDEF;
 
-const CLASSES: [Class; 2] = [Class::W, Class::L];
+/// An operation that is timed.
+#[derive(Clone, Copy, Debug)]
+enum Operation {
+    Unary(UnaryOp),
+    Binary(BinaryOp),
+    Compare(CompareOp),
+    Extend(Extension),
+}
 
-const UNARY: [UnaryOp; 2] = [UnaryOp::Copy, UnaryOp::Neg];
-
-const BINARY: [BinaryOp; 13] = [
-    BinaryOp::Add,
-    BinaryOp::Sub,
-    BinaryOp::Mul,
-    BinaryOp::Div,
-    BinaryOp::Rem,
-    BinaryOp::Udiv,
-    BinaryOp::Urem,
-    BinaryOp::And,
-    BinaryOp::Or,
-    BinaryOp::Xor,
-    BinaryOp::Sar,
-    BinaryOp::Shr,
-    BinaryOp::Shl,
-];
-
-const COMPARE: [CompareOp; 10] = [
-    CompareOp::Eq,
-    CompareOp::Ne,
-    CompareOp::Sle,
-    CompareOp::Slt,
-    CompareOp::Sge,
-    CompareOp::Sgt,
-    CompareOp::Ule,
-    CompareOp::Ult,
-    CompareOp::Uge,
-    CompareOp::Ugt,
-];
-
-const EXTEND: [Extension; 6] = [
-    Extension::Sw,
-    Extension::Uw,
-    Extension::Sh,
-    Extension::Uh,
-    Extension::Sb,
-    Extension::Ub,
+const OPERATIONS: [Operation; 31] = [
+    Operation::Unary(UnaryOp::Copy),
+    Operation::Unary(UnaryOp::Neg),
+    Operation::Binary(BinaryOp::Add),
+    Operation::Binary(BinaryOp::Sub),
+    Operation::Binary(BinaryOp::Mul),
+    Operation::Binary(BinaryOp::Div),
+    Operation::Binary(BinaryOp::Rem),
+    Operation::Binary(BinaryOp::Udiv),
+    Operation::Binary(BinaryOp::Urem),
+    Operation::Binary(BinaryOp::And),
+    Operation::Binary(BinaryOp::Or),
+    Operation::Binary(BinaryOp::Xor),
+    Operation::Binary(BinaryOp::Sar),
+    Operation::Binary(BinaryOp::Shr),
+    Operation::Binary(BinaryOp::Shl),
+    Operation::Compare(CompareOp::Eq),
+    Operation::Compare(CompareOp::Ne),
+    Operation::Compare(CompareOp::Sle),
+    Operation::Compare(CompareOp::Slt),
+    Operation::Compare(CompareOp::Sge),
+    Operation::Compare(CompareOp::Sgt),
+    Operation::Compare(CompareOp::Ule),
+    Operation::Compare(CompareOp::Ult),
+    Operation::Compare(CompareOp::Uge),
+    Operation::Compare(CompareOp::Ugt),
+    Operation::Extend(Extension::Sw),
+    Operation::Extend(Extension::Uw),
+    Operation::Extend(Extension::Sh),
+    Operation::Extend(Extension::Uh),
+    Operation::Extend(Extension::Sb),
+    Operation::Extend(Extension::Ub),
 ];
 
 fn unary_rounds(op: UnaryOp, class: Class, rounds: u64) -> u64 {
@@ -87,54 +88,26 @@ fn extend_rounds(kind: Extension, rounds: u64) -> u64 {
     value
 }
 
-fn time_unary<R: Clock + Print + Eprint>(watch: &Stopwatch<'_, R>, class: Class) -> io::Result<()> {
-    for op in UNARY {
+fn rounds_of(operation: Operation, class: Class, rounds: u64) -> u64 {
+    match operation {
+        Operation::Unary(op) => unary_rounds(op, class, rounds),
+        Operation::Binary(op) => binary_rounds(op, class, rounds),
+        Operation::Compare(op) => compare_rounds(op, class, rounds),
+        Operation::Extend(kind) => extend_rounds(kind, rounds),
+    }
+}
+
+fn time_class<R: Clock + Print + Eprint>(watch: &Stopwatch<'_, R>, class: Class) -> io::Result<()> {
+    for operation in OPERATIONS {
         let start = watch.start()?;
-        let value = unary_rounds(op, class, watch.rounds());
-        watch.tell(format_args!("{op:?} {class:?}"), start, value)?;
+        let value = rounds_of(operation, class, watch.rounds());
+        watch.tell(format_args!("{operation:?} {class:?}"), start, value)?;
     }
     Ok(())
 }
 
-fn time_binary<R: Clock + Print + Eprint>(
-    watch: &Stopwatch<'_, R>,
-    class: Class,
-) -> io::Result<()> {
-    for op in BINARY {
-        let start = watch.start()?;
-        let value = binary_rounds(op, class, watch.rounds());
-        watch.tell(format_args!("{op:?} {class:?}"), start, value)?;
-    }
-    Ok(())
-}
-
-fn time_compare<R: Clock + Print + Eprint>(
-    watch: &Stopwatch<'_, R>,
-    class: Class,
-) -> io::Result<()> {
-    for op in COMPARE {
-        let start = watch.start()?;
-        let value = compare_rounds(op, class, watch.rounds());
-        watch.tell(format_args!("{op:?} {class:?}"), start, value)?;
-    }
-    Ok(())
-}
-
-fn time_extend<R: Clock + Print + Eprint>(watch: &Stopwatch<'_, R>) -> io::Result<()> {
-    for kind in EXTEND {
-        let start = watch.start()?;
-        let value = extend_rounds(kind, watch.rounds());
-        watch.tell(format_args!("Extend {kind:?}"), start, value)?;
-    }
-    Ok(())
-}
-
-/// Times each operation in each class.
+/// Times each operation in each class; for an extension both are the same.
 pub fn time<R: Clock + Print + Eprint>(watch: &Stopwatch<'_, R>) -> io::Result<()> {
-    for class in CLASSES {
-        time_unary(watch, class)?;
-        time_binary(watch, class)?;
-        time_compare(watch, class)?;
-    }
-    time_extend(watch)
+    time_class(watch, Class::W)?;
+    time_class(watch, Class::L)
 }
