@@ -3,24 +3,24 @@ use Rattle.std.proofs.Common.{◌≡◌, ◌∙◌, ◌↔◌, sym, ap, refl, su
 use Rattle.std.specs.List.{flat_map}
 use Rattle.std.specs.Str.{bytes_eq}
 use Rattle.std.proofs.lemmas.List.{drop_more, drop_all}
-use Rattle.qil_parser.specs.declared.ops.Class.{Class}
-use Rattle.qil_parser.specs.declared.ops.AbiType.{AbiType}
-use Rattle.qil_parser.specs.declared.tree.Operand.{Operand}
-use Rattle.qil_parser.specs.declared.tree.Operand.TheVariants as operands
-use Rattle.qil_parser.specs.declared.tree.Target.{Target}
-use Rattle.qil_parser.specs.declared.tree.PhiSource.{PhiSource}
-use Rattle.qil_parser.specs.declared.tree.Phi.{Phi}
-use Rattle.qil_parser.specs.declared.tree.Inst.{Inst}
-use Rattle.qil_parser.specs.declared.tree.JumpKind.{JumpKind}
-use Rattle.qil_parser.specs.declared.tree.JumpKind.TheVariants as jumps
-use Rattle.qil_parser.specs.declared.tree.Block.{Block}
-use Rattle.qil_parser.specs.declared.tree.Param.{Param}
-use Rattle.qil_parser.specs.declared.tree.Func.{Func}
-use Rattle.qil_parser.specs.declared.tree.Item.{Item}
-use Rattle.qil_parser.specs.declared.tree.Item.TheVariants as items
-use Rattle.qil_parser.specs.declared.tree.Field.{Field}
-use Rattle.qil_parser.specs.declared.tree.Field.TheVariants as fields
-use Rattle.qil_parser.specs.declared.tree.Data.{Data}
+use Rattle.qil_tree.specs.declared.ops.Class.{Class}
+use Rattle.qil_tree.specs.declared.ops.AbiType.{AbiType}
+use Rattle.qil_tree.specs.declared.tree.Operand.{Operand}
+use Rattle.qil_tree.specs.declared.tree.Operand.TheVariants as operands
+use Rattle.qil_tree.specs.declared.tree.Target.{Target}
+use Rattle.qil_tree.specs.declared.tree.PhiSource.{PhiSource}
+use Rattle.qil_tree.specs.declared.tree.Phi.{Phi}
+use Rattle.qil_tree.specs.declared.tree.Inst.{Inst}
+use Rattle.qil_tree.specs.declared.tree.JumpKind.{JumpKind}
+use Rattle.qil_tree.specs.declared.tree.JumpKind.TheVariants as jumps
+use Rattle.qil_tree.specs.declared.tree.Block.{Block}
+use Rattle.qil_tree.specs.declared.tree.Param.{Param}
+use Rattle.qil_tree.specs.declared.tree.Func.{Func}
+use Rattle.qil_tree.specs.declared.tree.Item.{Item}
+use Rattle.qil_tree.specs.declared.tree.Item.TheVariants as items
+use Rattle.qil_tree.specs.declared.tree.Field.{Field}
+use Rattle.qil_tree.specs.declared.tree.Field.TheVariants as fields
+use Rattle.qil_tree.specs.declared.tree.Data.{Data}
 use Rattle.qil_checker.specs.declared.mark.Kind.TheVariants.{Labels}
 use Rattle.qil_checker.specs.Operands.{inst_reads, inst_target, inst_long_class}
 use Rattle.qil_checker.specs.Marks.{What, Mark, DataName, FunctionName, Label, Goes, Comes, Merges, Defines, Uses, Global, Gives, Long, operand_marks, read_marks, target_marks, long_marks, source_marks, phi_marks, inst_marks, given_class, jump_marks, block_marks, param_mark, func_marks, item_marks, field_marks, data_marks}

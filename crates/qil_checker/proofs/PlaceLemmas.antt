@@ -5,9 +5,9 @@ use Rattle.std.proofs.lemmas.Option.{slice_get_within}
 use Rattle.std.specs.List.{slice_get}
 use Rattle.std.specs.Str.{bytes_eq}
 use Rattle.std.proofs.lemmas.Slice.Eq.{bytes_eq-Decides}
-use Rattle.qil_parser.specs.declared.ops.Class.{Class}
-use Rattle.qil_parser.specs.declared.ops.Class.TheVariants as classes
-use Rattle.qil_parser.specs.contracts.ops.Class.{the_type}
+use Rattle.qil_tree.specs.declared.ops.Class.{Class}
+use Rattle.qil_tree.specs.declared.ops.Class.TheVariants as classes
+use Rattle.qil_tree.specs.contracts.ops.Class.{the_type}
 use denote.Enum.Bare.{sameb}
 use Rattle.qil_checker.specs.declared.mark.Kind.TheVariants.{Defined, Named, Labels}
 use Rattle.qil_checker.specs.Marks.{What, Mark, DataName, FunctionName, Label, Goes, Comes, Merges, Defines, Uses, Global, Gives, Long}

@@ -3,7 +3,7 @@ use Rattle.std.proofs.Common.{◌≡◌, ◌≢◌, ◌∙◌, ◌↔◌, sym, a
 use Rattle.std.proofs.lemmas.Bool.Decides.{nat_tests}
 use Rattle.std.proofs.lemmas.Slice.Eq.{bytes_eq-Decides}
 use Rattle.std.specs.Str.{bytes_eq}
-use Rattle.qil_parser.specs.declared.tree.PhiSource.{PhiSource}
+use Rattle.qil_tree.specs.declared.tree.PhiSource.{PhiSource}
 use Rattle.qil_checker.specs.declared.mark.Kind.TheVariants.{Labels}
 use Rattle.qil_checker.specs.Marks.{Mark, Label, Merges}
 use Rattle.qil_checker.specs.Text.{Stands, LacksLabel, IsFirstLabel, ArePredecessors, labels_of}

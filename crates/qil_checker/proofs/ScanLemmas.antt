@@ -1,6 +1,6 @@
 -- What breaks a rule stands in the text.
 use Rattle.std.proofs.Common.{◌<◌, ℕ, length, List, ⊎_elim, None}
-use Rattle.qil_parser.specs.declared.ops.Class.TheVariants as classes
+use Rattle.qil_tree.specs.declared.ops.Class.TheVariants as classes
 use Rattle.qil_checker.specs.declared.rule.Rule.{Rule}
 use Rattle.qil_checker.specs.declared.rule.Rule.TheVariants.{C1, C2, C3, C4, C5, C6, C7, C8, C9, C10, C11, C12}
 use Rattle.qil_checker.specs.Marks.{Mark, DataName, FunctionName, Label, Goes, Comes, Merges, Defines, Uses, Global, Gives, Long}

@@ -1,6 +1,6 @@
 -- Whether each temporary of a program has one definition.
 use Rattle.std.specs.Prelude.{◌≡◌, ℕ, List, Some, slice_get}
-use Rattle.qil_parser.specs.declared.tree.Program.{Program}
+use Rattle.qil_tree.specs.declared.tree.Program.{Program}
 use Rattle.qil_checker.specs.declared.form.Form.{Form}
 use Rattle.qil_checker.specs.declared.form.Form.TheVariants.{Single, Multiple}
 use Rattle.qil_checker.specs.Marks.{Mark, texts}

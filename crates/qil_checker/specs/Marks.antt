@@ -1,30 +1,30 @@
 -- The text of a program: each definition as a list of marks, what stands in it one thing after the other.
 use Rattle.std.specs.Prelude.{ℕ, List, [], ◌∷◌, ◌++◌, Option, Some, None, map, option_map, unwrap_or}
 use Rattle.std.specs.List.{flat_map}
-use Rattle.qil_parser.specs.declared.ops.Class.{Class}
-use Rattle.qil_parser.specs.declared.ops.Class.TheVariants as classes
-use Rattle.qil_parser.specs.declared.ops.AbiType.{AbiType}
-use Rattle.qil_parser.specs.declared.tree.Operand.{Operand}
-use Rattle.qil_parser.specs.declared.tree.Operand.TheVariants as operands
-use Rattle.qil_parser.specs.declared.tree.Target.{Target}
-use Rattle.qil_parser.specs.declared.tree.PhiSource.{PhiSource}
-use Rattle.qil_parser.specs.declared.tree.Phi.{Phi}
-use Rattle.qil_parser.specs.declared.tree.Inst.{Inst}
-use Rattle.qil_parser.specs.declared.tree.InstKind.{InstKind}
-use Rattle.qil_parser.specs.declared.tree.JumpKind.{JumpKind}
-use Rattle.qil_parser.specs.declared.tree.JumpKind.TheVariants as jumps
-use Rattle.qil_parser.specs.declared.tree.Block.{Block}
-use Rattle.qil_parser.specs.declared.tree.Param.{Param}
-use Rattle.qil_parser.specs.declared.tree.Func.{Func}
-use Rattle.qil_parser.specs.declared.tree.Item.{Item}
-use Rattle.qil_parser.specs.declared.tree.Item.TheVariants as items
-use Rattle.qil_parser.specs.declared.tree.Field.{Field}
-use Rattle.qil_parser.specs.declared.tree.Field.TheVariants as fields
-use Rattle.qil_parser.specs.declared.tree.Data.{Data}
-use Rattle.qil_parser.specs.declared.tree.Definition.{Definition}
-use Rattle.qil_parser.specs.declared.tree.Definition.TheVariants as definitions
-use Rattle.qil_parser.specs.declared.tree.Program.{Program}
-use Rattle.qil_parser.specs.Grammar.{class_of}
+use Rattle.qil_tree.specs.declared.ops.Class.{Class}
+use Rattle.qil_tree.specs.declared.ops.Class.TheVariants as classes
+use Rattle.qil_tree.specs.declared.ops.AbiType.{AbiType}
+use Rattle.qil_tree.specs.declared.tree.Operand.{Operand}
+use Rattle.qil_tree.specs.declared.tree.Operand.TheVariants as operands
+use Rattle.qil_tree.specs.declared.tree.Target.{Target}
+use Rattle.qil_tree.specs.declared.tree.PhiSource.{PhiSource}
+use Rattle.qil_tree.specs.declared.tree.Phi.{Phi}
+use Rattle.qil_tree.specs.declared.tree.Inst.{Inst}
+use Rattle.qil_tree.specs.declared.tree.InstKind.{InstKind}
+use Rattle.qil_tree.specs.declared.tree.JumpKind.{JumpKind}
+use Rattle.qil_tree.specs.declared.tree.JumpKind.TheVariants as jumps
+use Rattle.qil_tree.specs.declared.tree.Block.{Block}
+use Rattle.qil_tree.specs.declared.tree.Param.{Param}
+use Rattle.qil_tree.specs.declared.tree.Func.{Func}
+use Rattle.qil_tree.specs.declared.tree.Item.{Item}
+use Rattle.qil_tree.specs.declared.tree.Item.TheVariants as items
+use Rattle.qil_tree.specs.declared.tree.Field.{Field}
+use Rattle.qil_tree.specs.declared.tree.Field.TheVariants as fields
+use Rattle.qil_tree.specs.declared.tree.Data.{Data}
+use Rattle.qil_tree.specs.declared.tree.Definition.{Definition}
+use Rattle.qil_tree.specs.declared.tree.Definition.TheVariants as definitions
+use Rattle.qil_tree.specs.declared.tree.Program.{Program}
+use Rattle.qil_tree.specs.Types.{class_of}
 use Rattle.qil_checker.specs.Operands.{Read, inst_reads, inst_target, inst_long_class}
 pub use Rattle.qil_checker.specs.declared.mark.What.{What}
 pub use Rattle.qil_checker.specs.declared.mark.What.TheVariants.{DataName, FunctionName, Label, Goes, Comes, Merges, Defines, Uses, Global, Gives, Long}

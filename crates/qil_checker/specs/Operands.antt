@@ -1,22 +1,22 @@
 -- What each instruction reads, and the class that each operand stands in; what it sets.
 use Rattle.std.specs.Prelude.{List, [], ◌∷◌, Option, Some, None, map, option_map}
-use Rattle.qil_parser.specs.declared.ops.Class.{Class}
-use Rattle.qil_parser.specs.declared.ops.Class.TheVariants as classes
-use Rattle.qil_parser.specs.declared.ops.Width.{Width}
-use Rattle.qil_parser.specs.declared.ops.Width.TheVariants as widths
-use Rattle.qil_parser.specs.declared.ops.BinaryOp.{BinaryOp}
-use Rattle.qil_parser.specs.declared.ops.BinaryOp.TheVariants as binary_ops
-use Rattle.qil_parser.specs.declared.ops.Extension.TheVariants as extensions
-use Rattle.qil_parser.specs.declared.ops.LoadOp.TheVariants as load_ops
-use Rattle.qil_parser.specs.declared.tree.Operand.{Operand}
-use Rattle.qil_parser.specs.declared.tree.Target.{Target}
-use Rattle.qil_parser.specs.declared.tree.Expr.{Expr}
-use Rattle.qil_parser.specs.declared.tree.Expr.TheVariants as exprs
-use Rattle.qil_parser.specs.declared.tree.CallResult.{CallResult}
-use Rattle.qil_parser.specs.declared.tree.Argument.{Argument}
-use Rattle.qil_parser.specs.declared.tree.InstKind.{InstKind}
-use Rattle.qil_parser.specs.declared.tree.InstKind.TheVariants as insts
-use Rattle.qil_parser.specs.Grammar.{class_of}
+use Rattle.qil_tree.specs.declared.ops.Class.{Class}
+use Rattle.qil_tree.specs.declared.ops.Class.TheVariants as classes
+use Rattle.qil_tree.specs.declared.ops.Width.{Width}
+use Rattle.qil_tree.specs.declared.ops.Width.TheVariants as widths
+use Rattle.qil_tree.specs.declared.ops.BinaryOp.{BinaryOp}
+use Rattle.qil_tree.specs.declared.ops.BinaryOp.TheVariants as binary_ops
+use Rattle.qil_tree.specs.declared.ops.Extension.TheVariants as extensions
+use Rattle.qil_tree.specs.declared.ops.LoadOp.TheVariants as load_ops
+use Rattle.qil_tree.specs.declared.tree.Operand.{Operand}
+use Rattle.qil_tree.specs.declared.tree.Target.{Target}
+use Rattle.qil_tree.specs.declared.tree.Expr.{Expr}
+use Rattle.qil_tree.specs.declared.tree.Expr.TheVariants as exprs
+use Rattle.qil_tree.specs.declared.tree.CallResult.{CallResult}
+use Rattle.qil_tree.specs.declared.tree.Argument.{Argument}
+use Rattle.qil_tree.specs.declared.tree.InstKind.{InstKind}
+use Rattle.qil_tree.specs.declared.tree.InstKind.TheVariants as insts
+use Rattle.qil_tree.specs.Types.{class_of}
 
 -- an operand, and the class of value that is wanted of it
 pub record Read : Type 0 where

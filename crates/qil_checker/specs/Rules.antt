@@ -2,10 +2,10 @@
 use Rattle.std.specs.Prelude.{◌≡◌, ◌≢◌, ℕ, ◌<◌, ◌⊎◌, Bool, true, false, ◌||◌, List, [], ◌∷◌, length, take, Option, Some, None, option_map, slice_get, All, AllPairs, codes}
 use Rattle.std.specs.Str.{bytes_eq}
 use Rattle.std.specs.List.{count_by}
-use Rattle.qil_parser.specs.declared.ops.Class.{Class}
-use Rattle.qil_parser.specs.declared.ops.Class.TheVariants as classes
-use Rattle.qil_parser.specs.declared.tree.PhiSource.{PhiSource}
-use Rattle.qil_parser.specs.declared.tree.Program.{Program}
+use Rattle.qil_tree.specs.declared.ops.Class.{Class}
+use Rattle.qil_tree.specs.declared.ops.Class.TheVariants as classes
+use Rattle.qil_tree.specs.declared.tree.PhiSource.{PhiSource}
+use Rattle.qil_tree.specs.declared.tree.Program.{Program}
 use Rattle.qil_checker.specs.declared.rule.Rule.{Rule}
 use Rattle.qil_checker.specs.declared.rule.Rule.TheVariants.{C1, C2, C3, C4, C5, C6, C7, C8, C9, C10, C11, C12}
 use Rattle.qil_checker.specs.Marks.{What, Mark, FunctionName, Label, Goes, Comes, Merges, Defines, Uses, Global, Gives, Long, texts}

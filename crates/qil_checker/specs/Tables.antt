@@ -6,7 +6,7 @@ use Rattle.indexmap.specs.IndexMap.{IndexMap, get_by}
 use denote.Ref.{Bor}
 use Rattle.qil_checker.specs.declared.mark.Kind.{Kind}
 use Rattle.qil_checker.specs.declared.mark.Kind.TheVariants.{Defined, Named, Labels}
-use Rattle.qil_parser.specs.declared.tree.PhiSource.{PhiSource}
+use Rattle.qil_tree.specs.declared.tree.PhiSource.{PhiSource}
 use Rattle.qil_checker.specs.Marks.{What, Mark, DataName, FunctionName, Label, Goes, Merges, Defines, Uses}
 use Rattle.qil_checker.specs.Text.{Stands, AreDistinct, IsAmong}
 

@@ -1,7 +1,7 @@
 -- Places in a text: what stands there, and what a text says of a name.
 use Rattle.std.specs.Prelude.{◌≡◌, ℕ, ◌<◌, ◌⊎◌, ◌↔◌, List, Some, option_map, slice_get, map}
-use Rattle.qil_parser.specs.declared.ops.Class.{Class}
-use Rattle.qil_parser.specs.declared.tree.PhiSource.{PhiSource}
+use Rattle.qil_tree.specs.declared.ops.Class.{Class}
+use Rattle.qil_tree.specs.declared.tree.PhiSource.{PhiSource}
 use Rattle.qil_checker.specs.Marks.{What, Mark, DataName, FunctionName, Label, Goes, Defines, Uses}
 
 -- at this place of the text stands this

@@ -13,7 +13,7 @@ pub struct Sources<'p, 'a> {
 
 impl<'p, 'a> Model for Sources<'p, 'a> {
     ghost use Rattle.std.specs.Prelude.{List};
-    ghost use Rattle.qil_parser.specs.declared.tree.PhiSource.{PhiSource};
+    ghost use Rattle.qil_tree.specs.declared.tree.PhiSource.{PhiSource};
 
     ghost Value = { List PhiSource };
 

@@ -8,7 +8,7 @@ ghost use Rattle.qil_checker.specs.Rules.{AreWellFormed, AreBroken, IsKept, IsBr
 ghost use Rattle.qil_checker.specs.Scan.{Keeps, Breach};
 ghost use Rattle.qil_checker.specs.Whole.{marks_of};
 ghost use Rattle.qil_checker.specs.Forms.{HaveForm};
-ghost use Rattle.qil_parser.specs.declared.tree.Definition.{Definition};
+ghost use Rattle.qil_tree.specs.declared.tree.Definition.{Definition};
 
 use crate::form::Form;
 use crate::mark::{Mark, What};

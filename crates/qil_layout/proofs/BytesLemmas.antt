@@ -4,13 +4,13 @@ use Rattle.std.specs.List.{sum_by}
 use Rattle.std.proofs.lemmas.Bool.{ltb-false}
 use Rattle.std.proofs.lemmas.List.{length-replicate}
 use Rattle.std.proofs.lemmas.List.Concat.{length-flat_map}
-use Rattle.qil_parser.specs.declared.ops.Width.{Width}
-use Rattle.qil_parser.specs.declared.tree.Item.{Item}
-use Rattle.qil_parser.specs.declared.tree.Item.TheVariants as items
-use Rattle.qil_parser.specs.declared.tree.Field.{Field}
-use Rattle.qil_parser.specs.declared.tree.Field.TheVariants as fields
-use Rattle.qil_parser.specs.declared.tree.Data.{Data}
-use Rattle.qil_parser.specs.declared.tree.Program.{Program}
+use Rattle.qil_tree.specs.declared.ops.Width.{Width}
+use Rattle.qil_tree.specs.declared.tree.Item.{Item}
+use Rattle.qil_tree.specs.declared.tree.Item.TheVariants as items
+use Rattle.qil_tree.specs.declared.tree.Field.{Field}
+use Rattle.qil_tree.specs.declared.tree.Field.TheVariants as fields
+use Rattle.qil_tree.specs.declared.tree.Data.{Data}
+use Rattle.qil_tree.specs.declared.tree.Program.{Program}
 use Rattle.qil_layout.specs.declared.error.LayoutCode.{LayoutCode}
 use Rattle.qil_layout.specs.declared.error.LayoutCode.TheVariants.{Y1, Y2}
 use Rattle.qil_layout.specs.Layout.{width_bytes, item_size, field_size, size_of, data_base, data_limit, align_of, rounded, start_of, end_of, is_alignment, object_fault, told, fault_from, fault_of, low_bytes, zeros, item_bytes, field_bytes, object_bytes, bytes_from, address_of, bytes_of}

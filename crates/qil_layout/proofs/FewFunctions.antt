@@ -6,11 +6,11 @@ use Rattle.std.proofs.lemmas.List.{take_all}
 use Rattle.std.proofs.lemmas.List.Sums.{count_by_more_yes, count_by_more_no}
 use Rattle.std.proofs.lemmas.List.Recursion.{is_count_by}
 use Rattle.std.proofs.lemmas.Option.{slice_get-get_or}
-use Rattle.qil_parser.specs.declared.tree.Data.{Data}
-use Rattle.qil_parser.specs.declared.tree.Func.{Func}
-use Rattle.qil_parser.specs.declared.tree.Definition.{Definition}
-use Rattle.qil_parser.specs.declared.tree.Definition.TheVariants as definitions
-use Rattle.qil_parser.specs.declared.tree.Program.{Program}
+use Rattle.qil_tree.specs.declared.tree.Data.{Data}
+use Rattle.qil_tree.specs.declared.tree.Func.{Func}
+use Rattle.qil_tree.specs.declared.tree.Definition.{Definition}
+use Rattle.qil_tree.specs.declared.tree.Definition.TheVariants as definitions
+use Rattle.qil_tree.specs.declared.tree.Program.{Program}
 use Rattle.qil_checker.specs.declared.rule.Rule.TheVariants.{C12}
 use Rattle.qil_checker.specs.declared.mark.What.{What}
 use Rattle.qil_checker.specs.declared.mark.What.TheVariants.{DataName, FunctionName, Label, Goes, Comes, Merges, Defines, Uses, Global, Gives, Long}

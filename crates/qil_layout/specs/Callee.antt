@@ -1,6 +1,6 @@
 -- Which function lies at an address.
 use Rattle.std.specs.Prelude.{ℕ, ◌-◌, ◌/◌, ◌%◌, Bool, false, ◌==◌, ◌&&◌, nat_lt, if◌then◌else◌, List, length, codes, Option, Some, None, option_map}
-use Rattle.qil_parser.specs.declared.tree.Program.{Program}
+use Rattle.qil_tree.specs.declared.tree.Program.{Program}
 use Rattle.qil_layout.specs.declared.callee.Callee.{Callee}
 use Rattle.qil_layout.specs.declared.callee.Callee.TheVariants.{Defined, PutChar, Puts, Exit}
 use Rattle.qil_layout.specs.Layout.{address_of}

@@ -25,7 +25,7 @@ pub struct Image<'c, 'a, A: Allocator> {
 
 impl<'c, 'a, A: Allocator> Model for Image<'c, 'a, A> {
     ghost use Rattle.std.specs.Prelude.{◌≡◌, ℕ, List, None};
-    ghost use Rattle.qil_parser.specs.declared.tree.Program.{Program};
+    ghost use Rattle.qil_tree.specs.declared.tree.Program.{Program};
     ghost use Rattle.qil_layout.specs.Layout.{address_of, bytes_of, fault_of};
     ghost use Rattle.qil_layout.specs.Table.{found};
 

@@ -1,8 +1,8 @@
 -- One step of a program: the instruction or the jump at the place of the innermost frame.
 use Rattle.std.specs.Prelude.{ℕ, ◌+◌, List, [], ◌∷◌, Option, Some, None, Result, Ok, Err, find, slice_get, unwrap_or}
 use Rattle.std.specs.Str.{bytes_eq}
-use Rattle.qil_parser.specs.declared.ops.Class.{Class}
-use Rattle.qil_parser.specs.declared.ops.Class.TheVariants as classes
+use Rattle.qil_tree.specs.declared.ops.Class.{Class}
+use Rattle.qil_tree.specs.declared.ops.Class.TheVariants as classes
 use Rattle.qil_ops.specs.Values.{width, Low}
 use Rattle.qil_plain.specs.declared.tree.Operand.{Operand}
 use Rattle.qil_plain.specs.declared.tree.Operand.TheVariants as operands

@@ -2,15 +2,15 @@
 use Rattle.std.specs.Prelude.{ℕ, ◌+◌, ◌-◌, ◌*◌, ◌/◌, ◌%◌, ◌^◌, Bool, not, ◌==◌, ◌&&◌, nat_lt, nat_le, if◌then◌else◌, ℤ, pos, negsuc, ◌-ℤ◌, int_lt, int_le, int_div, int_rem, bit_and, bit_or, bit_xor, Result, Ok, Err}
 use Rattle.std.specs.Int.{int_div_euclid}
 use Rattle.std.specs.Ordering.{int_eq}
-use Rattle.qil_parser.specs.declared.ops.Class.{Class}
-use Rattle.qil_parser.specs.declared.ops.UnaryOp.{UnaryOp}
-use Rattle.qil_parser.specs.declared.ops.UnaryOp.TheVariants as unary
-use Rattle.qil_parser.specs.declared.ops.BinaryOp.{BinaryOp}
-use Rattle.qil_parser.specs.declared.ops.BinaryOp.TheVariants as binary
-use Rattle.qil_parser.specs.declared.ops.CompareOp.{CompareOp}
-use Rattle.qil_parser.specs.declared.ops.CompareOp.TheVariants as compare
-use Rattle.qil_parser.specs.declared.ops.Extension.{Extension}
-use Rattle.qil_parser.specs.declared.ops.Extension.TheVariants as extensions
+use Rattle.qil_tree.specs.declared.ops.Class.{Class}
+use Rattle.qil_tree.specs.declared.ops.UnaryOp.{UnaryOp}
+use Rattle.qil_tree.specs.declared.ops.UnaryOp.TheVariants as unary
+use Rattle.qil_tree.specs.declared.ops.BinaryOp.{BinaryOp}
+use Rattle.qil_tree.specs.declared.ops.BinaryOp.TheVariants as binary
+use Rattle.qil_tree.specs.declared.ops.CompareOp.{CompareOp}
+use Rattle.qil_tree.specs.declared.ops.CompareOp.TheVariants as compare
+use Rattle.qil_tree.specs.declared.ops.Extension.{Extension}
+use Rattle.qil_tree.specs.declared.ops.Extension.TheVariants as extensions
 use Rattle.qil_ops.specs.declared.division.DivFault.{DivFault}
 use Rattle.qil_ops.specs.declared.division.DivFault.TheVariants.{Zero, Overflow}
 use Rattle.qil_ops.specs.Values.{width, Low, Signed, Cut}

@@ -1,8 +1,8 @@
 -- Values: whole numbers, and what is left of them in a number of bits (QBE IL, Types and Constants).
 use Rattle.std.specs.Prelude.{ℕ, ◌-◌, ◌%◌, ◌^◌, nat_lt, if◌then◌else◌, ℤ, pos, ◌-ℤ◌, unsigned_abs}
 use Rattle.std.specs.Int.{int_rem_euclid}
-use Rattle.qil_parser.specs.declared.ops.Class.{Class}
-use Rattle.qil_parser.specs.declared.ops.Class.TheVariants as classes
+use Rattle.qil_tree.specs.declared.ops.Class.{Class}
+use Rattle.qil_tree.specs.declared.ops.Class.TheVariants as classes
 
 -- the bits of a class
 abbrev pub width : Class → ℕ

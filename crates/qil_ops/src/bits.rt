@@ -3,7 +3,7 @@
 ghost use Rattle.std.specs.Prelude.{◌≡◌, ◌<◌, ◌%◌, ◌^◌};
 ghost use Rattle.qil_ops.specs.Values.{width, Low, Signed, Cut};
 
-use qil_parser::Class;
+use qil_tree::Class;
 
 /// The low bits that a value of the class keeps.
 pub fn low(class: Class, v: u64) -> u64

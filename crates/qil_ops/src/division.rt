@@ -6,7 +6,7 @@ ghost use Rattle.qil_ops.specs.Operations.{binary_of, overflows_in};
 ghost use Rattle.qil_ops.specs.Values.{width};
 
 use crate::bits::{cut, low, signed};
-use qil_parser::{BinaryOp, Class};
+use qil_tree::{BinaryOp, Class};
 
 /// Why a division has no result.
 #[derive(Clone, Copy, Debug, PartialEq, Eq)]

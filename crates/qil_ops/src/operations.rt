@@ -6,7 +6,7 @@ ghost use Rattle.qil_ops.specs.Operations.{unary_of, binary_of, holds, extended}
 
 use crate::bits::{cut, low, places, signed};
 use crate::division::{DivFault, quotient, remainder, unsigned_quotient, unsigned_remainder};
-use qil_parser::{BinaryOp, Class, CompareOp, Extension, UnaryOp};
+use qil_tree::{BinaryOp, Class, CompareOp, Extension, UnaryOp};
 
 /// What an operation on one value of a class gives, as a value of that class. Bits of the operand above the class don't
 /// count.

@@ -6,7 +6,7 @@ mod words;
 
 use super::DivFault::{Overflow, Zero};
 use super::*;
-use qil_parser::{BinaryOp, Class, CompareOp, Extension, UnaryOp};
+use qil_tree::{BinaryOp, Class, CompareOp, Extension, UnaryOp};
 use std::process::Abort;
 use std::test::*;
 

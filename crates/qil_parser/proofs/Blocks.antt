@@ -5,7 +5,7 @@ use Rattle.qil_language.specs.Reads.{Reads, Begins, Takes}
 use Rattle.qil_language.proofs.Law.{seq_reads, seq_after, image_reads, said_reads, either_reads, wider_reads, zero_reads, flagged_reads, front_first}
 use Rattle.qil_language.proofs.Loop.{takes_by}
 use Rattle.qil_parser.specs.declared.mark.Mark.TheVariants as marks
-use Rattle.qil_parser.specs.declared.tree.Jump.{Jump}
+use Rattle.qil_tree.specs.declared.tree.Jump.{Jump}
 use Rattle.qil_parser.specs.Token.{Tok, index}
 use Rattle.qil_parser.specs.Grammar.{Before, Perhaps}
 use Rattle.qil_parser.specs.Functions.{Front, Head, JumpOf, BlockOf, LastBlock}

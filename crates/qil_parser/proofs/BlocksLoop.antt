@@ -7,8 +7,8 @@ use Rattle.qil_language.specs.Reading.{Read, got, failed, ◌>>=◌, starts, joi
 use Rattle.qil_language.specs.Reads.{Got, Explains, Takes}
 use Rattle.qil_language.proofs.Loop.{cons_at, pair_got, unrolled}
 use Rattle.qil_parser.specs.declared.mark.Mark.TheVariants as marks
-use Rattle.qil_parser.specs.declared.tree.Jump.{Jump}
-use Rattle.qil_parser.specs.declared.tree.Block.{Block}
+use Rattle.qil_tree.specs.declared.tree.Jump.{Jump}
+use Rattle.qil_tree.specs.declared.tree.Block.{Block}
 use Rattle.qil_parser.specs.Token.{Tok, index}
 use Rattle.qil_parser.specs.Grammar.{label_at, list_of}
 use Rattle.qil_parser.specs.Functions.{Front, Head, BlockOf, block_of, blocks_of, jump_or, first_label}

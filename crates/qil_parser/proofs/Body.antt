@@ -6,11 +6,11 @@ use Rattle.qil_language.specs.Reads.{Reads, Begins}
 use Rattle.qil_language.proofs.Law.{seq_reads, seq_after, image_reads, said_reads, nothing_reads, either_reads, wider_reads, empty_reads, front_first, has_left, has_right}
 use Rattle.qil_parser.specs.declared.mark.Mark.{Mark}
 use Rattle.qil_parser.specs.declared.mark.Mark.TheVariants as marks
-use Rattle.qil_parser.specs.declared.ops.Class.{Class}
-use Rattle.qil_parser.specs.declared.tree.Target.{Target}
-use Rattle.qil_parser.specs.declared.tree.PhiSource.{PhiSource}
-use Rattle.qil_parser.specs.declared.tree.Phi.{Phi}
-use Rattle.qil_parser.specs.declared.tree.Inst.{Inst}
+use Rattle.qil_tree.specs.declared.ops.Class.{Class}
+use Rattle.qil_tree.specs.declared.tree.Target.{Target}
+use Rattle.qil_tree.specs.declared.tree.PhiSource.{PhiSource}
+use Rattle.qil_tree.specs.declared.tree.Phi.{Phi}
+use Rattle.qil_tree.specs.declared.tree.Inst.{Inst}
 use Rattle.qil_parser.specs.Token.{Tok, index}
 use Rattle.qil_parser.specs.Grammar.{ClassWord, Before}
 use Rattle.qil_parser.specs.Functions.{Dest, TargetOf, Plain, InstOf, Sources, PhiOf, Body, target_of, phi_of}

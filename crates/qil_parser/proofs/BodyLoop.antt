@@ -4,10 +4,10 @@ use Rattle.qil_language.specs.Reading.{Read, got, failed, ◌>>=◌, starts, seq
 use Rattle.qil_language.specs.Reads.{Takes}
 use Rattle.qil_language.proofs.Loop.{pair_got, takes_by}
 use Rattle.qil_parser.specs.declared.mark.Mark.TheVariants as marks
-use Rattle.qil_parser.specs.declared.ops.Class.{Class}
-use Rattle.qil_parser.specs.declared.tree.PhiSource.{PhiSource}
-use Rattle.qil_parser.specs.declared.tree.Phi.{Phi}
-use Rattle.qil_parser.specs.declared.tree.Inst.{Inst}
+use Rattle.qil_tree.specs.declared.ops.Class.{Class}
+use Rattle.qil_tree.specs.declared.tree.PhiSource.{PhiSource}
+use Rattle.qil_tree.specs.declared.tree.Phi.{Phi}
+use Rattle.qil_tree.specs.declared.tree.Inst.{Inst}
 use Rattle.qil_parser.specs.declared.stop.Stop.{Stop}
 use Rattle.qil_parser.specs.declared.stop.Stop.TheVariants as stops
 use Rattle.qil_parser.specs.Token.{Tok, seen, index}

@@ -11,10 +11,10 @@ use Rattle.qil_language.proofs.Law.{seq_reads, image_reads, one_reads, nothing_r
 use Rattle.qil_language.proofs.Loop.{takes_by}
 use Rattle.qil_parser.specs.declared.mark.Mark.{Mark}
 use Rattle.qil_parser.specs.declared.mark.Mark.TheVariants as marks
-use Rattle.qil_parser.specs.declared.ops.Width.{Width}
-use Rattle.qil_parser.specs.declared.ops.Width.TheVariants as widths
-use Rattle.qil_parser.specs.declared.tree.Item.TheVariants as items
-use Rattle.qil_parser.specs.declared.tree.Field.TheVariants as fields
+use Rattle.qil_tree.specs.declared.ops.Width.{Width}
+use Rattle.qil_tree.specs.declared.ops.Width.TheVariants as widths
+use Rattle.qil_tree.specs.declared.tree.Item.TheVariants as items
+use Rattle.qil_tree.specs.declared.tree.Field.TheVariants as fields
 use Rattle.qil_parser.specs.declared.program_cursor.Defined.TheVariants as defined
 use Rattle.qil_parser.specs.Token.{Tok, kind_mark, code, index}
 use Rattle.qil_parser.specs.Words.{word_mark}

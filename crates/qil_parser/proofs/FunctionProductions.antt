@@ -8,22 +8,22 @@ use Rattle.qil_language.proofs.Law.{seq_reads, image_reads, one_reads, either_re
 use Rattle.qil_language.proofs.Loop.{takes_by}
 use Rattle.qil_parser.specs.declared.mark.Mark.{Mark}
 use Rattle.qil_parser.specs.declared.mark.Mark.TheVariants as marks
-use Rattle.qil_parser.specs.declared.ops.Class.{Class}
-use Rattle.qil_parser.specs.declared.ops.Class.TheVariants as class_names
-use Rattle.qil_parser.specs.declared.ops.UnaryOp.{UnaryOp}
-use Rattle.qil_parser.specs.declared.ops.UnaryOp.TheVariants as unary_ops
-use Rattle.qil_parser.specs.declared.ops.BinaryOp.{BinaryOp}
-use Rattle.qil_parser.specs.declared.ops.BinaryOp.TheVariants as binary_ops
-use Rattle.qil_parser.specs.declared.ops.CompareOp.{CompareOp}
-use Rattle.qil_parser.specs.declared.ops.CompareOp.TheVariants as compare_ops
-use Rattle.qil_parser.specs.declared.ops.Extension.{Extension}
-use Rattle.qil_parser.specs.declared.ops.Extension.TheVariants as extension_ops
-use Rattle.qil_parser.specs.declared.ops.LoadOp.{LoadOp}
-use Rattle.qil_parser.specs.declared.ops.LoadOp.TheVariants as load_ops
-use Rattle.qil_parser.specs.declared.ops.AllocOp.{AllocOp}
-use Rattle.qil_parser.specs.declared.ops.AllocOp.TheVariants as alloc_ops
-use Rattle.qil_parser.specs.declared.ops.Width.{Width}
-use Rattle.qil_parser.specs.declared.ops.Width.TheVariants as widths
+use Rattle.qil_tree.specs.declared.ops.Class.{Class}
+use Rattle.qil_tree.specs.declared.ops.Class.TheVariants as class_names
+use Rattle.qil_tree.specs.declared.ops.UnaryOp.{UnaryOp}
+use Rattle.qil_tree.specs.declared.ops.UnaryOp.TheVariants as unary_ops
+use Rattle.qil_tree.specs.declared.ops.BinaryOp.{BinaryOp}
+use Rattle.qil_tree.specs.declared.ops.BinaryOp.TheVariants as binary_ops
+use Rattle.qil_tree.specs.declared.ops.CompareOp.{CompareOp}
+use Rattle.qil_tree.specs.declared.ops.CompareOp.TheVariants as compare_ops
+use Rattle.qil_tree.specs.declared.ops.Extension.{Extension}
+use Rattle.qil_tree.specs.declared.ops.Extension.TheVariants as extension_ops
+use Rattle.qil_tree.specs.declared.ops.LoadOp.{LoadOp}
+use Rattle.qil_tree.specs.declared.ops.LoadOp.TheVariants as load_ops
+use Rattle.qil_tree.specs.declared.ops.AllocOp.{AllocOp}
+use Rattle.qil_tree.specs.declared.ops.AllocOp.TheVariants as alloc_ops
+use Rattle.qil_tree.specs.declared.ops.Width.{Width}
+use Rattle.qil_tree.specs.declared.ops.Width.TheVariants as widths
 use Rattle.qil_parser.specs.Words.{word_mark}
 use Rattle.qil_parser.specs.Token.{mark, code, index}
 use Rattle.qil_parser.specs.Grammar.{WordLine, LabelName, Val, After, Before, list_of}

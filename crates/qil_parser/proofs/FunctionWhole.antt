@@ -4,7 +4,7 @@ use Rattle.qil_language.specs.Reading.{Read}
 use Rattle.qil_language.specs.Reads.{Reads}
 use Rattle.qil_language.proofs.Law.{seq_reads, image_reads}
 use Rattle.qil_parser.specs.declared.mark.Mark.TheVariants as marks
-use Rattle.qil_parser.specs.declared.tree.Block.{Block}
+use Rattle.qil_tree.specs.declared.tree.Block.{Block}
 use Rattle.qil_parser.specs.Token.{Tok, index}
 use Rattle.qil_parser.specs.Functions.{Blocks, FuncOf, blocks_of, func_of}
 use Rattle.qil_parser.specs.Parsing.{the}

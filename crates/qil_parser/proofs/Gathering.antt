@@ -3,7 +3,7 @@ use Rattle.std.proofs.Common.{◌≡◌, Bool, true, false, List, [], ◌∷◌,
 use Rattle.std.specs.List.{flat_map}
 use Rattle.qil_language.specs.Reading.{Read, got, failed, ◌>>=◌, starts, image}
 use Rattle.qil_language.proofs.Loop.{cons_at, unrolled}
-use Rattle.qil_parser.specs.declared.tree.Program.{Program}
+use Rattle.qil_tree.specs.declared.tree.Program.{Program}
 use Rattle.qil_parser.specs.declared.program_cursor.Defined.{Defined}
 use Rattle.qil_parser.specs.declared.stop.Stop.{Stop}
 use Rattle.qil_parser.specs.declared.stop.Stop.TheVariants as stops

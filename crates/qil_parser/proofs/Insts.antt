@@ -5,15 +5,16 @@ use Rattle.qil_language.specs.Reads.{Reads, Takes}
 use Rattle.qil_language.proofs.Law.{seq_reads, image_reads, either_reads, many_reads, said_reads}
 use Rattle.qil_language.proofs.Loop.{takes_by}
 use Rattle.qil_parser.specs.declared.mark.Mark.TheVariants as marks
-use Rattle.qil_parser.specs.declared.ops.Class.{Class}
-use Rattle.qil_parser.specs.declared.ops.AbiType.{AbiType}
-use Rattle.qil_parser.specs.declared.tree.Operand.{Operand}
-use Rattle.qil_parser.specs.declared.tree.Argument.{Argument}
-use Rattle.qil_parser.specs.declared.tree.Target.{Target}
-use Rattle.qil_parser.specs.declared.tree.CallResult.{CallResult}
-use Rattle.qil_parser.specs.declared.tree.Inst.{Inst}
+use Rattle.qil_tree.specs.declared.ops.Class.{Class}
+use Rattle.qil_tree.specs.declared.ops.AbiType.{AbiType}
+use Rattle.qil_tree.specs.declared.tree.Operand.{Operand}
+use Rattle.qil_tree.specs.declared.tree.Argument.{Argument}
+use Rattle.qil_tree.specs.declared.tree.Target.{Target}
+use Rattle.qil_tree.specs.declared.tree.CallResult.{CallResult}
+use Rattle.qil_tree.specs.declared.tree.Inst.{Inst}
 use Rattle.qil_parser.specs.Token.{Tok, index}
-use Rattle.qil_parser.specs.Grammar.{ClassWord, SubWord, TypeWord, Val, After, Before, type_of}
+use Rattle.qil_parser.specs.Grammar.{ClassWord, SubWord, TypeWord, Val, After, Before}
+use Rattle.qil_tree.specs.Types.{type_of}
 use Rattle.qil_parser.specs.Functions.{AllocWord, Dest, TargetOf, ResultOf, ExprOf, Callee, Plain, InstOf, target_of, result_of, assign_of, alloc_of, call_of}
 use Rattle.qil_parser.specs.Parsing.{the, classes, sub_words, before}
 use Rattle.qil_parser.specs.FunctionParsing

@@ -18,12 +18,3 @@ pub mod Gathering
 pub mod Whole
 pub mod Unique
 pub mod Verdict
-pub mod CanonicalLemmas
-pub mod CanonicalCuts
-pub mod Writes
-pub mod Writable
-pub mod WritesInsts
-pub mod WritesJumps
-pub mod WordsFit
-pub mod Spelled
-pub mod Respells

@@ -7,8 +7,8 @@ use Rattle.qil_language.specs.Reads.{Marks, Begins}
 use Rattle.qil_language.proofs.Law.{front_first, quiet_one}
 use Rattle.qil_language.proofs.Marks.{Or, Empty, seq_marks, marks_after, first_marks, image_marks, said_marks, marked_marks, either_marks, perhaps_marks}
 use Rattle.qil_parser.specs.declared.mark.Mark.TheVariants as marks
-use Rattle.qil_parser.specs.declared.tree.Jump.{Jump}
-use Rattle.qil_parser.specs.declared.tree.Block.{Block}
+use Rattle.qil_tree.specs.declared.tree.Jump.{Jump}
+use Rattle.qil_tree.specs.declared.tree.Block.{Block}
 use Rattle.qil_parser.specs.Token.{Tok, index}
 use Rattle.qil_parser.specs.Grammar.{exactly, Perhaps}
 use Rattle.qil_parser.specs.Functions.{Front, Head, BlockOf, FuncTop, blocks_of, func_of}

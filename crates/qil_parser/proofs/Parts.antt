@@ -2,7 +2,7 @@
 use Rattle.std.proofs.Common.{ℕ, zero, suc, false, List, [], ◌∷◌, length, Option, Some, None}
 use Rattle.qil_language.specs.Reading.{Read, failed, seq, image, either, flagged}
 use Rattle.qil_parser.specs.declared.mark.Mark.TheVariants as marks
-use Rattle.qil_parser.specs.declared.tree.Jump.{Jump}
+use Rattle.qil_tree.specs.declared.tree.Jump.{Jump}
 use Rattle.qil_parser.specs.Token.{Tok, index}
 use Rattle.qil_parser.specs.Functions.{Front}
 use Rattle.qil_parser.specs.Parsing.{the, perhaps}

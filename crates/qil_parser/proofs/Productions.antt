@@ -10,14 +10,15 @@ use Rattle.qil_language.proofs.Law.{seq_reads, image_reads, one_reads, nothing_r
 use Rattle.qil_language.proofs.Loop.{takes_by}
 use Rattle.qil_parser.specs.declared.mark.Mark.{Mark}
 use Rattle.qil_parser.specs.declared.mark.Mark.TheVariants as marks
-use Rattle.qil_parser.specs.declared.ops.Class.{Class}
-use Rattle.qil_parser.specs.declared.ops.Class.TheVariants as the_classes
-use Rattle.qil_parser.specs.declared.ops.AbiType.{AbiType}
-use Rattle.qil_parser.specs.declared.ops.AbiType.TheVariants as the_types
-use Rattle.qil_parser.specs.declared.tree.Operand.{Operand}
-use Rattle.qil_parser.specs.declared.tree.Operand.TheVariants as operands
+use Rattle.qil_tree.specs.declared.ops.Class.{Class}
+use Rattle.qil_tree.specs.declared.ops.Class.TheVariants as the_classes
+use Rattle.qil_tree.specs.declared.ops.AbiType.{AbiType}
+use Rattle.qil_tree.specs.declared.ops.AbiType.TheVariants as the_types
+use Rattle.qil_tree.specs.declared.tree.Operand.{Operand}
+use Rattle.qil_tree.specs.declared.tree.Operand.TheVariants as operands
 use Rattle.qil_parser.specs.Words.{word_mark}
 use Rattle.qil_parser.specs.Token.{Tok, mark, kind_mark, code, index}
+use Rattle.qil_tree.specs.Types.{type_of}
 use Rattle.qil_parser.specs.Grammar
 use Rattle.qil_parser.specs.Grammar.{exactly, line_at, temp_at, label_at, global_at, class_at, sub_at, operand_at, count_at}
 use Rattle.qil_parser.specs.Parsing
@@ -155,7 +156,7 @@ line_reads n = image_reads (λ v. tt) (perhaps_reads (word_reads marks.Newline n
 
 pub type_reads : (n : ℕ) → Reads n true index Grammar.TypeWord Parsing.type_word types false []
 unfolding Parsing.type_word
-type_reads n = either_reads (image_reads Grammar.type_of (class_reads n)) (sub_reads n) refl
+type_reads n = either_reads (image_reads type_of (class_reads n)) (sub_reads n) refl
 
 pub two_reads : (n : ℕ) → Reads n true index Grammar.Two Parsing.two values false []
 unfolding at comma Parsing.two

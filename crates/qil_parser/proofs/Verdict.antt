@@ -6,7 +6,7 @@ use Rattle.qil_language.specs.Reading.{Read, got, failed}
 use Rattle.qil_parser.specs.declared.error.ParseCode.{ParseCode}
 use Rattle.qil_parser.specs.declared.error.ParseError.{ParseError}
 use Rattle.qil_parser.specs.declared.error.ParseError.TheVariants as errors
-use Rattle.qil_parser.specs.declared.tree.Program.{Program}
+use Rattle.qil_tree.specs.declared.tree.Program.{Program}
 use Rattle.qil_parser.specs.Token.{Tok, tok, seen}
 use Rattle.qil_parser.specs.Programs.{Spells}
 use Rattle.qil_parser.specs.DataParsing.{program}

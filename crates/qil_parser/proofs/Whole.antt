@@ -6,7 +6,7 @@ use Rattle.qil_lexer.specs.declared.token.TokenKind.TheVariants as kinds
 use Rattle.qil_language.specs.Reading.{Read, got, failed, has}
 use Rattle.qil_language.specs.Reads.{Got, Failed, Explains, Same}
 use Rattle.qil_language.proofs.Law.{and_true}
-use Rattle.qil_parser.specs.declared.tree.Program.{Program}
+use Rattle.qil_tree.specs.declared.tree.Program.{Program}
 use Rattle.qil_parser.specs.declared.mark.Mark.TheVariants as marks
 use Rattle.qil_parser.specs.declared.error.ParseCode.TheVariants as codes
 use Rattle.qil_parser.specs.Token.{Tok, kind_mark, code, index}

@@ -7,13 +7,13 @@ use Rattle.qil_language.specs.Language.{One, Nothing, Seq, Image, Either, Many, 
 use Rattle.qil_language.specs.Reading.{cons_of}
 use Rattle.qil_parser.specs.declared.mark.Mark.{Mark}
 use Rattle.qil_parser.specs.declared.mark.Mark.TheVariants as marks
-use Rattle.qil_parser.specs.declared.ops.Width.{Width}
-use Rattle.qil_parser.specs.declared.ops.Width.TheVariants as widths
-use Rattle.qil_parser.specs.declared.tree.Item.{Item}
-use Rattle.qil_parser.specs.declared.tree.Item.TheVariants as items
-use Rattle.qil_parser.specs.declared.tree.Field.{Field}
-use Rattle.qil_parser.specs.declared.tree.Field.TheVariants as fields
-use Rattle.qil_parser.specs.declared.tree.Data.{Data}
+use Rattle.qil_tree.specs.declared.ops.Width.{Width}
+use Rattle.qil_tree.specs.declared.ops.Width.TheVariants as widths
+use Rattle.qil_tree.specs.declared.tree.Item.{Item}
+use Rattle.qil_tree.specs.declared.tree.Item.TheVariants as items
+use Rattle.qil_tree.specs.declared.tree.Field.{Field}
+use Rattle.qil_tree.specs.declared.tree.Field.TheVariants as fields
+use Rattle.qil_tree.specs.declared.tree.Data.{Data}
 use Rattle.qil_parser.specs.Token.{Tok}
 use Rattle.qil_parser.specs.Grammar.{Word, GlobalName, Count, Before, Perhaps}
 

@@ -7,14 +7,14 @@ use Rattle.qil_lexer.specs.Shape.{item_len, item_value}
 use Rattle.qil_language.specs.Reading.{Read, one, nothing, seq, image, either, many, tail, cons_of}
 use Rattle.qil_parser.specs.declared.mark.Mark.{Mark}
 use Rattle.qil_parser.specs.declared.mark.Mark.TheVariants as marks
-use Rattle.qil_parser.specs.declared.ops.Width.{Width}
-use Rattle.qil_parser.specs.declared.ops.Width.TheVariants as widths
-use Rattle.qil_parser.specs.declared.tree.Item.{Item}
-use Rattle.qil_parser.specs.declared.tree.Item.TheVariants as items
-use Rattle.qil_parser.specs.declared.tree.Field.{Field}
-use Rattle.qil_parser.specs.declared.tree.Field.TheVariants as fields
-use Rattle.qil_parser.specs.declared.tree.Data.{Data}
-use Rattle.qil_parser.specs.declared.tree.Program.{Program}
+use Rattle.qil_tree.specs.declared.ops.Width.{Width}
+use Rattle.qil_tree.specs.declared.ops.Width.TheVariants as widths
+use Rattle.qil_tree.specs.declared.tree.Item.{Item}
+use Rattle.qil_tree.specs.declared.tree.Item.TheVariants as items
+use Rattle.qil_tree.specs.declared.tree.Field.{Field}
+use Rattle.qil_tree.specs.declared.tree.Field.TheVariants as fields
+use Rattle.qil_tree.specs.declared.tree.Data.{Data}
+use Rattle.qil_tree.specs.declared.tree.Program.{Program}
 use Rattle.qil_parser.specs.declared.program_cursor.Defined.{Defined}
 use Rattle.qil_parser.specs.declared.program_cursor.Defined.TheVariants as defined
 use Rattle.qil_parser.specs.Token.{Tok, code, index}

@@ -3,7 +3,7 @@ use Rattle.std.specs.Prelude.{◌≡◌, ℕ, true, false, List, [], ◌∷◌, 
 use Rattle.qil_lexer.specs.declared.token.TokenKind.TheVariants as kinds
 use Rattle.qil_parser.specs.declared.error.ParseCode.{ParseCode}
 use Rattle.qil_parser.specs.declared.error.ParseCode.TheVariants as codes
-use Rattle.qil_parser.specs.declared.tree.Program.{Program}
+use Rattle.qil_tree.specs.declared.tree.Program.{Program}
 use Rattle.qil_parser.specs.Token.{Tok}
 use Rattle.qil_parser.specs.Words.{left_out}
 use Rattle.qil_parser.specs.Programs.{Spells, OpenAt}

@@ -2,35 +2,36 @@
 use Rattle.std.specs.Prelude.{ℕ, zero, suc, List, [], ◌∷◌, length, drop, Option, None}
 use Rattle.qil_language.specs.Reading.{Read, got, one, nothing, seq, image, either, many, flagged, cons_of}
 use Rattle.qil_parser.specs.declared.mark.Mark.TheVariants as marks
-use Rattle.qil_parser.specs.declared.ops.Class.{Class}
-use Rattle.qil_parser.specs.declared.ops.Class.TheVariants as class_names
-use Rattle.qil_parser.specs.declared.ops.AbiType.{AbiType}
-use Rattle.qil_parser.specs.declared.ops.UnaryOp.{UnaryOp}
-use Rattle.qil_parser.specs.declared.ops.UnaryOp.TheVariants as unary_ops
-use Rattle.qil_parser.specs.declared.ops.BinaryOp.{BinaryOp}
-use Rattle.qil_parser.specs.declared.ops.BinaryOp.TheVariants as binary_ops
-use Rattle.qil_parser.specs.declared.ops.CompareOp.{CompareOp}
-use Rattle.qil_parser.specs.declared.ops.CompareOp.TheVariants as compare_ops
-use Rattle.qil_parser.specs.declared.ops.Extension.{Extension}
-use Rattle.qil_parser.specs.declared.ops.Extension.TheVariants as extension_ops
-use Rattle.qil_parser.specs.declared.ops.LoadOp.{LoadOp}
-use Rattle.qil_parser.specs.declared.ops.LoadOp.TheVariants as load_ops
-use Rattle.qil_parser.specs.declared.ops.AllocOp.{AllocOp}
-use Rattle.qil_parser.specs.declared.ops.AllocOp.TheVariants as alloc_ops
-use Rattle.qil_parser.specs.declared.ops.Width.{Width}
-use Rattle.qil_parser.specs.declared.ops.Width.TheVariants as widths
-use Rattle.qil_parser.specs.declared.tree.Operand.{Operand}
-use Rattle.qil_parser.specs.declared.tree.Argument.{Argument}
-use Rattle.qil_parser.specs.declared.tree.Expr.{Expr}
-use Rattle.qil_parser.specs.declared.tree.Inst.{Inst}
-use Rattle.qil_parser.specs.declared.tree.PhiSource.{PhiSource}
-use Rattle.qil_parser.specs.declared.tree.Phi.{Phi}
-use Rattle.qil_parser.specs.declared.tree.Jump.{Jump}
-use Rattle.qil_parser.specs.declared.tree.Block.{Block}
-use Rattle.qil_parser.specs.declared.tree.Param.{Param}
-use Rattle.qil_parser.specs.declared.tree.Func.{Func}
+use Rattle.qil_tree.specs.declared.ops.Class.{Class}
+use Rattle.qil_tree.specs.declared.ops.Class.TheVariants as class_names
+use Rattle.qil_tree.specs.declared.ops.AbiType.{AbiType}
+use Rattle.qil_tree.specs.declared.ops.UnaryOp.{UnaryOp}
+use Rattle.qil_tree.specs.declared.ops.UnaryOp.TheVariants as unary_ops
+use Rattle.qil_tree.specs.declared.ops.BinaryOp.{BinaryOp}
+use Rattle.qil_tree.specs.declared.ops.BinaryOp.TheVariants as binary_ops
+use Rattle.qil_tree.specs.declared.ops.CompareOp.{CompareOp}
+use Rattle.qil_tree.specs.declared.ops.CompareOp.TheVariants as compare_ops
+use Rattle.qil_tree.specs.declared.ops.Extension.{Extension}
+use Rattle.qil_tree.specs.declared.ops.Extension.TheVariants as extension_ops
+use Rattle.qil_tree.specs.declared.ops.LoadOp.{LoadOp}
+use Rattle.qil_tree.specs.declared.ops.LoadOp.TheVariants as load_ops
+use Rattle.qil_tree.specs.declared.ops.AllocOp.{AllocOp}
+use Rattle.qil_tree.specs.declared.ops.AllocOp.TheVariants as alloc_ops
+use Rattle.qil_tree.specs.declared.ops.Width.{Width}
+use Rattle.qil_tree.specs.declared.ops.Width.TheVariants as widths
+use Rattle.qil_tree.specs.declared.tree.Operand.{Operand}
+use Rattle.qil_tree.specs.declared.tree.Argument.{Argument}
+use Rattle.qil_tree.specs.declared.tree.Expr.{Expr}
+use Rattle.qil_tree.specs.declared.tree.Inst.{Inst}
+use Rattle.qil_tree.specs.declared.tree.PhiSource.{PhiSource}
+use Rattle.qil_tree.specs.declared.tree.Phi.{Phi}
+use Rattle.qil_tree.specs.declared.tree.Jump.{Jump}
+use Rattle.qil_tree.specs.declared.tree.Block.{Block}
+use Rattle.qil_tree.specs.declared.tree.Param.{Param}
+use Rattle.qil_tree.specs.declared.tree.Func.{Func}
 use Rattle.qil_parser.specs.Token.{Tok, mark, code, index}
-use Rattle.qil_parser.specs.Grammar.{list_of, type_of}
+use Rattle.qil_parser.specs.Grammar.{list_of}
+use Rattle.qil_tree.specs.Types.{type_of}
 use Rattle.qil_parser.specs.Functions.{unary_at, binary_at, compare_at, extend_at, load_at, alloc_at, store_at, target_of, result_of, unary_of, binary_of, compare_of, extend_of, load_of, argument_of, assign_of, alloc_of, call_of, plain_call_of, store_of, blit_of, source_of, phi_of, Front, jmp_of, jnz_of, ret_of, hlt_of, block_of, jump_or, param_of, func_of}
 use Rattle.qil_parser.specs.Parsing.{the, classes, types, values, word_line, temp_name, label_name, global_name, class_word, sub_word, type_word, val, count, two, after, before, perhaps, listed, line}
 

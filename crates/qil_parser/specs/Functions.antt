@@ -3,30 +3,30 @@ use Rattle.std.specs.Prelude.{ℕ, List, [], ◌∷◌, Option, Some, None}
 use Rattle.qil_language.specs.Language.{One, Seq, Image, Either, Many}
 use Rattle.qil_parser.specs.declared.mark.Mark.{Mark}
 use Rattle.qil_parser.specs.declared.mark.Mark.TheVariants as marks
-use Rattle.qil_parser.specs.declared.ops.Class.{Class}
-use Rattle.qil_parser.specs.declared.ops.AbiType.{AbiType}
-use Rattle.qil_parser.specs.declared.ops.UnaryOp.{UnaryOp}
-use Rattle.qil_parser.specs.declared.ops.BinaryOp.{BinaryOp}
-use Rattle.qil_parser.specs.declared.ops.CompareOp.{CompareOp}
-use Rattle.qil_parser.specs.declared.ops.Extension.{Extension}
-use Rattle.qil_parser.specs.declared.ops.LoadOp.{LoadOp}
-use Rattle.qil_parser.specs.declared.ops.AllocOp.{AllocOp}
-use Rattle.qil_parser.specs.declared.ops.Width.{Width}
-use Rattle.qil_parser.specs.declared.tree.Operand.{Operand}
-use Rattle.qil_parser.specs.declared.tree.Target.{Target}
-use Rattle.qil_parser.specs.declared.tree.CallResult.{CallResult}
-use Rattle.qil_parser.specs.declared.tree.Argument.{Argument}
-use Rattle.qil_parser.specs.declared.tree.Expr.{Expr}
-use Rattle.qil_parser.specs.declared.tree.Expr.TheVariants as exprs
-use Rattle.qil_parser.specs.declared.tree.Inst.{Inst}
-use Rattle.qil_parser.specs.declared.tree.InstKind.TheVariants as inst_kinds
-use Rattle.qil_parser.specs.declared.tree.PhiSource.{PhiSource}
-use Rattle.qil_parser.specs.declared.tree.Phi.{Phi}
-use Rattle.qil_parser.specs.declared.tree.Jump.{Jump}
-use Rattle.qil_parser.specs.declared.tree.JumpKind.TheVariants as jump_kinds
-use Rattle.qil_parser.specs.declared.tree.Block.{Block}
-use Rattle.qil_parser.specs.declared.tree.Param.{Param}
-use Rattle.qil_parser.specs.declared.tree.Func.{Func}
+use Rattle.qil_tree.specs.declared.ops.Class.{Class}
+use Rattle.qil_tree.specs.declared.ops.AbiType.{AbiType}
+use Rattle.qil_tree.specs.declared.ops.UnaryOp.{UnaryOp}
+use Rattle.qil_tree.specs.declared.ops.BinaryOp.{BinaryOp}
+use Rattle.qil_tree.specs.declared.ops.CompareOp.{CompareOp}
+use Rattle.qil_tree.specs.declared.ops.Extension.{Extension}
+use Rattle.qil_tree.specs.declared.ops.LoadOp.{LoadOp}
+use Rattle.qil_tree.specs.declared.ops.AllocOp.{AllocOp}
+use Rattle.qil_tree.specs.declared.ops.Width.{Width}
+use Rattle.qil_tree.specs.declared.tree.Operand.{Operand}
+use Rattle.qil_tree.specs.declared.tree.Target.{Target}
+use Rattle.qil_tree.specs.declared.tree.CallResult.{CallResult}
+use Rattle.qil_tree.specs.declared.tree.Argument.{Argument}
+use Rattle.qil_tree.specs.declared.tree.Expr.{Expr}
+use Rattle.qil_tree.specs.declared.tree.Expr.TheVariants as exprs
+use Rattle.qil_tree.specs.declared.tree.Inst.{Inst}
+use Rattle.qil_tree.specs.declared.tree.InstKind.TheVariants as inst_kinds
+use Rattle.qil_tree.specs.declared.tree.PhiSource.{PhiSource}
+use Rattle.qil_tree.specs.declared.tree.Phi.{Phi}
+use Rattle.qil_tree.specs.declared.tree.Jump.{Jump}
+use Rattle.qil_tree.specs.declared.tree.JumpKind.TheVariants as jump_kinds
+use Rattle.qil_tree.specs.declared.tree.Block.{Block}
+use Rattle.qil_tree.specs.declared.tree.Param.{Param}
+use Rattle.qil_tree.specs.declared.tree.Func.{Func}
 use Rattle.qil_parser.specs.Token.{Tok, mark}
 use Rattle.qil_parser.specs.Grammar.{WordLine, TempName, LabelName, GlobalName, ClassWord, TypeWord, Val, Count, Two, After, Before, Perhaps, list_of, Listed, Line}
 

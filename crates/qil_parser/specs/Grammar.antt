@@ -6,12 +6,13 @@ use Rattle.qil_lexer.specs.Shape.{number_value}
 use Rattle.qil_language.specs.Language.{One, Nothing, Seq, Image, Either, Tail}
 use Rattle.qil_parser.specs.declared.mark.Mark.{Mark}
 use Rattle.qil_parser.specs.declared.mark.Mark.TheVariants as marks
-use Rattle.qil_parser.specs.declared.ops.Class.{Class}
-use Rattle.qil_parser.specs.declared.ops.Class.TheVariants as classes
-use Rattle.qil_parser.specs.declared.ops.AbiType.{AbiType}
-use Rattle.qil_parser.specs.declared.ops.AbiType.TheVariants as types
-use Rattle.qil_parser.specs.declared.tree.Operand.{Operand}
-use Rattle.qil_parser.specs.declared.tree.Operand.TheVariants as operands
+use Rattle.qil_tree.specs.declared.ops.Class.{Class}
+use Rattle.qil_tree.specs.declared.ops.Class.TheVariants as classes
+use Rattle.qil_tree.specs.declared.ops.AbiType.{AbiType}
+use Rattle.qil_tree.specs.declared.ops.AbiType.TheVariants as types
+use Rattle.qil_tree.specs.declared.tree.Operand.{Operand}
+use Rattle.qil_tree.specs.declared.tree.Operand.TheVariants as operands
+use Rattle.qil_tree.specs.Types.{type_of}
 use Rattle.qil_parser.specs.Token.{Tok, mark, code}
 
 -- ---- tokens: what one stands for
@@ -121,16 +122,6 @@ Listed S = Either (Image list_of (Seq S (Tail (Word marks.Comma) S))) (Nothing [
 -- NL?
 abbrev pub Line : List Tok → Unit {0} → Type 0
 Line = Image (λ v. tt) (Perhaps (Word marks.Newline))
-
--- the type that is a class
-abbrev pub type_of : Class → AbiType
-type_of classes.W = types.W
-type_of classes.L = types.L
-
--- the class of a temporary of a type: a part of a word lies in a word
-abbrev pub class_of : AbiType → Class
-class_of types.L = classes.L
-class_of _ = classes.W
 
 -- class | "sb" | "ub" | "sh" | "uh"
 abbrev pub TypeWord : List Tok → AbiType → Type 0

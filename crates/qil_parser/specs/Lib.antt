@@ -10,6 +10,3 @@ pub mod FunctionParsing
 pub mod Fault
 pub mod Outcome
 pub mod DataParsing
-pub mod Canonical
-pub mod Pieces
-pub mod Respelled

@@ -9,7 +9,7 @@ use Rattle.qil_parser.specs.declared.error.ParseError.{ParseError}
 use Rattle.qil_parser.specs.declared.error.ParseError.TheVariants as errors
 use Rattle.qil_parser.specs.declared.stop.Stop.{Stop}
 use Rattle.qil_parser.specs.declared.stop.Stop.TheVariants as stops
-use Rattle.qil_parser.specs.declared.tree.Program.{Program}
+use Rattle.qil_tree.specs.declared.tree.Program.{Program}
 use Rattle.qil_parser.specs.Words.{left_out}
 use Rattle.qil_parser.specs.declared.program_cursor.Defined.{Defined}
 use Rattle.qil_parser.specs.Programs.{program_of}

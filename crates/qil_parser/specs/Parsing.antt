@@ -3,11 +3,12 @@ use Rattle.std.specs.Prelude.{ℕ, List, [], ◌∷◌, Option, Some, None}
 use Rattle.qil_language.specs.Reading.{Read, one, nothing, seq, image, either, tail}
 use Rattle.qil_parser.specs.declared.mark.Mark.{Mark}
 use Rattle.qil_parser.specs.declared.mark.Mark.TheVariants as marks
-use Rattle.qil_parser.specs.declared.ops.Class.{Class}
-use Rattle.qil_parser.specs.declared.ops.AbiType.{AbiType}
-use Rattle.qil_parser.specs.declared.tree.Operand.{Operand}
+use Rattle.qil_tree.specs.declared.ops.Class.{Class}
+use Rattle.qil_tree.specs.declared.ops.AbiType.{AbiType}
+use Rattle.qil_tree.specs.declared.tree.Operand.{Operand}
 use Rattle.qil_parser.specs.Token.{Tok, mark, code, index}
-use Rattle.qil_parser.specs.Grammar.{exactly, line_at, temp_at, label_at, global_at, class_at, sub_at, operand_at, count_at, list_of, type_of}
+use Rattle.qil_parser.specs.Grammar.{exactly, line_at, temp_at, label_at, global_at, class_at, sub_at, operand_at, count_at, list_of}
+use Rattle.qil_tree.specs.Types.{type_of}
 
 -- the tokens of one mark
 abbrev pub the : Mark → List ℕ

@@ -3,11 +3,11 @@ use Rattle.std.specs.Prelude.{List, [], ◌∷◌, map}
 use Rattle.std.specs.List.{flat_map}
 use Rattle.qil_language.specs.Language.{Seq, Image, Either, Many, Then, Phrase}
 use Rattle.qil_parser.specs.declared.mark.Mark.TheVariants as marks
-use Rattle.qil_parser.specs.declared.tree.Data.{Data}
-use Rattle.qil_parser.specs.declared.tree.Func.{Func}
-use Rattle.qil_parser.specs.declared.tree.Definition.{Definition}
-use Rattle.qil_parser.specs.declared.tree.Definition.TheVariants as definitions
-use Rattle.qil_parser.specs.declared.tree.Program.{Program}
+use Rattle.qil_tree.specs.declared.tree.Data.{Data}
+use Rattle.qil_tree.specs.declared.tree.Func.{Func}
+use Rattle.qil_tree.specs.declared.tree.Definition.{Definition}
+use Rattle.qil_tree.specs.declared.tree.Definition.TheVariants as definitions
+use Rattle.qil_tree.specs.declared.tree.Program.{Program}
 use Rattle.qil_parser.specs.declared.program_cursor.Defined.{Defined}
 use Rattle.qil_parser.specs.declared.program_cursor.Defined.TheVariants as defined
 use Rattle.qil_parser.specs.Token.{Tok}

@@ -5,14 +5,14 @@ use Rattle.qil_lexer.specs.declared.token.TokenKind.{TokenKind}
 use Rattle.qil_lexer.specs.declared.token.TokenKind.TheVariants as kinds
 use Rattle.qil_parser.specs.declared.mark.Mark.{Mark}
 use Rattle.qil_parser.specs.declared.mark.Mark.TheVariants as marks
-use Rattle.qil_parser.specs.declared.ops.Class.TheVariants as classes
-use Rattle.qil_parser.specs.declared.ops.UnaryOp.TheVariants as unary_ops
-use Rattle.qil_parser.specs.declared.ops.BinaryOp.TheVariants as binary_ops
-use Rattle.qil_parser.specs.declared.ops.CompareOp.TheVariants as compare_ops
-use Rattle.qil_parser.specs.declared.ops.Extension.TheVariants as extension_ops
-use Rattle.qil_parser.specs.declared.ops.LoadOp.TheVariants as load_ops
-use Rattle.qil_parser.specs.declared.ops.AllocOp.TheVariants as alloc_ops
-use Rattle.qil_parser.specs.declared.ops.Width.TheVariants as widths
+use Rattle.qil_tree.specs.declared.ops.Class.TheVariants as classes
+use Rattle.qil_tree.specs.declared.ops.UnaryOp.TheVariants as unary_ops
+use Rattle.qil_tree.specs.declared.ops.BinaryOp.TheVariants as binary_ops
+use Rattle.qil_tree.specs.declared.ops.CompareOp.TheVariants as compare_ops
+use Rattle.qil_tree.specs.declared.ops.Extension.TheVariants as extension_ops
+use Rattle.qil_tree.specs.declared.ops.LoadOp.TheVariants as load_ops
+use Rattle.qil_tree.specs.declared.ops.AllocOp.TheVariants as alloc_ops
+use Rattle.qil_tree.specs.declared.ops.Width.TheVariants as widths
 
 -- what stands beside a text in a table
 abbrev pub beside : List (List ℕ × Mark) → List ℕ → Option Mark

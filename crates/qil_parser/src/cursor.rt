@@ -9,10 +9,9 @@ ghost use Rattle.qil_parser.specs.Outcome.{Gives};
 ghost use Rattle.qil_parser.specs.declared.mark.Mark.TheVariants.{Comma as comma};
 
 use crate::mark::{Mark, token_mark, token_name};
-use crate::ops::{AbiType, Class};
 use crate::stop::Stop;
-use crate::tree::{Name, Operand};
 use qil_lexer::{Token, TokenKind, number_value};
+use qil_tree::{AbiType, Class, Name, Operand};
 
 /// The tokens that are left.
 #[derive(Debug, Drop)]

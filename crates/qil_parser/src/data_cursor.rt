@@ -11,10 +11,9 @@ ghost use Rattle.qil_parser.specs.Outcome.{Gives};
 
 use crate::cursor::Cursor;
 use crate::mark::Mark;
-use crate::ops::Width;
 use crate::stop::Stop;
-use crate::tree::{Data, Field, Item, Items, Name};
 use qil_lexer::{TokenKind, number_value, string_bytes};
+use qil_tree::{Data, Field, Item, Items, Name, Width};
 use std::alloc::Allocator;
 
 impl<'t, 'a> Cursor<'t, 'a> {

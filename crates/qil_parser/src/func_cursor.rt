@@ -10,9 +10,10 @@ ghost use Rattle.qil_parser.specs.declared.mark.Mark.TheVariants.{Newline as new
 
 use crate::cursor::Cursor;
 use crate::mark::{Mark, token_name};
-use crate::ops::{AbiType, Class};
 use crate::stop::Stop;
-use crate::tree::{Block, Func, Inst, Items, Jump, JumpKind, Name, Param, Phi, PhiSource, Target};
+use qil_tree::{
+    AbiType, Block, Class, Func, Inst, Items, Jump, JumpKind, Name, Param, Phi, PhiSource, Target,
+};
 use std::alloc::Allocator;
 
 impl<'t, 'a> Cursor<'t, 'a> {

@@ -10,9 +10,11 @@ ghost use Rattle.qil_parser.specs.declared.mark.Mark.TheVariants.{Newline as new
 
 use crate::cursor::Cursor;
 use crate::mark::Mark;
-use crate::ops::{AbiType, AllocOp, BinaryOp, Class, CompareOp, Extension, LoadOp, UnaryOp, Width};
 use crate::stop::Stop;
-use crate::tree::{Argument, CallResult, Expr, Inst, InstKind, Items, Name, Operand, Target};
+use qil_tree::{
+    AbiType, AllocOp, Argument, BinaryOp, CallResult, Class, CompareOp, Expr, Extension, Inst,
+    InstKind, Items, LoadOp, Name, Operand, Target, UnaryOp, Width,
+};
 use std::alloc::Allocator;
 
 impl<'t, 'a> Cursor<'t, 'a> {

@@ -5,32 +5,25 @@
 //! what they say.
 #![tactic(auto)]
 
-mod canonical;
 mod cursor;
 mod data_cursor;
 mod error;
 mod func_cursor;
 mod inst_cursor;
 mod mark;
-mod ops;
 mod parser;
 mod program_cursor;
 mod stop;
-mod tree;
 mod words;
 
-pub use canonical::{canonical_spells, inst_text, jump_text, phi_text};
 pub use error::{ParseCode, ParseError};
-pub use ops::{AbiType, AllocOp, BinaryOp, Class, CompareOp, Extension, LoadOp, UnaryOp, Width};
 pub use parser::{one_fault, parse};
-pub use qil_streams::{Put, Stopped};
-pub use tree::{
-    Argument, Block, CallResult, Data, Definition, Expr, Field, Func, Inst, InstKind, Item, Items,
-    Jump, JumpKind, Name, Operand, Param, Phi, PhiSource, Program, Target,
+pub use qil_tree::{
+    AbiType, AllocOp, Argument, BinaryOp, Block, CallResult, Class, CompareOp, Data, Definition,
+    Expr, Extension, Field, Func, Inst, InstKind, Item, Items, Jump, JumpKind, LoadOp, Name,
+    Operand, Param, Phi, PhiSource, Program, Target, UnaryOp, Width,
 };
 
-#[cfg(test)]
-mod canonical_tests;
 #[cfg(test)]
 mod data_tests;
 #[cfg(test)]

@@ -3,10 +3,9 @@
 ghost use Rattle.std.specs.Prelude.{◌≡◌, drop};
 ghost use Rattle.qil_parser.specs.Token.{kind_mark, code};
 
-use crate::ops::{AllocOp, BinaryOp, Class, CompareOp, Extension, LoadOp, UnaryOp, Width};
-use crate::tree::Name;
 use crate::words::word_mark;
 use qil_lexer::{Token, TokenKind};
+use qil_tree::{AllocOp, BinaryOp, Class, CompareOp, Extension, LoadOp, Name, UnaryOp, Width};
 
 /// What a token is to the grammar: its kind, or for a word which word.
 #[derive(Clone, Copy, Debug)]

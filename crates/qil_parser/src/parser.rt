@@ -6,15 +6,15 @@ ghost use Rattle.qil_parser.specs.Token.{Tok, seen};
 ghost use Rattle.qil_parser.specs.Programs.{Spells};
 ghost use Rattle.qil_parser.specs.Fault.{TokenFault, last_line};
 ghost use Rattle.qil_parser.specs.Outcome.{IsFault, IsProgram, IsRefusal, IsAnswered, code_of};
-ghost use Rattle.qil_parser.specs.declared.tree.Program.{Program};
+ghost use Rattle.qil_tree.specs.declared.tree.Program.{Program};
 ghost use Rattle.qil_parser.specs.declared.error.ParseCode.{ParseCode};
 
 use crate::cursor::Cursor;
 use crate::error::{ParseCode, ParseError};
 use crate::stop::Stop;
-use crate::tree::Program;
 use crate::words::is_left_out;
 use qil_lexer::{Token, TokenKind};
+use qil_tree::Program;
 use std::alloc::Allocator;
 
 fn last_line(tokens: &[Token]) -> u32

@@ -11,7 +11,7 @@ ghost use Rattle.qil_parser.specs.Outcome.{Gives, Adds};
 use crate::cursor::Cursor;
 use crate::mark::Mark;
 use crate::stop::Stop;
-use crate::tree::{Data, Definition, Func, Items, Program};
+use qil_tree::{Data, Definition, Func, Items, Program};
 use std::alloc::Allocator;
 use std::marker::Model;
 
@@ -31,7 +31,7 @@ pub struct Parts<'a, A: Allocator> {
 }
 
 impl<'a, A: Allocator> Model for Parts<'a, A> {
-    ghost use Rattle.qil_parser.specs.declared.tree.Program.{Program};
+    ghost use Rattle.qil_tree.specs.declared.tree.Program.{Program};
 
     ghost Value = { Program A };
 

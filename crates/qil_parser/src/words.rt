@@ -4,8 +4,8 @@ ghost use Rattle.std.specs.Prelude.{◌≡◌};
 ghost use Rattle.qil_parser.specs.Words as words;
 
 use crate::mark::Mark;
-use crate::ops::{AllocOp, BinaryOp, Class, CompareOp, Extension, LoadOp, UnaryOp, Width};
 use qil_lexer::{Token, TokenKind};
+use qil_tree::{AllocOp, BinaryOp, Class, CompareOp, Extension, LoadOp, UnaryOp, Width};
 
 fn keyword(text: &[u8]) -> Option<Mark>
     ensures { result ≡ words.beside words.keywords text.now }

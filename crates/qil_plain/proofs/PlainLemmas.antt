@@ -2,9 +2,9 @@
 use Rattle.std.proofs.Common.{◌≡◌, ◌∙◌, sym, ap, subst, ℕ, ◌+◌, ◌<◌, List, ◌∷◌, drop, length, get_or, Result, Ok, Err}
 use Rattle.std.specs.Result.{IsErr, IsErrAnd}
 use Rattle.std.proofs.lemmas.List.{drop_more}
-use Rattle.qil_parser.specs.declared.tree.Data.{Data}
-use Rattle.qil_parser.specs.declared.tree.Definition.{Definition}
-use Rattle.qil_parser.specs.declared.tree.Func as whole_func
+use Rattle.qil_tree.specs.declared.tree.Data.{Data}
+use Rattle.qil_tree.specs.declared.tree.Definition.{Definition}
+use Rattle.qil_tree.specs.declared.tree.Func as whole_func
 use Rattle.qil_plain.specs.declared.tree.Func.{Func}
 use Rattle.qil_plain.specs.declared.tree.Program.{Program}
 use Rattle.qil_plain.specs.declared.narrow.PlainError.{PlainError}

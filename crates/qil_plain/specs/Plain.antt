@@ -1,29 +1,29 @@
 -- What of a program is run, and the line of the first thing in its text that isn't.
 use Rattle.std.specs.Prelude.{ℕ, List, [], ◌∷◌, Option, Some, None, option_map, Result, Ok, Err}
-use Rattle.qil_parser.specs.declared.ops.Class.{Class}
-use Rattle.qil_parser.specs.declared.ops.Class.TheVariants as classes
-use Rattle.qil_parser.specs.declared.ops.AbiType.{AbiType}
-use Rattle.qil_parser.specs.declared.ops.AbiType.TheVariants as abi_types
-use Rattle.qil_parser.specs.declared.ops.UnaryOp.TheVariants as unary_ops
-use Rattle.qil_parser.specs.declared.ops.BinaryOp.TheVariants as binary_ops
-use Rattle.qil_parser.specs.declared.tree.Operand as whole_operand
-use Rattle.qil_parser.specs.declared.tree.Operand.TheVariants as whole_operands
-use Rattle.qil_parser.specs.declared.tree.Expr as whole_expr
-use Rattle.qil_parser.specs.declared.tree.Expr.TheVariants as whole_exprs
-use Rattle.qil_parser.specs.declared.tree.Inst as whole_inst
-use Rattle.qil_parser.specs.declared.tree.InstKind as whole_inst_kind
-use Rattle.qil_parser.specs.declared.tree.InstKind.TheVariants as whole_insts
-use Rattle.qil_parser.specs.declared.tree.Jump as whole_jump
-use Rattle.qil_parser.specs.declared.tree.JumpKind as whole_jump_kind
-use Rattle.qil_parser.specs.declared.tree.JumpKind.TheVariants as whole_jumps
-use Rattle.qil_parser.specs.declared.tree.Phi.{Phi}
-use Rattle.qil_parser.specs.declared.tree.Block as whole_block
-use Rattle.qil_parser.specs.declared.tree.Param.{Param}
-use Rattle.qil_parser.specs.declared.tree.Func as whole_func
-use Rattle.qil_parser.specs.declared.tree.Data.{Data}
-use Rattle.qil_parser.specs.declared.tree.Definition.{Definition}
-use Rattle.qil_parser.specs.declared.tree.Definition.TheVariants as definitions
-use Rattle.qil_parser.specs.declared.tree.Program as whole_program
+use Rattle.qil_tree.specs.declared.ops.Class.{Class}
+use Rattle.qil_tree.specs.declared.ops.Class.TheVariants as classes
+use Rattle.qil_tree.specs.declared.ops.AbiType.{AbiType}
+use Rattle.qil_tree.specs.declared.ops.AbiType.TheVariants as abi_types
+use Rattle.qil_tree.specs.declared.ops.UnaryOp.TheVariants as unary_ops
+use Rattle.qil_tree.specs.declared.ops.BinaryOp.TheVariants as binary_ops
+use Rattle.qil_tree.specs.declared.tree.Operand as whole_operand
+use Rattle.qil_tree.specs.declared.tree.Operand.TheVariants as whole_operands
+use Rattle.qil_tree.specs.declared.tree.Expr as whole_expr
+use Rattle.qil_tree.specs.declared.tree.Expr.TheVariants as whole_exprs
+use Rattle.qil_tree.specs.declared.tree.Inst as whole_inst
+use Rattle.qil_tree.specs.declared.tree.InstKind as whole_inst_kind
+use Rattle.qil_tree.specs.declared.tree.InstKind.TheVariants as whole_insts
+use Rattle.qil_tree.specs.declared.tree.Jump as whole_jump
+use Rattle.qil_tree.specs.declared.tree.JumpKind as whole_jump_kind
+use Rattle.qil_tree.specs.declared.tree.JumpKind.TheVariants as whole_jumps
+use Rattle.qil_tree.specs.declared.tree.Phi.{Phi}
+use Rattle.qil_tree.specs.declared.tree.Block as whole_block
+use Rattle.qil_tree.specs.declared.tree.Param.{Param}
+use Rattle.qil_tree.specs.declared.tree.Func as whole_func
+use Rattle.qil_tree.specs.declared.tree.Data.{Data}
+use Rattle.qil_tree.specs.declared.tree.Definition.{Definition}
+use Rattle.qil_tree.specs.declared.tree.Definition.TheVariants as definitions
+use Rattle.qil_tree.specs.declared.tree.Program as whole_program
 use Rattle.qil_plain.specs.declared.tree.Operand.{Operand}
 use Rattle.qil_plain.specs.declared.tree.Operand.TheVariants as operands
 use Rattle.qil_plain.specs.declared.tree.Expr.{Expr}

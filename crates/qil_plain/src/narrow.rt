@@ -3,7 +3,7 @@
 ghost use Rattle.std.specs.Prelude.{◌≡◌, ◌∷◌, List};
 ghost use Rattle.qil_plain.specs.Plain.{plain_operand, plain_expr, plain_kind, plain_insts, plain_jump_kind, plain_jump, no_phi, plain_block, no_block, plain_blocks, plain_returns, no_param, plain_func, one_func, plain_from, plain_program};
 ghost use Rattle.qil_plain.specs.Answer.{Gives, Passes};
-ghost use Rattle.qil_parser.specs.declared.tree.Definition.{Definition};
+ghost use Rattle.qil_tree.specs.declared.tree.Definition.{Definition};
 
 use crate::tree::{
     BinaryOp, Block, Expr, Func, Inst, InstKind, Jump, JumpKind, Operand, Program, UnaryOp,

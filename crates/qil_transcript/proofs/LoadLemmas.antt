@@ -12,7 +12,7 @@ use Rattle.qil_lexer.specs.Walk.{IfRefused}
 use Rattle.qil_parser.specs.declared.error.ParseCode.{ParseCode}
 use Rattle.qil_parser.specs.declared.error.ParseError.{ParseError}
 use Rattle.qil_parser.specs.declared.error.ParseError.TheVariants as parse
-use Rattle.qil_parser.specs.declared.tree.Program.{Program}
+use Rattle.qil_tree.specs.declared.tree.Program.{Program}
 use Rattle.qil_parser.specs.Token.{Tok, tok, seen}
 use Rattle.qil_parser.specs.Programs.{Spells}
 use Rattle.qil_parser.specs.Fault.{TokenFault}

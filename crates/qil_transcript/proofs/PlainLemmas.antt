@@ -1,6 +1,6 @@
 -- From the contract of what is run to that of loading.
 use Rattle.std.proofs.Common.{◌≡◌, ◌∙◌, sym, ap, List, ℕ, Ok, Err, false, true}
-use Rattle.qil_parser.specs.declared.tree.Program as whole
+use Rattle.qil_tree.specs.declared.tree.Program as whole
 use Rattle.qil_plain.specs.declared.tree.Program.{Program}
 use Rattle.qil_plain.specs.declared.narrow.PlainError.{PlainError}
 use Rattle.qil_plain.specs.declared.narrow.PlainError.TheVariants.{NotRun, OutOfMemory}

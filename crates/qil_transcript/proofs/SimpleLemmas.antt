@@ -1,13 +1,13 @@
 -- What is run of a program is functions of one block each.
 use Rattle.std.proofs.Common.{◌≡◌, ◌∙◌, sym, ap, refl, subst, ℕ, List, [], ◌∷◌, Option, Ok, Err}
 use Rattle.std.specs.List.{AllByRecursion}
-use Rattle.qil_parser.specs.declared.ops.Class.{Class}
-use Rattle.qil_parser.specs.declared.tree.Block as whole_block
-use Rattle.qil_parser.specs.declared.tree.Func as whole_func
-use Rattle.qil_parser.specs.declared.tree.Data.{Data}
-use Rattle.qil_parser.specs.declared.tree.Definition.{Definition}
-use Rattle.qil_parser.specs.declared.tree.Definition.TheVariants as definitions
-use Rattle.qil_parser.specs.declared.tree.Program as whole_program
+use Rattle.qil_tree.specs.declared.ops.Class.{Class}
+use Rattle.qil_tree.specs.declared.tree.Block as whole_block
+use Rattle.qil_tree.specs.declared.tree.Func as whole_func
+use Rattle.qil_tree.specs.declared.tree.Data.{Data}
+use Rattle.qil_tree.specs.declared.tree.Definition.{Definition}
+use Rattle.qil_tree.specs.declared.tree.Definition.TheVariants as definitions
+use Rattle.qil_tree.specs.declared.tree.Program as whole_program
 use Rattle.qil_plain.specs.declared.tree.Block.{Block}
 use Rattle.qil_plain.specs.declared.tree.Func.{Func}
 use Rattle.qil_plain.specs.declared.tree.Program.{Program}

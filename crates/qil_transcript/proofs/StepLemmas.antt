@@ -3,7 +3,7 @@ use Rattle.std.proofs.Common.{◌≡◌, ℕ, ◌+◌, List, [], ◌∷◌, ◌+
 use Rattle.std.specs.Prelude.{Result, Ok, Err, IfOk}
 use Rattle.qil_plain.specs.declared.tree.Block.{Block}
 use Rattle.qil_plain.specs.declared.tree.Func.{Func}
-use Rattle.qil_parser.specs.declared.tree.Target.{Target}
+use Rattle.qil_tree.specs.declared.tree.Target.{Target}
 use Rattle.qil_plain.specs.declared.tree.Expr.{Expr}
 use Rattle.qil_plain.specs.declared.tree.InstKind.TheVariants.{Assign}
 use Rattle.qil_meaning.specs.Step.{eval}

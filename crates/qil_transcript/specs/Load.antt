@@ -3,7 +3,7 @@ use Rattle.std.specs.Prelude.{◌≡◌, ℕ, ◌≤◌, ◌^◌, List, [], leng
 use Rattle.std.specs.List.{AllByRecursion}
 use Rattle.qil_lexer.specs.declared.token.Token.{Token}
 use Rattle.qil_lexer.specs.Cut.{Cuts, TextFault}
-use Rattle.qil_parser.specs.declared.tree.Program.{Program}
+use Rattle.qil_tree.specs.declared.tree.Program.{Program}
 use Rattle.qil_parser.specs.Token.{seen}
 use Rattle.qil_parser.specs.Programs.{Spells}
 use Rattle.qil_parser.specs.Fault.{TokenFault}

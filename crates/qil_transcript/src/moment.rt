@@ -1,7 +1,7 @@
 //! A moment of a run: the whole state by names, as long as a program is one function of one block.
 
 ghost use Rattle.std.specs.Prelude.{◌≡◌, ◌+◌, ◌%◌, ◌^◌, ◌++◌, ◌∷◌, [], IfOk, ◌<◌, slice_get};
-ghost use Rattle.qil_parser.specs.declared.ops.Class.{Class};
+ghost use Rattle.qil_tree.specs.declared.ops.Class.{Class};
 ghost use Rattle.qil_ops.specs.Values.{width, Low};
 ghost use Rattle.qil_meaning.specs.Step.{val, eval};
 ghost use Rattle.qil_meaning.specs.State.{is_final};

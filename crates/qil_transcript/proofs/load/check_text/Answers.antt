@@ -1,6 +1,6 @@
 -- Answers to the goals of `check_text`.
 use Rattle.std.proofs.Common.{sym, ◌∙◌, subst}
-use Rattle.qil_parser.specs.declared.tree.Program.{Program}
+use Rattle.qil_tree.specs.declared.tree.Program.{Program}
 use Rattle.qil_parser.specs.Token.{seen}
 use Rattle.qil_parser.specs.Programs.{Spells}
 use Rattle.qil_transcript.proofs.LoadLemmas.{short_text, parse_refused, parse_accepts, check_refused, check_accepts, none_refused, same_program, err_from, err_match}

@@ -1,0 +1,61 @@
+-- Canonical texts that are put piece by piece.
+use Rattle.std.proofs.Common.{◌≡◌, ℕ, ◌+◌, ◌-◌, ◌<◌, ◌≤◌, List, [], ◌∷◌, ◌++◌, length, take, drop, get_or, slice_index_or, arith, Option, Result, Err, refl, sym, ap, subst, ◌∙◌}
+use Rattle.std.specs.Prelude.{IsErrAnd}
+use Rattle.std.specs.List.{flat_map}
+use Rattle.std.specs.Io.KnownBytes.{Appends}
+use Rattle.std.proofs.lemmas.List.{take_all}
+use Rattle.std.proofs.lemmas.Grind.{flat_map-append}
+use Rattle.qil_streams.specs.Device.{Puts}
+use Rattle.qil_streams.proofs.PieceLemmas.{put_more, put_stop}
+use Rattle.qil_streams.proofs.TextLemmas.{Puts-append, Puts-stop}
+use Rattle.qil_texts.specs.Canonical.{Written, written, text_of}
+
+-- ---- a loop over items, each of which has a text
+
+module _ {T : Type 0} (f : T → List ℕ) (xs : List T) (i : ℕ) (x : T) (text : List ℕ) (h : i < length xs) (is : x ≡ get_or xs i x) (same : text ≡ f x) where
+  there : text ≡ f (get_or xs i x)
+  there = same ∙ ap f is
+
+  pub item_more : (a b c : Option (List ℕ)) → Appends a b (flat_map f (take i xs)) → Appends b c text → Appends a c (flat_map f (take (i + 1) xs))
+  item_more a b c p q = put_more f xs i x a b c h p (subst (λ (t : List ℕ). Appends b c t) there q)
+
+  pub item_stop : {R E F : Type 0} (a b c : Option (List ℕ)) (Q : E → Type 0) (r : Result R E) → IsErrAnd r Q → (e : F) → Appends a b (flat_map f (take i xs)) → Puts {T = R} (Err e) b c text → Puts r a c (flat_map f xs)
+  item_stop {R} a b c Q r k e p q = put_stop f xs i x a b c h Q r k e p (subst (λ (t : List ℕ). Puts {T = R} (Err e) b c t) there q)
+
+-- ---- texts of words in a row
+
+pub text_append : (xs ys : List Written) → text_of (xs ++ ys) ≡ text_of xs ++ text_of ys
+text_append xs ys = flat_map-append written xs ys
+
+pub texts_of_each : {T : Type 0} (words : T → List Written) (xs : List T) → text_of (flat_map words xs) ≡ flat_map (λ x. text_of (words x)) xs
+texts_of_each words [] = refl
+texts_of_each words (x ∷ xs) = text_append (words x) (flat_map words xs) ∙ ap (λ (t : List ℕ). text_of (words x) ++ t) (texts_of_each words xs)
+
+module _ {T E : Type 0} (xs ys : List Written) where
+  pub words_put : (r : Result T E) (a b c : Option (List ℕ)) → Appends a b (text_of xs) → Puts r b c (text_of ys) → Puts r a c (text_of (xs ++ ys))
+  words_put r a b c p q = subst (λ (t : List ℕ). Puts r a c t) (sym (text_append xs ys)) (Puts-append r a b c (text_of xs) (text_of ys) p q)
+
+  pub words_stop : {F : Type 0} (Q : E → Type 0) (r : Result T E) → IsErrAnd r Q → (e : F) (a b : Option (List ℕ)) → Puts {T = T} (Err e) a b (text_of xs) → Puts r a b (text_of (xs ++ ys))
+  words_stop Q r k e a b p = subst (λ (t : List ℕ). Puts r a b t) (sym (text_append xs ys)) (Puts-stop Q r k e a b (text_of xs) (text_of ys) p)
+
+-- ---- a first item and others
+
+tail_is : {T : Type 0} (y : T) (ys : List T) → take (length (y ∷ ys) - 1) ys ≡ ys
+tail_is y ys = ap (λ (n : ℕ). take n ys) (omega arith) ∙ take_all (length ys) ys (omega arith)
+
+parted : {T : Type 0} (xs : List T) (x : T) → 1 ≤ length xs → x ≡ slice_index_or xs 0 x → xs ≡ x ∷ take (length xs - 1) (drop 1 xs)
+parted [] x le is = absurd (omega arith)
+parted (y ∷ ys) x le is = ap (λ (z : _). z ∷ ys) (sym is) ∙ ap (λ (l : List _). x ∷ l) (sym (tail_is y ys))
+
+module _ {T : Type 0} (first more : T → List Written) (all : List T → List Written) (made : (x : T) (others : List T) → all (x ∷ others) ≡ first x ++ flat_map more others) (xs : List T) (x : T) (le : 1 ≤ length xs) (is : x ≡ slice_index_or xs 0 x) where
+  abbrev others : List T
+  others = take (length xs - 1) (drop 1 xs)
+
+  all_is : all xs ≡ first x ++ flat_map more others
+  all_is = ap all (parted xs x le is) ∙ made x others
+
+  pub listed_put : {R E : Type 0} (r : Result R E) (a b c : Option (List ℕ)) → Appends a b (text_of (first x)) → Puts r b c (flat_map (λ y. text_of (more y)) others) → Puts r a c (text_of (all xs))
+  listed_put r a b c p q = subst (λ (ws : List Written). Puts r a c (text_of ws)) (sym all_is) (words_put (first x) (flat_map more others) r a b c p (subst (λ (t : List ℕ). Puts r b c t) (sym (texts_of_each more others)) q))
+
+  pub listed_stop : {R E F : Type 0} (Q : E → Type 0) (r : Result R E) → IsErrAnd r Q → (e : F) (a b : Option (List ℕ)) → Puts {T = R} (Err e) a b (text_of (first x)) → Puts r a b (text_of (all xs))
+  listed_stop Q r k e a b p = subst (λ (ws : List Written). Puts r a b (text_of ws)) (sym all_is) (words_stop (first x) (flat_map more others) Q r k e a b p)

@@ -1,0 +1,593 @@
+//! Canonical texts: how an instruction, a phi or a jump of the tree is written. Nothing here takes memory.
+
+ghost use Rattle.std.specs.Prelude.{◌≡◌, List, ℕ, All, ◌-◌, ◌^◌, ◌<◌, ◌++◌, ◌∷◌, []};
+ghost use Rattle.std.specs.List.{flat_map};
+ghost use Rattle.qil_streams.specs.Device.{Counts, Puts};
+ghost use Rattle.qil_texts.specs.Pieces.{piece_bytes, more_argument_text, more_source_text};
+ghost use Rattle.qil_texts.specs.Canonical.{class_name, type_name, unary_name, binary_name, compare_name, extension_name, load_name, alloc_name, store_name, operand_bytes, text_of, target_words, one_value, two_values, expr_words, close_paren, phi_start, call_words, argument_words, arguments_words, source_words, sources_words, inst_text, phi_text, jump_text};
+ghost use Rattle.qil_lexer.specs.declared.token.Token.{Token};
+ghost use Rattle.qil_lexer.specs.Cut.{IsShaped, Cuts};
+ghost use Rattle.qil_tree.specs.declared.tree.Inst.{Inst};
+ghost use Rattle.qil_tree.specs.declared.tree.Phi.{Phi};
+ghost use Rattle.qil_tree.specs.declared.tree.Jump.{Jump};
+ghost use Rattle.qil_parser.specs.Token.{seen};
+ghost use Rattle.qil_parser.specs.Functions.{InstOf, PhiOf, JumpOf};
+ghost use Rattle.qil_tree.specs.declared.tree.Program.{Program};
+ghost use Rattle.qil_parser.specs.Programs.{Spells};
+ghost use Rattle.qil_texts.specs.Respelled.{InstRespelled, PhiRespelled, JumpRespelled, ProgramRespelled};
+
+use qil_streams::{Put, Stopped, put_number};
+use qil_tree::{
+    AbiType, AllocOp, Argument, BinaryOp, CallResult, Class, CompareOp, Expr, Extension, Inst,
+    InstKind, Jump, JumpKind, LoadOp, Operand, Phi, PhiSource, Target, UnaryOp, Width,
+};
+use std::alloc::Allocator;
+
+/// The word of a class.
+fn class_name(class: Class) -> &'static [u8]
+    ensures { result.now ≡ class_name class }
+{
+    match class {
+        Class::W => b"w",
+        Class::L => b"l",
+    }
+}
+
+/// The word of a type.
+fn type_name(abi_type: AbiType) -> &'static [u8]
+    ensures { result.now ≡ type_name abi_type }
+{
+    match abi_type {
+        AbiType::W => b"w",
+        AbiType::L => b"l",
+        AbiType::Sb => b"sb",
+        AbiType::Ub => b"ub",
+        AbiType::Sh => b"sh",
+        AbiType::Uh => b"uh",
+    }
+}
+
+/// The word of an operation on one operand.
+fn unary_name(op: UnaryOp) -> &'static [u8]
+    ensures { result.now ≡ unary_name op }
+{
+    match op {
+        UnaryOp::Copy => b"copy",
+        UnaryOp::Neg => b"neg",
+    }
+}
+
+/// The word of an operation on two operands.
+fn binary_name(op: BinaryOp) -> &'static [u8]
+    ensures { result.now ≡ binary_name op }
+{
+    match op {
+        BinaryOp::Add => b"add",
+        BinaryOp::Sub => b"sub",
+        BinaryOp::Mul => b"mul",
+        BinaryOp::Div => b"div",
+        BinaryOp::Rem => b"rem",
+        BinaryOp::Udiv => b"udiv",
+        BinaryOp::Urem => b"urem",
+        BinaryOp::And => b"and",
+        BinaryOp::Or => b"or",
+        BinaryOp::Xor => b"xor",
+        BinaryOp::Sar => b"sar",
+        BinaryOp::Shr => b"shr",
+        BinaryOp::Shl => b"shl",
+    }
+}
+
+/// The word of a comparison, without the class at its end.
+fn compare_name(op: CompareOp) -> &'static [u8]
+    ensures { result.now ≡ compare_name op }
+{
+    match op {
+        CompareOp::Eq => b"ceq",
+        CompareOp::Ne => b"cne",
+        CompareOp::Sle => b"csle",
+        CompareOp::Slt => b"cslt",
+        CompareOp::Sge => b"csge",
+        CompareOp::Sgt => b"csgt",
+        CompareOp::Ule => b"cule",
+        CompareOp::Ult => b"cult",
+        CompareOp::Uge => b"cuge",
+        CompareOp::Ugt => b"cugt",
+    }
+}
+
+/// The word of an extension.
+fn extension_name(op: Extension) -> &'static [u8]
+    ensures { result.now ≡ extension_name op }
+{
+    match op {
+        Extension::Sw => b"extsw",
+        Extension::Uw => b"extuw",
+        Extension::Sh => b"extsh",
+        Extension::Uh => b"extuh",
+        Extension::Sb => b"extsb",
+        Extension::Ub => b"extub",
+    }
+}
+
+/// The word of a load: of the two words for four bytes with a sign, `loadsw`.
+fn load_name(op: LoadOp) -> &'static [u8]
+    ensures { result.now ≡ load_name op }
+{
+    match op {
+        LoadOp::L => b"loadl",
+        LoadOp::Sw => b"loadsw",
+        LoadOp::Uw => b"loaduw",
+        LoadOp::Sh => b"loadsh",
+        LoadOp::Uh => b"loaduh",
+        LoadOp::Sb => b"loadsb",
+        LoadOp::Ub => b"loadub",
+    }
+}
+
+/// The word of an allocation on the stack.
+fn alloc_name(op: AllocOp) -> &'static [u8]
+    ensures { result.now ≡ alloc_name op }
+{
+    match op {
+        AllocOp::Four => b"alloc4",
+        AllocOp::Eight => b"alloc8",
+        AllocOp::Sixteen => b"alloc16",
+    }
+}
+
+/// The word of a store.
+fn store_name(width: Width) -> &'static [u8]
+    ensures { result.now ≡ store_name width }
+{
+    match width {
+        Width::B => b"storeb",
+        Width::H => b"storeh",
+        Width::W => b"storew",
+        Width::L => b"storel",
+    }
+}
+
+/// A piece of a text.
+#[derive(Clone, Copy)]
+pub enum Piece<'p, 'a> {
+    Bytes(&'p [u8]),
+    /// In decimal digits.
+    Number(u64),
+    /// An operand, with the sigil of its name.
+    Value(&'p Operand<'a>),
+}
+
+/// Puts a name behind its sigil.
+fn put_name<P: Put>(out: &mut P, sigil: &[u8], name: &[u8]) -> Result<(), Stopped>
+    requires { P.stops out.old < 2 ^ 64 - 1 }
+    ensures text { Puts result (P.written out.old) (P.written out.new) (sigil.now ++ name.now) }
+    ensures counted { Counts result (P.stops out.old) (P.stops out.new) }
+    ensures device { P.device out.new ≡ P.device out.old }
+{
+    out.put(sigil)?;
+    out.put(name)
+}
+
+fn put_operand<P: Put>(out: &mut P, operand: &Operand) -> Result<(), Stopped>
+    requires { P.stops out.old < 2 ^ 64 - 1 }
+    ensures text { Puts result (P.written out.old) (P.written out.new) (operand_bytes operand.now) }
+    ensures counted { Counts result (P.stops out.old) (P.stops out.new) }
+    ensures device { P.device out.new ≡ P.device out.old }
+{
+    match operand {
+        Operand::Number(number) => put_number(out, *number),
+        Operand::Global(name) => put_name(out, b"$", name.bytes()),
+        Operand::Temp(name) => put_name(out, b"%", name.bytes()),
+    }
+}
+
+fn put_piece<P: Put>(out: &mut P, piece: &Piece) -> Result<(), Stopped>
+    requires { P.stops out.old < 2 ^ 64 - 1 }
+    ensures text { Puts result (P.written out.old) (P.written out.new) (piece_bytes piece.now) }
+    ensures counted { Counts result (P.stops out.old) (P.stops out.new) }
+    ensures device { P.device out.new ≡ P.device out.old }
+{
+    match piece {
+        Piece::Bytes(bytes) => out.put(bytes),
+        Piece::Number(number) => put_number(out, *number),
+        Piece::Value(operand) => put_operand(out, operand),
+    }
+}
+
+/// Puts pieces of a text one after the other.
+fn put_pieces<P: Put>(out: &mut P, pieces: &[Piece]) -> Result<(), Stopped>
+    requires { P.stops out.old < 2 ^ 64 - 1 }
+    ensures text { Puts result (P.written out.old) (P.written out.new) (flat_map piece_bytes pieces.now) }
+    ensures counted { Counts result (P.stops out.old) (P.stops out.new) }
+    ensures device { P.device out.new ≡ P.device out.old }
+{
+    for piece in pieces {
+        put_piece(out, piece)?;
+    }
+    Ok(())
+}
+
+/// Puts a target, and an operation on one value.
+fn put_one<'p, 'a, P: Put>(
+    out: &mut P,
+    target: &'p Target<'a>,
+    op: &'p [u8],
+    value: &'p Operand<'a>,
+) -> Result<(), Stopped>
+    requires { P.stops out.old < 2 ^ 64 - 1 }
+    ensures text { Puts result (P.written out.old) (P.written out.new) (text_of (target_words target.now.name (class_name target.now.class) ++ one_value op.now value.now)) }
+    ensures counted { Counts result (P.stops out.old) (P.stops out.new) }
+    ensures device { P.device out.new ≡ P.device out.old }
+{
+    put_pieces(
+        out,
+        &[
+            Piece::Bytes(b"%"),
+            Piece::Bytes(target.name.bytes()),
+            Piece::Bytes(b" ="),
+            Piece::Bytes(class_name(target.class)),
+            Piece::Bytes(b" "),
+            Piece::Bytes(op),
+            Piece::Bytes(b" "),
+            Piece::Value(value),
+        ],
+    )
+}
+
+/// Puts a target, and an operation on two values; the operation's word ends with a class or with nothing.
+fn put_two<'p, 'a, P: Put>(
+    out: &mut P,
+    target: &'p Target<'a>,
+    op: &'p [u8],
+    class: &'p [u8],
+    left: &'p Operand<'a>,
+    right: &'p Operand<'a>,
+) -> Result<(), Stopped>
+    requires { P.stops out.old < 2 ^ 64 - 1 }
+    ensures text { Puts result (P.written out.old) (P.written out.new) (text_of (target_words target.now.name (class_name target.now.class) ++ two_values (op.now ++ class.now) left.now right.now)) }
+    ensures counted { Counts result (P.stops out.old) (P.stops out.new) }
+    ensures device { P.device out.new ≡ P.device out.old }
+{
+    put_pieces(
+        out,
+        &[
+            Piece::Bytes(b"%"),
+            Piece::Bytes(target.name.bytes()),
+            Piece::Bytes(b" ="),
+            Piece::Bytes(class_name(target.class)),
+            Piece::Bytes(b" "),
+            Piece::Bytes(op),
+            Piece::Bytes(class),
+            Piece::Bytes(b" "),
+            Piece::Value(left),
+            Piece::Bytes(b", "),
+            Piece::Value(right),
+        ],
+    )
+}
+
+fn put_assign<'p, 'a, P: Put>(
+    out: &mut P,
+    target: &'p Target<'a>,
+    value: &'p Expr<'a>,
+) -> Result<(), Stopped>
+    requires { P.stops out.old < 2 ^ 64 - 1 }
+    ensures text { Puts result (P.written out.old) (P.written out.new) (text_of (target_words target.now.name (class_name target.now.class) ++ expr_words value.now)) }
+    ensures counted { Counts result (P.stops out.old) (P.stops out.new) }
+    ensures device { P.device out.new ≡ P.device out.old }
+{
+    match value {
+        Expr::Unary(op, value) => put_one(out, target, unary_name(*op), value),
+        Expr::Binary(op, left, right) => put_two(out, target, binary_name(*op), b"", left, right),
+        Expr::Compare(op, class, left, right) => put_two(
+            out,
+            target,
+            compare_name(*op),
+            class_name(*class),
+            left,
+            right,
+        ),
+        Expr::Extend(op, value) => put_one(out, target, extension_name(*op), value),
+        Expr::Load(op, value) => put_one(out, target, load_name(*op), value),
+    }
+}
+
+/// Puts a call up to its opening bracket.
+fn put_called<'p, 'a, P: Put>(
+    out: &mut P,
+    target: &'p Option<CallResult<'a>>,
+    callee: &'p Operand<'a>,
+) -> Result<(), Stopped>
+    requires { P.stops out.old < 2 ^ 64 - 1 }
+    ensures text { Puts result (P.written out.old) (P.written out.new) (text_of (call_words target.now callee.now)) }
+    ensures counted { Counts result (P.stops out.old) (P.stops out.new) }
+    ensures device { P.device out.new ≡ P.device out.old }
+{
+    match target {
+        None => put_pieces(
+            out,
+            &[
+                Piece::Bytes(b"call "),
+                Piece::Value(callee),
+                Piece::Bytes(b"("),
+            ],
+        ),
+        Some(to) => put_pieces(
+            out,
+            &[
+                Piece::Bytes(b"%"),
+                Piece::Bytes(to.name.bytes()),
+                Piece::Bytes(b" ="),
+                Piece::Bytes(type_name(to.abi_type)),
+                Piece::Bytes(b" call "),
+                Piece::Value(callee),
+                Piece::Bytes(b"("),
+            ],
+        ),
+    }
+}
+
+/// Puts a comma and an argument.
+fn put_argument<P: Put>(out: &mut P, argument: &Argument) -> Result<(), Stopped>
+    requires { P.stops out.old < 2 ^ 64 - 1 }
+    ensures text { Puts result (P.written out.old) (P.written out.new) (more_argument_text argument.now) }
+    ensures counted { Counts result (P.stops out.old) (P.stops out.new) }
+    ensures device { P.device out.new ≡ P.device out.old }
+{
+    put_pieces(
+        out,
+        &[
+            Piece::Bytes(b", "),
+            Piece::Bytes(type_name(argument.abi_type)),
+            Piece::Bytes(b" "),
+            Piece::Value(&argument.value),
+        ],
+    )
+}
+
+/// Puts the arguments after a first.
+fn put_more_arguments<P: Put>(out: &mut P, arguments: &[Argument]) -> Result<(), Stopped>
+    requires { P.stops out.old < 2 ^ 64 - 1 }
+    ensures text { Puts result (P.written out.old) (P.written out.new) (flat_map more_argument_text arguments.now) }
+    ensures counted { Counts result (P.stops out.old) (P.stops out.new) }
+    ensures device { P.device out.new ≡ P.device out.old }
+{
+    for argument in arguments {
+        put_argument(out, argument)?;
+    }
+    Ok(())
+}
+
+/// Puts an argument.
+fn put_first_argument<P: Put>(out: &mut P, argument: &Argument) -> Result<(), Stopped>
+    requires { P.stops out.old < 2 ^ 64 - 1 }
+    ensures text { Puts result (P.written out.old) (P.written out.new) (text_of (argument_words argument.now)) }
+    ensures counted { Counts result (P.stops out.old) (P.stops out.new) }
+    ensures device { P.device out.new ≡ P.device out.old }
+{
+    put_pieces(
+        out,
+        &[
+            Piece::Bytes(type_name(argument.abi_type)),
+            Piece::Bytes(b" "),
+            Piece::Value(&argument.value),
+        ],
+    )
+}
+
+fn put_arguments<P: Put>(out: &mut P, arguments: &[Argument]) -> Result<(), Stopped>
+    requires { P.stops out.old < 2 ^ 64 - 1 }
+    ensures text { Puts result (P.written out.old) (P.written out.new) (text_of (arguments_words arguments.now)) }
+    ensures counted { Counts result (P.stops out.old) (P.stops out.new) }
+    ensures device { P.device out.new ≡ P.device out.old }
+{
+    match arguments {
+        [] => Ok(()),
+        [first, rest @ ..] => {
+            put_first_argument(out, first)?;
+            put_more_arguments(out, rest)
+        }
+    }
+}
+
+fn put_call<'p, 'a, P: Put>(
+    out: &mut P,
+    target: &'p Option<CallResult<'a>>,
+    callee: &'p Operand<'a>,
+    arguments: &'p [Argument<'a>],
+) -> Result<(), Stopped>
+    requires { P.stops out.old < 2 ^ 64 - 1 }
+    ensures text { Puts result (P.written out.old) (P.written out.new) (text_of (call_words target.now callee.now ++ (arguments_words arguments.now ++ close_paren ∷ []))) }
+    ensures counted { Counts result (P.stops out.old) (P.stops out.new) }
+    ensures device { P.device out.new ≡ P.device out.old }
+{
+    put_called(out, target, callee)?;
+    put_arguments(out, arguments)?;
+    out.put(b")")
+}
+
+/// Puts the canonical text of an instruction: `%x =w add 2, 3`, `storew 1, %p`, `%r =w call $f(w 1, l %p)`.
+/// `loadw` is written as `loadsw`; numbers are written in unsigned decimals.
+///
+/// # Errors
+///
+/// `Stopped` where `out` stopped. Then a front of the text was put.
+pub fn inst_text<P: Put, A: Allocator>(inst: &Inst<'_, A>, out: &mut P) -> Result<(), Stopped>
+    requires { P.stops out.old < 2 ^ 64 - 1 }
+    ensures text { Puts result (P.written out.old) (P.written out.new) (inst_text inst.now) }
+    ensures counted { Counts result (P.stops out.old) (P.stops out.new) }
+    ensures device { P.device out.new ≡ P.device out.old }
+{
+    match &inst.kind {
+        InstKind::Assign(target, value) => put_assign(out, target, value),
+        InstKind::Alloc(target, op, size) => put_one(out, target, alloc_name(*op), size),
+        InstKind::Store(width, value, to) => put_pieces(
+            out,
+            &[
+                Piece::Bytes(store_name(*width)),
+                Piece::Bytes(b" "),
+                Piece::Value(value),
+                Piece::Bytes(b", "),
+                Piece::Value(to),
+            ],
+        ),
+        InstKind::Blit(from, to, count) => put_pieces(
+            out,
+            &[
+                Piece::Bytes(b"blit "),
+                Piece::Value(from),
+                Piece::Bytes(b", "),
+                Piece::Value(to),
+                Piece::Bytes(b", "),
+                Piece::Number(*count),
+            ],
+        ),
+        InstKind::Call(target, callee, arguments) => put_call(
+            out,
+            target,
+            callee,
+            arguments.as_slice(),
+        ),
+    }
+}
+
+/// Puts a comma and a source.
+fn put_source<P: Put>(out: &mut P, source: &PhiSource) -> Result<(), Stopped>
+    requires { P.stops out.old < 2 ^ 64 - 1 }
+    ensures text { Puts result (P.written out.old) (P.written out.new) (more_source_text source.now) }
+    ensures counted { Counts result (P.stops out.old) (P.stops out.new) }
+    ensures device { P.device out.new ≡ P.device out.old }
+{
+    put_pieces(
+        out,
+        &[
+            Piece::Bytes(b", @"),
+            Piece::Bytes(source.label.bytes()),
+            Piece::Bytes(b" "),
+            Piece::Value(&source.value),
+        ],
+    )
+}
+
+/// Puts the sources after a first.
+fn put_more_sources<P: Put>(out: &mut P, sources: &[PhiSource]) -> Result<(), Stopped>
+    requires { P.stops out.old < 2 ^ 64 - 1 }
+    ensures text { Puts result (P.written out.old) (P.written out.new) (flat_map more_source_text sources.now) }
+    ensures counted { Counts result (P.stops out.old) (P.stops out.new) }
+    ensures device { P.device out.new ≡ P.device out.old }
+{
+    for source in sources {
+        put_source(out, source)?;
+    }
+    Ok(())
+}
+
+/// Puts a source.
+fn put_first_source<P: Put>(out: &mut P, source: &PhiSource) -> Result<(), Stopped>
+    requires { P.stops out.old < 2 ^ 64 - 1 }
+    ensures text { Puts result (P.written out.old) (P.written out.new) (text_of (source_words source.now)) }
+    ensures counted { Counts result (P.stops out.old) (P.stops out.new) }
+    ensures device { P.device out.new ≡ P.device out.old }
+{
+    put_pieces(
+        out,
+        &[
+            Piece::Bytes(b" @"),
+            Piece::Bytes(source.label.bytes()),
+            Piece::Bytes(b" "),
+            Piece::Value(&source.value),
+        ],
+    )
+}
+
+fn put_sources<P: Put>(out: &mut P, sources: &[PhiSource]) -> Result<(), Stopped>
+    requires { P.stops out.old < 2 ^ 64 - 1 }
+    ensures text { Puts result (P.written out.old) (P.written out.new) (text_of (sources_words sources.now)) }
+    ensures counted { Counts result (P.stops out.old) (P.stops out.new) }
+    ensures device { P.device out.new ≡ P.device out.old }
+{
+    match sources {
+        [] => Ok(()),
+        [first, rest @ ..] => {
+            put_first_source(out, first)?;
+            put_more_sources(out, rest)
+        }
+    }
+}
+
+/// Puts a phi up to its sources.
+fn put_phi<P: Put>(out: &mut P, target: &Target) -> Result<(), Stopped>
+    requires { P.stops out.old < 2 ^ 64 - 1 }
+    ensures text { Puts result (P.written out.old) (P.written out.new) (text_of (phi_start target.now)) }
+    ensures counted { Counts result (P.stops out.old) (P.stops out.new) }
+    ensures device { P.device out.new ≡ P.device out.old }
+{
+    put_pieces(
+        out,
+        &[
+            Piece::Bytes(b"%"),
+            Piece::Bytes(target.name.bytes()),
+            Piece::Bytes(b" ="),
+            Piece::Bytes(class_name(target.class)),
+            Piece::Bytes(b" phi"),
+        ],
+    )
+}
+
+/// Puts the canonical text of a phi: `%x =w phi @a 1, @b %y`.
+///
+/// # Errors
+///
+/// `Stopped` where `out` stopped. Then a front of the text was put.
+pub fn phi_text<P: Put, A: Allocator>(phi: &Phi<'_, A>, out: &mut P) -> Result<(), Stopped>
+    requires { P.stops out.old < 2 ^ 64 - 1 }
+    ensures text { Puts result (P.written out.old) (P.written out.new) (phi_text phi.now) }
+    ensures counted { Counts result (P.stops out.old) (P.stops out.new) }
+    ensures device { P.device out.new ≡ P.device out.old }
+{
+    put_phi(out, &phi.target)?;
+    put_sources(out, phi.sources.as_slice())
+}
+
+/// Puts the canonical text of a jump: `jmp @a`, `jnz %c, @a, @b`, `ret %x`, `ret`, `hlt`.
+///
+/// # Errors
+///
+/// `Stopped` where `out` stopped. Then a front of the text was put.
+pub fn jump_text<P: Put>(jump: &Jump, out: &mut P) -> Result<(), Stopped>
+    requires { P.stops out.old < 2 ^ 64 - 1 }
+    ensures text { Puts result (P.written out.old) (P.written out.new) (jump_text jump.now) }
+    ensures counted { Counts result (P.stops out.old) (P.stops out.new) }
+    ensures device { P.device out.new ≡ P.device out.old }
+{
+    match &jump.kind {
+        JumpKind::Jmp(to) => put_pieces(out, &[Piece::Bytes(b"jmp @"), Piece::Bytes(to.bytes())]),
+        JumpKind::Jnz(value, if_set, if_zero) => put_pieces(
+            out,
+            &[
+                Piece::Bytes(b"jnz "),
+                Piece::Value(value),
+                Piece::Bytes(b", @"),
+                Piece::Bytes(if_set.bytes()),
+                Piece::Bytes(b", @"),
+                Piece::Bytes(if_zero.bytes()),
+            ],
+        ),
+        JumpKind::Ret(None) => out.put(b"ret"),
+        JumpKind::Ret(Some(value)) => put_pieces(
+            out,
+            &[Piece::Bytes(b"ret "), Piece::Value(value)],
+        ),
+        JumpKind::Hlt => out.put(b"hlt"),
+    }
+}
+
+/// The canonical text of an instruction, phi or jump that tokens of a text spell is cut into tokens that spell the
+/// same, its line aside; and so is that of each one of a program that a text spells, with the jumps that it leaves out.
+pub fn canonical_spells<A>()
+    ensures inst { (ts : List Token) (i : Inst A) → All IsShaped ts → InstOf (seen ts) i → InstRespelled i }
+    ensures phi { (ts : List Token) (p : Phi A) → All IsShaped ts → PhiOf (seen ts) p → PhiRespelled p }
+    ensures jump { (ts : List Token) (j : Jump) → All IsShaped ts → JumpOf (seen ts) j → JumpRespelled j }
+    ensures program { (text : List ℕ) (ts : List Token) (p : Program A) → Cuts text ts → Spells (seen ts) p → ProgramRespelled p }
+{}
