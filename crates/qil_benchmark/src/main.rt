@@ -16,6 +16,7 @@ use qil_lexer::tokens;
 use qil_memory::Memory;
 use qil_parser::parse;
 use std::alloc::Global;
+use std::hash::RandomState;
 use std::rt::Env;
 use stopwatch::Stopwatch;
 
@@ -33,14 +34,14 @@ fn thousands<R: Env + AllocGlobal>(rt: &R) -> anyhow::Result<u32> {
 }
 
 /// A memory with that data, and as many live bytes of the stack.
-fn memory_of(alloc: Global) -> anyhow::Result<Memory<Global>> {
+fn memory_of(alloc: Global, keys: RandomState) -> anyhow::Result<Memory<Global>> {
     let tokens = tokens(alloc, TEXT)?;
     let program = parse(alloc, &tokens)?;
-    let checked = match check(alloc, program) {
+    let checked = match check(alloc, keys, program) {
         Ok(checked) => checked,
         Err((_, error)) => return Err(error.into()),
     };
-    let image = layout(alloc, &checked)?;
+    let image = layout(alloc, keys, &checked)?;
     let mut memory = Memory::new(alloc, &image)?;
     let (_, _) = memory.alloc(16, 8192).ok().context("no room on the stack")?;
     Ok(memory)
@@ -49,7 +50,7 @@ fn memory_of(alloc: Global) -> anyhow::Result<Memory<Global>> {
 fn main(rt: HostRuntime) -> anyhow::Result<()> {
     let watch = Stopwatch::new(&rt, thousands(&rt)?);
     operations::time(&watch)?;
-    let mut memory = memory_of(rt.alloc())?;
+    let mut memory = memory_of(rt.alloc(), RandomState::new(&rt)?)?;
     memory::time(&watch, &mut memory)?;
     Ok(())
 }

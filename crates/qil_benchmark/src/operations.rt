@@ -2,7 +2,7 @@
 
 use crate::stopwatch::Stopwatch;
 use qil_ops::{binary, compare, extend, unary};
-use qil_parser::{BinaryOp, Class, CompareOp, Extension, UnaryOp};
+use qil_tree::{BinaryOp, Class, CompareOp, Extension, UnaryOp};
 use std::io;
 use std::time::Clock;
 

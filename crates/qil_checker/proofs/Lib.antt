@@ -1,12 +1,4 @@
 -- The lemmas.
-pub mod TableLemmas
-pub mod PlaceLemmas
-pub mod RuleLemmas
-pub mod SameLemmas
-pub mod EdgeLemmas
-pub mod CountLemmas
-pub mod TextLemmas
-pub mod NameLemmas
-pub mod WholeLemmas
-pub mod ScanLemmas
-pub mod HomeLemmas
+pub mod Tables
+pub mod Texts
+pub mod Programs

@@ -1,6 +1,7 @@
 -- The definitions.
+pub mod Codes
 pub mod Operands
-pub mod Marks
+pub mod Mentions
 pub mod Text
 pub mod Rules
 pub mod Forms

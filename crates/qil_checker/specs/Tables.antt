@@ -1,27 +1,25 @@
--- What a table of names says: where each name of a kind stands first; from where each block is reached.
+-- What a table of names says: where each name of a kind stands first; the predecessors of each block.
 use Rattle.std.specs.Prelude.{◌≡◌, ◌≢◌, ◌↔◌, ℕ, zero, suc, List, [], ◌∷◌, ◌++◌, Option, Some, None, Bool, false, if◌then◌else◌, slice_get}
 use Rattle.std.specs.Str.{bytes_eq}
+use Rattle.std.specs.Option.{option_or}
 use Rattle.std.specs.declared.vec.Vec.{Vec}
 use Rattle.indexmap.specs.IndexMap.{IndexMap, get_by}
 use denote.Ref.{Bor}
-use Rattle.qil_checker.specs.declared.mark.Kind.{Kind}
-use Rattle.qil_checker.specs.declared.mark.Kind.TheVariants.{Defined, Named, Labels}
+use Rattle.qil_checker.specs.declared.mention.Kind.{Kind}
+use Rattle.qil_checker.specs.declared.rule.Rule.{Rule}
+use Rattle.qil_checker.specs.declared.rule.Rule.TheVariants.{C8}
+use Rattle.qil_checker.specs.declared.mention.Kind.TheVariants.{Defined, Named, Labels}
 use Rattle.qil_tree.specs.declared.tree.PhiSource.{PhiSource}
-use Rattle.qil_checker.specs.Marks.{What, Mark, DataName, FunctionName, Label, Goes, Merges, Defines, Uses}
+use Rattle.qil_checker.specs.Mentions.{What, Mention, DataName, FunctionName, Label, Edge, PhiOf, Defines, Uses}
 use Rattle.qil_checker.specs.Text.{Stands, AreDistinct, IsAmong}
 
 abbrev pub place_of : {S : Type 0} → IndexMap (Bor (List ℕ)) ℕ S → List ℕ → Option ℕ
 place_of m x = get_by (λ k. bytes_eq x k.now) m
 
--- the first of two, if it is there
-abbrev pub or_else : {X : Type 0} → Option X → Option X → Option X
-or_else (Some a) b = Some a
-or_else None b = b
-
 abbrev pub at_name : List ℕ → ℕ → List ℕ → Option ℕ
 at_name name place x = if bytes_eq name x then Some place else None
 
--- the name that a mark brings to a table of this kind
+-- the name that a mention brings to a table of this kind
 abbrev pub named : What → Kind → Option (List ℕ)
 named (Defines x c) Defined = Some x
 named (Defines x c) Named = Some x
@@ -33,8 +31,8 @@ abbrev pub is_name : List ℕ → Option (List ℕ) → Bool
 is_name x None = false
 is_name x (Some y) = bytes_eq y x
 
-abbrev pub is_named : Kind → List ℕ → Mark → Bool
-is_named kind x mark = is_name x (named mark.what kind)
+abbrev pub is_named : Kind → List ℕ → Mention → Bool
+is_named kind x mention = is_name x (named mention.what kind)
 
 -- the first place where a test passes, counted from n
 abbrev pub first : {X : Type 0} → (X → Bool) → ℕ → List X → Option ℕ
@@ -47,11 +45,11 @@ begun_name (DataName x) = Some x
 begun_name (FunctionName x) = Some x
 begun_name what = None
 
-abbrev pub head_name : List Mark → Option (List ℕ)
+abbrev pub head_name : List Mention → Option (List ℕ)
 head_name [] = None
 head_name (m ∷ text) = begun_name m.what
 
-abbrev pub has_name : List ℕ → List Mark → Bool
+abbrev pub has_name : List ℕ → List Mention → Bool
 has_name x text = is_name x (head_name text)
 
 -- ---- names of a list
@@ -67,7 +65,7 @@ AreKnown xs place = (i : ℕ) (x : List ℕ) → slice_get xs i ≡ Some x → p
 abbrev pub AreSameOnce : List (List ℕ) → List (List ℕ) → Type 0
 AreSameOnce xs ys = AreDistinct xs × ((x : List ℕ) → IsAmong x xs ↔ IsAmong x ys)
 
--- ---- from where a block is reached
+-- ---- the predecessors of a block
 
 abbrev pub items_of : {X A : Type 0} → Option (Vec X A) → List X
 items_of None = []
@@ -76,43 +74,47 @@ items_of (Some v) = v.items
 abbrev pub list_at : {X A S : Type 0} → IndexMap (Bor (List ℕ)) (Vec X A) S → List ℕ → List X
 list_at m x = items_of (get_by (λ k. bytes_eq x k.now) m)
 
-abbrev pub arrival : List ℕ → What → List (List ℕ)
-arrival b (Goes l to) = if bytes_eq to b then l ∷ [] else []
-arrival b what = []
+abbrev pub predecessor : List ℕ → What → List (List ℕ)
+predecessor b (Edge l to) = if bytes_eq to b then l ∷ [] else []
+predecessor b what = []
 
 -- the labels of the blocks that go to a block, in the order of the text
-abbrev pub arrivals : List ℕ → List Mark → List (List ℕ)
-arrivals b [] = []
-arrivals b (m ∷ text) = arrival b m.what ++ arrivals b text
+abbrev pub predecessors_of : List ℕ → List Mention → List (List ℕ)
+predecessors_of b [] = []
+predecessors_of b (m ∷ text) = predecessor b m.what ++ predecessors_of b text
 
 -- ---- labels on the way through a text
 
 -- the label of the first block
-abbrev pub begun_label : List Mark → Option (List ℕ)
+abbrev pub begun_label : List Mention → Option (List ℕ)
 begun_label [] = None
-begun_label (m ∷ text) = or_else (named m.what Labels) (begun_label text)
+begun_label (m ∷ text) = option_or (named m.what Labels) (begun_label text)
 
--- the label of the block behind a mark
-abbrev pub behind : Option (List ℕ) → Mark → Option (List ℕ)
-behind block m = or_else (named m.what Labels) block
+-- the label of the block behind a mention
+abbrev pub behind : Option (List ℕ) → Mention → Option (List ℕ)
+behind block m = option_or (named m.what Labels) block
 
 -- the label of the block that a place stands in: the last one before it
-abbrev pub block_from : Option (List ℕ) → List Mark → ℕ → Option (List ℕ)
+abbrev pub block_from : Option (List ℕ) → List Mention → ℕ → Option (List ℕ)
 block_from block text zero = block
 block_from block [] (suc k) = block
 block_from block (m ∷ text) (suc k) = block_from (behind block m) text k
 
-abbrev pub block_at : List Mark → ℕ → Option (List ℕ)
+abbrev pub block_at : List Mention → ℕ → Option (List ℕ)
 block_at text k = block_from None text k
 
 -- each phi stands in its block
-abbrev pub AreAtHome : List Mark → Type 0
-AreAtHome text = (k : ℕ) (x : List ℕ) (sources : List PhiSource) → Stands text k (Merges x sources) → block_at text k ≡ Some x
+abbrev pub AreAtHome : List Mention → Type 0
+AreAtHome text = (k : ℕ) (x : List ℕ) (sources : List PhiSource) → Stands text k (PhiOf x sources) → block_at text k ≡ Some x
 
 abbrev pub names_in : {X A : Type 0} → Option (Bor (Vec X A)) → List X
 names_in None = []
 names_in (Some v) = v.now.items
 
--- the arrivals at the block that a place stands in
-abbrev pub AreArrived : List Mark → ℕ → List (List ℕ) → Type 0
-AreArrived text k labels = (x : List ℕ) → block_at text k ≡ Some x → labels ≡ arrivals x text
+-- the predecessors of the block that a place stands in
+abbrev pub AreAtHand : List Mention → ℕ → List (List ℕ) → Type 0
+AreAtHand text k labels = (x : List ℕ) → block_at text k ≡ Some x → labels ≡ predecessors_of x text
+
+-- the same, for the one rule that asks for them
+abbrev pub AreAtHandFor : Rule → List Mention → ℕ → List (List ℕ) → Type 0
+AreAtHandFor rule text k labels = rule ≡ C8 → AreAtHand text k labels

@@ -1,7 +1,7 @@
--- The marks of the texts of a program.
+-- The mentions of the texts of a program.
 use Rattle.std.specs.Prelude.{List, map}
 use Rattle.qil_checker.specs.declared.text.Text.{Text}
-use Rattle.qil_checker.specs.Marks.{Mark}
+use Rattle.qil_checker.specs.Mentions.{Mention}
 
-abbrev pub marks_of : {A : Type 0} → List (Text A) → List (List Mark)
-marks_of texts = map (λ t. t.marks.items) texts
+abbrev pub mentions_of : {A : Type 0} → List (Text A) → List (List Mention)
+mentions_of texts = map (λ t. t.mentions.items) texts

@@ -1,9 +1,10 @@
 //! The check of a program.
 
 ghost use Rattle.std.specs.Prelude.{◌≡◌, ℕ, IfOk, IfErr};
-ghost use Rattle.qil_checker.specs.Marks.{texts};
+ghost use Rattle.qil_parser.specs.Trees.{HasBlocks};
+ghost use Rattle.qil_checker.specs.Mentions.{texts};
 ghost use Rattle.qil_checker.specs.Rules.{WellFormed, Broken};
-ghost use Rattle.qil_checker.specs.Check.{IsTold, IsAnswered};
+ghost use Rattle.qil_checker.specs.Check.{IsTold, IsRefusedBy};
 ghost use Rattle.qil_checker.specs.Forms.{HasForm};
 ghost use Rattle.qil_checker.specs.declared.rule.Rule.{Rule};
 
@@ -12,6 +13,7 @@ use crate::rule::Rule;
 use crate::whole::{Refusal, Whole};
 use qil_parser::Program;
 use std::alloc::{AllocError, Allocator};
+use std::hash::RandomState;
 use std::marker::Model;
 use thiserror::Error;
 
@@ -43,6 +45,7 @@ pub struct Checked<'a, A: Allocator> {
 }
 
 impl<'a, A: Allocator> Model for Checked<'a, A> {
+    ghost use Rattle.qil_parser.specs.Trees.{HasBlocks};
     ghost use Rattle.qil_checker.specs.Check.{Verdict};
     ghost use Rattle.qil_checker.specs.Rules.{WellFormed};
     ghost use Rattle.qil_checker.specs.Forms.{HasForm};
@@ -51,16 +54,18 @@ impl<'a, A: Allocator> Model for Checked<'a, A> {
 
     ghost view = { λ c. record { program = c.program; form = c.form } };
 
-    ghost invariant = { λ c. WellFormed c.program × HasForm c.program c.form };
+    ghost invariant = { λ c. HasBlocks c.program × WellFormed c.program × HasForm c.program c.form };
 }
 
 impl<'a, A: Allocator> Checked<'a, A> {
+    ghost use Rattle.qil_parser.specs.Trees.{HasBlocks};
     ghost use Rattle.qil_checker.specs.Rules.{WellFormed};
     ghost use Rattle.qil_checker.specs.Forms.{HasForm};
 
     /// The program, as it was handed in.
     pub fn program(&self) -> &Program<'a, A>
         ensures program { result.now ≡ self.now.program }
+        ensures blocks { HasBlocks self.now.program }
         ensures well_formed { WellFormed self.now.program }
     {
         &self.program
@@ -78,13 +83,14 @@ impl<'a, A: Allocator> Checked<'a, A> {
 /// The form of a well-formed program; why it is not well-formed, otherwise.
 fn examine<'a, A: Allocator + Copy>(
     alloc: A,
+    keys: RandomState,
     program: &Program<'a, A>,
 ) -> Result<Form<'a>, CheckError>
     ensures well_formed { IfOk result (λ form. WellFormed program.now) }
     ensures form { IfOk result (λ form. HasForm program.now form) }
     ensures told { IfErr result (λ error. IsTold (texts program.now) error) }
 {
-    let whole = Whole::new(alloc, program)?;
+    let whole = Whole::new(alloc, keys, program)?;
     match whole.lowest(alloc)? {
         Some(refusal) => {
             let Refusal { rule, line } = refusal;
@@ -97,17 +103,20 @@ fn examine<'a, A: Allocator + Copy>(
 /// Checks a program. Hands it back where it is refused, or where memory is wanting.
 pub fn check<'a, A: Allocator + Copy>(
     alloc: A,
+    keys: RandomState,
     program: Program<'a, A>,
 ) -> Result<Checked<'a, A>, (Program<'a, A>, CheckError)>
+    // As `parse` gives it.
+    requires { HasBlocks program }
     ensures same { IfOk result (λ c. c.program ≡ program.entry) }
     ensures kept { IfOk result (λ c. WellFormed c.program × HasForm c.program c.form) }
     ensures handed_back { IfErr result (λ e. e.0 ≡ program.entry) }
     ensures refused { IfErr result (λ e. IsTold (texts program.entry) e.1) }
     // A well-formed program is not refused, and one that breaks a rule is refused so.
     ensures only_kept { WellFormed program.entry → IfErr result (λ e. e.1 ≡ CheckError.OutOfMemory) }
-    ensures only_broken { (rule : Rule) (line : ℕ) → Broken program.entry rule line → IsAnswered rule line result }
+    ensures only_broken { (rule : Rule) (line : ℕ) → Broken program.entry rule line → IsRefusedBy rule line result }
 {
-    match examine(alloc, &program) {
+    match examine(alloc, keys, &program) {
         Ok(form) => Ok(Checked { program, form }),
         Err(error) => Err((program, error)),
     }

@@ -1,12 +1,12 @@
 //! Whether a program is well-formed: rules over its whole tree, and the first place that breaks one.
 #![tactic(auto)]
 
-mod arrivals;
 mod checker;
 mod form;
-mod mark;
+mod mention;
+mod phi_labels;
+mod predecessors;
 mod rule;
-mod sources;
 mod table;
 mod text;
 mod walk;
@@ -16,5 +16,7 @@ pub use checker::{CheckError, Checked, check};
 pub use form::Form;
 pub use rule::Rule;
 
+#[cfg(test)]
+mod operand_tests;
 #[cfg(test)]
 mod tests;

@@ -1,6 +1,7 @@
 //! The rules of a well-formed program.
 
-ghost use Rattle.std.specs.Prelude.{◌≡◌, ◌+◌, MatchOption};
+ghost use Rattle.std.specs.Prelude.{◌≡◌, ◌+◌, Some, MatchOption};
+ghost use Rattle.qil_checker.specs.Codes.{rule_code};
 ghost use Rattle.qil_checker.specs.Rules.{order};
 
 use std::fmt;
@@ -57,9 +58,12 @@ impl Rule {
     }
 }
 
-impl fmt::Display for Rule {
-    fn fmt<W: fmt::Write>(&self, f: &mut fmt::Formatter<W>) -> fmt::Result {
-        let code = match *self {
+impl Rule {
+    /// The code that is told, as users see it.
+    pub fn as_str(self) -> &'static str
+        ensures { result.now ≡ rule_code self }
+    {
+        match self {
             Rule::C1 => "C1",
             Rule::C2 => "C2",
             Rule::C3 => "C3",
@@ -72,7 +76,14 @@ impl fmt::Display for Rule {
             Rule::C10 => "C10",
             Rule::C11 => "C11",
             Rule::C12 => "C12",
-        };
-        write!(f, "{code}")
+        }
+    }
+}
+
+impl fmt::Display for Rule {
+    ghost output = { λ rule. Some (rule_code rule) };
+
+    fn fmt<W: fmt::Write>(&self, f: &mut fmt::Formatter<W>) -> fmt::Result {
+        f.write_str(self.as_str())
     }
 }

@@ -4,24 +4,25 @@ ghost use Rattle.std.specs.Prelude.{◌≡◌, List, ℕ, None, OnOk, length};
 ghost use Rattle.std.specs.Str.{bytes_eq};
 ghost use Rattle.std.specs.List.{IsDistinct};
 ghost use Rattle.indexmap.specs.IndexMap.{keys};
-ghost use Rattle.qil_checker.specs.Tables.{place_of, or_else, at_name};
+ghost use Rattle.std.specs.Option.{option_or};
+ghost use Rattle.qil_checker.specs.Tables.{place_of, at_name};
 
 use indexmap::IndexMap;
 use qil_parser::Name;
 use std::alloc::{AllocError, Allocator};
-use std::hash::{BuildHasherDefault, FoldHasher};
+use std::hash::RandomState;
 
 #[derive(Drop)]
 pub struct Table<'a, A: Allocator> {
-    places: IndexMap<&'a [u8], usize, BuildHasherDefault<FoldHasher>, A>,
+    places: IndexMap<&'a [u8], usize, RandomState, A>,
 }
 
 impl<'a, A: Allocator + Copy> Table<'a, A> {
-    pub fn new(alloc: A) -> Table<'a, A>
+    pub fn new(alloc: A, keys: RandomState) -> Table<'a, A>
         ensures { (x : List ℕ) → place_of result.places x ≡ None }
     {
         Table {
-            places: IndexMap::new(alloc),
+            places: IndexMap::with_hasher(alloc, keys),
         }
     }
 
@@ -34,7 +35,7 @@ impl<'a, A: Allocator + Copy> Table<'a, A> {
 
     /// Notes a name's place, unless an earlier one is there.
     pub fn note(&mut self, name: &Name<'a>, place: usize) -> Result<(), AllocError>
-        ensures { OnOk result ((x : List ℕ) → place_of self.new.places x ≡ or_else (place_of self.old.places x) (at_name name.now place x)) }
+        ensures { OnOk result ((x : List ℕ) → place_of self.new.places x ≡ option_or (place_of self.old.places x) (at_name name.now place x)) }
     {
         match self.place(name) {
             Some(_) => {}

@@ -1,76 +1,89 @@
-//! The text of one definition: its marks, where its names stand first, and what breaks a rule in it.
+//! The text of one definition: its mentions, where its names stand first, and what breaks a rule in it.
 
-ghost use Rattle.std.specs.Prelude.{◌≡◌, List, ℕ, Some, IfOk, IsTrue, ◌↔◌, ◌+◌, MatchOption, slice_get, if◌then◌else◌};
+ghost use Rattle.std.specs.Prelude.{◌≡◌, List, ℕ, Some, IfOk, IsTrue, ◌↔◌, ◌+◌, MatchOption, slice_get, option_copied, if◌then◌else◌};
 ghost use Rattle.std.specs.List.{count_by};
-ghost use Rattle.qil_checker.specs.Tables.{place_of, first, is_named, list_at, arrivals as arrivals_at, head_name, begun_label, names_in, AreAtHome, AreArrived};
+ghost use Rattle.qil_checker.specs.Tables.{place_of, first, named, is_named, list_at, predecessors_of, head_name, begun_label, names_in, AreAtHome, AreAtHand, AreAtHandFor};
 ghost use Rattle.qil_checker.specs.Text.{FirstClass, IsUndefined, IsAgain, LacksLabel, IsFirstLabel};
-ghost use Rattle.qil_checker.specs.Rules.{IsSecondLabel, IsLostLabel, IsJumpToFirst, IsOtherClass, IsUndefinedUse, IsNarrowUse, IsWrongMerge, IsUntypedReturn, IsNarrowResult, HasManyTemporaries, HasManyBlocks, is_label, is_function, begins_function};
+ghost use Rattle.qil_checker.specs.Rules.{IsSecondLabel, IsLostLabel, IsJumpToFirst, IsOtherClass, IsUndefinedUse, IsNarrowUse, IsWrongPhi, IsUntypedReturn, IsNarrowResult, HasManyTemporaries, HasManyBlocks, is_label, is_function, begins_function};
 ghost use Rattle.qil_checker.specs.Scan.{IsSingle, IsAgainFirst};
-ghost use Rattle.qil_checker.specs.declared.mark.Kind.TheVariants.{Defined, Named, Labels};
+ghost use Rattle.qil_checker.specs.declared.mention.Kind.TheVariants.{Defined, Named, Labels};
 
-use crate::arrivals::{Arrivals, are_sources, arrivals_of};
-use crate::mark::{Kind, Mark, What};
+use crate::mention::{Kind, Mention, What};
+use crate::predecessors::{Predecessors, all_predecessors, are_predecessors};
+use crate::rule::Rule;
 use crate::table::Table;
 use qil_parser::{Class, Name};
 use std::alloc::{AllocError, Allocator};
+use std::hash::RandomState;
 
 /// How many temporaries a function may have.
 const MAX_TEMPORARIES: usize = 65_535;
 /// How many blocks a function may have.
 const MAX_BLOCKS: usize = 65_535;
 
+/// The name that a mention brings to a table of a kind.
+fn named<'m, 'a>(mention: &'m Mention<'_, 'a>, kind: Kind) -> Option<&'m Name<'a>>
+    ensures { option_copied result ≡ named mention.now.what kind }
+{
+    match (&mention.what, kind) {
+        (What::Defines(name, _), Kind::Defined) => Some(name),
+        (What::Defines(name, _), Kind::Named) => Some(name),
+        (What::Uses(name, _), Kind::Named) => Some(name),
+        (What::Label(name), Kind::Labels) => Some(name),
+        _ => None,
+    }
+}
+
 /// Where each name of a kind stands first.
 fn first_places<'a, A: Allocator + Copy>(
     alloc: A,
-    marks: &[Mark<'_, 'a>],
+    keys: RandomState,
+    mentions: &[Mention<'_, 'a>],
     kind: Kind,
 ) -> Result<Table<'a, A>, AllocError>
-    ensures { IfOk result (λ t. (x : List ℕ) → place_of t.places x ≡ first (is_named kind x) 0 marks.now) }
+    ensures { IfOk result (λ t. (x : List ℕ) → place_of t.places x ≡ first (is_named kind x) 0 mentions.now) }
 {
-    let mut table = Table::new(alloc);
-    for (place, mark) in marks.iter().enumerate() {
-        match (&mark.what, kind) {
-            (What::Defines(name, _), Kind::Defined) => table.note(name, place)?,
-            (What::Defines(name, _), Kind::Named) => table.note(name, place)?,
-            (What::Uses(name, _), Kind::Named) => table.note(name, place)?,
-            (What::Label(name), Kind::Labels) => table.note(name, place)?,
-            _ => {}
+    let mut table = Table::new(alloc, keys);
+    for (place, mention) in mentions.iter().enumerate() {
+        match named(mention, kind) {
+            Some(name) => table.note(name, place)?,
+            None => {}
         }
     }
     Ok(table)
 }
 
-fn is_label(mark: &Mark) -> bool
-    ensures { result ≡ is_label mark.now }
+fn is_label(mention: &Mention) -> bool
+    ensures { result ≡ is_label mention.now }
 {
-    match &mark.what {
+    match &mention.what {
         What::Label(_) => true,
         _ => false,
     }
 }
 
-fn begins_function(mark: &Mark) -> bool
-    ensures { result ≡ begins_function mark.now.what }
+fn begins_function(mention: &Mention) -> bool
+    ensures { result ≡ begins_function mention.now.what }
 {
-    match &mark.what {
+    match &mention.what {
         What::FunctionName(_) => true,
         _ => false,
     }
 }
 
 /// How many blocks begin.
-fn count_blocks(marks: &[Mark]) -> usize
-    ensures { result ≡ count_by is_label marks.now }
+fn count_blocks(mentions: &[Mention]) -> usize
+    ensures { result ≡ count_by is_label mentions.now }
 {
-    marks.iter().filter(|mark| is_label(mark)).count()
+    mentions.iter().filter(|mention| is_label(mention)).count()
 }
 
 /// The label of the first block.
-fn first_label<'a>(marks: &[Mark<'_, 'a>]) -> Option<Name<'a>>
-    ensures { result ≡ begun_label marks.now }
+fn first_label<'a>(mentions: &[Mention<'_, 'a>]) -> Option<Name<'a>>
+    ensures { result ≡ begun_label mentions.now }
 {
-    for mark in marks {
-        if let What::Label(label) = &mark.what {
+    for mention in mentions {
+        if let What::Label(label) = &mention.what {
             return Some(Name::new(label.bytes()));
         }
     }
@@ -80,59 +93,63 @@ fn first_label<'a>(marks: &[Mark<'_, 'a>]) -> Option<Name<'a>>
 /// A definition's text.
 #[derive(Drop)]
 pub struct Text<'p, 'a, A: Allocator> {
+    /// What its tables hash with.
+    keys: RandomState,
     /// The global name that is defined.
     pub name: Name<'a>,
-    pub marks: Vec<Mark<'p, 'a>, A>,
+    pub mentions: Vec<Mention<'p, 'a>, A>,
     blocks: usize,
     first_label: Option<Name<'a>>,
     defined: Table<'a, A>,
     named: Table<'a, A>,
     labels: Table<'a, A>,
-    arrivals: Arrivals<'a, A>,
-    ghost name_is: { head_name marks.items ≡ Some name },
-    ghost phis_are: { AreAtHome marks.items },
-    ghost first_is: { first_label ≡ begun_label marks.items },
-    ghost blocks_are: { blocks ≡ count_by is_label marks.items },
-    ghost defined_places: { (x : List ℕ) → place_of defined.places x ≡ first (is_named Defined x) 0 marks.items },
-    ghost named_places: { (x : List ℕ) → place_of named.places x ≡ first (is_named Named x) 0 marks.items },
-    ghost label_places: { (x : List ℕ) → place_of labels.places x ≡ first (is_named Labels x) 0 marks.items },
-    ghost arrival_lists: { (x : List ℕ) → list_at arrivals.lists x ≡ arrivals_at x marks.items },
+    predecessors: Predecessors<'a, A>,
+    ghost name_is: { head_name mentions.items ≡ Some name },
+    ghost phis_are: { AreAtHome mentions.items },
+    ghost first_is: { first_label ≡ begun_label mentions.items },
+    ghost blocks_are: { blocks ≡ count_by is_label mentions.items },
+    ghost defined_places: { (x : List ℕ) → place_of defined.places x ≡ first (is_named Defined x) 0 mentions.items },
+    ghost named_places: { (x : List ℕ) → place_of named.places x ≡ first (is_named Named x) 0 mentions.items },
+    ghost label_places: { (x : List ℕ) → place_of labels.places x ≡ first (is_named Labels x) 0 mentions.items },
+    ghost predecessor_lists: { (x : List ℕ) → list_at predecessors.lists x ≡ predecessors_of x mentions.items },
 }
 
 impl<'p, 'a, A: Allocator + Copy> Text<'p, 'a, A> {
     pub fn new(
         alloc: A,
+        keys: RandomState,
         name: Name<'a>,
-        marks: Vec<Mark<'p, 'a>, A>,
+        mentions: Vec<Mention<'p, 'a>, A>,
     ) -> Result<Text<'p, 'a, A>, AllocError>
-        requires begun { head_name marks.items ≡ Some name }
-        requires at_home { AreAtHome marks.items }
-        ensures { IfOk result (λ t. t.marks.items ≡ marks.entry.items) }
+        requires begun { head_name mentions.items ≡ Some name }
+        requires at_home { AreAtHome mentions.items }
+        ensures { IfOk result (λ t. t.mentions.items ≡ mentions.entry.items) }
     {
-        let blocks = count_blocks(marks.as_slice());
-        let first_label = first_label(marks.as_slice());
-        let defined = first_places(alloc, marks.as_slice(), Kind::Defined)?;
-        let named = first_places(alloc, marks.as_slice(), Kind::Named)?;
-        let labels = first_places(alloc, marks.as_slice(), Kind::Labels)?;
-        let arrivals = arrivals_of(alloc, marks.as_slice())?;
+        let blocks = count_blocks(mentions.as_slice());
+        let first_label = first_label(mentions.as_slice());
+        let defined = first_places(alloc, keys, mentions.as_slice(), Kind::Defined)?;
+        let named = first_places(alloc, keys, mentions.as_slice(), Kind::Named)?;
+        let labels = first_places(alloc, keys, mentions.as_slice(), Kind::Labels)?;
+        let predecessors = all_predecessors(alloc, keys, mentions.as_slice())?;
         Ok(Text {
+            keys,
             name,
-            marks,
+            mentions,
             blocks,
             first_label,
             defined,
             named,
             labels,
-            arrivals,
+            predecessors,
         })
     }
 
     /// The class that a temporary has by its first definition.
     fn class_of(&self, name: &Name<'a>) -> Option<Class>
-        ensures { MatchOption result (IsUndefined self.now.marks.items name.now) (FirstClass self.now.marks.items name.now) }
+        ensures { MatchOption result (IsUndefined self.now.mentions.items name.now) (FirstClass self.now.mentions.items name.now) }
     {
         match self.defined.place(name) {
-            Some(place) => match &self.marks[place].what {
+            Some(place) => match &self.mentions[place].what {
                 What::Defines(_, class) => Some(*class),
                 _ => None,
             },
@@ -141,7 +158,7 @@ impl<'p, 'a, A: Allocator + Copy> Text<'p, 'a, A> {
     }
 
     fn lacks(&self, label: &Name<'a>) -> bool
-        ensures { IsTrue result ↔ LacksLabel self.now.marks.items label.now }
+        ensures { IsTrue result ↔ LacksLabel self.now.mentions.items label.now }
     {
         match self.labels.place(label) {
             Some(_) => false,
@@ -150,7 +167,7 @@ impl<'p, 'a, A: Allocator + Copy> Text<'p, 'a, A> {
     }
 
     fn is_first(&self, label: &Name<'a>) -> bool
-        ensures { IsTrue result ↔ IsFirstLabel self.now.marks.items label.now }
+        ensures { IsTrue result ↔ IsFirstLabel self.now.mentions.items label.now }
     {
         match &self.first_label {
             Some(first) => first.bytes() == label.bytes(),
@@ -158,41 +175,59 @@ impl<'p, 'a, A: Allocator + Copy> Text<'p, 'a, A> {
         }
     }
 
-    /// The arrivals at the block of the next place: `arrived` are those at the block of this one.
-    pub fn arrived_behind<'t>(
+    /// The predecessors of the block of the next place: `predecessors` are those of the block of this one.
+    fn predecessors_behind<'t>(
         &'t self,
         place: usize,
-        mark: &Mark<'p, 'a>,
-        arrived: Option<&'t Vec<Name<'a>, A>>,
+        mention: &Mention<'p, 'a>,
+        predecessors: Option<&'t Vec<Name<'a>, A>>,
     ) -> Option<&'t Vec<Name<'a>, A>>
-        requires there { slice_get self.now.marks.items place ≡ Some mark.now }
-        requires arrived { AreArrived self.now.marks.items place (names_in arrived) }
-        ensures { AreArrived self.now.marks.items (place + 1) (names_in result) }
+        requires there { slice_get self.now.mentions.items place ≡ Some mention.now }
+        requires at_hand { AreAtHand self.now.mentions.items place (names_in predecessors) }
+        ensures { AreAtHand self.now.mentions.items (place + 1) (names_in result) }
     {
-        match &mark.what {
-            What::Label(label) => self.arrivals.at(label),
-            _ => arrived,
+        match &mention.what {
+            What::Label(label) => self.predecessors.at(label),
+            _ => predecessors,
+        }
+    }
+
+    /// The same, for the one rule that asks for them.
+    pub fn predecessors_for<'t>(
+        &'t self,
+        rule: Rule,
+        place: usize,
+        mention: &Mention<'p, 'a>,
+        predecessors: Option<&'t Vec<Name<'a>, A>>,
+    ) -> Option<&'t Vec<Name<'a>, A>>
+        requires there { slice_get self.now.mentions.items place ≡ Some mention.now }
+        requires at_hand { AreAtHandFor rule self.now.mentions.items place (names_in predecessors) }
+        ensures { AreAtHandFor rule self.now.mentions.items (place + 1) (names_in result) }
+    {
+        match rule {
+            Rule::C8 => self.predecessors_behind(place, mention, predecessors),
+            _ => None,
         }
     }
 
     /// How many functions it is the text of.
     pub fn functions(&self) -> usize
-        ensures { result ≡ (if is_function self.now.marks.items then 1 else 0) }
+        ensures { result ≡ (if is_function self.now.mentions.items then 1 else 0) }
     {
-        match self.marks.as_slice() {
+        match self.mentions.as_slice() {
             [first, ..] if begins_function(first) => 1,
             _ => 0,
         }
     }
 
-    // ---- the rules of one text: whether the mark at a place breaks one
+    // ---- the rules of one text: whether the mention at a place breaks one
 
     /// Whether the label is that of an earlier block.
-    pub fn is_second_label(&self, place: usize, mark: &Mark<'p, 'a>) -> bool
-        requires { slice_get self.now.marks.items place ≡ Some mark.now }
-        ensures { IsTrue result ↔ IsSecondLabel self.now.marks.items place }
+    pub fn is_second_label(&self, place: usize, mention: &Mention<'p, 'a>) -> bool
+        requires { slice_get self.now.mentions.items place ≡ Some mention.now }
+        ensures { IsTrue result ↔ IsSecondLabel self.now.mentions.items place }
     {
-        match &mark.what {
+        match &mention.what {
             What::Label(name) => match self.labels.place(name) {
                 Some(first) => first != place,
                 None => false,
@@ -202,34 +237,34 @@ impl<'p, 'a, A: Allocator + Copy> Text<'p, 'a, A> {
     }
 
     /// Whether a jump or a phi names a label that the function lacks.
-    pub fn is_lost_label(&self, place: usize, mark: &Mark<'p, 'a>) -> bool
-        requires { slice_get self.now.marks.items place ≡ Some mark.now }
-        ensures { IsTrue result ↔ IsLostLabel self.now.marks.items place }
+    pub fn is_lost_label(&self, place: usize, mention: &Mention<'p, 'a>) -> bool
+        requires { slice_get self.now.mentions.items place ≡ Some mention.now }
+        ensures { IsTrue result ↔ IsLostLabel self.now.mentions.items place }
     {
-        match &mark.what {
-            What::Goes(_, label) => self.lacks(label),
-            What::Comes(label) => self.lacks(label),
+        match &mention.what {
+            What::Edge(_, label) => self.lacks(label),
+            What::PhiLabel(label) => self.lacks(label),
             _ => false,
         }
     }
 
     /// Whether a jump names the function's first block.
-    pub fn is_jump_to_first(&self, place: usize, mark: &Mark<'p, 'a>) -> bool
-        requires { slice_get self.now.marks.items place ≡ Some mark.now }
-        ensures { IsTrue result ↔ IsJumpToFirst self.now.marks.items place }
+    pub fn is_jump_to_first(&self, place: usize, mention: &Mention<'p, 'a>) -> bool
+        requires { slice_get self.now.mentions.items place ≡ Some mention.now }
+        ensures { IsTrue result ↔ IsJumpToFirst self.now.mentions.items place }
     {
-        match &mark.what {
-            What::Goes(_, label) => self.is_first(label),
+        match &mention.what {
+            What::Edge(_, label) => self.is_first(label),
             _ => false,
         }
     }
 
     /// Whether a definition has another class than the first of its temporary.
-    pub fn is_other_class(&self, place: usize, mark: &Mark<'p, 'a>) -> bool
-        requires { slice_get self.now.marks.items place ≡ Some mark.now }
-        ensures { IsTrue result ↔ IsOtherClass self.now.marks.items place }
+    pub fn is_other_class(&self, place: usize, mention: &Mention<'p, 'a>) -> bool
+        requires { slice_get self.now.mentions.items place ≡ Some mention.now }
+        ensures { IsTrue result ↔ IsOtherClass self.now.mentions.items place }
     {
-        match &mark.what {
+        match &mention.what {
             What::Defines(name, class) => match self.class_of(name) {
                 Some(first) => first != *class,
                 None => false,
@@ -239,11 +274,11 @@ impl<'p, 'a, A: Allocator + Copy> Text<'p, 'a, A> {
     }
 
     /// Whether a temporary is used that has no definition.
-    pub fn is_undefined_use(&self, place: usize, mark: &Mark<'p, 'a>) -> bool
-        requires { slice_get self.now.marks.items place ≡ Some mark.now }
-        ensures { IsTrue result ↔ IsUndefinedUse self.now.marks.items place }
+    pub fn is_undefined_use(&self, place: usize, mention: &Mention<'p, 'a>) -> bool
+        requires { slice_get self.now.mentions.items place ≡ Some mention.now }
+        ensures { IsTrue result ↔ IsUndefinedUse self.now.mentions.items place }
     {
-        match &mark.what {
+        match &mention.what {
             What::Uses(name, _) => match self.class_of(name) {
                 Some(_) => false,
                 None => true,
@@ -253,11 +288,11 @@ impl<'p, 'a, A: Allocator + Copy> Text<'p, 'a, A> {
     }
 
     /// Whether a `w` temporary stands in an `l` context.
-    pub fn is_narrow_use(&self, place: usize, mark: &Mark<'p, 'a>) -> bool
-        requires { slice_get self.now.marks.items place ≡ Some mark.now }
-        ensures { IsTrue result ↔ IsNarrowUse self.now.marks.items place }
+    pub fn is_narrow_use(&self, place: usize, mention: &Mention<'p, 'a>) -> bool
+        requires { slice_get self.now.mentions.items place ≡ Some mention.now }
+        ensures { IsTrue result ↔ IsNarrowUse self.now.mentions.items place }
     {
-        match &mark.what {
+        match &mention.what {
             What::Uses(name, Class::L) => match self.class_of(name) {
                 Some(Class::W) => true,
                 _ => false,
@@ -267,21 +302,28 @@ impl<'p, 'a, A: Allocator + Copy> Text<'p, 'a, A> {
     }
 
     /// Whether the labels of a phi aren't exactly the predecessors of its block, each once.
-    pub fn is_wrong_merge(
+    pub fn is_wrong_phi(
         &self,
         alloc: A,
         place: usize,
-        mark: &Mark<'p, 'a>,
-        arrived: Option<&Vec<Name<'a>, A>>,
+        mention: &Mention<'p, 'a>,
+        predecessors: Option<&Vec<Name<'a>, A>>,
     ) -> Result<bool, AllocError>
-        requires there { slice_get self.now.marks.items place ≡ Some mark.now }
-        requires arrived { AreArrived self.now.marks.items place (names_in arrived) }
-        ensures { IfOk result (λ b. IsTrue b ↔ IsWrongMerge self.now.marks.items place) }
+        requires there { slice_get self.now.mentions.items place ≡ Some mention.now }
+        requires at_hand { AreAtHand self.now.mentions.items place (names_in predecessors) }
+        ensures { IfOk result (λ b. IsTrue b ↔ IsWrongPhi self.now.mentions.items place) }
     {
-        match &mark.what {
-            What::Merges(block, sources) => {
-                let marks = self.marks.as_slice();
-                let right = are_sources(alloc, marks, block, arrived, sources)?;
+        match &mention.what {
+            What::PhiOf(block, sources) => {
+                let mentions = self.mentions.as_slice();
+                let right = are_predecessors(
+                    alloc,
+                    self.keys,
+                    mentions,
+                    block,
+                    predecessors,
+                    sources,
+                )?;
                 Ok(!right)
             }
             _ => Ok(false),
@@ -289,35 +331,35 @@ impl<'p, 'a, A: Allocator + Copy> Text<'p, 'a, A> {
     }
 
     /// Whether a value is returned where the function has no return type.
-    pub fn is_untyped_return(&self, place: usize, mark: &Mark<'p, 'a>) -> bool
-        requires { slice_get self.now.marks.items place ≡ Some mark.now }
-        ensures { IsTrue result ↔ IsUntypedReturn self.now.marks.items place }
+    pub fn is_untyped_return(&self, place: usize, mention: &Mention<'p, 'a>) -> bool
+        requires { slice_get self.now.mentions.items place ≡ Some mention.now }
+        ensures { IsTrue result ↔ IsUntypedReturn self.now.mentions.items place }
     {
-        match &mark.what {
-            What::Gives(None) => true,
+        match &mention.what {
+            What::Returns(None) => true,
             _ => false,
         }
     }
 
     /// Whether a result that is always long has type `w`.
-    pub fn is_narrow_result(&self, place: usize, mark: &Mark<'p, 'a>) -> bool
-        requires { slice_get self.now.marks.items place ≡ Some mark.now }
-        ensures { IsTrue result ↔ IsNarrowResult self.now.marks.items place }
+    pub fn is_narrow_result(&self, place: usize, mention: &Mention<'p, 'a>) -> bool
+        requires { slice_get self.now.mentions.items place ≡ Some mention.now }
+        ensures { IsTrue result ↔ IsNarrowResult self.now.mentions.items place }
     {
-        match &mark.what {
+        match &mention.what {
             What::Long(Class::W) => true,
             _ => false,
         }
     }
 
     pub fn has_many_temporaries(&self) -> bool
-        ensures { IsTrue result ↔ HasManyTemporaries self.now.marks.items }
+        ensures { IsTrue result ↔ HasManyTemporaries self.now.mentions.items }
     {
         self.named.len() > MAX_TEMPORARIES
     }
 
     pub fn has_many_blocks(&self) -> bool
-        ensures { IsTrue result ↔ HasManyBlocks self.now.marks.items }
+        ensures { IsTrue result ↔ HasManyBlocks self.now.mentions.items }
     {
         self.blocks > MAX_BLOCKS
     }
@@ -325,11 +367,11 @@ impl<'p, 'a, A: Allocator + Copy> Text<'p, 'a, A> {
     // ---- what is defined again
 
     /// The temporary that is defined at a place, if it was defined before.
-    fn defined_again(&self, place: usize, mark: &Mark<'p, 'a>) -> Option<Name<'a>>
-        requires { slice_get self.now.marks.items place ≡ Some mark.now }
-        ensures { MatchOption result ((x : List ℕ) → IsAgain self.now.marks.items place x → ⊥) (IsAgain self.now.marks.items place) }
+    fn defined_again(&self, place: usize, mention: &Mention<'p, 'a>) -> Option<Name<'a>>
+        requires { slice_get self.now.mentions.items place ≡ Some mention.now }
+        ensures { MatchOption result ((x : List ℕ) → IsAgain self.now.mentions.items place x → ⊥) (IsAgain self.now.mentions.items place) }
     {
-        match &mark.what {
+        match &mention.what {
             What::Defines(name, _) => match self.defined.place(name) {
                 Some(first) => {
                     if first != place {
@@ -346,10 +388,10 @@ impl<'p, 'a, A: Allocator + Copy> Text<'p, 'a, A> {
 
     /// The temporary that is defined again first.
     pub fn second_definition(&self) -> Option<Name<'a>>
-        ensures { MatchOption result (IsSingle self.now.marks.items) (IsAgainFirst self.now.marks.items) }
+        ensures { MatchOption result (IsSingle self.now.mentions.items) (IsAgainFirst self.now.mentions.items) }
     {
-        for (place, mark) in self.marks.iter().enumerate() {
-            if let Some(name) = self.defined_again(place, mark) {
+        for (place, mention) in self.mentions.iter().enumerate() {
+            if let Some(name) = self.defined_again(place, mention) {
                 return Some(name);
             }
         }

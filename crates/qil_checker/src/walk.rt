@@ -1,11 +1,11 @@
-//! The marks of a definition, from its tree.
+//! The mentions of a definition, from its tree.
 
 ghost use Rattle.std.specs.Prelude.{◌≡◌, ◌++◌, ◌∷◌, [], OnOk, IfOk, Option, map};
 ghost use Rattle.std.specs.List.{flat_map};
 ghost use Rattle.qil_checker.specs.Operands.{right_class, stored_class, expr_reads, inst_reads, inst_target, inst_long_class, call_target, argument_read, long_class};
-ghost use Rattle.qil_checker.specs.Marks.{on, Goes, read_marks, operand_marks, target_marks, long_marks, source_marks, phi_marks, kind_marks, inst_marks, given_class, jump_marks, block_marks, param_mark, func_marks, item_marks, field_marks, data_marks};
+ghost use Rattle.qil_checker.specs.Mentions.{on, Edge, read_mentions, operand_mentions, target_mentions, long_mentions, source_mentions, phi_mentions, kind_mentions, inst_mentions, returned_class, jump_mentions, block_mentions, param_mention, func_mentions, item_mentions, field_mentions, data_mentions};
 
-use crate::mark::{Mark, Sources, What};
+use crate::mention::{Mention, PhiSources, What};
 use qil_parser::{
     AbiType, Argument, BinaryOp, Block, CallResult, Class, Data, Expr, Extension, Field, Func,
     Inst, InstKind, Item, JumpKind, LoadOp, Name, Operand, Param, Phi, PhiSource, Target, Width,
@@ -40,8 +40,8 @@ fn stored_class(width: Width) -> Class
 }
 
 /// The class of what is returned; without a return type any value fits.
-fn given_class(returns: Option<AbiType>) -> Class
-    ensures { result ≡ given_class returns }
+fn returned_class(returns: Option<AbiType>) -> Class
+    ensures { result ≡ returned_class returns }
 {
     match returns {
         Some(abi_type) => abi_type.class(),
@@ -104,22 +104,22 @@ fn inst_target<'a, A: Allocator>(kind: &InstKind<'a, A>) -> Option<Target<'a>>
 }
 
 fn push_operand<'p, 'a, A: Allocator + Copy>(
-    out: &mut Vec<Mark<'p, 'a>, A>,
+    out: &mut Vec<Mention<'p, 'a>, A>,
     line: u32,
     class: Class,
     operand: &Operand<'a>,
 ) -> Result<(), AllocError>
-    ensures { OnOk result (out.new.items ≡ out.old.items ++ operand_marks line class operand.now) }
+    ensures { OnOk result (out.new.items ≡ out.old.items ++ operand_mentions line class operand.now) }
 {
     match operand {
         Operand::Number(_) => {}
         Operand::Global(name) => {
             let what = What::Global(same(name));
-            out.push(Mark { what, line })?;
+            out.push(Mention { what, line })?;
         }
         Operand::Temp(name) => {
             let what = What::Uses(same(name), class);
-            out.push(Mark { what, line })?;
+            out.push(Mention { what, line })?;
         }
     }
     Ok(())
@@ -127,26 +127,26 @@ fn push_operand<'p, 'a, A: Allocator + Copy>(
 
 /// Two operands, from the left.
 fn push_two<'p, 'a, A: Allocator + Copy>(
-    out: &mut Vec<Mark<'p, 'a>, A>,
+    out: &mut Vec<Mention<'p, 'a>, A>,
     line: u32,
     left_class: Class,
     left: &Operand<'a>,
     right_class: Class,
     right: &Operand<'a>,
 ) -> Result<(), AllocError>
-    ensures { OnOk result (out.new.items ≡ out.old.items ++ (operand_marks line left_class left.now ++ operand_marks line right_class right.now)) }
+    ensures { OnOk result (out.new.items ≡ out.old.items ++ (operand_mentions line left_class left.now ++ operand_mentions line right_class right.now)) }
 {
     push_operand(out, line, left_class, left)?;
     push_operand(out, line, right_class, right)
 }
 
 fn push_expr<'p, 'a, A: Allocator + Copy>(
-    out: &mut Vec<Mark<'p, 'a>, A>,
+    out: &mut Vec<Mention<'p, 'a>, A>,
     line: u32,
     class: Class,
     expr: &Expr<'a>,
 ) -> Result<(), AllocError>
-    ensures { OnOk result (out.new.items ≡ out.old.items ++ flat_map (read_marks line) (expr_reads class expr.now)) }
+    ensures { OnOk result (out.new.items ≡ out.old.items ++ flat_map (read_mentions line) (expr_reads class expr.now)) }
 {
     match expr {
         Expr::Unary(_, value) => push_operand(out, line, class, value),
@@ -163,11 +163,11 @@ fn push_expr<'p, 'a, A: Allocator + Copy>(
 }
 
 fn push_arguments<'p, 'a, A: Allocator + Copy>(
-    out: &mut Vec<Mark<'p, 'a>, A>,
+    out: &mut Vec<Mention<'p, 'a>, A>,
     line: u32,
     arguments: &[Argument<'a>],
 ) -> Result<(), AllocError>
-    ensures { OnOk result (out.new.items ≡ out.old.items ++ flat_map (read_marks line) (map argument_read arguments.now)) }
+    ensures { OnOk result (out.new.items ≡ out.old.items ++ flat_map (read_mentions line) (map argument_read arguments.now)) }
 {
     for argument in arguments {
         push_operand(out, line, argument.abi_type.class(), &argument.value)?;
@@ -177,11 +177,11 @@ fn push_arguments<'p, 'a, A: Allocator + Copy>(
 
 /// The operands of an instruction.
 fn push_reads<'p, 'a, A: Allocator + Copy>(
-    out: &mut Vec<Mark<'p, 'a>, A>,
+    out: &mut Vec<Mention<'p, 'a>, A>,
     line: u32,
     kind: &InstKind<'a, A>,
 ) -> Result<(), AllocError>
-    ensures { OnOk result (out.new.items ≡ out.old.items ++ flat_map (read_marks line) (inst_reads kind.now)) }
+    ensures { OnOk result (out.new.items ≡ out.old.items ++ flat_map (read_mentions line) (inst_reads kind.now)) }
 {
     match kind {
         InstKind::Assign(target, expr) => push_expr(out, line, target.class, expr),
@@ -201,39 +201,39 @@ fn push_reads<'p, 'a, A: Allocator + Copy>(
 }
 
 fn push_target<'p, 'a, A: Allocator + Copy>(
-    out: &mut Vec<Mark<'p, 'a>, A>,
+    out: &mut Vec<Mention<'p, 'a>, A>,
     line: u32,
     target: Option<Target<'a>>,
 ) -> Result<(), AllocError>
-    ensures { OnOk result (out.new.items ≡ out.old.items ++ target_marks line target.entry) }
+    ensures { OnOk result (out.new.items ≡ out.old.items ++ target_mentions line target.entry) }
 {
     if let Some(Target { name, class }) = target {
         let what = What::Defines(name, class);
-        out.push(Mark { what, line })?;
+        out.push(Mention { what, line })?;
     }
     Ok(())
 }
 
 fn push_long<'p, 'a, A: Allocator + Copy>(
-    out: &mut Vec<Mark<'p, 'a>, A>,
+    out: &mut Vec<Mention<'p, 'a>, A>,
     line: u32,
     class: Option<Class>,
 ) -> Result<(), AllocError>
-    ensures { OnOk result (out.new.items ≡ out.old.items ++ long_marks line class) }
+    ensures { OnOk result (out.new.items ≡ out.old.items ++ long_mentions line class) }
 {
     if let Some(class) = class {
         let what = What::Long(class);
-        out.push(Mark { what, line })?;
+        out.push(Mention { what, line })?;
     }
     Ok(())
 }
 
 fn push_kind<'p, 'a, A: Allocator + Copy>(
-    out: &mut Vec<Mark<'p, 'a>, A>,
+    out: &mut Vec<Mention<'p, 'a>, A>,
     line: u32,
     kind: &InstKind<'a, A>,
 ) -> Result<(), AllocError>
-    ensures { OnOk result (out.new.items ≡ out.old.items ++ kind_marks line kind.now) }
+    ensures { OnOk result (out.new.items ≡ out.old.items ++ kind_mentions line kind.now) }
 {
     push_reads(out, line, kind)?;
     push_long(out, line, inst_long_class(kind))?;
@@ -241,10 +241,10 @@ fn push_kind<'p, 'a, A: Allocator + Copy>(
 }
 
 fn push_insts<'p, 'a, A: Allocator + Copy>(
-    out: &mut Vec<Mark<'p, 'a>, A>,
+    out: &mut Vec<Mention<'p, 'a>, A>,
     insts: &[Inst<'a, A>],
 ) -> Result<(), AllocError>
-    ensures { OnOk result (out.new.items ≡ out.old.items ++ flat_map inst_marks insts.now) }
+    ensures { OnOk result (out.new.items ≡ out.old.items ++ flat_map inst_mentions insts.now) }
 {
     for inst in insts {
         push_kind(out, inst.line, &inst.kind)?;
@@ -253,25 +253,25 @@ fn push_insts<'p, 'a, A: Allocator + Copy>(
 }
 
 fn push_source<'p, 'a, A: Allocator + Copy>(
-    out: &mut Vec<Mark<'p, 'a>, A>,
+    out: &mut Vec<Mention<'p, 'a>, A>,
     line: u32,
     class: Class,
     source: &PhiSource<'a>,
 ) -> Result<(), AllocError>
-    ensures { OnOk result (out.new.items ≡ out.old.items ++ source_marks line class source.now) }
+    ensures { OnOk result (out.new.items ≡ out.old.items ++ source_mentions line class source.now) }
 {
-    let what = What::Comes(same(&source.label));
-    out.push(Mark { what, line })?;
+    let what = What::PhiLabel(same(&source.label));
+    out.push(Mention { what, line })?;
     push_operand(out, line, class, &source.value)
 }
 
 fn push_sources<'p, 'a, A: Allocator + Copy>(
-    out: &mut Vec<Mark<'p, 'a>, A>,
+    out: &mut Vec<Mention<'p, 'a>, A>,
     line: u32,
     class: Class,
     sources: &[PhiSource<'a>],
 ) -> Result<(), AllocError>
-    ensures { OnOk result (out.new.items ≡ out.old.items ++ flat_map (λ s. source_marks line class s) sources.now) }
+    ensures { OnOk result (out.new.items ≡ out.old.items ++ flat_map (λ s. source_mentions line class s) sources.now) }
 {
     for source in sources {
         push_source(out, line, class, source)?;
@@ -280,27 +280,27 @@ fn push_sources<'p, 'a, A: Allocator + Copy>(
 }
 
 fn push_phi<'p, 'a, A: Allocator + Copy>(
-    out: &mut Vec<Mark<'p, 'a>, A>,
+    out: &mut Vec<Mention<'p, 'a>, A>,
     block: &Name<'a>,
     phi: &'p Phi<'a, A>,
 ) -> Result<(), AllocError>
-    ensures { OnOk result (out.new.items ≡ out.old.items ++ phi_marks block.now phi.now) }
+    ensures { OnOk result (out.new.items ≡ out.old.items ++ phi_mentions block.now phi.now) }
 {
     let line = phi.line;
     push_sources(out, line, phi.target.class, phi.sources.as_slice())?;
-    let what = What::Merges(same(block), Sources::new(phi.sources.as_slice()));
-    out.push(Mark { what, line })?;
+    let what = What::PhiOf(same(block), PhiSources::new(phi.sources.as_slice()));
+    out.push(Mention { what, line })?;
     let what = What::Defines(same(&phi.target.name), phi.target.class);
-    out.push(Mark { what, line })?;
+    out.push(Mention { what, line })?;
     Ok(())
 }
 
 fn push_phis<'p, 'a, A: Allocator + Copy>(
-    out: &mut Vec<Mark<'p, 'a>, A>,
+    out: &mut Vec<Mention<'p, 'a>, A>,
     block: &Name<'a>,
     phis: &'p [Phi<'a, A>],
 ) -> Result<(), AllocError>
-    ensures { OnOk result (out.new.items ≡ out.old.items ++ flat_map (phi_marks block.now) phis.now) }
+    ensures { OnOk result (out.new.items ≡ out.old.items ++ flat_map (phi_mentions block.now) phis.now) }
 {
     for phi in phis {
         push_phi(out, block, phi)?;
@@ -310,26 +310,26 @@ fn push_phis<'p, 'a, A: Allocator + Copy>(
 
 /// That control may go from one block to another.
 fn push_edge<'p, 'a, A: Allocator + Copy>(
-    out: &mut Vec<Mark<'p, 'a>, A>,
+    out: &mut Vec<Mention<'p, 'a>, A>,
     line: u32,
     block: &Name<'a>,
     label: &Name<'a>,
 ) -> Result<(), AllocError>
-    ensures { OnOk result (out.new.items ≡ out.old.items ++ on line (Goes block.now label.now) ∷ []) }
+    ensures { OnOk result (out.new.items ≡ out.old.items ++ on line (Edge block.now label.now) ∷ []) }
 {
-    let what = What::Goes(same(block), same(label));
-    out.push(Mark { what, line })?;
+    let what = What::Edge(same(block), same(label));
+    out.push(Mention { what, line })?;
     Ok(())
 }
 
 fn push_jump<'p, 'a, A: Allocator + Copy>(
-    out: &mut Vec<Mark<'p, 'a>, A>,
+    out: &mut Vec<Mention<'p, 'a>, A>,
     returns: Option<AbiType>,
     block: &Name<'a>,
     line: u32,
     kind: &JumpKind<'a>,
 ) -> Result<(), AllocError>
-    ensures { OnOk result (out.new.items ≡ out.old.items ++ jump_marks returns block.now line kind.now) }
+    ensures { OnOk result (out.new.items ≡ out.old.items ++ jump_mentions returns block.now line kind.now) }
 {
     match kind {
         JumpKind::Jmp(label) => push_edge(out, line, block, label)?,
@@ -340,9 +340,9 @@ fn push_jump<'p, 'a, A: Allocator + Copy>(
         }
         JumpKind::Ret(None) => {}
         JumpKind::Ret(Some(operand)) => {
-            push_operand(out, line, given_class(returns), operand)?;
-            let what = What::Gives(returns);
-            out.push(Mark { what, line })?;
+            push_operand(out, line, returned_class(returns), operand)?;
+            let what = What::Returns(returns);
+            out.push(Mention { what, line })?;
         }
         JumpKind::Hlt => {}
     }
@@ -350,14 +350,14 @@ fn push_jump<'p, 'a, A: Allocator + Copy>(
 }
 
 fn push_block<'p, 'a, A: Allocator + Copy>(
-    out: &mut Vec<Mark<'p, 'a>, A>,
+    out: &mut Vec<Mention<'p, 'a>, A>,
     returns: Option<AbiType>,
     block: &'p Block<'a, A>,
 ) -> Result<(), AllocError>
-    ensures { OnOk result (out.new.items ≡ out.old.items ++ block_marks returns block.now) }
+    ensures { OnOk result (out.new.items ≡ out.old.items ++ block_mentions returns block.now) }
 {
     let what = What::Label(same(&block.label));
-    out.push(Mark {
+    out.push(Mention {
         what,
         line: block.line,
     })?;
@@ -373,11 +373,11 @@ fn push_block<'p, 'a, A: Allocator + Copy>(
 }
 
 fn push_blocks<'p, 'a, A: Allocator + Copy>(
-    out: &mut Vec<Mark<'p, 'a>, A>,
+    out: &mut Vec<Mention<'p, 'a>, A>,
     returns: Option<AbiType>,
     blocks: &'p [Block<'a, A>],
 ) -> Result<(), AllocError>
-    ensures { OnOk result (out.new.items ≡ out.old.items ++ flat_map (block_marks returns) blocks.now) }
+    ensures { OnOk result (out.new.items ≡ out.old.items ++ flat_map (block_mentions returns) blocks.now) }
 {
     for block in blocks {
         push_block(out, returns, block)?;
@@ -386,29 +386,29 @@ fn push_blocks<'p, 'a, A: Allocator + Copy>(
 }
 
 fn push_params<'p, 'a, A: Allocator + Copy>(
-    out: &mut Vec<Mark<'p, 'a>, A>,
+    out: &mut Vec<Mention<'p, 'a>, A>,
     line: u32,
     params: &[Param<'a>],
 ) -> Result<(), AllocError>
-    ensures { OnOk result (out.new.items ≡ out.old.items ++ map (param_mark line) params.now) }
+    ensures { OnOk result (out.new.items ≡ out.old.items ++ map (param_mention line) params.now) }
 {
     for param in params {
         let what = What::Defines(same(&param.name), param.abi_type.class());
-        out.push(Mark { what, line })?;
+        out.push(Mention { what, line })?;
     }
     Ok(())
 }
 
-/// The marks of a function, in the order of its text.
-pub fn func_marks<'p, 'a, A: Allocator + Copy>(
+/// The mentions of a function, in the order of its text.
+pub fn func_mentions<'p, 'a, A: Allocator + Copy>(
     alloc: A,
     func: &'p Func<'a, A>,
-) -> Result<Vec<Mark<'p, 'a>, A>, AllocError>
-    ensures { IfOk result (λ v. v.items ≡ func_marks func.now) }
+) -> Result<Vec<Mention<'p, 'a>, A>, AllocError>
+    ensures { IfOk result (λ v. v.items ≡ func_mentions func.now) }
 {
     let mut out = Vec::new(alloc);
     let what = What::FunctionName(same(&func.name));
-    out.push(Mark {
+    out.push(Mention {
         what,
         line: func.line,
     })?;
@@ -418,25 +418,25 @@ pub fn func_marks<'p, 'a, A: Allocator + Copy>(
 }
 
 fn push_item<'p, 'a, A: Allocator + Copy>(
-    out: &mut Vec<Mark<'p, 'a>, A>,
+    out: &mut Vec<Mention<'p, 'a>, A>,
     line: u32,
     item: &Item<'a, A>,
 ) -> Result<(), AllocError>
-    ensures { OnOk result (out.new.items ≡ out.old.items ++ item_marks line item.now) }
+    ensures { OnOk result (out.new.items ≡ out.old.items ++ item_mentions line item.now) }
 {
     if let Item::Address(name, _) = item {
         let what = What::Global(same(name));
-        out.push(Mark { what, line })?;
+        out.push(Mention { what, line })?;
     }
     Ok(())
 }
 
 fn push_items<'p, 'a, A: Allocator + Copy>(
-    out: &mut Vec<Mark<'p, 'a>, A>,
+    out: &mut Vec<Mention<'p, 'a>, A>,
     line: u32,
     items: &[Item<'a, A>],
 ) -> Result<(), AllocError>
-    ensures { OnOk result (out.new.items ≡ out.old.items ++ flat_map (item_marks line) items.now) }
+    ensures { OnOk result (out.new.items ≡ out.old.items ++ flat_map (item_mentions line) items.now) }
 {
     for item in items {
         push_item(out, line, item)?;
@@ -445,11 +445,11 @@ fn push_items<'p, 'a, A: Allocator + Copy>(
 }
 
 fn push_field<'p, 'a, A: Allocator + Copy>(
-    out: &mut Vec<Mark<'p, 'a>, A>,
+    out: &mut Vec<Mention<'p, 'a>, A>,
     line: u32,
     field: &Field<'a, A>,
 ) -> Result<(), AllocError>
-    ensures { OnOk result (out.new.items ≡ out.old.items ++ field_marks line field.now) }
+    ensures { OnOk result (out.new.items ≡ out.old.items ++ field_mentions line field.now) }
 {
     match field {
         Field::Values(_, items) => push_items(out, line, items.as_slice()),
@@ -458,11 +458,11 @@ fn push_field<'p, 'a, A: Allocator + Copy>(
 }
 
 fn push_fields<'p, 'a, A: Allocator + Copy>(
-    out: &mut Vec<Mark<'p, 'a>, A>,
+    out: &mut Vec<Mention<'p, 'a>, A>,
     line: u32,
     fields: &[Field<'a, A>],
 ) -> Result<(), AllocError>
-    ensures { OnOk result (out.new.items ≡ out.old.items ++ flat_map (field_marks line) fields.now) }
+    ensures { OnOk result (out.new.items ≡ out.old.items ++ flat_map (field_mentions line) fields.now) }
 {
     for field in fields {
         push_field(out, line, field)?;
@@ -470,16 +470,16 @@ fn push_fields<'p, 'a, A: Allocator + Copy>(
     Ok(())
 }
 
-/// The marks of a data object: its name, and the globals that it holds the addresses of.
-pub fn data_marks<'p, 'a, A: Allocator + Copy>(
+/// The mentions of a data object: its name, and the globals that it holds the addresses of.
+pub fn data_mentions<'p, 'a, A: Allocator + Copy>(
     alloc: A,
     object: &'p Data<'a, A>,
-) -> Result<Vec<Mark<'p, 'a>, A>, AllocError>
-    ensures { IfOk result (λ v. v.items ≡ data_marks object.now) }
+) -> Result<Vec<Mention<'p, 'a>, A>, AllocError>
+    ensures { IfOk result (λ v. v.items ≡ data_mentions object.now) }
 {
     let mut out = Vec::new(alloc);
     let what = What::DataName(same(&object.name));
-    out.push(Mark {
+    out.push(Mention {
         what,
         line: object.line,
     })?;

@@ -2,22 +2,23 @@
 
 ghost use Rattle.std.specs.Prelude.{◌≡◌, ◌++◌, ◌∷◌, map, List, ℕ, ◌≤◌, Some, take, IfOk, OnOk, IsTrue, ◌↔◌, MatchOption, slice_get};
 ghost use Rattle.std.specs.List.{count_by};
-ghost use Rattle.qil_checker.specs.Marks.{texts, texts_in, data_marks, func_marks};
-ghost use Rattle.qil_checker.specs.Tables.{place_of, first, has_name, names_in, AreArrived};
+ghost use Rattle.qil_checker.specs.Mentions.{texts, texts_in, data_mentions, func_mentions};
+ghost use Rattle.qil_checker.specs.Tables.{place_of, first, has_name, names_in, AreAtHandFor};
 ghost use Rattle.qil_checker.specs.Rules.{AreWellFormed, AreBroken, IsKept, IsBrokenFirst, Breaks, IsNamedBefore, IsSecondName, IsUnknown, IsLostGlobal, IsTooMuch, is_built_in, is_function};
 ghost use Rattle.qil_checker.specs.Scan.{Keeps, Breach};
-ghost use Rattle.qil_checker.specs.Whole.{marks_of};
+ghost use Rattle.qil_checker.specs.Whole.{mentions_of};
 ghost use Rattle.qil_checker.specs.Forms.{HaveForm};
 ghost use Rattle.qil_tree.specs.declared.tree.Definition.{Definition};
 
 use crate::form::Form;
-use crate::mark::{Mark, What};
+use crate::mention::{Mention, What};
 use crate::rule::Rule;
 use crate::table::Table;
 use crate::text::Text;
 use crate::walk;
 use qil_parser::{Data, Definition, Func, Name, Program};
 use std::alloc::{AllocError, Allocator};
+use std::hash::RandomState;
 
 /// How many functions a program may have.
 const MAX_FUNCTIONS: usize = 1000;
@@ -41,21 +42,22 @@ impl<'p, 'a, A: Allocator + Copy> Left<'p, 'a, A> {
     fn push_next(
         &mut self,
         alloc: A,
+        keys: RandomState,
         out: &mut Vec<Text<'p, 'a, A>, A>,
         definition: Definition,
     ) -> Result<(), AllocError>
-        ensures { OnOk result ((order : List Definition) → marks_of out.new.items ++ texts_in order self.new.datas.now self.new.funcs.now ≡ marks_of out.old.items ++ texts_in (definition ∷ order) self.old.datas.now self.old.funcs.now) }
+        ensures { OnOk result ((order : List Definition) → mentions_of out.new.items ++ texts_in order self.new.datas.now self.new.funcs.now ≡ mentions_of out.old.items ++ texts_in (definition ∷ order) self.old.datas.now self.old.funcs.now) }
     {
         match definition {
             Definition::Data => {
                 if let [object, datas @ ..] = self.datas {
-                    out.push(data_text(alloc, object)?)?;
+                    out.push(data_text(alloc, keys, object)?)?;
                     self.datas = datas;
                 }
             }
             Definition::Func => {
                 if let [func, funcs @ ..] = self.funcs {
-                    out.push(func_text(alloc, func)?)?;
+                    out.push(func_text(alloc, keys, func)?)?;
                     self.funcs = funcs;
                 }
             }
@@ -66,46 +68,50 @@ impl<'p, 'a, A: Allocator + Copy> Left<'p, 'a, A> {
 
 fn data_text<'p, 'a, A: Allocator + Copy>(
     alloc: A,
+    keys: RandomState,
     object: &'p Data<'a, A>,
 ) -> Result<Text<'p, 'a, A>, AllocError>
-    ensures { IfOk result (λ t. t.marks.items ≡ data_marks object.now) }
+    ensures { IfOk result (λ t. t.mentions.items ≡ data_mentions object.now) }
 {
-    let marks = walk::data_marks(alloc, object)?;
-    Text::new(alloc, Name::new(object.name.bytes()), marks)
+    let mentions = walk::data_mentions(alloc, object)?;
+    Text::new(alloc, keys, Name::new(object.name.bytes()), mentions)
 }
 
 fn func_text<'p, 'a, A: Allocator + Copy>(
     alloc: A,
+    keys: RandomState,
     func: &'p Func<'a, A>,
 ) -> Result<Text<'p, 'a, A>, AllocError>
-    ensures { IfOk result (λ t. t.marks.items ≡ func_marks func.now) }
+    ensures { IfOk result (λ t. t.mentions.items ≡ func_mentions func.now) }
 {
-    let marks = walk::func_marks(alloc, func)?;
-    Text::new(alloc, Name::new(func.name.bytes()), marks)
+    let mentions = walk::func_mentions(alloc, func)?;
+    Text::new(alloc, keys, Name::new(func.name.bytes()), mentions)
 }
 
 fn push_datas<'p, 'a, A: Allocator + Copy>(
     alloc: A,
+    keys: RandomState,
     out: &mut Vec<Text<'p, 'a, A>, A>,
     datas: &'p [Data<'a, A>],
 ) -> Result<(), AllocError>
-    ensures { OnOk result (marks_of out.new.items ≡ marks_of out.old.items ++ map data_marks datas.now) }
+    ensures { OnOk result (mentions_of out.new.items ≡ mentions_of out.old.items ++ map data_mentions datas.now) }
 {
     for object in datas {
-        out.push(data_text(alloc, object)?)?;
+        out.push(data_text(alloc, keys, object)?)?;
     }
     Ok(())
 }
 
 fn push_funcs<'p, 'a, A: Allocator + Copy>(
     alloc: A,
+    keys: RandomState,
     out: &mut Vec<Text<'p, 'a, A>, A>,
     funcs: &'p [Func<'a, A>],
 ) -> Result<(), AllocError>
-    ensures { OnOk result (marks_of out.new.items ≡ marks_of out.old.items ++ map func_marks funcs.now) }
+    ensures { OnOk result (mentions_of out.new.items ≡ mentions_of out.old.items ++ map func_mentions funcs.now) }
 {
     for func in funcs {
-        out.push(func_text(alloc, func)?)?;
+        out.push(func_text(alloc, keys, func)?)?;
     }
     Ok(())
 }
@@ -113,9 +119,10 @@ fn push_funcs<'p, 'a, A: Allocator + Copy>(
 /// The texts of a program's definitions, in their order.
 fn texts_of<'p, 'a, A: Allocator + Copy>(
     alloc: A,
+    keys: RandomState,
     program: &'p Program<'a, A>,
 ) -> Result<Vec<Text<'p, 'a, A>, A>, AllocError>
-    ensures { IfOk result (λ v. marks_of v.items ≡ texts program.now) }
+    ensures { IfOk result (λ v. mentions_of v.items ≡ texts program.now) }
 {
     let mut out = Vec::new(alloc);
     let mut left = Left {
@@ -123,21 +130,22 @@ fn texts_of<'p, 'a, A: Allocator + Copy>(
         funcs: program.funcs.as_slice(),
     };
     for definition in program.order.as_slice() {
-        left.push_next(alloc, &mut out, *definition)?;
+        left.push_next(alloc, keys, &mut out, *definition)?;
     }
-    push_datas(alloc, &mut out, left.datas)?;
-    push_funcs(alloc, &mut out, left.funcs)?;
+    push_datas(alloc, keys, &mut out, left.datas)?;
+    push_funcs(alloc, keys, &mut out, left.funcs)?;
     Ok(out)
 }
 
 /// The first definition of each global name.
 fn first_names<'a, A: Allocator + Copy>(
     alloc: A,
+    keys: RandomState,
     texts: &[Text<'_, 'a, A>],
 ) -> Result<Table<'a, A>, AllocError>
-    ensures { IfOk result (λ t. (x : List ℕ) → place_of t.places x ≡ first (has_name x) 0 (marks_of texts.now)) }
+    ensures { IfOk result (λ t. (x : List ℕ) → place_of t.places x ≡ first (has_name x) 0 (mentions_of texts.now)) }
 {
-    let mut table = Table::new(alloc);
+    let mut table = Table::new(alloc, keys);
     for (number, text) in texts.iter().enumerate() {
         table.note(&text.name, number)?;
     }
@@ -166,22 +174,26 @@ struct Visit<'t, 'p, 'a, A: Allocator> {
 pub struct Whole<'p, 'a, A: Allocator> {
     texts: Vec<Text<'p, 'a, A>, A>,
     names: Table<'a, A>,
-    ghost first_names: { (x : List ℕ) → place_of names.places x ≡ first (has_name x) 0 (marks_of texts.items) },
+    ghost first_names: { (x : List ℕ) → place_of names.places x ≡ first (has_name x) 0 (mentions_of texts.items) },
 }
 
 impl<'p, 'a, A: Allocator + Copy> Whole<'p, 'a, A> {
-    pub fn new(alloc: A, program: &'p Program<'a, A>) -> Result<Whole<'p, 'a, A>, AllocError>
-        ensures { IfOk result (λ w. marks_of w.texts.items ≡ texts program.now) }
+    pub fn new(
+        alloc: A,
+        keys: RandomState,
+        program: &'p Program<'a, A>,
+    ) -> Result<Whole<'p, 'a, A>, AllocError>
+        ensures { IfOk result (λ w. mentions_of w.texts.items ≡ texts program.now) }
     {
-        let texts = texts_of(alloc, program)?;
-        let names = first_names(alloc, texts.as_slice())?;
+        let texts = texts_of(alloc, keys, program)?;
+        let names = first_names(alloc, keys, texts.as_slice())?;
         Ok(Whole { texts, names })
     }
 
     // ---- the rules that look at other texts
 
     fn is_named_before(&self, name: &Name<'a>, number: usize) -> bool
-        ensures { IsTrue result ↔ IsNamedBefore (marks_of self.now.texts.items) number name.now }
+        ensures { IsTrue result ↔ IsNamedBefore (mentions_of self.now.texts.items) number name.now }
     {
         match self.names.place(name) {
             Some(first) => first < number,
@@ -194,12 +206,12 @@ impl<'p, 'a, A: Allocator + Copy> Whole<'p, 'a, A> {
         &self,
         visit: &Visit<'_, 'p, 'a, A>,
         place: usize,
-        mark: &Mark<'p, 'a>,
+        mention: &Mention<'p, 'a>,
     ) -> bool
-        requires { slice_get visit.now.text.now.marks.items place ≡ Some mark.now }
-        ensures { IsTrue result ↔ IsSecondName (marks_of self.now.texts.items) visit.now.text.now.marks.items visit.now.number place }
+        requires { slice_get visit.now.text.now.mentions.items place ≡ Some mention.now }
+        ensures { IsTrue result ↔ IsSecondName (mentions_of self.now.texts.items) visit.now.text.now.mentions.items visit.now.number place }
     {
-        match &mark.what {
+        match &mention.what {
             What::DataName(name) => self.is_named_before(name, visit.number),
             What::FunctionName(name) => self.is_named_before(name, visit.number),
             _ => false,
@@ -207,7 +219,7 @@ impl<'p, 'a, A: Allocator + Copy> Whole<'p, 'a, A> {
     }
 
     fn is_unknown(&self, name: &Name<'a>) -> bool
-        ensures { IsTrue result ↔ IsUnknown (marks_of self.now.texts.items) name.now }
+        ensures { IsTrue result ↔ IsUnknown (mentions_of self.now.texts.items) name.now }
     {
         match self.names.place(name) {
             Some(_) => false,
@@ -220,24 +232,29 @@ impl<'p, 'a, A: Allocator + Copy> Whole<'p, 'a, A> {
         &self,
         visit: &Visit<'_, 'p, 'a, A>,
         place: usize,
-        mark: &Mark<'p, 'a>,
+        mention: &Mention<'p, 'a>,
     ) -> bool
-        requires { slice_get visit.now.text.now.marks.items place ≡ Some mark.now }
-        ensures { IsTrue result ↔ IsLostGlobal (marks_of self.now.texts.items) visit.now.text.now.marks.items place }
+        requires { slice_get visit.now.text.now.mentions.items place ≡ Some mention.now }
+        ensures { IsTrue result ↔ IsLostGlobal (mentions_of self.now.texts.items) visit.now.text.now.mentions.items place }
     {
-        match &mark.what {
+        match &mention.what {
             What::Global(name) => self.is_unknown(name),
             _ => false,
         }
     }
 
     /// Whether a function has too many temporaries or blocks, or is one too many.
-    fn is_too_much(&self, visit: &Visit<'_, 'p, 'a, A>, place: usize, mark: &Mark<'p, 'a>) -> bool
-        requires there { slice_get visit.now.text.now.marks.items place ≡ Some mark.now }
-        requires counted { visit.now.functions ≡ count_by is_function (take visit.now.number (marks_of self.now.texts.items)) }
-        ensures { IsTrue result ↔ IsTooMuch (marks_of self.now.texts.items) visit.now.text.now.marks.items visit.now.number place }
+    fn is_too_much(
+        &self,
+        visit: &Visit<'_, 'p, 'a, A>,
+        place: usize,
+        mention: &Mention<'p, 'a>,
+    ) -> bool
+        requires there { slice_get visit.now.text.now.mentions.items place ≡ Some mention.now }
+        requires counted { visit.now.functions ≡ count_by is_function (take visit.now.number (mentions_of self.now.texts.items)) }
+        ensures { IsTrue result ↔ IsTooMuch (mentions_of self.now.texts.items) visit.now.text.now.mentions.items visit.now.number place }
     {
-        match &mark.what {
+        match &mention.what {
             What::FunctionName(_) => {
                 visit.text.has_many_temporaries()
                     || visit.text.has_many_blocks()
@@ -249,62 +266,65 @@ impl<'p, 'a, A: Allocator + Copy> Whole<'p, 'a, A> {
 
     // ---- all rules
 
-    /// Whether the mark at a place of a text breaks a rule; `arrived` are the arrivals at its block.
+    /// Whether the mention at a place of a text breaks a rule; `predecessors` are those of its block, where the rule asks
+    /// for them.
     fn breaks(
         &self,
         alloc: A,
         rule: Rule,
         visit: &Visit<'_, 'p, 'a, A>,
         place: usize,
-        mark: &Mark<'p, 'a>,
-        arrived: Option<&Vec<Name<'a>, A>>,
+        mention: &Mention<'p, 'a>,
+        predecessors: Option<&Vec<Name<'a>, A>>,
     ) -> Result<bool, AllocError>
-        requires there { slice_get visit.now.text.now.marks.items place ≡ Some mark.now }
-        requires arrived { AreArrived visit.now.text.now.marks.items place (names_in arrived) }
-        requires counted { visit.now.functions ≡ count_by is_function (take visit.now.number (marks_of self.now.texts.items)) }
-        ensures { IfOk result (λ b. IsTrue b ↔ Breaks rule (marks_of self.now.texts.items) visit.now.text.now.marks.items visit.now.number place) }
+        requires there { slice_get visit.now.text.now.mentions.items place ≡ Some mention.now }
+        requires at_hand { AreAtHandFor rule visit.now.text.now.mentions.items place (names_in predecessors) }
+        requires counted { visit.now.functions ≡ count_by is_function (take visit.now.number (mentions_of self.now.texts.items)) }
+        ensures { IfOk result (λ b. IsTrue b ↔ Breaks rule (mentions_of self.now.texts.items) visit.now.text.now.mentions.items visit.now.number place) }
     {
         let text = visit.text;
         match rule {
-            Rule::C1 => Ok(self.is_second_name(visit, place, mark)),
-            Rule::C2 => Ok(text.is_second_label(place, mark)),
-            Rule::C3 => Ok(text.is_lost_label(place, mark)),
-            Rule::C4 => Ok(text.is_jump_to_first(place, mark)),
-            Rule::C5 => Ok(text.is_other_class(place, mark)),
-            Rule::C6 => Ok(text.is_undefined_use(place, mark)),
-            Rule::C7 => Ok(text.is_narrow_use(place, mark)),
-            Rule::C8 => text.is_wrong_merge(alloc, place, mark, arrived),
-            Rule::C9 => Ok(self.is_lost_global(visit, place, mark)),
-            Rule::C10 => Ok(text.is_untyped_return(place, mark)),
-            Rule::C11 => Ok(text.is_narrow_result(place, mark)),
-            Rule::C12 => Ok(self.is_too_much(visit, place, mark)),
+            Rule::C1 => Ok(self.is_second_name(visit, place, mention)),
+            Rule::C2 => Ok(text.is_second_label(place, mention)),
+            Rule::C3 => Ok(text.is_lost_label(place, mention)),
+            Rule::C4 => Ok(text.is_jump_to_first(place, mention)),
+            Rule::C5 => Ok(text.is_other_class(place, mention)),
+            Rule::C6 => Ok(text.is_undefined_use(place, mention)),
+            Rule::C7 => Ok(text.is_narrow_use(place, mention)),
+            Rule::C8 => text.is_wrong_phi(alloc, place, mention, predecessors),
+            Rule::C9 => Ok(self.is_lost_global(visit, place, mention)),
+            Rule::C10 => Ok(text.is_untyped_return(place, mention)),
+            Rule::C11 => Ok(text.is_narrow_result(place, mention)),
+            Rule::C12 => Ok(self.is_too_much(visit, place, mention)),
         }
     }
 
-    /// The line of the first mark of a text that breaks a rule.
+    /// The line of the first mention of a text that breaks a rule.
     fn first_breach(
         &self,
         alloc: A,
         rule: Rule,
         visit: &Visit<'_, 'p, 'a, A>,
     ) -> Result<Option<u32>, AllocError>
-        requires { visit.now.functions ≡ count_by is_function (take visit.now.number (marks_of self.now.texts.items)) }
-        ensures { IfOk result (λ o. MatchOption o (Keeps rule (marks_of self.now.texts.items) visit.now.text.now.marks.items visit.now.number) (Breach rule (marks_of self.now.texts.items) visit.now.text.now.marks.items visit.now.number)) }
+        requires { visit.now.functions ≡ count_by is_function (take visit.now.number (mentions_of self.now.texts.items)) }
+        ensures { IfOk result (λ o. MatchOption o (Keeps rule (mentions_of self.now.texts.items) visit.now.text.now.mentions.items visit.now.number) (Breach rule (mentions_of self.now.texts.items) visit.now.text.now.mentions.items visit.now.number)) }
     {
-        // looked up once for a block, since a block's phis don't spell its label
-        let mut arrived = None;
-        for (place, mark) in visit.text.marks.iter().enumerate() {
-            if self.breaks(alloc, rule, visit, place, mark, arrived)? {
-                return Ok(Some(mark.line));
+        // Looked up once for a block, since a block's phis don't spell its label.
+        let mut predecessors = None;
+        for (place, mention) in visit.text.mentions.iter().enumerate() {
+            if self.breaks(alloc, rule, visit, place, mention, predecessors)? {
+                return Ok(Some(mention.line));
             }
-            arrived = visit.text.arrived_behind(place, mark, arrived);
+            predecessors = visit
+                .text
+                .predecessors_for(rule, place, mention, predecessors);
         }
         Ok(None)
     }
 
     /// The line of the first place in the program that breaks a rule.
     fn line_of(&self, alloc: A, rule: Rule) -> Result<Option<u32>, AllocError>
-        ensures { IfOk result (λ o. MatchOption o (IsKept rule (marks_of self.now.texts.items)) (IsBrokenFirst rule (marks_of self.now.texts.items))) }
+        ensures { IfOk result (λ o. MatchOption o (IsKept rule (mentions_of self.now.texts.items)) (IsBrokenFirst rule (mentions_of self.now.texts.items))) }
     {
         let mut functions = 0;
         for (number, text) in self.texts.iter().enumerate() {
@@ -323,7 +343,7 @@ impl<'p, 'a, A: Allocator + Copy> Whole<'p, 'a, A> {
 
     /// The lowest rule that is broken anywhere, with the line of its first place.
     pub fn lowest(&self, alloc: A) -> Result<Option<Refusal>, AllocError>
-        ensures { IfOk result (λ o. MatchOption o (AreWellFormed (marks_of self.now.texts.items)) (λ r. AreBroken (marks_of self.now.texts.items) r.rule r.line)) }
+        ensures { IfOk result (λ o. MatchOption o (AreWellFormed (mentions_of self.now.texts.items)) (λ r. AreBroken (mentions_of self.now.texts.items) r.rule r.line)) }
     {
         let mut rule = Rule::C1;
         'rules: loop {
@@ -339,7 +359,7 @@ impl<'p, 'a, A: Allocator + Copy> Whole<'p, 'a, A> {
 
     /// Whether each temporary has one definition.
     pub fn form(&self) -> Form<'a>
-        ensures { HaveForm (marks_of self.now.texts.items) result }
+        ensures { HaveForm (mentions_of self.now.texts.items) result }
     {
         for text in self.texts.as_slice() {
             if let Some(temp) = text.second_definition() {

@@ -35,7 +35,7 @@ module _ {A : Type 0} (address : List ℕ → Option ℕ) where
   length-field (fields.Values w values) = length-flat_map (item_bytes address w) values ∙ ap (λ (size : Item A → ℕ). sum_by size values) (λ i item. length-item w item i)
   length-field (fields.Zeros n) = length-zeros n
 
-  length-object : (d : Data A) → length (object_bytes address d) ≡ size_of d
+  pub length-object : (d : Data A) → length (object_bytes address d) ≡ size_of d
   length-object d = length-flat_map (field_bytes address) d.fields ∙ ap (λ (size : Field A → ℕ). sum_by size d.fields) (λ i field. length-field field i)
 
 -- ---- nothing is rounded down
@@ -45,16 +45,16 @@ rounded_low align n some = omega arith
 
 -- ---- what has no fault
 
-some_alignment : (align : ℕ) → is_alignment align ≡ true → 0 < align
+pub some_alignment : (align : ℕ) → is_alignment align ≡ true → 0 < align
 some_alignment zero is = absurd cc
 some_alignment (suc align) is = omega arith
 
-neither : (aligned past : Bool) → (if not aligned then Some Y2 else (if past then Some Y1 else None)) ≡ None → (aligned ≡ true) × (past ≡ false)
+pub neither : (aligned past : Bool) → (if not aligned then Some Y2 else (if past then Some Y1 else None)) ≡ None → (aligned ≡ true) × (past ≡ false)
 neither true false is = (refl, refl)
 neither true true is = absurd cc
 neither false past is = absurd cc
 
-untold : {A : Type 0} (d : Data A) (code : Option LayoutCode) (later : Option (LayoutCode × ℕ)) → told d code later ≡ None → (code ≡ None) × (later ≡ None)
+pub untold : {A : Type 0} (d : Data A) (code : Option LayoutCode) (later : Option (LayoutCode × ℕ)) → told d code later ≡ None → (code ≡ None) × (later ≡ None)
 untold d None later is = (refl, is)
 untold d (Some code) later is = absurd cc
 

@@ -3,3 +3,7 @@ pub mod RoomLemmas
 pub mod TableLemmas
 pub mod FewFunctions
 pub mod BytesLemmas
+pub mod Starts
+pub mod Named
+pub mod LawLemmas
+pub mod OwnNames

@@ -1,5 +1,6 @@
 -- Where the data and the functions of a program lie, and the bytes of the data. Addresses and sizes are in bytes.
 use Rattle.std.specs.Prelude.{ℕ, ◌+◌, ◌-◌, ◌*◌, ◌/◌, ◌%◌, ◌^◌, zero, suc, Bool, ◌==◌, ◌||◌, not, nat_lt, if◌then◌else◌, List, [], ◌∷◌, ◌++◌, length, replicate, codes, Option, Some, None, unwrap_or}
+use Rattle.std.specs.Option.{option_or}
 use Rattle.std.specs.Str.{bytes_eq}
 use Rattle.std.specs.List.{flat_map, sum_by}
 use Rattle.qil_tree.specs.declared.ops.Width.{Width}
@@ -84,28 +85,24 @@ fault_of p = fault_from data_base p.datas
 
 -- ---- addresses of names
 
-abbrev pub or_else : {X : Type 0} → Option X → Option X → Option X
-or_else (Some x) other = Some x
-or_else None other = other
-
 abbrev pub if_named : List ℕ → List ℕ → ℕ → Option ℕ
 if_named name x address = if bytes_eq name x then Some address else None
 
 abbrev pub data_address : {A : Type 0} → ℕ → List (Data A) → List ℕ → Option ℕ
 data_address at [] x = None
-data_address at (d ∷ ds) x = or_else (if_named d.name x (start_of at d)) (data_address (end_of at d) ds x)
+data_address at (d ∷ ds) x = option_or (if_named d.name x (start_of at d)) (data_address (end_of at d) ds x)
 
 -- the i-th function of the text, from 0, lies at 4096 + 16 i
 abbrev pub func_address : {A : Type 0} → ℕ → List (Func A) → List ℕ → Option ℕ
 func_address at [] x = None
-func_address at (f ∷ fs) x = or_else (if_named f.name x at) (func_address (at + 16) fs x)
+func_address at (f ∷ fs) x = option_or (if_named f.name x at) (func_address (at + 16) fs x)
 
 abbrev pub built_in_address : List ℕ → Option ℕ
-built_in_address x = or_else (if_named (codes "putchar") x 1024) (or_else (if_named (codes "puts") x 1040) (if_named (codes "exit") x 1056))
+built_in_address x = option_or (if_named (codes "putchar") x 1024) (option_or (if_named (codes "puts") x 1040) (if_named (codes "exit") x 1056))
 
 -- a built-in is used only where the program doesn't define its name
 abbrev pub address_of : {A : Type 0} → Program A → List ℕ → Option ℕ
-address_of p x = or_else (data_address data_base p.datas x) (or_else (func_address 4096 p.funcs x) (built_in_address x))
+address_of p x = option_or (data_address data_base p.datas x) (option_or (func_address 4096 p.funcs x) (built_in_address x))
 
 -- ---- bytes
 

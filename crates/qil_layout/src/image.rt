@@ -1,6 +1,6 @@
 //! The layout of a program.
 
-ghost use Rattle.std.specs.Prelude.{◌≡◌, ◌≤◌, ◌^◌, ℕ, List, Some, None, IfOk, IfErr, length, option_map, slice_get};
+ghost use Rattle.std.specs.Prelude.{◌≡◌, ◌<◌, ◌≤◌, ◌^◌, ℕ, List, Some, None, IfSome, IfOk, IfErr, length, option_map, slice_get};
 ghost use Rattle.qil_layout.specs.Layout.{address_of, bytes_of, fault_of};
 ghost use Rattle.qil_layout.specs.Answer.{IsFault};
 ghost use Rattle.qil_layout.specs.Callee.{lies, func_at, callee_at};
@@ -13,6 +13,7 @@ use crate::table::Table;
 use qil_checker::Checked;
 use qil_parser::{Name, Program};
 use std::alloc::Allocator;
+use std::hash::RandomState;
 use std::marker::Model;
 
 /// Where the names of a program lie, and the bytes of its data.
@@ -24,7 +25,7 @@ pub struct Image<'c, 'a, A: Allocator> {
 }
 
 impl<'c, 'a, A: Allocator> Model for Image<'c, 'a, A> {
-    ghost use Rattle.std.specs.Prelude.{◌≡◌, ℕ, List, None};
+    ghost use Rattle.std.specs.Prelude.{◌≡◌, ◌≤◌, ℕ, List, None, length};
     ghost use Rattle.qil_tree.specs.declared.tree.Program.{Program};
     ghost use Rattle.qil_layout.specs.Layout.{address_of, bytes_of, fault_of};
     ghost use Rattle.qil_layout.specs.Table.{found};
@@ -33,7 +34,7 @@ impl<'c, 'a, A: Allocator> Model for Image<'c, 'a, A> {
 
     ghost view = { λ image. image.program.now };
 
-    ghost invariant = { λ image. ((x : List ℕ) → found image.names.addresses x ≡ address_of image.program.now x) × (image.bytes.items ≡ bytes_of image.program.now) × (fault_of image.program.now ≡ None) };
+    ghost invariant = { λ image. ((x : List ℕ) → found image.names.addresses x ≡ address_of image.program.now x) × (image.bytes.items ≡ bytes_of image.program.now) × (fault_of image.program.now ≡ None) × (length image.program.now.funcs ≤ 1000) };
 }
 
 /// Lays a program out: its data from 65,536 on in the order of the text, each object at the next multiple of its
@@ -45,6 +46,7 @@ impl<'c, 'a, A: Allocator> Model for Image<'c, 'a, A> {
 /// object that has either, at the line of its name.
 pub fn layout<'c, 'a, A: Allocator + Copy>(
     alloc: A,
+    keys: RandomState,
     checked: &'c Checked<'a, A>,
 ) -> Result<Image<'c, 'a, A>, LayoutError>
     ensures program { IfOk result (λ image. image ≡ checked.entry.now.program) }
@@ -52,7 +54,7 @@ pub fn layout<'c, 'a, A: Allocator + Copy>(
     ensures fault { IfErr result (IsFault (fault_of checked.entry.now.program)) }
 {
     let program = checked.program();
-    let names = names_of(alloc, program)?;
+    let names = names_of(alloc, keys, program)?;
     let bytes = fill::bytes_of(alloc, &names, program.datas.as_slice())?;
     Ok(Image {
         program,
@@ -73,6 +75,7 @@ impl<'c, 'a, A: Allocator + Copy> Image<'c, 'a, A> {
     pub fn bytes(&self) -> &[u8]
         ensures value { result.now ≡ bytes_of self.now }
         ensures few { length result.now ≤ 2 ^ 20 }
+        ensures no_fault { fault_of self.now ≡ None }
     {
         self.bytes.as_slice()
     }
@@ -90,7 +93,8 @@ impl<'c, 'a, A: Allocator + Copy> Image<'c, 'a, A> {
     }
 
     fn func_at(&self, address: u64) -> Option<u64>
-        ensures { result ≡ func_at self.now address }
+        ensures value { result ≡ func_at self.now address }
+        ensures few { IfSome result (λ i. i < 1000) }
     {
         if address < FUNC_BASE {
             return None;
@@ -119,7 +123,7 @@ impl<'c, 'a, A: Allocator + Copy> Image<'c, 'a, A> {
         }
         match self.func_at(address) {
             Some(index) => Some(Callee::Defined(FuncId {
-                index: index as usize,
+                index: index as u16,
             })),
             None => None,
         }
@@ -129,7 +133,7 @@ impl<'c, 'a, A: Allocator + Copy> Image<'c, 'a, A> {
     pub fn name_of(&self, func: FuncId) -> Option<Name<'a>>
         ensures { result ≡ option_map (λ f. f.name) (slice_get self.now.funcs func.index) }
     {
-        match self.program.funcs.as_slice().get(func.index) {
+        match self.program.funcs.as_slice().get(usize::from(func.index)) {
             Some(found) => Some(Name::new(found.name.bytes())),
             None => None,
         }

@@ -5,6 +5,7 @@ mod callee;
 mod error;
 mod fill;
 mod image;
+mod laws;
 mod names;
 mod place;
 mod room;
@@ -13,6 +14,10 @@ mod table;
 pub use callee::{Callee, FuncId};
 pub use error::{LayoutCode, LayoutError};
 pub use image::{Image, layout};
+pub use laws::{
+    least_multiple, names_are_own, names_have_their_own, objects_stand, objects_stand_in_order,
+    padding_is_zero,
+};
 pub use place::{DATA_BASE, rounded_up};
 
 #[cfg(test)]

@@ -1,7 +1,8 @@
 //! The addresses of all names of a program.
 
 ghost use Rattle.std.specs.Prelude.{◌≡◌, ◌≤◌, ◌<◌, ◌+◌, List, ℕ, None, OnOk, IfOk, IfErr, length};
-ghost use Rattle.qil_layout.specs.Layout.{or_else, data_address, func_address, built_in_address, address_of, fault_from, fault_of};
+ghost use Rattle.std.specs.Option.{option_or};
+ghost use Rattle.qil_layout.specs.Layout.{data_address, func_address, built_in_address, address_of, fault_from, fault_of};
 ghost use Rattle.qil_layout.specs.Table.{found};
 ghost use Rattle.qil_layout.specs.Answer.{IsFault};
 
@@ -10,6 +11,7 @@ use crate::place::{DATA_BASE, span_of};
 use crate::table::Table;
 use qil_parser::{Data, Func, Program};
 use std::alloc::{AllocError, Allocator};
+use std::hash::RandomState;
 
 /// The address of the first function.
 pub const FUNC_BASE: u64 = 4096;
@@ -28,7 +30,7 @@ fn note_datas<'a, A: Allocator + Copy>(
     table: &mut Table<'a, A>,
     datas: &[Data<'a, A>],
 ) -> Result<(), LayoutError>
-    ensures noted { OnOk result ((x : List ℕ) → found table.new.addresses x ≡ or_else (found table.old.addresses x) (data_address 65536 datas.now x)) }
+    ensures noted { OnOk result ((x : List ℕ) → found table.new.addresses x ≡ option_or (found table.old.addresses x) (data_address 65536 datas.now x)) }
     ensures no_fault { IfOk result (λ x. fault_from 65536 datas.now ≡ None) }
     ensures fault { IfErr result (IsFault (fault_from 65536 datas.now)) }
 {
@@ -56,7 +58,7 @@ fn note_funcs<'a, A: Allocator + Copy>(
     funcs: &[Func<'a, A>],
 ) -> Result<(), AllocError>
     requires { length funcs.now ≤ 65535 }
-    ensures { OnOk result ((x : List ℕ) → found table.new.addresses x ≡ or_else (found table.old.addresses x) (func_address 4096 funcs.now x)) }
+    ensures { OnOk result ((x : List ℕ) → found table.new.addresses x ≡ option_or (found table.old.addresses x) (func_address 4096 funcs.now x)) }
 {
     let mut at = FUNC_BASE;
     for func in funcs {
@@ -68,7 +70,7 @@ fn note_funcs<'a, A: Allocator + Copy>(
 
 /// Notes the addresses of the functions that every program has.
 fn note_built_ins<'a, A: Allocator + Copy>(table: &mut Table<'a, A>) -> Result<(), AllocError>
-    ensures { OnOk result ((x : List ℕ) → found table.new.addresses x ≡ or_else (found table.old.addresses x) (built_in_address x)) }
+    ensures { OnOk result ((x : List ℕ) → found table.new.addresses x ≡ option_or (found table.old.addresses x) (built_in_address x)) }
 {
     table.note(b"putchar", PUTCHAR)?;
     table.note(b"puts", PUTS)?;
@@ -79,6 +81,7 @@ fn note_built_ins<'a, A: Allocator + Copy>(table: &mut Table<'a, A>) -> Result<(
 /// The address of each name of a program, or the first object that can't be laid out.
 pub fn names_of<'a, A: Allocator + Copy>(
     alloc: A,
+    keys: RandomState,
     program: &Program<'a, A>,
 ) -> Result<Table<'a, A>, LayoutError>
     requires { length program.now.funcs ≤ 65535 }
@@ -86,7 +89,7 @@ pub fn names_of<'a, A: Allocator + Copy>(
     ensures no_fault { IfOk result (λ t. fault_of program.now ≡ None) }
     ensures fault { IfErr result (IsFault (fault_of program.now)) }
 {
-    let mut table = Table::new(alloc);
+    let mut table = Table::new(alloc, keys);
     note_datas(&mut table, program.datas.as_slice())?;
     note_funcs(&mut table, program.funcs.as_slice())?;
     note_built_ins(&mut table)?;

@@ -6,21 +6,30 @@ use qil_lexer::tokens;
 use qil_parser::parse;
 use refusing::{Refusing, refuse_each};
 use std::alloc::{AllocError, Allocator};
+use std::hash::RandomState;
 use std::test::*;
 
-fn checked<A: Allocator + Copy>(alloc: A, text: &[u8]) -> Result<Checked<'_, A>, Fail> {
+fn checked<A: Allocator + Copy>(
+    alloc: A,
+    keys: RandomState,
+    text: &[u8],
+) -> Result<Checked<'_, A>, Fail> {
     let found = tokens(alloc, text)?;
     let program = parse(alloc, &found)?;
-    match check(alloc, program) {
+    match check(alloc, keys, program) {
         Ok(checked) => Ok(checked),
         Err(_) => Err("well-formed".into()),
     }
 }
 
 /// The code and the line that are told of a text.
-fn refused<A: Allocator + Copy>(alloc: A, text: &[u8]) -> Result<Option<(LayoutCode, u32)>, Fail> {
-    let checked = checked(alloc, text)?;
-    match layout(alloc, &checked) {
+fn refused<A: Allocator + Copy>(
+    alloc: A,
+    keys: RandomState,
+    text: &[u8],
+) -> Result<Option<(LayoutCode, u32)>, Fail> {
+    let checked = checked(alloc, keys, text)?;
+    match layout(alloc, keys, &checked) {
         Err(LayoutError::Refused { code, line }) => Ok(Some((code, line))),
         _ => Ok(None),
     }
@@ -29,11 +38,13 @@ fn refused<A: Allocator + Copy>(alloc: A, text: &[u8]) -> Result<Option<(LayoutC
 #[test]
 fn numbers_and_addresses(rt: HostRuntime) -> Result<(), Fail> {
     let alloc = rt.alloc();
+    let keys = RandomState::new(&rt)?;
     let checked = checked(
         alloc,
+        keys,
         b"data $c = { l -1, l $c }\nfunction $main() {\n@s\nret\n}\n",
     )?;
-    let image = layout(alloc, &checked)?;
+    let image = layout(alloc, keys, &checked)?;
     assert_eq!(rt;
         image.bytes(),
         [
@@ -51,11 +62,13 @@ fn numbers_and_addresses(rt: HostRuntime) -> Result<(), Fail> {
 #[test]
 fn padding(rt: HostRuntime) -> Result<(), Fail> {
     let alloc = rt.alloc();
+    let keys = RandomState::new(&rt)?;
     let checked = checked(
         alloc,
+        keys,
         b"data $a = align 1 { b 1 }\ndata $b = { w 2 }\nfunction $main() {\n@s\nret\n}\n",
     )?;
-    let image = layout(alloc, &checked)?;
+    let image = layout(alloc, keys, &checked)?;
     assert_eq!(rt; image.bytes().len(), 20);
     assert_eq!(rt; &image.bytes()[12..20], [0, 0, 0, 0, 2, 0, 0, 0].as_slice());
     assert_eq!(rt; image.address(b"b"), Some(65_552));
@@ -67,8 +80,9 @@ fn fields(rt: HostRuntime) -> Result<(), Fail> {
     let alloc = rt.alloc();
     let text =
         b"data $a = {\nw 1 2,\nb \"x\\000\" 7,\n}\ndata $b = align 4096 { h -1, z 2, l $a + 18446744073709551615 }\n";
-    let checked = checked(alloc, text)?;
-    let image = layout(alloc, &checked)?;
+    let keys = RandomState::new(&rt)?;
+    let checked = checked(alloc, keys, text)?;
+    let image = layout(alloc, keys, &checked)?;
     assert_eq!(rt; image.bytes().len(), 4108);
     assert_eq!(rt;
         &image.bytes()[..11],
@@ -85,30 +99,32 @@ fn fields(rt: HostRuntime) -> Result<(), Fail> {
 #[test]
 fn refusals(rt: HostRuntime) -> Result<(), Fail> {
     let alloc = rt.alloc();
+    let keys = RandomState::new(&rt)?;
     assert_eq!(rt;
-        refused(alloc, b"data $z = { z 1048577 }\n")?,
+        refused(alloc, keys, b"data $z = { z 1048577 }\n")?,
         Some((LayoutCode::Y1, 1))
     );
-    assert_eq!(rt; refused(alloc, b"data $z = { z 1048576 }\n")?, None);
+    assert_eq!(rt; refused(alloc, keys, b"data $z = { z 1048576 }\n")?, None);
     assert_eq!(rt;
-        refused(alloc, b"data $z = { z 18446744073709551615, z 2 }\n")?,
+        refused(alloc, keys, b"data $z = { z 18446744073709551615, z 2 }\n")?,
         Some((LayoutCode::Y1, 1))
     );
     assert_eq!(rt;
-        refused(alloc, b"data $z = align 3 { b 0 }\n")?,
+        refused(alloc, keys, b"data $z = align 3 { b 0 }\n")?,
         Some((LayoutCode::Y2, 1))
     );
     assert_eq!(rt;
-        refused(alloc, b"data $z = align 0 { b 0 }\n")?,
+        refused(alloc, keys, b"data $z = align 0 { b 0 }\n")?,
         Some((LayoutCode::Y2, 1))
     );
     assert_eq!(rt;
-        refused(alloc, b"data $z = align 8192 { b 0 }\n")?,
+        refused(alloc, keys, b"data $z = align 8192 { b 0 }\n")?,
         Some((LayoutCode::Y2, 1))
     );
     assert_eq!(rt;
         refused(
             alloc,
+            keys,
             b"data $a = { b 0 }\ndata\n$y = align 3 { z 2000000 }\ndata $z = { z 2000000 }\n"
         )?,
         Some((LayoutCode::Y2, 3))
@@ -116,6 +132,7 @@ fn refusals(rt: HostRuntime) -> Result<(), Fail> {
     assert_eq!(rt;
         refused(
             alloc,
+            keys,
             b"data $a = { z 1048561 }\ndata $b = align 4096 { }\n"
         )?,
         None
@@ -123,6 +140,7 @@ fn refusals(rt: HostRuntime) -> Result<(), Fail> {
     assert_eq!(rt;
         refused(
             alloc,
+            keys,
             b"data $a = { z 1048561 }\ndata $b = align 4096 { b 0 }\n"
         )?,
         Some((LayoutCode::Y1, 2))
@@ -134,11 +152,13 @@ fn refusals(rt: HostRuntime) -> Result<(), Fail> {
 #[test]
 fn empty_at_the_end(rt: HostRuntime) -> Result<(), Fail> {
     let alloc = rt.alloc();
+    let keys = RandomState::new(&rt)?;
     let checked = checked(
         alloc,
+        keys,
         b"data $a = { z 1048561 }\ndata $b = align 4096 { }\n",
     )?;
-    let image = layout(alloc, &checked)?;
+    let image = layout(alloc, keys, &checked)?;
     assert_eq!(rt; image.bytes().len(), 1_048_576);
     Ok(())
 }
@@ -147,8 +167,9 @@ fn empty_at_the_end(rt: HostRuntime) -> Result<(), Fail> {
 fn functions(rt: HostRuntime) -> Result<(), Fail> {
     let alloc = rt.alloc();
     let text = b"function $f() {\n@s\nret\n}\nfunction $puts(l %x) {\n@s\nret\n}\n";
-    let checked = checked(alloc, text)?;
-    let image = layout(alloc, &checked)?;
+    let keys = RandomState::new(&rt)?;
+    let checked = checked(alloc, keys, text)?;
+    let image = layout(alloc, keys, &checked)?;
     assert_eq!(rt;
         image.function_at(4096),
         Some(Callee::Defined(FuncId { index: 0 }))
@@ -176,7 +197,7 @@ fn functions(rt: HostRuntime) -> Result<(), Fail> {
 }
 
 /// Whether a text was laid out; memory that is wanting is an error.
-fn laid_out<A: Allocator + Copy>(alloc: A) -> Result<(), AllocError> {
+fn laid_out<A: Allocator + Copy>(alloc: A, keys: RandomState) -> Result<(), AllocError> {
     let Ok(found) = tokens(
         alloc,
         b"data $a = { l $f, z 100 }\nfunction $f() {\n@s\nret\n}\n",
@@ -186,20 +207,22 @@ fn laid_out<A: Allocator + Copy>(alloc: A) -> Result<(), AllocError> {
     let Ok(program) = parse(alloc, &found) else {
         return Err(AllocError)
     };
-    let Ok(checked) = check(alloc, program) else {
+    let Ok(checked) = check(alloc, keys, program) else {
         return Err(AllocError)
     };
-    match layout(alloc, &checked) {
+    match layout(alloc, keys, &checked) {
         Err(LayoutError::OutOfMemory) => Err(AllocError),
         _ => Ok(()),
     }
 }
 
 #[test]
-fn memory_refused_in_turn(rt: HostRuntime) {
+fn memory_refused_in_turn(rt: HostRuntime) -> Result<(), Fail> {
+    let keys = RandomState::new(&rt)?;
     let heap = Refusing::new(rt.alloc());
-    let refused = refuse_each(&heap, |heap| laid_out(heap));
+    let refused = refuse_each(&heap, |heap| laid_out(heap, keys));
     assert!(rt; refused.is_ok_and(|count| count > 8));
+    Ok(())
 }
 
 /// How a fault is told.

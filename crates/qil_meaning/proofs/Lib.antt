@@ -1,2 +1,24 @@
--- The lemmas of this crate.
+-- The lemmas of this crate, and worked rows.
+pub mod FaultLemmas
+pub mod CallLemmas
+pub mod TextLemmas
+pub mod PhiLemmas
+pub mod SlotLemmas
+pub mod StartLemmas
+pub mod KeptLemmas
 pub mod MoveLemmas
+pub mod FirstLemmas
+pub mod HoldLemmas
+pub mod OnLemmas
+pub mod BackLemmas
+pub mod TargetLemmas
+pub mod LeastLemmas
+pub mod Programs
+pub mod Rows
+pub mod Operations
+pub mod FaultRows
+pub mod Pokes
+pub mod Readings
+pub mod NameRows
+pub mod Phis
+pub mod StopRows

@@ -1,47 +1,80 @@
--- The timeline of a session: every whole state from the start to now.
-use Rattle.std.specs.Prelude.{ℕ, zero, suc, Bool, cond, List, [], ◌∷◌, length, Option, Some, None}
-use Rattle.qil_plain.specs.declared.tree.Program.{Program}
+-- The timeline of a session: the whole states that are kept, of which the last is now, and how many older ones were
+-- forgotten. A timeline keeps everything, or as many moves as it is told.
+use Rattle.std.specs.Prelude.{ℕ, zero, suc, ◌+◌, ◌-◌, Bool, nat_lt, if◌then◌else◌, List, [], ◌∷◌, reverse, length, take, drop, Option, Some, None, slice_get, slice_index_or, Result, Ok, Err}
+use Rattle.qil_tree.specs.declared.tree.Program.{Program}
 use Rattle.qil_meaning.specs.State.{State, is_final}
 use Rattle.qil_meaning.specs.Step.{step_of}
+use Rattle.qil_meaning.specs.Poke.{PokeFault}
 
--- the state now, and the states before it, the latest first
+-- The state now, and the kept states before it, the latest first; how many states before these were forgotten; and how
+-- many moves are kept at most, if there is a bound.
 pub record Timeline : Type 0 where
   pub now : State
   pub past : List State
+  pub forgotten : ℕ
+  pub keeps : Option ℕ
 
--- a session that has made no move
-abbrev pub begun : State → Timeline
-begun s = record { now = s; past = [] }
+-- no move was made
+abbrev pub begun : Option ℕ → State → Timeline
+begun keeps s = record { now = s; past = []; forgotten = 0; keeps = keeps }
 
 -- the number of moves since the start
 abbrev pub position : Timeline → ℕ
-position t = length t.past
+position t = t.forgotten + length t.past
+
+-- the position of the oldest state that is kept
+abbrev pub oldest : Timeline → ℕ
+oldest t = t.forgotten
+
+-- the kept states in their order, and the one at a position
+abbrev pub states : Timeline → List State
+states t = reverse (t.now ∷ t.past)
+
+abbrev pub state_at : Timeline → ℕ → Option State
+state_at t j = if nat_lt j (oldest t) then None else slice_get (states t) (j - oldest t)
 
 abbrev pub at_end : Timeline → Bool
 at_end t = is_final t.now.status
 
+-- ---- one move
+
+-- of the states before now the newest, and how many were forgotten in all
+abbrev pub newest : Option ℕ → List State → List State
+newest None past = past
+newest (Some n) past = take n past
+
+abbrev pub forgotten_of : Option ℕ → ℕ → List State → ℕ
+forgotten_of None forgotten past = forgotten
+forgotten_of (Some n) forgotten past = forgotten + (length past - n)
+
+-- a move to a state: it is added to those that are kept, the oldest of which is forgotten where they would be too many
+abbrev pub to : State → Timeline → Timeline
+to s t = record t { now = s; past = newest t.keeps (t.now ∷ t.past); forgotten = forgotten_of t.keeps t.forgotten (t.now ∷ t.past) }
+
 -- one move forward: the step of the state now
 abbrev pub forward : {A : Type 0} → Program A → Timeline → Timeline
-forward p t = record { now = step_of p t.now; past = t.now ∷ t.past }
+forward p t = to (step_of p t.now) t
 
-abbrev pub back_to : List State → Option Timeline
-back_to [] = None
-back_to (s ∷ past) = Some (record { now = s; past = past })
+-- a poke is a move, if it isn't refused
+abbrev pub poked : Timeline → Result State PokeFault → Result Timeline PokeFault
+poked t (Ok s) = Ok (to s t)
+poked t (Err why) = Err why
 
--- one move back drops the state now; at the start there is none to go back to
+abbrev pub back_to : Timeline → List State → Option Timeline
+back_to t [] = None
+back_to t (s ∷ past) = Some (record t { now = s; past = past })
+
+-- one move back drops the state now; from the oldest state that is kept there is none
 abbrev pub back : Timeline → Option Timeline
-back t = back_to t.past
+back t = back_to t t.past
 
--- up to n moves forward, none from a final state
-unfoldable pub forward_by : {A : Type 0} → Program A → ℕ → Timeline → Timeline
-forward_by p zero t = t
-forward_by p (suc n) t = cond (at_end t) t (forward_by p n (forward p t))
+-- ---- so many moves
 
-abbrev pub back_by_to : ℕ → State → List State → Timeline
-back_by_to zero now past = record { now = now; past = past }
-back_by_to (suc n) now [] = record { now = now; past = [] }
-back_by_to (suc n) now (s ∷ past) = back_by_to n s past
+-- k moves forward
+unfoldable pub moved : {A : Type 0} → Program A → ℕ → Timeline → Timeline
+moved p zero t = t
+moved p (suc k) t = forward p (moved p k t)
 
--- up to n moves back, none from the start
-unfoldable pub back_by : ℕ → Timeline → Timeline
-back_by n t = back_by_to n t.now t.past
+-- k moves back, where as many are kept
+unfoldable pub gone : ℕ → Timeline → Timeline
+gone k t = record t { now = slice_index_or (t.now ∷ t.past) k t.now; past = drop k t.past }

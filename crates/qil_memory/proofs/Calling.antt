@@ -56,11 +56,6 @@ some_places m a n bs some e h = ⊎_elim
     (λ (x : HasBytes m a (length bs)). subst (HasBytes m a) e x)
     h
 
-pub store_keeps : (m w : Buffers) (saved : Kept) (a n v t : ℕ) (kept xs : List ℕ) → HasBytes m a n → w ≡ with_bytes m a (low_bytes n v) → kept ≡ xs → xs ≡ bytes_at m a n → t ≡ w.top → saved ≡ record { address = a; bytes = kept; top = t } → Keeps m w saved
-store_keeps m w saved a n v t kept xs h e f g s is =
-    let stays : w ≡ with_top (with_bytes m a (low_bytes n v)) m.top = top_stays m w a (low_bytes n v) e in
-    written_keeps m w saved a n m.top t (low_bytes n v) kept xs h (sym (length-low_bytes n v)) stays f g (s ∙ ap (λ (x : Buffers). x.top) stays) is
-
 -- ---- blit
 
 blit_some : (m : Live) (s t n : ℕ) (x y : Option (List ℕ)) → 0 < n → read m s n ≡ x → read m t n ≡ y → blitted m s t n ≡ copied m s t n x y

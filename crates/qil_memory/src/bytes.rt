@@ -1,12 +1,13 @@
 //! Numbers as bytes, the least significant first.
 
-ghost use Rattle.std.specs.Prelude.{◌≡◌, ◌+◌, ◌≤◌, length, IfOk};
+ghost use Rattle.std.specs.Prelude.{◌≡◌, ◌+◌, ◌≤◌, length, slice_range, IfOk};
 ghost use Rattle.qil_layout.specs.Layout.{low_bytes, zeros};
 ghost use Rattle.qil_memory.specs.Bytes.{number, over};
 
 use std::alloc::{AllocError, Allocator};
 
 /// The number that at most eight bytes spell.
+#[inline(always)]
 pub fn number_of(bytes: &[u8]) -> u64
     requires { length bytes.now ≤ 8 }
     ensures { result ≡ number bytes.now }
@@ -21,6 +22,7 @@ pub fn number_of(bytes: &[u8]) -> u64
 }
 
 /// The same for a number of bytes that no width has.
+#[inline(never)]
 fn number_of_any(bytes: &[u8]) -> u64
     requires { length bytes.now ≤ 8 }
     ensures { result ≡ number bytes.now }
@@ -30,7 +32,17 @@ fn number_of_any(bytes: &[u8]) -> u64
     u64::from_le_bytes(padded)
 }
 
+/// The number whose low bytes these are.
+#[inline(always)]
+pub fn spelled(bytes: &[u8]) -> u64
+    requires { length bytes.now ≤ 8 }
+    ensures { low_bytes (length bytes.now) result ≡ bytes.now }
+{
+    number_of(bytes)
+}
+
 /// Writes bytes over those from a place on.
+#[inline(always)]
 pub fn write(target: &mut [u8], at: usize, bytes: &[u8])
     requires { at + length bytes.now ≤ length target.old }
     ensures { target.new ≡ over target.old at bytes.now }
@@ -48,6 +60,7 @@ pub fn clear(target: &mut [u8], at: usize, n: usize)
 }
 
 /// Writes the `n` low bytes of a number over those from a place on.
+#[inline(always)]
 pub fn write_number(target: &mut [u8], at: usize, n: usize, v: u64)
     requires few { n ≤ 8 }
     requires inside { at + n ≤ length target.old }
@@ -60,6 +73,19 @@ pub fn write_number(target: &mut [u8], at: usize, n: usize, v: u64)
         8 => write(target, at, &v.to_le_bytes()),
         _ => write(target, at, &v.to_le_bytes()[..n]),
     }
+}
+
+/// Writes the `n` low bytes of a number over those from a place on, and answers the number that stood there.
+#[inline(always)]
+pub fn exchange(target: &mut [u8], at: usize, n: usize, v: u64) -> u64
+    requires few { n ≤ 8 }
+    requires inside { at + n ≤ length target.old }
+    ensures old { low_bytes n result ≡ slice_range target.old at (at + n) }
+    ensures new { target.new ≡ over target.old at (low_bytes n v) }
+{
+    let old = spelled(&target[at..at + n]);
+    write_number(target, at, n, v);
+    old
 }
 
 /// So many zero bytes.

@@ -1,17 +1,17 @@
 //! The memory of a run: the bytes of the data, and a stack that grows upward and keeps its dead bytes.
 
-ghost use Rattle.std.specs.Prelude.{◌≡◌, ◌≢◌, ◌+◌, ◌-◌, ◌<◌, ◌≤◌, ◌^◌, ◌↔◌, [], length, IsTrue, OnOk, OnErr, IfOk, IfErr};
-ghost use Rattle.qil_layout.specs.Layout.{rounded, low_bytes, zeros, bytes_of};
+ghost use Rattle.std.specs.Prelude.{◌≡◌, ◌≢◌, ◌+◌, ◌-◌, ◌<◌, ◌≤◌, ◌^◌, ◌↔◌, [], length, IsTrue, IsSome, IfSome, OnSome, OnOk, OnErr, IfOk, IfErr};
+ghost use Rattle.qil_layout.specs.Layout.{data_base, rounded, low_bytes, zeros, bytes_of};
 ghost use Rattle.qil_memory.specs.Buffers.{stack_base, stack_end, fresh, IsMemory};
 ghost use Rattle.qil_memory.specs.Live.{live, laid, below};
 ghost use Rattle.qil_memory.specs.Calls.{IsWidth, IsAlignment, loaded, stored, overlap, blitted, Explains};
 ghost use Rattle.qil_memory.specs.Undo.{Fits, undone, with_bytes, with_top};
-ghost use Rattle.qil_memory.specs.Places.{IsLive, HasBytes, HasPlaces, bytes_at, end_of};
+ghost use Rattle.qil_memory.specs.Places.{IsLive, IsSpan, HasBytes, HasPlaces, bytes_at, live_end};
 ghost use Rattle.qil_memory.specs.Kept.{listed, IsThrifty};
 
-use crate::bytes::{clear, number_of, write, write_number, zeroed};
+use crate::bytes::{clear, exchange, number_of, write, write_number, zeroed};
 use crate::fault::{AllocFault, BlitFault, Dead};
-use crate::saved::{KeptBytes, Saved, keep, keep_few};
+use crate::saved::{KeptBytes, Saved, keep};
 use qil_layout::{DATA_BASE, Image, rounded_up};
 use std::alloc::{AllocError, Allocator};
 use std::marker::Model;
@@ -79,11 +79,12 @@ impl<A: Allocator + Copy> Memory<A> {
     }
 
     /// The address from which on the stack is dead: new bytes are made there.
+    #[inline(always)]
     pub fn top(&self) -> u64
         ensures value { result ≡ self.now.top }
         ensures memory { IsMemory self.now }
     {
-        self.end_of(STACK_BASE)
+        self.live_end(STACK_BASE)
     }
 
     /// The number in the `n` bytes from an address on, the least significant first. It takes no memory.
@@ -91,14 +92,52 @@ impl<A: Allocator + Copy> Memory<A> {
     /// # Errors
     ///
     /// The bytes aren't all live.
+    #[inline(always)]
     pub fn load(&self, address: u64, n: u64) -> Result<u64, Dead>
         requires { IsWidth n }
         ensures { result ≡ loaded (live self.now) address n }
     {
-        if !self.is_live(address, n) {
-            return Err(Dead { address });
+        match self.live_bytes(address, n) {
+            Some(bytes) => Ok(number_of(bytes)),
+            None => Err(Dead { address }),
         }
-        Ok(number_of(self.bytes_at(address, n as usize)))
+    }
+
+    /// Writes the `n` low bytes of a number from an address on, the least significant first, and answers the number that
+    /// stood there, which `put_back` puts back. It takes no memory.
+    ///
+    /// # Errors
+    ///
+    /// The bytes aren't all live; nothing is changed.
+    #[inline(always)]
+    pub fn exchange(&mut self, address: u64, n: u64, v: u64) -> Result<u64, Dead>
+        requires { IsWidth n }
+        ensures ok { OnOk result (stored (live self.old) address n v ≡ Ok (live self.new)) }
+        ensures dead { IfErr result (λ e. stored (live self.old) address n v ≡ Err e) }
+        ensures top { self.new.top ≡ self.old.top }
+        ensures inside { OnOk result (address + n ≤ STACK_END) }
+        ensures places { IfOk result (λ old. HasPlaces self.new address (low_bytes n old)) }
+        ensures undo { IfOk result (λ old. with_bytes self.new address (low_bytes n old) ≡ self.old) }
+        ensures err { OnErr result (self.new ≡ self.old) }
+    {
+        match self.exchange_live(address, n, v) {
+            Some(old) => Ok(old),
+            None => Err(Dead { address }),
+        }
+    }
+
+    /// Writes the `n` low bytes of a number from an address on, be they live or dead: of a number that `exchange` gave, it
+    /// puts back what stood there. It takes no memory.
+    #[inline(always)]
+    pub fn put_back(&mut self, address: u64, n: u64, number: u64)
+        requires few { n ≤ 8 }
+        requires places { HasPlaces self.old address (low_bytes n number) }
+        ensures after { self.new ≡ with_bytes self.old address (low_bytes n number) }
+        ensures top { self.new.top ≡ self.old.top }
+    {
+        if n > 0 {
+            self.put_number(address, n as usize, number);
+        }
     }
 
     /// Writes the `n` low bytes of a number from an address on, the least significant first. It takes no memory.
@@ -106,6 +145,7 @@ impl<A: Allocator + Copy> Memory<A> {
     /// # Errors
     ///
     /// The bytes aren't all live; nothing is changed.
+    #[inline(always)]
     pub fn store(&mut self, address: u64, n: u64, v: u64) -> Result<Saved<A>, Dead>
         requires { IsWidth n }
         ensures ok { OnOk result (stored (live self.old) address n v ≡ Ok (live self.new)) }
@@ -116,13 +156,10 @@ impl<A: Allocator + Copy> Memory<A> {
         ensures undo { IfOk result (λ saved. undone saved self.new ≡ self.old) }
         ensures err { OnErr result (self.new ≡ self.old) }
     {
-        if !self.is_live(address, n) {
-            return Err(Dead { address });
+        match self.exchange(address, n, v) {
+            Ok(old) => Ok(Saved::new(address, KeptBytes::Few(n as u8, old), self.top())),
+            Err(dead) => Err(dead),
         }
-        let count = n as usize;
-        let kept = keep_few(self.bytes_at(address, count));
-        self.put_number(address, count, v);
-        Ok(Saved::new(address, kept, self.top()))
     }
 
     /// Copies `n` bytes from one address to another (QBE IL, Memory). No bytes are copied from and to anywhere, live or
@@ -181,7 +218,7 @@ impl<A: Allocator + Copy> Memory<A> {
         ensures err { OnErr result (self.new ≡ self.old) }
     {
         let top = self.top();
-        let address = rounded_up(align, top);
+        let address = aligned(align, top);
         if address > STACK_END || n > STACK_END - address {
             return Err(AllocFault::Full);
         }
@@ -208,6 +245,20 @@ impl<A: Allocator + Copy> Memory<A> {
         Saved::new(floor, KeptBytes::Few(0, 0), top)
     }
 
+    /// Moves the top, to which `undo` and a second call move it back. The bytes of the stack stay, live or dead. It takes
+    /// no memory.
+    #[inline(always)]
+    pub fn set_top(&mut self, top: u64)
+        requires low { STACK_BASE ≤ top }
+        requires high { top ≤ STACK_END }
+        ensures after { self.new ≡ with_top self.old top }
+        ensures lowered { top ≤ self.old.top → live self.new ≡ below (live self.old) top }
+        ensures undo { with_top self.new self.old.top ≡ self.old }
+        ensures memory { IsMemory self.new }
+    {
+        self.top = top;
+    }
+
     /// Puts back what a call kept: the bytes, live or dead, and the top. It takes no memory. `Saved::fits` is the test of
     /// its condition.
     pub fn undo(&mut self, saved: Saved<A>)
@@ -226,11 +277,82 @@ impl<A: Allocator + Copy> Memory<A> {
     }
 }
 
+/// Where bytes are.
+impl<A: Allocator + Copy> Memory<A> {
+    /// Whether the buffers have `n` bytes from an address on, be they live or dead: where they do, or there are none,
+    /// `put_back` may be called.
+    pub fn has_bytes(&self, address: u64, n: usize) -> bool
+        ensures places { IsTrue result ↔ HasBytes self.now address n }
+        ensures memory { IsMemory self.now }
+    {
+        let end = if address < STACK_BASE {
+            DATA_BASE + self.data_bytes.len() as u64
+        } else {
+            STACK_END
+        };
+        DATA_BASE <= address && address <= end && n as u64 <= end - address
+    }
+
+    /// The place among the bytes of the stack from which on `n` live bytes have their addresses from this one on.
+    #[inline(always)]
+    fn stack_place(&self, address: u64, n: u64) -> Option<usize>
+        ensures place { IsSpan stack_base (self.now.top - stack_base) address n result }
+        ensures memory { IsMemory self.now }
+    {
+        place_among(STACK_BASE, self.top - STACK_BASE, address, n)
+    }
+
+    /// The same among the bytes of the data.
+    #[inline(always)]
+    fn data_place(&self, address: u64, n: u64) -> Option<usize>
+        ensures place { IsSpan data_base (length self.now.data_bytes) address n result }
+        ensures memory { IsMemory self.now }
+    {
+        place_among(DATA_BASE, self.data_bytes.len() as u64, address, n)
+    }
+
+    /// The `n` bytes from an address on, if all are live.
+    #[inline(always)]
+    fn live_bytes(&self, address: u64, n: u64) -> Option<&[u8]>
+        ensures live { IsSome result ↔ IsLive self.now address n }
+        ensures bytes { IfSome result (λ bytes. bytes.now ≡ bytes_at self.now address n) }
+        ensures count { IfSome result (λ bytes. length bytes.now ≡ n) }
+        ensures memory { IsMemory self.now }
+    {
+        if let Some(at) = self.stack_place(address, n) {
+            return Some(&self.stack_bytes[at..at + n as usize]);
+        }
+        if let Some(at) = self.data_place(address, n) {
+            return Some(&self.data_bytes[at..at + n as usize]);
+        }
+        None
+    }
+
+    /// Writes the `n` low bytes of a number from an address on, if all are live, and answers the number that stood there.
+    #[inline(always)]
+    fn exchange_live(&mut self, address: u64, n: u64, v: u64) -> Option<u64>
+        requires { n ≤ 8 }
+        ensures live { IsSome result ↔ IsLive self.old address n }
+        ensures old { IfSome result (λ old. low_bytes n old ≡ bytes_at self.old address n) }
+        ensures new { OnSome result (self.new ≡ with_bytes self.old address (low_bytes n v)) }
+        ensures none { result ≡ None → self.new ≡ self.old }
+        ensures memory { IsMemory self.old }
+    {
+        if let Some(at) = self.stack_place(address, n) {
+            return Some(exchange(&mut self.stack_bytes, at, n as usize, v));
+        }
+        if let Some(at) = self.data_place(address, n) {
+            return Some(exchange(&mut self.data_bytes, at, n as usize, v));
+        }
+        None
+    }
+}
+
 /// The parts of the calls: each goes to the one buffer that has the address.
 impl<A: Allocator + Copy> Memory<A> {
     /// The end of the live addresses among which an address would be.
-    fn end_of(&self, address: u64) -> u64
-        ensures value { result ≡ end_of self.now address }
+    fn live_end(&self, address: u64) -> u64
+        ensures value { result ≡ live_end self.now address }
         ensures high { result ≤ STACK_END }
         ensures memory { IsMemory self.now }
     {
@@ -249,21 +371,8 @@ impl<A: Allocator + Copy> Memory<A> {
         ensures inside { IsTrue result → address + n ≤ STACK_END }
         ensures memory { IsMemory self.now }
     {
-        let end = self.end_of(address);
+        let end = self.live_end(address);
         DATA_BASE <= address && address <= end && n <= end - address
-    }
-
-    /// Whether the buffers have `n` bytes from an address on, be they live or dead.
-    pub(crate) fn has_bytes(&self, address: u64, n: usize) -> bool
-        ensures places { IsTrue result ↔ HasBytes self.now address n }
-        ensures memory { IsMemory self.now }
-    {
-        let end = if address < STACK_BASE {
-            DATA_BASE + self.data_bytes.len() as u64
-        } else {
-            STACK_END
-        };
-        DATA_BASE <= address && address <= end && n as u64 <= end - address
     }
 
     fn bytes_at(&self, address: u64, n: usize) -> &[u8]
@@ -279,6 +388,7 @@ impl<A: Allocator + Copy> Memory<A> {
         }
     }
 
+    #[inline(always)]
     fn put_number(&mut self, address: u64, n: usize, v: u64)
         requires few { n ≤ 8 }
         requires places { HasBytes self.old address n }
@@ -314,9 +424,7 @@ impl<A: Allocator + Copy> Memory<A> {
     {
         match kept {
             KeptBytes::Few(count, number) => {
-                if *count > 0 {
-                    self.put_number(address, usize::from(*count), *number);
-                }
+                self.put_back(address, u64::from(*count), *number);
             }
             KeptBytes::Many(bytes) => self.put(address, bytes),
         }
@@ -359,17 +467,37 @@ impl<A: Allocator + Copy> Memory<A> {
         clear(&mut self.stack_bytes, from, n);
     }
 
-    fn set_top(&mut self, top: u64)
-        requires low { stack_base ≤ top }
-        requires high { top ≤ stack_end }
-        ensures after { self.new ≡ with_top self.old top }
-        ensures memory { IsMemory self.new }
-    {
-        self.top = top;
-    }
-
     fn allocator(&self) -> A {
         *self.stack_bytes.allocator()
+    }
+}
+
+/// The place of an address among `count` bytes from a base on, if there are `n` bytes from it on.
+#[inline(always)]
+fn place_among(base: u64, count: u64, address: u64, n: u64) -> Option<usize>
+    requires { base + count < 2 ^ 64 }
+    ensures { IsSpan base count address n result }
+{
+    let at = address.wrapping_sub(base);
+    if at <= count && n <= count - at {
+        Some(at as usize)
+    } else {
+        None
+    }
+}
+
+/// The least multiple of an alignment that isn't below an address, without a division by a variable.
+#[inline(always)]
+fn aligned(align: u64, at: u64) -> u64
+    requires align { IsAlignment align }
+    requires room { at + 16 ≤ 2 ^ 64 }
+    ensures value { result ≡ rounded align at }
+    ensures low { at ≤ result }
+{
+    match align {
+        4 => rounded_up(4, at),
+        8 => rounded_up(8, at),
+        _ => rounded_up(16, at),
     }
 }
 

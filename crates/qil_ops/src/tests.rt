@@ -76,6 +76,9 @@ fn extensions(rt: HostRuntime) {
         0x8000,
         0x7fff_ffff,
         0x8000_0000,
+        0xffff_ffff,
+        0x7fff_ffff_ffff_ffff,
+        0x8000_0000_0000_0000,
         u64::MAX,
     ];
     for (kind, expected) in [
@@ -91,6 +94,9 @@ fn extensions(rt: HostRuntime) {
                 0x7fff_ffff,
                 0xffff_ffff_8000_0000,
                 u64::MAX,
+                u64::MAX,
+                0,
+                u64::MAX,
             ],
         ),
         (
@@ -104,6 +110,9 @@ fn extensions(rt: HostRuntime) {
                 0x8000,
                 0x7fff_ffff,
                 0x8000_0000,
+                0xffff_ffff,
+                0xffff_ffff,
+                0,
                 0xffff_ffff,
             ],
         ),
@@ -119,11 +128,16 @@ fn extensions(rt: HostRuntime) {
                 u64::MAX,
                 0,
                 u64::MAX,
+                u64::MAX,
+                0,
+                u64::MAX,
             ],
         ),
         (
             Extension::Uh,
-            [0, 1, 0x7f, 0x80, 0x7fff, 0x8000, 0xffff, 0, 0xffff],
+            [
+                0, 1, 0x7f, 0x80, 0x7fff, 0x8000, 0xffff, 0, 0xffff, 0xffff, 0, 0xffff,
+            ],
         ),
         (
             Extension::Sb,
@@ -137,9 +151,15 @@ fn extensions(rt: HostRuntime) {
                 u64::MAX,
                 0,
                 u64::MAX,
+                u64::MAX,
+                0,
+                u64::MAX,
             ],
         ),
-        (Extension::Ub, [0, 1, 0x7f, 0x80, 0xff, 0, 0xff, 0, 0xff]),
+        (
+            Extension::Ub,
+            [0, 1, 0x7f, 0x80, 0xff, 0, 0xff, 0, 0xff, 0xff, 0, 0xff],
+        ),
     ] {
         for (v, want) in values.iter().zip(&expected) {
             assert_eq!(rt; extend(kind, *v), *want, "{kind:?} {v}");

@@ -18,3 +18,4 @@ pub mod Gathering
 pub mod Whole
 pub mod Unique
 pub mod Verdict
+pub mod SpelledBlocks

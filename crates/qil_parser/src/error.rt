@@ -1,6 +1,7 @@
 //! Why tokens are no program's.
 
-ghost use Rattle.std.specs.Prelude.{◌≡◌};
+ghost use Rattle.std.specs.Prelude.{◌≡◌, Some};
+ghost use Rattle.qil_parser.specs.Codes.{parse_code};
 
 use std::fmt;
 use thiserror::Error;
@@ -18,15 +19,25 @@ pub enum ParseCode {
     P4,
 }
 
-impl fmt::Display for ParseCode {
-    fn fmt<W: fmt::Write>(&self, f: &mut fmt::Formatter<W>) -> fmt::Result {
-        let name = match *self {
+impl ParseCode {
+    /// The code's name, as users see it.
+    pub fn as_str(self) -> &'static str
+        ensures { result.now ≡ parse_code self }
+    {
+        match self {
             ParseCode::P1 => "P1",
             ParseCode::P2 => "P2",
             ParseCode::P3 => "P3",
             ParseCode::P4 => "P4",
-        };
-        write!(f, "{name}")
+        }
+    }
+}
+
+impl fmt::Display for ParseCode {
+    ghost output = { λ code. Some (parse_code code) };
+
+    fn fmt<W: fmt::Write>(&self, f: &mut fmt::Formatter<W>) -> fmt::Result {
+        f.write_str(self.as_str())
     }
 }
 

@@ -4,6 +4,7 @@ ghost use Rattle.std.specs.Prelude.{◌≡◌, List, ℕ, IfOk, IfErr};
 ghost use Rattle.qil_lexer.specs.Cut.{Cuts};
 ghost use Rattle.qil_parser.specs.Token.{Tok, seen};
 ghost use Rattle.qil_parser.specs.Programs.{Spells};
+ghost use Rattle.qil_parser.specs.Trees.{HasBlocks};
 ghost use Rattle.qil_parser.specs.Fault.{TokenFault, last_line};
 ghost use Rattle.qil_parser.specs.Outcome.{IsFault, IsProgram, IsRefusal, IsAnswered, code_of};
 ghost use Rattle.qil_tree.specs.declared.tree.Program.{Program};
@@ -65,6 +66,8 @@ pub fn parse<'a, A: Allocator + Copy>(
     requires cut { (text : List ℕ) × Cuts text tokens.now }
     // What is given is spelled by the tokens, and nothing else is.
     ensures spelled { IfOk result (λ p. Spells (seen tokens.now) p × ((q : Program A) → Spells (seen tokens.now) q → q ≡ p)) }
+    // Each of its functions has a block.
+    ensures blocks { IfOk result HasBlocks }
     // A refusal comes only where the tokens are no program's, and is their fault.
     ensures fault { IfErr result (λ e. IsFault A (seen tokens.now) e) }
     // Where the tokens spell a program it is given.

@@ -5,7 +5,7 @@ use Rattle.qil_commands.specs.declared.command.Command.TheVariants.{Step, Back, 
 use Rattle.qil_commands.specs.declared.command.Refused.{Refused}
 use Rattle.qil_streams.specs.Device.{Puts}
 use Rattle.qil_streams.specs.Text.{line}
-use Rattle.qil_meaning.specs.Timeline.{Timeline, position, at_end, forward_by, back_by}
+use Rattle.qil_plain_meaning.specs.Timeline.{Timeline, position, at_end, forward_by, back_by}
 use Rattle.qil_transcript.specs.Text.{place_line}
 use Rattle.qil_transcript.specs.Session.{Sitting, Answers, at_timeline, answer, IsLawful, refusal_text, printed}
 

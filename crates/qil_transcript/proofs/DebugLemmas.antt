@@ -5,8 +5,8 @@ use Rattle.std.specs.Io.KnownBytes.{Appends}
 use Rattle.qil_plain.specs.declared.tree.Program.{Program}
 use Rattle.qil_checker.specs.declared.form.Form.{Form}
 use Rattle.qil_transcript.specs.declared.load.Loaded.{Loaded}
-use Rattle.qil_meaning.specs.State.{State}
-use Rattle.qil_meaning.specs.Timeline.{begun}
+use Rattle.qil_plain_meaning.specs.State.{State}
+use Rattle.qil_plain_meaning.specs.Timeline.{begun}
 use Rattle.qil_streams.specs.Device.{IsFrontOf}
 use Rattle.qil_streams.specs.Script.{lines_of, whole_lines_of}
 use Rattle.qil_streams.proofs.DeviceLemmas.{Appends-append}
@@ -17,8 +17,8 @@ use Rattle.qil_transcript.specs.Session.{Sitting, IsAnswered, answers}
 use Rattle.std.proofs.Common.{true, false}
 use Rattle.std.proofs.lemmas.Bool.{false≢true}
 use Rattle.qil_transcript.proofs.SimpleLemmas.{plain_simple}
-use Rattle.qil_meaning.specs.declared.start.StartFault.{StartFault}
-use Rattle.qil_meaning.specs.Start.{start_of}
+use Rattle.qil_plain_meaning.specs.declared.start.StartFault.{StartFault}
+use Rattle.qil_plain_meaning.specs.Start.{start_of}
 use Rattle.qil_transcript.specs.declared.load.Refusal.TheVariants as refusals
 use Rattle.qil_transcript.specs.declared.outcome.Outcome.{Outcome}
 use Rattle.qil_transcript.specs.Load.{Accepts, IsSimple, Refuses, RefusesText}
@@ -77,10 +77,10 @@ pub Written-read : {A : Type 0} (T : Type 0) (text entry args : List ℕ) (loade
     → Written A outcomes.ReadFault text entry args known left w0 w2
 Written-read T text entry args loaded start first None left w0 w1 w2 o p = tt
 Written-read T text entry args loaded start first (Some script) left w0 w1 w2 o p =
-    let (read, taken, answered) = p.2 in (
+    let (read, taken, answered, goes) = p.2 in (
       load_lines loaded.program loaded.form start ++ p.0,
       Appends-append w0 w1 w2 (load_lines loaded.program loaded.form start) p.0 o.told p.1,
-      (read, taken, is_session text entry args loaded start first (whole_lines_of read) p.0 o.begins o.first_is answered),
+      (read, taken, is_session text entry args loaded start first (whole_lines_of read) p.0 o.begins o.first_is answered, goes),
     )
 
 pub Written-write : {A : Type 0} (T : Type 0) (text entry args : List ℕ) (loaded : Loaded A) (start : State) (first : Sitting A) (known left w0 w1 w2 : Option (List ℕ))

@@ -20,7 +20,7 @@ use Rattle.qil_parser.specs.Outcome.{IsFault, IsProgram}
 use Rattle.qil_checker.specs.declared.rule.Rule.{Rule}
 use Rattle.qil_checker.specs.declared.checker.CheckError.{CheckError}
 use Rattle.qil_checker.specs.declared.checker.CheckError.TheVariants as check
-use Rattle.qil_checker.specs.Marks.{texts}
+use Rattle.qil_checker.specs.Mentions.{texts}
 use Rattle.qil_checker.specs.Rules.{WellFormed, Broken}
 use Rattle.qil_checker.specs.Check.{Verdict, IsTold}
 use Rattle.qil_transcript.specs.declared.load.Refusal.{Refusal}

@@ -3,7 +3,7 @@ use Rattle.std.proofs.Common.{◌≡◌, ℕ, suc, ◌+◌, ◌<◌, ◌≤◌, 
 use Rattle.std.specs.Prelude.{Option, Some, None}
 use Rattle.std.specs.Str.{bytes_eq}
 use Rattle.std.proofs.lemmas.List.{drop_all}
-use Rattle.qil_meaning.specs.State.{with_temp}
+use Rattle.qil_plain_meaning.specs.State.{with_temp}
 use Rattle.qil_transcript.specs.Moment.{temps_of, else_at}
 use Rattle.qil_transcript.specs.declared.moment.Write.{Write}
 

@@ -11,7 +11,7 @@ use Rattle.qil_commands.specs.declared.command.Refused.{Refused}
 use Rattle.qil_streams.specs.Reader.{IsLine}
 use Rattle.qil_streams.specs.Script.{lines_of, whole_lines_of}
 use Rattle.qil_commands.specs.Command.{command_of}
-use Rattle.qil_meaning.specs.Timeline.{position, at_end}
+use Rattle.qil_plain_meaning.specs.Timeline.{position, at_end}
 use Rattle.qil_transcript.specs.Session.{Sitting, Answer, answer, answers, AreLawful, IsLawful, IsAnswered, is_quit, quits}
 use Rattle.std.specs.Prelude.{IfSome}
 use Rattle.std.specs.Io.KnownBytes.{Consumes, Appends, IsAtEnd, prepend_known}
@@ -266,7 +266,12 @@ Promise-read T first (Some script) rest left w0 w1 pending now given line s is_l
     let all = Consumes-append (Some script) rest left s.done line s.taken (rw (prepend_none pending left none) at taken) in (
       s.told,
       s.wrote,
-      (s.done ++ line, all, rw (Cut-whole_part s.done r.before line r.cut is_line) (Told-answered first r.before r.wants s.told now r.so_far)),
+      (
+        s.done ++ line,
+        all,
+        rw (Cut-whole_part s.done r.before line r.cut is_line) (Told-answered first r.before r.wants s.told now r.so_far),
+        ap (λ lines. quits lines) (Cut-whole_part s.done r.before line r.cut is_line) ∙ r.so_far.goes,
+      ),
     )
 
 consumed_some : (script done : List ℕ) (rest : Option (List ℕ)) → Consumes (Some script) rest done → (more : List ℕ) × (script ≡ done ++ more)

@@ -4,10 +4,10 @@ use Rattle.std.specs.Prelude.{Some}
 use Rattle.std.specs.Str.{bytes_eq}
 use Rattle.qil_plain.specs.declared.tree.Block.{Block}
 use Rattle.qil_plain.specs.declared.tree.Func.{Func}
-use Rattle.qil_meaning.specs.State.{none_set, running}
-use Rattle.qil_meaning.specs.Step.{func_named}
-use Rattle.qil_meaning.specs.Start.{started}
-use Rattle.qil_meaning.specs.Timeline.{begun}
+use Rattle.qil_plain_meaning.specs.State.{none_set, running}
+use Rattle.qil_plain_meaning.specs.Step.{func_named}
+use Rattle.qil_plain_meaning.specs.Start.{started}
+use Rattle.qil_plain_meaning.specs.Timeline.{begun}
 use Rattle.qil_transcript.specs.declared.moment.Write.{Write}
 use Rattle.qil_transcript.specs.declared.moment.Status.TheVariants.{Running}
 use Rattle.qil_transcript.specs.declared.run.Run.{Run}

@@ -6,8 +6,8 @@ use Rattle.qil_plain.specs.declared.tree.Func.{Func}
 use Rattle.qil_tree.specs.declared.tree.Target.{Target}
 use Rattle.qil_plain.specs.declared.tree.Expr.{Expr}
 use Rattle.qil_plain.specs.declared.tree.InstKind.TheVariants.{Assign}
-use Rattle.qil_meaning.specs.Step.{eval}
-use Rattle.qil_meaning.specs.State.{with_temp}
+use Rattle.qil_plain_meaning.specs.Step.{eval}
+use Rattle.qil_plain_meaning.specs.State.{with_temp}
 use Rattle.qil_transcript.specs.declared.moment.Write.{Write}
 use Rattle.qil_transcript.specs.declared.moment.Moment.{Moment}
 use Rattle.qil_transcript.specs.declared.moment.Status.TheVariants.{Running}

@@ -3,9 +3,9 @@ use Rattle.std.proofs.Common.{◌≡◌, ℕ, zero, suc, ◌+◌, ◌-◌, ◌�
 use Rattle.std.specs.Prelude.{Some, None, slice_get}
 use Rattle.std.proofs.lemmas.Bool.{cond-true, cond-false}
 use Rattle.qil_plain.specs.declared.tree.Program.{Program}
-use Rattle.qil_meaning.specs.State.{State, is_final}
-use Rattle.qil_meaning.specs.Step.{step_of, settled, does}
-use Rattle.qil_meaning.specs.Timeline.{Timeline, forward, back, forward_by, back_by, back_by_to, at_end}
+use Rattle.qil_plain_meaning.specs.State.{State, is_final}
+use Rattle.qil_plain_meaning.specs.Step.{step_of, settled, does}
+use Rattle.qil_plain_meaning.specs.Timeline.{Timeline, forward, back, forward_by, back_by, back_by_to, at_end}
 use Rattle.qil_transcript.specs.declared.moment.Status.{Status}
 use Rattle.qil_transcript.specs.declared.moment.Status.TheVariants.{Running, Done, Faulted}
 use Rattle.qil_transcript.specs.declared.moment.Body.{Body}

@@ -1,18 +1,17 @@
 -- What `debug` writes.
-use Rattle.std.specs.Prelude.{◌≡◌, ℕ, ◌+◌, ◌^◌, ◌⊎◌, List, [], ◌∷◌, ◌++◌, length, take, codes, decimal, Option, Some, Ok, IfSome}
+use Rattle.std.specs.Prelude.{◌≡◌, ℕ, ◌+◌, ◌^◌, ◌⊎◌, false, List, [], ◌∷◌, ◌++◌, length, take, codes, decimal, Option, Some, Ok, IfSome}
 use Rattle.std.specs.Io.KnownBytes.{Appends, Consumes}
 use Rattle.qil_lexer.specs.Text.{code_text}
-use Rattle.qil_parser.specs.declared.error.ParseCode.{ParseCode}
-use Rattle.qil_parser.specs.declared.error.ParseCode.TheVariants.{P1, P2, P3, P4}
-use Rattle.qil_checker.specs.declared.rule.Rule.{Rule}
-use Rattle.qil_checker.specs.declared.rule.Rule.TheVariants.{C1, C2, C3, C4, C5, C6, C7, C8, C9, C10, C11, C12}
+use Rattle.qil_parser.specs.Codes.{parse_code}
+use Rattle.qil_parser.specs.declared.error.ParseCode.TheVariants.{P2}
+use Rattle.qil_checker.specs.Codes.{rule_code}
 use Rattle.qil_checker.specs.declared.form.Form.{Form}
 use Rattle.qil_checker.specs.declared.form.Form.TheVariants.{Single, Multiple}
 use Rattle.qil_plain.specs.declared.tree.Program.{Program}
-use Rattle.qil_meaning.specs.State.{State}
-use Rattle.qil_meaning.specs.StartCode.{start_code}
-use Rattle.qil_meaning.specs.Start.{start_of}
-use Rattle.qil_meaning.specs.Timeline.{begun}
+use Rattle.qil_plain_meaning.specs.State.{State}
+use Rattle.qil_plain_meaning.specs.StartCode.{start_code}
+use Rattle.qil_plain_meaning.specs.Start.{start_of}
+use Rattle.qil_plain_meaning.specs.Timeline.{begun}
 use Rattle.qil_streams.specs.Device.{IsFrontOf}
 use Rattle.qil_streams.specs.Script.{lines_of, whole_lines_of}
 use Rattle.qil_transcript.specs.declared.load.Refusal.{Refusal}
@@ -21,31 +20,11 @@ use Rattle.qil_transcript.specs.declared.load.Loaded.{Loaded}
 use Rattle.qil_transcript.specs.declared.outcome.Outcome.{Outcome}
 use Rattle.qil_transcript.specs.declared.outcome.Outcome.TheVariants.{Ended, Refused, ReadFault, WriteFault, TooLong, Memory}
 use Rattle.qil_transcript.specs.Text.{text_of, place_line}
-use Rattle.qil_transcript.specs.Session.{IsAnswered}
+use Rattle.qil_transcript.specs.Session.{IsAnswered, quits}
 use Rattle.qil_transcript.specs.Serve.{IsTooLong}
 use Rattle.qil_transcript.specs.Load.{Accepts, Refuses}
 
 -- ---- the line of a refusal
-
-abbrev pub parse_code : ParseCode → List ℕ
-parse_code P1 = codes "P1"
-parse_code P2 = codes "P2"
-parse_code P3 = codes "P3"
-parse_code P4 = codes "P4"
-
-abbrev pub rule_code : Rule → List ℕ
-rule_code C1 = codes "C1"
-rule_code C2 = codes "C2"
-rule_code C3 = codes "C3"
-rule_code C4 = codes "C4"
-rule_code C5 = codes "C5"
-rule_code C6 = codes "C6"
-rule_code C7 = codes "C7"
-rule_code C8 = codes "C8"
-rule_code C9 = codes "C9"
-rule_code C10 = codes "C10"
-rule_code C11 = codes "C11"
-rule_code C12 = codes "C12"
 
 abbrev pub refused_at : List ℕ → ℕ → List ℕ
 refused_at code line = text_of (codes "refused: " ∷ code ∷ codes " line " ∷ decimal line ∷ codes "\n" ∷ [])
@@ -100,9 +79,10 @@ Leaves A Refused text entry args script left written = IsRefusal A text entry ar
 -- the answers to the lines that end among the first 2^24 bytes
 Leaves A TooLong text entry args script left written =
     IsSession A text entry args (whole_lines_of (take (2 ^ 24) script)) written × IsTooLong script
--- the answers to the whole lines that were read
+-- the answers to the whole lines that were read, none of which quits: behind a `quit` no read is made
 Leaves A ReadFault text entry args script left written =
     (read : List ℕ) × Consumes (Some script) left read × IsSession A text entry args (whole_lines_of read) written
+    × (quits (whole_lines_of read) ≡ false)
 -- a front of the transcript
 Leaves A WriteFault text entry args script left written =
     (all : List ℕ) × IsTranscript A text entry args (lines_of script) all × IsFrontOf written all

@@ -12,7 +12,7 @@ use Rattle.qil_checker.specs.Forms.{HasForm}
 use Rattle.qil_checker.specs.Check.{Verdict}
 use Rattle.qil_plain.specs.declared.tree.Program as plain
 use Rattle.qil_plain.specs.Plain.{plain_program}
-use Rattle.qil_meaning.specs.Start.{start_of}
+use Rattle.qil_plain_meaning.specs.Start.{start_of}
 use Rattle.qil_transcript.specs.declared.load.Refusal.{Refusal}
 use Rattle.qil_transcript.specs.declared.load.Refusal.TheVariants as refusals
 use Rattle.qil_transcript.specs.declared.load.Loaded.{Loaded}

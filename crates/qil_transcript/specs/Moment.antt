@@ -1,11 +1,11 @@
 -- What the parts of a moment stand for: states of a run by names.
 use Rattle.std.specs.Prelude.{ℕ, List, [], ◌∷◌, Option, Some, None, Result, Ok, Err, if◌then◌else◌, slice_get, ◌≡◌}
 use Rattle.std.specs.Str.{bytes_eq}
-use Rattle.qil_meaning.specs.State as state
+use Rattle.qil_plain_meaning.specs.State as state
 use Rattle.qil_plain.specs.declared.tree.Block.{Block}
 use Rattle.qil_plain.specs.declared.tree.Func.{Func}
 use Rattle.qil_plain.specs.declared.tree.InstKind.{InstKind}
-use Rattle.qil_meaning.specs.Step.{settled, does, act, next}
+use Rattle.qil_plain_meaning.specs.Step.{settled, does, act, next}
 use Rattle.qil_transcript.specs.declared.moment.Write.{Write}
 use Rattle.qil_transcript.specs.declared.moment.Fault.{Fault}
 use Rattle.qil_transcript.specs.declared.moment.Status.{Status}

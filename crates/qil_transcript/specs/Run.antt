@@ -1,9 +1,9 @@
 -- The timeline that a run keeps.
 use Rattle.std.specs.Prelude.{◌≡◌, ◌∷◌, [], map, reverse, slice_get, Some}
-use Rattle.qil_meaning.specs.Step.{settled, does, func_named, block_labelled}
+use Rattle.qil_plain_meaning.specs.Step.{settled, does, func_named, block_labelled}
 use Rattle.qil_plain.specs.declared.tree.Program.{Program}
-use Rattle.qil_meaning.specs.State.{State}
-use Rattle.qil_meaning.specs.Timeline.{Timeline}
+use Rattle.qil_plain_meaning.specs.State.{State}
+use Rattle.qil_plain_meaning.specs.Timeline.{Timeline}
 use Rattle.qil_transcript.specs.Moment.{state_of, frame_of}
 use Rattle.qil_transcript.specs.declared.moment.Body.{Body}
 use Rattle.qil_transcript.specs.declared.moment.Moment.{Moment}

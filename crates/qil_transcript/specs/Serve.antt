@@ -21,8 +21,9 @@ abbrev pub IsServed : {A T : Type 0} → Result T IoFault → Sitting A → List
 IsServed (Ok x) s script left text = IsAnswered s (lines_of script) text × ¬ IsTooLong script
 -- a front of them
 IsServed (Err Write) s script left text = (all : List ℕ) × IsAnswered s (lines_of script) all × IsFrontOf text all
--- those to the whole lines that were read
-IsServed (Err Read) s script left text = (read : List ℕ) × Consumes (Some script) left read × IsAnswered s (whole_lines_of read) text
+-- those to the whole lines that were read, none of which quits: behind a `quit` no read is made
+IsServed (Err Read) s script left text =
+    (read : List ℕ) × Consumes (Some script) left read × IsAnswered s (whole_lines_of read) text × (quits (whole_lines_of read) ≡ false)
 -- those to the lines that end among the first 2^24 bytes
 IsServed (Err TooLong) s script left text = IsAnswered s (whole_lines_of (take (2 ^ 24) script)) text × IsTooLong script
 

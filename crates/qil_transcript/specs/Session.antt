@@ -20,9 +20,9 @@ use Rattle.qil_commands.specs.declared.command.Refused.{Refused}
 use Rattle.qil_commands.specs.declared.command.Refused.TheVariants.{LineTooLong, UnknownCommand, MissingWord, BadWord, ExtraWord}
 use Rattle.qil_commands.specs.Command.{command_of}
 use Rattle.qil_streams.specs.Device.{Puts}
-use Rattle.qil_meaning.specs.State.{Name, Frame}
-use Rattle.qil_meaning.specs.Step.{func_named}
-use Rattle.qil_meaning.specs.Timeline.{Timeline, position, at_end, forward_by, back_by}
+use Rattle.qil_plain_meaning.specs.State.{Name, Frame}
+use Rattle.qil_plain_meaning.specs.Step.{func_named}
+use Rattle.qil_plain_meaning.specs.Timeline.{Timeline, position, at_end, forward_by, back_by}
 use Rattle.qil_streams.specs.Text.{line}
 use Rattle.qil_transcript.specs.Text.{place_line, value_line}
 use Rattle.qil_transcript.specs.Run.{timeline_of}

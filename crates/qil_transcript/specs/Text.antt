@@ -1,8 +1,8 @@
 -- The texts of a transcript.
 use Rattle.std.specs.Prelude.{ℕ, List, [], ◌∷◌, codes, decimal, Option, Some, None}
 use Rattle.std.specs.List.{flat_map}
-use Rattle.qil_meaning.specs.State.{Frame, Fault, unset_temporary, Status, running, done, faulted}
-use Rattle.qil_meaning.specs.Timeline.{Timeline, position}
+use Rattle.qil_plain_meaning.specs.State.{Frame, Fault, unset_temporary, Status, running, done, faulted}
+use Rattle.qil_plain_meaning.specs.Timeline.{Timeline, position}
 
 -- pieces one after the other
 abbrev pub text_of : List (List ℕ) → List ℕ

@@ -1,10 +1,10 @@
 //! `debug`: from the bytes of a program and a script to the bytes of the transcript.
 
 ghost use Rattle.std.specs.Prelude.{◌≡◌, ◌≢◌, ℕ, ◌-◌, ◌^◌, ◌<◌, ◌≤◌, ◌↔◌, List, Ok, Err, IfSome};
-ghost use Rattle.qil_meaning.specs.State.{State};
-ghost use Rattle.qil_meaning.specs.Start.{start_of};
-ghost use Rattle.qil_meaning.specs.declared.start.StartFault.{StartFault};
-ghost use Rattle.qil_meaning.specs.Timeline.{begun};
+ghost use Rattle.qil_plain_meaning.specs.State.{State};
+ghost use Rattle.qil_plain_meaning.specs.Start.{start_of};
+ghost use Rattle.qil_plain_meaning.specs.declared.start.StartFault.{StartFault};
+ghost use Rattle.qil_plain_meaning.specs.Timeline.{begun};
 ghost use Rattle.qil_streams.specs.Device.{Counts, Puts};
 ghost use Rattle.qil_transcript.specs.Load.{Accepts, Refuses, IsSimple};
 ghost use Rattle.qil_transcript.specs.Serve.{TakesFew};
@@ -21,6 +21,7 @@ use crate::session::Session;
 use qil_checker::Form;
 use qil_streams::{Outlet, Put, Sink, Source, Stopped};
 use std::alloc::Allocator;
+use std::hash::RandomState;
 
 /// Puts the line of a refusal, which ends the run of `debug`.
 fn refuse<P: Put>(out: &mut P, refusal: Refusal) -> Outcome
@@ -111,6 +112,7 @@ fn debug_loaded<A: Allocator + Copy, S: Source, P: Put>(
 /// Loads a program and answers a script.
 fn debug_into<A: Allocator + Copy, S: Source, P: Put>(
     alloc: A,
+    keys: RandomState,
     text: &[u8],
     entry: &[u8],
     args: &[u64],
@@ -127,7 +129,7 @@ fn debug_into<A: Allocator + Copy, S: Source, P: Put>(
     ensures counted { CountsDebug result (S.failures source.old) (S.failures source.new) (P.stops out.old) (P.stops out.new) }
     ensures device { P.device out.new ≡ P.device out.old }
 {
-    match load(alloc, text) {
+    match load(alloc, keys, text) {
         Ok(loaded) => debug_loaded(alloc, &loaded, entry, args, source, out),
         Err(LoadError::Refused(refusal)) => refuse(out, refusal),
         Err(LoadError::OutOfMemory) => Outcome::Memory,
@@ -136,7 +138,8 @@ fn debug_into<A: Allocator + Copy, S: Source, P: Put>(
 
 /// Debugs a program by a script: from the bytes of both to the bytes of the transcript.
 ///
-/// `text` is a program in QBE IL, `entry` the name of the function that is run, without its sigil, and `args` are its
+/// `keys` are those of the tables by name: a text's author must not know them, so that no names are picked that fall
+/// together. They change nothing that is written. `text` is a program in QBE IL, `entry` the name of the function that is run, without its sigil, and `args` are its
 /// arguments. `limit` is the most moves that one command may make where it has no count of its own, 4,294,967,295 at
 /// the most. The script is read from `source` line by line, and each answer is written to `sink` before the next
 /// line is looked at.
@@ -145,6 +148,7 @@ fn debug_into<A: Allocator + Copy, S: Source, P: Put>(
 /// is refused memory, that is an answer of the transcript, and the session goes on.
 pub fn debug<A: Allocator + Copy, S: Source, W: Sink>(
     alloc: A,
+    keys: RandomState,
     text: &[u8],
     entry: &[u8],
     args: &[u64],
@@ -175,7 +179,7 @@ pub fn debug<A: Allocator + Copy, S: Source, W: Sink>(
     ensures counted { CountsDebug result (S.failures source.old) (S.failures source.new) (W.failures sink.old) (W.failures sink.new) }
 {
     let mut out = Outlet { sink };
-    let outcome = debug_into(alloc, text, entry, args, source, &mut out);
+    let outcome = debug_into(alloc, keys, text, entry, args, source, &mut out);
     let Outlet { sink: _ } = out;
     outcome
 }

@@ -1,6 +1,6 @@
 //! From the bytes of a program and a script to the bytes of the transcript: loading, the session, and `debug`.
 //!
-//! What a program means stands in `qil_meaning`; specs/ here says what is written of it.
+//! What a program means stands in `qil_plain_meaning`; specs/ here says what is written of it.
 #![tactic(auto)]
 
 mod answer;

@@ -4,8 +4,8 @@ ghost use Rattle.std.specs.Prelude.{◌≡◌, ◌∷◌, [], MatchResult, IfOk,
 ghost use Rattle.std.specs.Option.{option_copied};
 ghost use Rattle.qil_plain.specs.declared.tree.Block.{Block};
 ghost use Rattle.qil_checker.specs.Check.{Verdict};
-ghost use Rattle.qil_meaning.specs.Step.{func_named};
-ghost use Rattle.qil_meaning.specs.Start.{start_of};
+ghost use Rattle.qil_plain_meaning.specs.Step.{func_named};
+ghost use Rattle.qil_plain_meaning.specs.Start.{start_of};
 ghost use Rattle.qil_transcript.specs.Find.{IsOneBlock};
 ghost use Rattle.qil_transcript.specs.Load.{Accepts, Checks, IsCheckFault, IsLoadFault, IsSimple, IsStarted, RefusesCheck, RefusesText};
 ghost use Rattle.qil_transcript.specs.LoadError.{of_lex, of_parse, of_check, of_plain};
@@ -15,10 +15,11 @@ ghost use Rattle.qil_transcript.specs.declared.load.Refusal.{Refusal};
 use crate::session::Session;
 use qil_checker::{CheckError, Checked, Form, Rule, check};
 use qil_lexer::{LexCode, LexError, tokens};
-use qil_meaning::StartFault;
 use qil_parser::{Name, ParseCode, ParseError, parse};
 use qil_plain::{Block, Func, PlainError, Program, plain_of};
+use qil_plain_meaning::StartFault;
 use std::alloc::Allocator;
+use std::hash::RandomState;
 
 /// Why a program is refused, in the order in which the reasons are looked for.
 #[derive(Clone, Copy, Debug, PartialEq, Eq)]
@@ -142,6 +143,7 @@ pub fn start<'p, 'a, A: Allocator + Copy>(
 /// The checked program that a text is. The tree borrows the text.
 fn check_text<'a, A: Allocator + Copy>(
     alloc: A,
+    keys: RandomState,
     text: &'a [u8],
 ) -> Result<Checked<'a, A>, LoadError>
     ensures accepted { IfOk result (Checks text.entry.now) }
@@ -153,7 +155,7 @@ fn check_text<'a, A: Allocator + Copy>(
 {
     let tokens = tokens(alloc, text)?;
     let program = parse(alloc, &tokens)?;
-    match check(alloc, program) {
+    match check(alloc, keys, program) {
         Ok(checked) => Ok(checked),
         Err(refused) => {
             let (_program, error) = refused;
@@ -175,7 +177,11 @@ fn same_form<'a>(form: &Form<'a>) -> Form<'a>
 }
 
 /// What is run of the program that a text is. The tree borrows the text.
-pub fn load<'a, A: Allocator + Copy>(alloc: A, text: &'a [u8]) -> Result<Loaded<'a, A>, LoadError>
+pub fn load<'a, A: Allocator + Copy>(
+    alloc: A,
+    keys: RandomState,
+    text: &'a [u8],
+) -> Result<Loaded<'a, A>, LoadError>
     ensures accepted { IfOk result (Accepts text.entry.now) }
     ensures refused { IfErr result (IsLoadFault A text.entry.now) }
     // A text that is refused is not accepted, and an accepted one is not refused.
@@ -183,7 +189,7 @@ pub fn load<'a, A: Allocator + Copy>(alloc: A, text: &'a [u8]) -> Result<Loaded<
     ensures only_accepted { (accepted : Loaded A) → Accepts text.entry.now accepted
         → MatchResult result (λ loaded. loaded.program ≡ accepted.program) (λ e. e ≡ LoadError.OutOfMemory) }
 {
-    let checked = check_text(alloc, text)?;
+    let checked = check_text(alloc, keys, text)?;
     let program = plain_of(alloc, checked.program())?;
     let form = same_form(checked.form());
     Ok(Loaded { program, form })

@@ -3,8 +3,8 @@
 ghost use Rattle.std.specs.Prelude.{◌≡◌, ◌+◌, ◌%◌, ◌^◌, ◌++◌, ◌∷◌, [], IfOk, ◌<◌, slice_get};
 ghost use Rattle.qil_tree.specs.declared.ops.Class.{Class};
 ghost use Rattle.qil_ops.specs.Values.{width, Low};
-ghost use Rattle.qil_meaning.specs.Step.{val, eval};
-ghost use Rattle.qil_meaning.specs.State.{is_final};
+ghost use Rattle.qil_plain_meaning.specs.Step.{val, eval};
+ghost use Rattle.qil_plain_meaning.specs.State.{is_final};
 ghost use Rattle.qil_transcript.specs.Moment.{temps_of, told, status_of};
 
 use qil_parser::{Class, Target};

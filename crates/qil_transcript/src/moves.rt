@@ -2,7 +2,7 @@
 
 ghost use Rattle.std.specs.Prelude.{◌≡◌, ◌-◌, ◌<◌, MatchResult, false};
 ghost use Rattle.qil_plain.specs.declared.tree.Program.{Program};
-ghost use Rattle.qil_meaning.specs.Timeline.{forward_by, back_by as gone_back, at_end};
+ghost use Rattle.qil_plain_meaning.specs.Timeline.{forward_by, back_by as gone_back, at_end};
 ghost use Rattle.qil_transcript.specs.Run.{timeline_of, RunsIn};
 
 use crate::run::Run;

@@ -2,44 +2,13 @@
 
 ghost use Rattle.std.specs.Prelude.{◌≡◌, ◌-◌, ◌^◌, ◌<◌};
 ghost use Rattle.qil_streams.specs.Device.{Counts, Puts};
-ghost use Rattle.qil_transcript.specs.Debug.{parse_code, rule_code, refused_at, refused_line, loaded_line};
+ghost use Rattle.qil_transcript.specs.Debug.{refused_at, refused_line, loaded_line};
 
 use crate::load::Refusal;
 use crate::text::put_pieces;
 use itoa::Buffer;
-use qil_checker::{Form, Rule};
-use qil_parser::ParseCode;
+use qil_checker::Form;
 use qil_streams::{Put, Stopped};
-
-fn parse_code(code: ParseCode) -> &'static [u8]
-    ensures { result.now ≡ parse_code code }
-{
-    match code {
-        ParseCode::P1 => b"P1",
-        ParseCode::P2 => b"P2",
-        ParseCode::P3 => b"P3",
-        ParseCode::P4 => b"P4",
-    }
-}
-
-fn rule_code(rule: Rule) -> &'static [u8]
-    ensures { result.now ≡ rule_code rule }
-{
-    match rule {
-        Rule::C1 => b"C1",
-        Rule::C2 => b"C2",
-        Rule::C3 => b"C3",
-        Rule::C4 => b"C4",
-        Rule::C5 => b"C5",
-        Rule::C6 => b"C6",
-        Rule::C7 => b"C7",
-        Rule::C8 => b"C8",
-        Rule::C9 => b"C9",
-        Rule::C10 => b"C10",
-        Rule::C11 => b"C11",
-        Rule::C12 => b"C12",
-    }
-}
 
 fn put_refused_at<P: Put>(out: &mut P, code: &[u8], line: u32) -> Result<(), Stopped>
     requires { P.stops out.old < 2 ^ 64 - 1 }
@@ -69,8 +38,8 @@ pub fn put_refusal_line<P: Put>(out: &mut P, refusal: Refusal) -> Result<(), Sto
 {
     match refusal {
         Refusal::Text { code, line } => put_refused_at(out, code.as_str().as_bytes(), line),
-        Refusal::Tokens { code, line } => put_refused_at(out, parse_code(code), line),
-        Refusal::Rule { rule, line } => put_refused_at(out, rule_code(rule), line),
+        Refusal::Tokens { code, line } => put_refused_at(out, code.as_str().as_bytes(), line),
+        Refusal::Rule { rule, line } => put_refused_at(out, rule.as_str().as_bytes(), line),
         Refusal::NotRun { line } => put_refused_at(out, b"P2", line),
         Refusal::Start(fault) => put_pieces(
             out,

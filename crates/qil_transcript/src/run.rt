@@ -1,7 +1,7 @@
 //! A run that is kept whole: the moment now, and every moment before it.
 
 ghost use Rattle.std.specs.Prelude.{◌≡◌, [], Some, None, OnOk, OnErr, true, false};
-ghost use Rattle.qil_meaning.specs.Timeline.{back, position, at_end};
+ghost use Rattle.qil_plain_meaning.specs.Timeline.{back, position, at_end};
 ghost use Rattle.qil_transcript.specs.declared.moment.Status.TheVariants.{Running as running};
 
 use crate::moment::{Body, Moment};

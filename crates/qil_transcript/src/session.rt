@@ -42,10 +42,10 @@ impl<'p, 'a, A: Allocator> Model for Session<'p, 'a, A> {
 }
 
 impl<'p, 'a, A: Allocator + Copy> Session<'p, 'a, A> {
-    ghost use Rattle.qil_meaning.specs.Timeline.{begun};
-    ghost use Rattle.qil_meaning.specs.Start.{started};
+    ghost use Rattle.qil_plain_meaning.specs.Timeline.{begun};
+    ghost use Rattle.qil_plain_meaning.specs.Start.{started};
     ghost use Rattle.qil_transcript.specs.Text.{place_line};
-    ghost use Rattle.qil_meaning.specs.Step.{func_named};
+    ghost use Rattle.qil_plain_meaning.specs.Step.{func_named};
 
     /// A session that has made no move, in a block of a function of the program.
     pub fn new(

@@ -6,7 +6,9 @@ ghost use Rattle.std.specs.Prelude.{◌≡◌};
 use crate::{DeviceFault, FromReader, IntoWriter, Outcome, Sink, Source, debug};
 use refusing::Refusing;
 use std::alloc::{Allocator, Global};
+use std::hash::RandomState;
 use std::process::Abort;
+use std::random::RandomSource;
 
 /// A source that gives a byte a call, and whose n-th read fails.
 #[derive(Drop)]
@@ -100,10 +102,16 @@ impl Sink for Narrow {
     }
 }
 
+/// Keys of the tables by name.
+fn drawn(rt: &(impl Abort + RandomSource)) -> RandomState {
+    RandomState::new(rt).expect(rt, "random bytes")
+}
+
 /// How a session on a source ends, and what it writes, byte by byte. The sink fails at its n-th write; none where n is 0.
 fn session<A: Allocator + Copy>(
     alloc: A,
     global: Global,
+    keys: RandomState,
     text: &[u8],
     source: &mut Slow<'_>,
     fails_at: u64,
@@ -111,7 +119,16 @@ fn session<A: Allocator + Copy>(
     requires { source.old.faults ≡ 0 }
 {
     let mut sink = narrow_sink(global, fails_at);
-    let outcome = debug(alloc, text, b"main", &[], 1_000_000, source, &mut sink);
+    let outcome = debug(
+        alloc,
+        keys,
+        text,
+        b"main",
+        &[],
+        1_000_000,
+        source,
+        &mut sink,
+    );
     let Narrow { written, .. } = sink;
     (outcome, written)
 }
@@ -127,8 +144,21 @@ const SUM_SCRIPT: &[u8] = b"step\nprint %x\nback\nprint %x\nstep 5\nstep\n";
 const SUM_TRANSCRIPT: &[u8] =
     b"loaded 1 functions 0 data bytes ssa yes\n#0 $main @start 0\n#1 $main @start 1\n%x = 5\n#0 $main @start 0\n%x unset\n#2 done 5\nno: at end\n";
 
-fn expect(rt: &impl Abort, alloc: Global, text: &[u8], script: &[u8], transcript: &[u8]) {
-    let (outcome, written) = session(alloc, alloc, text, &mut slow_source(script, 0), 0);
+fn expect(
+    rt: &(impl Abort + RandomSource),
+    alloc: Global,
+    text: &[u8],
+    script: &[u8],
+    transcript: &[u8],
+) {
+    let (outcome, written) = session(
+        alloc,
+        alloc,
+        drawn(rt),
+        text,
+        &mut slow_source(script, 0),
+        0,
+    );
     assert_eq!(rt; written.as_slice(), transcript);
     assert_eq!(rt; outcome, Outcome::Ended);
 }
@@ -245,7 +275,7 @@ fn refused_programs(rt: HostRuntime) {
     ] {
         // Of a refused program no line is read.
         let mut source = slow_source(b"step\n", 1);
-        let (outcome, written) = session(rt.alloc(), rt.alloc(), text, &mut source, 0);
+        let (outcome, written) = session(rt.alloc(), rt.alloc(), drawn(&rt), text, &mut source, 0);
         assert_eq!(rt; written.as_slice(), transcript);
         assert_eq!(rt; outcome, Outcome::Refused);
         assert_eq!(rt; source.reads, 0);
@@ -273,7 +303,16 @@ fn refused_starts(rt: HostRuntime) {
     ] {
         let mut source = FromReader::new(b"step\n".as_slice());
         let mut sink = narrow_sink(rt.alloc(), 0);
-        let outcome = debug(rt.alloc(), SUM, entry, args, 1, &mut source, &mut sink);
+        let outcome = debug(
+            rt.alloc(),
+            drawn(&rt),
+            SUM,
+            entry,
+            args,
+            1,
+            &mut source,
+            &mut sink,
+        );
         assert_eq!(rt; outcome, Outcome::Refused);
         assert_eq!(rt; sink.written.as_slice(), transcript);
     }
@@ -286,6 +325,7 @@ fn readers_and_writers(rt: HostRuntime) {
     let mut sink = IntoWriter::new(Vec::new(rt.alloc()));
     let outcome = debug(
         rt.alloc(),
+        drawn(&rt),
         SUM,
         b"main",
         &[],
@@ -301,7 +341,14 @@ fn readers_and_writers(rt: HostRuntime) {
 fn each_write_fails(rt: HostRuntime) {
     for n in 1..=SUM_TRANSCRIPT.len() {
         let mut source = slow_source(SUM_SCRIPT, 0);
-        let (outcome, written) = session(rt.alloc(), rt.alloc(), SUM, &mut source, n as u64);
+        let (outcome, written) = session(
+            rt.alloc(),
+            rt.alloc(),
+            drawn(&rt),
+            SUM,
+            &mut source,
+            n as u64,
+        );
         assert_eq!(rt; outcome, Outcome::WriteFault);
         assert_eq!(rt; written.as_slice(), &SUM_TRANSCRIPT[..n - 1]);
     }
@@ -313,7 +360,16 @@ fn a_write_of_no_bytes(rt: HostRuntime) {
     let mut room = [0u8; 9];
     let mut source = FromReader::new(SUM_SCRIPT);
     let mut sink = IntoWriter::new(room.as_mut_slice());
-    let outcome = debug(rt.alloc(), SUM, b"main", &[], 1, &mut source, &mut sink);
+    let outcome = debug(
+        rt.alloc(),
+        drawn(&rt),
+        SUM,
+        b"main",
+        &[],
+        1,
+        &mut source,
+        &mut sink,
+    );
     assert_eq!(rt; outcome, Outcome::WriteFault);
     assert_eq!(rt; room, *b"loaded 1 ");
 }
@@ -327,7 +383,7 @@ fn count_lines(bytes: &[u8]) -> usize {
 fn each_read_fails(rt: HostRuntime) {
     for n in 1..=SUM_SCRIPT.len() + 1 {
         let mut source = slow_source(SUM_SCRIPT, n as u64);
-        let (outcome, written) = session(rt.alloc(), rt.alloc(), SUM, &mut source, 0);
+        let (outcome, written) = session(rt.alloc(), rt.alloc(), drawn(&rt), SUM, &mut source, 0);
         assert_eq!(rt; outcome, Outcome::ReadFault);
         assert!(rt; SUM_TRANSCRIPT.starts_with(written.as_slice()));
         assert!(rt; written.ends_with(b"\n"));
@@ -341,7 +397,7 @@ fn each_read_fails(rt: HostRuntime) {
 #[test]
 fn a_last_line_is_cut_off(rt: HostRuntime) {
     let mut source = slow_source(b"step\npri", 9);
-    let (outcome, written) = session(rt.alloc(), rt.alloc(), SUM, &mut source, 0);
+    let (outcome, written) = session(rt.alloc(), rt.alloc(), drawn(&rt), SUM, &mut source, 0);
     assert_eq!(rt; outcome, Outcome::ReadFault);
     assert_eq!(rt;
         written.as_slice(),
@@ -352,7 +408,7 @@ fn a_last_line_is_cut_off(rt: HostRuntime) {
 #[test]
 fn nothing_is_read_after_quit(rt: HostRuntime) {
     let mut source = slow_source(b"quit\n", 6);
-    let (outcome, written) = session(rt.alloc(), rt.alloc(), SUM, &mut source, 0);
+    let (outcome, written) = session(rt.alloc(), rt.alloc(), drawn(&rt), SUM, &mut source, 0);
     assert_eq!(rt; outcome, Outcome::Ended);
     assert_eq!(rt; written.as_slice(), SUM_LOADED);
     assert_eq!(rt; source.reads, 5);
@@ -362,7 +418,7 @@ fn nothing_is_read_after_quit(rt: HostRuntime) {
 ///
 /// A session with a refusal answers `Memory` and writes nothing, or writes one of `wants`. There is one of each.
 fn refuse_in_turn(
-    rt: &impl Abort,
+    rt: &(impl Abort + RandomSource),
     alloc: Global,
     text: &[u8],
     script: &[u8],
@@ -374,7 +430,14 @@ fn refuse_in_turn(
     let mut seen = [false; 8];
     for n in 1..1000 {
         heap.refuse_nth(n);
-        let (outcome, written) = session(&heap, alloc, text, &mut slow_source(script, 0), 0);
+        let (outcome, written) = session(
+            &heap,
+            alloc,
+            drawn(rt),
+            text,
+            &mut slow_source(script, 0),
+            0,
+        );
         if heap.is_armed() {
             assert_eq!(rt; outcome, Outcome::Ended);
             assert_eq!(rt; written.as_slice(), plain);

@@ -4,7 +4,7 @@ ghost use Rattle.std.specs.Prelude.{◌≡◌, ◌-◌, ◌^◌, ◌<◌, ◌∷
 ghost use Rattle.std.specs.List.{flat_map};
 ghost use Rattle.qil_streams.specs.Device.{Counts, Puts};
 ghost use Rattle.qil_transcript.specs.Run.{timeline_of};
-ghost use Rattle.qil_meaning.specs.Timeline.{position};
+ghost use Rattle.qil_plain_meaning.specs.Timeline.{position};
 ghost use Rattle.qil_transcript.specs.Moment.{frame_of};
 ghost use Rattle.qil_transcript.specs.Text.{value_line, place_line, place_text};
 

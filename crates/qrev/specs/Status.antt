@@ -18,5 +18,6 @@ outcome_status outcome.Memory = 3
 abbrev pub failure_status : Failure → ℕ
 failure_status failure.Helped = 0
 failure_status failure.Unreadable = 2
+failure_status failure.NoKeys = 2
 failure_status failure.OutOfMemory = 3
 failure_status failure.Usage = 64

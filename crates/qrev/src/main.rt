@@ -12,8 +12,10 @@ use options::{Failure, Options};
 use qil_streams::{FromReader, IntoWriter};
 use qil_transcript::{Outcome, debug};
 use std::alloc::Global;
+use std::hash::RandomState;
 use std::io::{LineWriter, Read};
 use std::process::ExitCode;
+use std::random::RandomSource;
 use std::rt::{Env, Files};
 use std::{fs, io};
 
@@ -49,6 +51,7 @@ fn load<R: Files + Eprint>(rt: &R, alloc: Global, name: &str) -> Result<Vec<u8>,
 fn run_session<R: Input + Print>(
     rt: &R,
     alloc: Global,
+    keys: RandomState,
     program: &[u8],
     options: &Options<'_>,
 ) -> Result<Outcome, Failure> {
@@ -59,6 +62,7 @@ fn run_session<R: Input + Print>(
     let mut sink = IntoWriter::new(writer);
     Ok(debug(
         alloc,
+        keys,
         program,
         options.entry.as_bytes(),
         options.args.as_slice(),
@@ -68,8 +72,8 @@ fn run_session<R: Input + Print>(
     ))
 }
 
-/// The command line first, then the file, then the session.
-fn run<R: Files + Input + Print + Eprint + Env + AllocGlobal>(
+/// The command line first, then the file, then the session, whose tables hash with keys drawn for it.
+fn run<R: Files + Input + Print + Eprint + Env + RandomSource + AllocGlobal>(
     rt: &R,
     alloc: Global,
 ) -> Result<Outcome, Failure> {
@@ -77,7 +81,10 @@ fn run<R: Files + Input + Print + Eprint + Env + AllocGlobal>(
     let matches = options::parse(rt, alloc, words.as_slice())?;
     let options = options::read_options(alloc, &matches)?;
     let program = load(rt, alloc, options.program)?;
-    run_session(rt, alloc, program.as_slice(), &options)
+    let Ok(keys) = RandomState::new(rt) else {
+        return Err(Failure::NoKeys);
+    };
+    run_session(rt, alloc, keys, program.as_slice(), &options)
 }
 
 /// The status after a session.

@@ -18,6 +18,8 @@ pub enum Failure {
     Usage,
     /// The program's file could not be read.
     Unreadable,
+    /// The system gave no random bytes.
+    NoKeys,
     /// Memory was wanting.
     OutOfMemory,
 }
@@ -29,7 +31,7 @@ impl Failure {
     {
         match self {
             Failure::Helped => 0,
-            Failure::Unreadable => 2,
+            Failure::Unreadable | Failure::NoKeys => 2,
             Failure::OutOfMemory => 3,
             Failure::Usage => 64,
         }

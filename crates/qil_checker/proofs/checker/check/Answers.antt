@@ -1,6 +1,6 @@
 -- A program is well-formed or breaks one rule first, never both.
-use Rattle.qil_checker.specs.Marks.{texts}
-use Rattle.qil_checker.proofs.WholeLemmas.{not_both, only_memory, only_told}
+use Rattle.qil_checker.specs.Mentions.{texts}
+use Rattle.qil_checker.proofs.Programs.Firsts.{not_both, only_memory, only_told}
 use Rattle.qil_checker.proofs.checker.check.Goals as goal
 
 pub returns-in-Ok-clause-only_broken : goal.returns-in-Ok-clause-only_broken

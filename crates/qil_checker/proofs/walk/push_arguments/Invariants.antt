@@ -1,9 +1,9 @@
--- The marks so far, and those of the arguments that are left, are all marks.
+-- The mentions so far, and those of the arguments that are left, are all mentions.
 use Rattle.std.proofs.Common.{◌≡◌, ◌++◌, drop, map}
 use Rattle.std.specs.List.{flat_map}
 use Rattle.qil_checker.specs.Operands.{argument_read}
-use Rattle.qil_checker.specs.Marks.{read_marks}
+use Rattle.qil_checker.specs.Mentions.{read_mentions}
 use Rattle.qil_checker.proofs.walk.push_arguments.Given as goal
 
 abbrev pub invariant-loop-argument : goal.invariant-loop-argument
-invariant-loop-argument g l = l.out.items ++ flat_map (read_marks l.line) (map argument_read (drop l.argument-index l.arguments)) ≡ l.fn.out.items ++ flat_map (read_marks l.line) (map argument_read l.arguments)
+invariant-loop-argument g l = l.out.items ++ flat_map (read_mentions l.line) (map argument_read (drop l.argument-index l.arguments)) ≡ l.fn.out.items ++ flat_map (read_mentions l.line) (map argument_read l.arguments)

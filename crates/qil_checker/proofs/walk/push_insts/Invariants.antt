@@ -1,8 +1,8 @@
--- The marks so far, and those of the instructions that are left, are all marks.
+-- The mentions so far, and those of the instructions that are left, are all mentions.
 use Rattle.std.proofs.Common.{◌≡◌, ◌++◌, drop}
 use Rattle.std.specs.List.{flat_map}
-use Rattle.qil_checker.specs.Marks.{inst_marks}
+use Rattle.qil_checker.specs.Mentions.{inst_mentions}
 use Rattle.qil_checker.proofs.walk.push_insts.Given as goal
 
 abbrev pub invariant-loop-inst : goal.invariant-loop-inst
-invariant-loop-inst g l = l.out.items ++ flat_map inst_marks (drop l.inst-index l.insts) ≡ l.fn.out.items ++ flat_map inst_marks l.insts
+invariant-loop-inst g l = l.out.items ++ flat_map inst_mentions (drop l.inst-index l.insts) ≡ l.fn.out.items ++ flat_map inst_mentions l.insts

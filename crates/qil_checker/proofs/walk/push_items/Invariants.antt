@@ -1,8 +1,8 @@
--- The marks so far, and those of the items that are left, are all marks.
+-- The mentions so far, and those of the items that are left, are all mentions.
 use Rattle.std.proofs.Common.{◌≡◌, ◌++◌, drop}
 use Rattle.std.specs.List.{flat_map}
-use Rattle.qil_checker.specs.Marks.{item_marks}
+use Rattle.qil_checker.specs.Mentions.{item_mentions}
 use Rattle.qil_checker.proofs.walk.push_items.Given as goal
 
 abbrev pub invariant-loop-item : goal.invariant-loop-item
-invariant-loop-item g l = l.out.items ++ flat_map (item_marks l.line) (drop l.item-index l.items) ≡ l.fn.out.items ++ flat_map (item_marks l.line) l.items
+invariant-loop-item g l = l.out.items ++ flat_map (item_mentions l.line) (drop l.item-index l.items) ≡ l.fn.out.items ++ flat_map (item_mentions l.line) l.items

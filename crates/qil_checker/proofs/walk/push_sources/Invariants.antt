@@ -1,8 +1,8 @@
--- The marks so far, and those of the sources that are left, are all marks.
+-- The mentions so far, and those of the sources that are left, are all mentions.
 use Rattle.std.proofs.Common.{◌≡◌, ◌++◌, drop}
 use Rattle.std.specs.List.{flat_map}
-use Rattle.qil_checker.specs.Marks.{source_marks}
+use Rattle.qil_checker.specs.Mentions.{source_mentions}
 use Rattle.qil_checker.proofs.walk.push_sources.Given as goal
 
 abbrev pub invariant-loop-source : goal.invariant-loop-source
-invariant-loop-source g l = l.out.items ++ flat_map (λ s. source_marks l.line l.class s) (drop l.source-index l.sources) ≡ l.fn.out.items ++ flat_map (λ s. source_marks l.line l.class s) l.sources
+invariant-loop-source g l = l.out.items ++ flat_map (λ s. source_mentions l.line l.class s) (drop l.source-index l.sources) ≡ l.fn.out.items ++ flat_map (λ s. source_mentions l.line l.class s) l.sources

@@ -1,7 +1,7 @@
 -- A name that was not noted before is noted.
 use Rattle.std.proofs.Common.{arith}
 use Rattle.qil_checker.specs.Tables.{place_of}
-use Rattle.qil_checker.proofs.TextLemmas.{noted_name, all_noted}
+use Rattle.qil_checker.proofs.Programs.Gathered.{noted_name, all_noted}
 use Rattle.qil_checker.proofs.whole.first_names.Goals as goal
 
 pub loop-number-preserved : goal.loop-number-preserved

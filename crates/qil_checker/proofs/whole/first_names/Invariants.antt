@@ -1,8 +1,9 @@
 -- The table's place of a name, or else its first place among the texts that are left, is its first place.
 use Rattle.std.proofs.Common.{◌≡◌, List, ℕ, drop}
-use Rattle.qil_checker.specs.Tables.{place_of, or_else, first, has_name}
-use Rattle.qil_checker.specs.Whole.{marks_of}
+use Rattle.std.specs.Option.{option_or}
+use Rattle.qil_checker.specs.Tables.{place_of, first, has_name}
+use Rattle.qil_checker.specs.Whole.{mentions_of}
 use Rattle.qil_checker.proofs.whole.first_names.Given as goal
 
 abbrev pub invariant-loop-number : goal.invariant-loop-number
-invariant-loop-number g l = (x : List ℕ) → or_else (place_of l.table.places x) (first (has_name x) l.number (marks_of (drop l.number l.texts))) ≡ first (has_name x) 0 (marks_of l.texts)
+invariant-loop-number g l = (x : List ℕ) → option_or (place_of l.table.places x) (first (has_name x) l.number (mentions_of (drop l.number l.texts))) ≡ first (has_name x) 0 (mentions_of l.texts)

@@ -1,6 +1,6 @@
 -- One definition fewer is left.
 use Rattle.std.proofs.Common.{◌+◌, drop, arith}
-use Rattle.qil_checker.proofs.TextLemmas.{one_fewer}
+use Rattle.qil_checker.proofs.Programs.Gathered.{one_fewer}
 use Rattle.qil_checker.proofs.whole.texts_of.Goals as goal
 
 pub loop-definition-preserved : goal.loop-definition-preserved

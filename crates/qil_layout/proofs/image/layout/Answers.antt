@@ -12,8 +12,11 @@ names_of-requires g c =
     omega (arith, few, same)
 
 pub invariant_of-result : goal.invariant_of-result
-invariant_of-result g c = (
-  c.in_ok-names.ensures.addresses,
-  c.in_ok-bytes.ensures ∙ ap (bytes_from (found c.in_ok-names.names.addresses) 65536) c.as_slice.ensures ∙ ap (λ (address : List ℕ → Option ℕ). bytes_from address 65536 c.program-program.result.now.datas) (λ i x. c.in_ok-names.ensures.addresses x i),
-  c.in_ok-names.ensures.no_fault,
-)
+invariant_of-result g c =
+    let few = few_functions c.args.checked.now.program c.program-program.ensures.well_formed in
+    let same = ap (λ p. length p.funcs) c.program-program.ensures.program in (
+      c.in_ok-names.ensures.addresses,
+      c.in_ok-bytes.ensures ∙ ap (bytes_from (found c.in_ok-names.names.addresses) 65536) c.as_slice.ensures ∙ ap (λ (address : List ℕ → Option ℕ). bytes_from address 65536 c.program-program.result.now.datas) (λ i x. c.in_ok-names.ensures.addresses x i),
+      c.in_ok-names.ensures.no_fault,
+      omega (arith, few, same),
+    )

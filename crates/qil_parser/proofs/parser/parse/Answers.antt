@@ -4,6 +4,7 @@ use Rattle.qil_parser.specs.Token.{seen}
 use Rattle.qil_parser.proofs.Numbers.{cut_numbers}
 use Rattle.qil_parser.proofs.Strings.{cut_strings}
 use Rattle.qil_parser.proofs.Verdict.{spelled_all, fault_after, fault_at, no_program, no_fault, that_fault}
+use Rattle.qil_parser.proofs.SpelledBlocks.{spelled_has}
 use Rattle.qil_parser.proofs.parser.parse.Goals as goal
 
 pub invariant_of-cursor : goal.invariant_of-cursor
@@ -11,6 +12,9 @@ invariant_of-cursor g c = record { numbers = cut_numbers c.requires.cut.0 c.args
 
 pub returns-in-empty-clause-spelled : goal.returns-in-empty-clause-spelled
 returns-in-empty-clause-spelled g c = spelled_all c.args.tokens.now c.in-Ok.program c.program.new.self.rest.now c.in-Ok.ensures (omega (arith, c.in-empty.len_below))
+
+pub returns-in-empty-clause-blocks : goal.returns-in-empty-clause-blocks
+returns-in-empty-clause-blocks g c = spelled_has (seen c.args.tokens.now) c.in-Ok.program (spelled_all c.args.tokens.now c.in-Ok.program c.program.new.self.rest.now c.in-Ok.ensures (omega (arith, c.in-empty.len_below))).0
 
 pub returns-in-empty-clause-only_spelled : goal.returns-in-empty-clause-only_spelled
 returns-in-empty-clause-only_spelled g c = λ p s. sym ((spelled_all c.args.tokens.now c.in-Ok.program c.program.new.self.rest.now c.in-Ok.ensures (omega (arith, c.in-empty.len_below))).1 p s)

@@ -1,7 +1,7 @@
 -- Answers to the goals of `debug_into`.
 use Rattle.std.proofs.Common.{◌∙◌, ap}
 use Rattle.qil_plain.specs.declared.tree.Program.{Program}
-use Rattle.qil_meaning.specs.Start.{start_of}
+use Rattle.qil_plain_meaning.specs.Start.{start_of}
 use Rattle.qil_transcript.proofs.DebugLemmas.{Written-refuse, refuses_text, no_session, is_simple}
 use Rattle.qil_transcript.proofs.debugging.debug_into.Goals as goal
 

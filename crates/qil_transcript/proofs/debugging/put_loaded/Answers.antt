@@ -2,7 +2,7 @@
 use Rattle.std.proofs.Common.{length, subst}
 use Rattle.qil_streams.specs.Device.{Puts}
 use Rattle.qil_streams.proofs.TextLemmas.{Puts-append, Puts-stop}
-use Rattle.qil_meaning.specs.Timeline.{Timeline, begun}
+use Rattle.qil_plain_meaning.specs.Timeline.{Timeline, begun}
 use Rattle.qil_transcript.specs.Text.{place_line}
 use Rattle.qil_transcript.specs.Debug.{loaded_line}
 use Rattle.qil_transcript.proofs.debugging.put_loaded.Goals as goal

@@ -1,6 +1,6 @@
 -- None of the functions so far has the name.
 use Rattle.std.proofs.Common.{◌≡◌, drop}
-use Rattle.qil_meaning.specs.Step.{func_named}
+use Rattle.qil_plain_meaning.specs.Step.{func_named}
 use Rattle.qil_transcript.proofs.load.find_func.Given as goal
 
 abbrev pub invariant-loop-func : goal.invariant-loop-func

@@ -1,6 +1,6 @@
 -- The moves so far and any more are that many moves from the start of the loop.
 use Rattle.std.proofs.Common.{◌≡◌, ℕ, ◌+◌}
-use Rattle.qil_meaning.specs.Timeline.{back_by}
+use Rattle.qil_plain_meaning.specs.Timeline.{back_by}
 use Rattle.qil_transcript.specs.Run.{timeline_of}
 use Rattle.qil_transcript.proofs.moves.back_by.Given as goal
 

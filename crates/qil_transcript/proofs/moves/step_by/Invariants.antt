@@ -1,7 +1,7 @@
 -- The moves so far and any more are that many moves from the start of the loop.
 use Rattle.std.proofs.Common.{◌≡◌, ℕ, ◌+◌}
 use Rattle.qil_plain.specs.declared.tree.Program.{Program}
-use Rattle.qil_meaning.specs.Timeline.{forward_by}
+use Rattle.qil_plain_meaning.specs.Timeline.{forward_by}
 use Rattle.qil_transcript.specs.Run.{timeline_of, RunsIn}
 use Rattle.qil_transcript.proofs.moves.step_by.Given as goal
 

@@ -5,4 +5,4 @@ use Rattle.qil_checker.specs.Forms.{HasForm}
 use Rattle.qil_checker.proofs.checker.Checked.form.Goals as goal
 
 pub returns-clause-has_form : goal.returns-clause-has_form
-returns-clause-has_form g c = subst (λ (v : Verdict g.row.A.Denot). HasForm v.program v.form) c.self.view_is c.self.invariant.1
+returns-clause-has_form g c = subst (λ (v : Verdict g.row.A.Denot). HasForm v.program v.form) c.self.view_is c.self.invariant.2

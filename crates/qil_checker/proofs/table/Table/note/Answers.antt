@@ -1,6 +1,6 @@
 -- What the table says once a new name is in it.
 use Rattle.std.proofs.Common.{sym}
-use Rattle.qil_checker.proofs.TableLemmas.{noted}
+use Rattle.qil_checker.proofs.Tables.Noted.{noted}
 use Rattle.qil_checker.proofs.table.Table.note.Goals as goal
 
 pub returns-in_ok-insert-in-None : goal.returns-in_ok-insert-in-None

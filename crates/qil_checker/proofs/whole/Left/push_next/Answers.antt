@@ -1,5 +1,5 @@
 -- One text more, and one definition fewer.
-use Rattle.qil_checker.proofs.TextLemmas.{next_data, next_func}
+use Rattle.qil_checker.proofs.Programs.Gathered.{next_data, next_func}
 use Rattle.qil_checker.proofs.whole.Left.push_next.Goals as goal
 
 pub returns-in_ok-push-in-Data : goal.returns-in_ok-push-in-Data

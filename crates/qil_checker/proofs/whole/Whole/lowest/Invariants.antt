@@ -2,11 +2,11 @@
 use Rattle.std.proofs.Common.{◌<◌, ◌-◌}
 use Rattle.qil_checker.specs.declared.rule.Rule.{Rule}
 use Rattle.qil_checker.specs.Rules.{IsKept, order}
-use Rattle.qil_checker.specs.Whole.{marks_of}
+use Rattle.qil_checker.specs.Whole.{mentions_of}
 use Rattle.qil_checker.proofs.whole.Whole.lowest.Given as goal
 
 abbrev pub invariant-rules : goal.invariant-rules
-invariant-rules g l = (lower : Rule) → order lower < order l.rule → IsKept lower (marks_of l.self.texts.items)
+invariant-rules g l = (lower : Rule) → order lower < order l.rule → IsKept lower (mentions_of l.self.texts.items)
 
 abbrev pub decreases-rules : goal.decreases-rules
 decreases-rules g l = 12 - order l.rule

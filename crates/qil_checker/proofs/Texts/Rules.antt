@@ -1,0 +1,89 @@
+-- What the tables say of the rules of one text.
+use Rattle.std.proofs.Common.{◌≡◌, ◌≢◌, ◌∙◌, ◌↔◌, sym, ap, refl, subst, not, IsTrue, nat_eq, ℕ, ◌<◌, List, Some, None, Bool, true, false, slice_get, arith}
+use Rattle.std.proofs.lemmas.Bool.Decides.{nat_tests}
+use Rattle.std.proofs.lemmas.Slice.Eq.{bytes_eq-Decides}
+use Rattle.std.specs.Str.{bytes_eq}
+use Rattle.qil_tree.specs.declared.tree.PhiSource.{PhiSource}
+use Rattle.qil_checker.specs.declared.mention.Kind.TheVariants.{Labels}
+use Rattle.qil_checker.specs.Mentions.{Mention, Label, PhiOf}
+use Rattle.qil_checker.specs.Text.{Stands, LacksLabel, IsFirstLabel, ArePredecessors, labels_of}
+use Rattle.qil_checker.specs.Rules.{IsSecondLabel, IsWrongPhi}
+use Rattle.qil_checker.specs.Tables.{first, is_named}
+use Rattle.qil_checker.proofs.Texts.Places.{mention_stands, one_what, label_found, label_absent}
+
+some_same : {A : Type 0} {a b : A} → Some a ≡ Some b → a ≡ b
+some_same e = cc
+
+same_label : (x y : List ℕ) → Label x ≡ Label y → x ≡ y
+same_label x y e = cc
+
+differ : (i k : ℕ) → IsTrue (not (nat_eq i k)) → i ≢ k
+differ i k e = grind (arith, nat_tests)
+
+differs : (i k : ℕ) → i ≢ k → IsTrue (not (nat_eq i k))
+differs i k e = grind (arith, nat_tests)
+
+-- ---- labels
+
+pub second_label : (text : List Mention) (x : List ℕ) (k i : ℕ) (m : Mention) → slice_get text k ≡ Some m → m.what ≡ Label x
+    → first (is_named Labels x) 0 text ≡ Some i → IsTrue (not (nat_eq i k)) ↔ IsSecondLabel text k
+second_label text x k i m there is e =
+    let f = label_found text x i e in
+    let here : Stands text k (Label x) = mention_stands text k m (Label x) there is in
+    let reach : k < i → ⊥ = λ l. f.1 k l here in (
+      λ t. let apart = differ i k t in let l : i < k = omega (arith, reach, apart) in (x, i, l, f.0, here),
+      λ b. differs i k (λ same. let name : b.0 ≡ x = same_label b.0 x (some_same (sym b.4 ∙ here)) in
+          f.1 b.1 (subst (λ y. b.1 < y) (sym same) b.2) (subst (λ y. Stands text b.1 (Label y)) name b.3)),
+    )
+
+pub no_label : (text : List Mention) (x : List ℕ) (k : ℕ) (m : Mention) → slice_get text k ≡ Some m → m.what ≡ Label x
+    → first (is_named Labels x) 0 text ≡ None → ⊥
+no_label text x k m there is e = label_absent text x e k (mention_stands text k m (Label x) there is)
+
+pub has_label : (text : List Mention) (x : List ℕ) (k : ℕ) → first (is_named Labels x) 0 text ≡ Some k → LacksLabel text x → ⊥
+has_label text x k e lacks = lacks k (label_found text x k e).0
+
+-- the label at the first place that has one is the first label
+pub first_label : (text : List Mention) (x y : List ℕ) (k : ℕ) (m : Mention) → slice_get text k ≡ Some m → m.what ≡ Label y
+    → ((j : ℕ) (z : List ℕ) → j < k → Stands text j (Label z) → ⊥) → IsTrue (bytes_eq y x) ↔ IsFirstLabel text x
+first_label text x y k m there is none =
+    let here : Stands text k (Label y) = mention_stands text k m (Label y) there is in (
+      λ t. let same : y ≡ x = (bytes_eq-Decides y x).0 t in (k, subst (λ n. Stands text k (Label n)) same here, none),
+      λ f.
+          let below : f.0 < k → ⊥ = λ l. none f.0 x l f.1 in
+          let above : k < f.0 → ⊥ = λ l. f.2 k y l here in
+          let at : f.0 ≡ k = omega (arith, below, above) in
+          let same : Label x ≡ Label y = some_same (sym (subst (λ i. Stands text i (Label x)) at f.1) ∙ here) in
+          (bytes_eq-Decides y x).1 (sym (same_label x y same)),
+    )
+
+pub first_label_test : (text : List Mention) (x y a b : List ℕ) (r : Bool) (k : ℕ) (m : Mention) → r ≡ bytes_eq a b → a ≡ y → b ≡ x → slice_get text k ≡ Some m → m.what ≡ Label y
+    → ((j : ℕ) (z : List ℕ) → j < k → Stands text j (Label z) → ⊥) → IsTrue r ↔ IsFirstLabel text x
+first_label_test text x y a b r k m e left right there is none =
+    let test : r ≡ bytes_eq y x = e ∙ ap (λ n. bytes_eq n b) left ∙ ap (bytes_eq y) right in
+    subst (λ t. IsTrue t ↔ IsFirstLabel text x) (sym test) (first_label text x y k m there is none)
+
+-- ---- phis
+
+same_block : (b d : List ℕ) (s t : List PhiSource) → PhiOf b s ≡ PhiOf d t → b ≡ d
+same_block b d s t e = cc
+
+same_sources : (b d : List ℕ) (s t : List PhiSource) → PhiOf b s ≡ PhiOf d t → s ≡ t
+same_sources b d s t e = cc
+
+is_false : (r : Bool) → IsTrue (not r) → IsTrue r → ⊥
+is_false true n t = absurd cc
+is_false false n t = absurd cc
+
+is_not : (r : Bool) → (IsTrue r → ⊥) → IsTrue (not r)
+is_not true n = absurd (n refl)
+is_not false n = refl
+
+pub wrong_phi : (text : List Mention) (k : ℕ) (m : Mention) (b : List ℕ) (s : List PhiSource) (r : Bool) → slice_get text k ≡ Some m → m.what ≡ PhiOf b s
+    → IsTrue r ↔ ArePredecessors text b (labels_of s) → IsTrue (not r) ↔ IsWrongPhi text k
+wrong_phi text k m b s r there is right = (
+  λ t. (b, s, mention_stands text k m (PhiOf b s) there is, λ all. is_false r t (right.1 all)),
+  λ w. is_not r (λ t.
+      let same : PhiOf b s ≡ PhiOf w.0 w.1 = sym is ∙ one_what text k m (PhiOf w.0 w.1) there w.2 in
+      w.3 (subst (λ d. ArePredecessors text d (labels_of w.1)) (same_block b w.0 s w.1 same) (subst (λ u. ArePredecessors text b (labels_of u)) (same_sources b w.0 s w.1 same) (right.0 t)))),
+)

@@ -1,0 +1,18 @@
+-- Names, each once, and their numbers.
+use Rattle.std.specs.Prelude.{ℕ, suc, if◌then◌else◌, List, [], ◌∷◌, map, Option, Some, None, option_map}
+use Rattle.std.specs.Str.{bytes_eq}
+use Rattle.indexmap.specs.IndexSet.{insert_all}
+use denote.Ref.{Bor}
+
+-- the first place of a name among names
+unfoldable pub place_of : List (List ℕ) → List ℕ → Option ℕ
+place_of [] x = None
+place_of (n ∷ ns) x = if bytes_eq n x then Some 0 else option_map (λ i. suc i) (place_of ns x)
+
+-- names with further ones behind them, those that are new
+abbrev pub noted : List (List ℕ) → List (List ℕ) → List (List ℕ)
+noted ns xs = insert_all bytes_eq ns xs
+
+-- the names that keys are
+abbrev pub names_of : List (Bor (List ℕ)) → List (List ℕ)
+names_of keys = map (λ key. key.now) keys

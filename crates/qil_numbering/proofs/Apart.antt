@@ -1,0 +1,46 @@
+-- Names of which no two are equal are noted as they stand.
+use Rattle.std.proofs.Common.{◌≡◌, ◌≢◌, refl, sym, ap, ◌∙◌, subst, ℕ, zero, suc, ◌<◌, Bool, true, false, if◌then◌else◌, List, [], ◌∷◌, ◌++◌, length, Some, arith}
+use Rattle.std.specs.Prelude.{slice_get, filter, not}
+use Rattle.std.specs.List.{All, AllPairs, slice_index_or}
+use Rattle.std.specs.Str.{bytes_eq}
+use Rattle.std.proofs.lemmas.Slice.Eq.{bytes_eq-Decides}
+use Rattle.std.proofs.lemmas.List.Elements.{All-filter}
+use Rattle.std.proofs.lemmas.List.Kept.{AllPairs-filter}
+use Rattle.qil_names.specs.Numbers.{noted}
+use Rattle.qil_meaning.specs.State.{Name}
+use Rattle.qil_meaning.specs.Names.{once}
+use Rattle.qil_numbering.proofs.Once.{noted-once}
+
+-- no name stands at two places
+abbrev pub AreApart : List Name → Type 0
+AreApart xs = (i j : ℕ) (x : Name) → i < j → slice_get xs i ≡ Some x → slice_get xs j ≡ Some x → ⊥
+
+other_name : (x y : Name) (b : Bool) → bytes_eq x y ≡ b → (x ≡ y → ⊥) → b ≡ false
+other_name x y true e h = absurd (h ((bytes_eq-Decides x y).0 e))
+other_name x y false e h = refl
+
+all_kept : (x : Name) (xs : List Name) → ((j : ℕ) (y : Name) → slice_get xs j ≡ Some y → x ≡ y → ⊥) → filter (λ y. not (bytes_eq x y)) xs ≡ xs
+all_kept x [] h = refl
+all_kept x (y ∷ xs) h =
+    let e : bytes_eq x y ≡ false = other_name x y (bytes_eq x y) refl (λ s. h 0 y refl s) in
+    rw e (ap (λ l. y ∷ l) (all_kept x xs (λ j z at. h (suc j) z at)))
+
+once-same : (xs : List Name) → AreApart xs → once xs ≡ xs
+unfolding once
+once-same [] h = refl
+once-same (x ∷ xs) h =
+    let deep : once xs ≡ xs = once-same xs (λ i j y l a b. h (suc i) (suc j) y (omega (arith, l)) a b) in
+    ap (λ l. x ∷ filter (λ y. not (bytes_eq x y)) l) deep
+    ∙ ap (λ l. x ∷ l) (all_kept x xs (λ j y at s. h 0 (suc j) x (omega arith) refl (at ∙ ap Some (sym s))))
+
+pub noted-same : (xs : List Name) → AreApart xs → noted [] xs ≡ xs
+noted-same xs h = noted-once xs ∙ once-same xs h
+
+-- ---- names that stand once
+
+unequal : (x y : Name) → not (bytes_eq x y) ≡ true → x ≢ y
+unequal x y e = by (bytes_eq x y) refl e
+  where
+    by : (b : Bool) → bytes_eq x y ≡ b → not b ≡ true → x ≢ y
+    by true f g = absurd cc
+    by false f g = λ s. grind (arith, f, s, bytes_eq-Decides x y)

@@ -1,0 +1,9 @@
+-- The lemmas of this crate.
+pub mod Parts
+pub mod Once
+pub mod Defining
+pub mod Edges
+pub mod Tables
+pub mod Whole
+pub mod Spots
+pub mod Apart

@@ -1,0 +1,26 @@
+-- Lists taken apart at a place.
+use Rattle.std.proofs.Common.{◌≡◌, ◌∙◌, sym, ap, refl, subst, ℕ, zero, suc, ◌+◌, ◌<◌, ◌⊎◌, inl, inr, List, [], ◌∷◌, ◌++◌, length, get_or, drop, Option, Some, None, add-one, drop-cons}
+use Rattle.std.specs.Prelude.{slice_get, unwrap_or}
+use Rattle.std.proofs.lemmas.Option.{get_or_from_slice_get}
+
+-- the elements from a place on: the one there, and those behind it
+pub at_drop : {X : Type 0} (xs : List X) (i : ℕ) (x : X) → x ≡ get_or xs i x → i < length xs → drop i xs ≡ x ∷ drop (i + 1) xs
+at_drop xs i x is lt = drop-cons xs i x lt ∙ ap (λ y. y ∷ drop (suc i) xs) (sym is) ∙ ap (λ n. x ∷ drop n xs) (sym (add-one i))
+
+last_at : {X : Type 0} (y t : X) (i : ℕ) → slice_get (y ∷ []) i ≡ Some t → (i ≡ 0) × (t ≡ y)
+last_at y t zero e = (refl, sym (ap (λ o. unwrap_or o t) e))
+last_at y t (suc i) e = absurd (subst (λ o. elim o as (λ _. Type 0) [ None ↦ Unit {0} | Some z ↦ ⊥ ]) e tt)
+
+-- with an element more, what stands at a place stood there before, or is the new one
+pub last_or_before : {X : Type 0} (xs : List X) (y t : X) (i : ℕ) → slice_get (xs ++ y ∷ []) i ≡ Some t → (slice_get xs i ≡ Some t) ⊎ ((i ≡ length xs) × (t ≡ y))
+last_or_before [] y t i e = inr (last_at y t i e)
+last_or_before (x ∷ xs) y t zero e = inl e
+last_or_before (x ∷ xs) y t (suc i) e = further (last_or_before xs y t i e)
+  where
+    further : (slice_get xs i ≡ Some t) ⊎ ((i ≡ length xs) × (t ≡ y)) → (slice_get (x ∷ xs) (suc i) ≡ Some t) ⊎ ((suc i ≡ length (x ∷ xs)) × (t ≡ y))
+    further (inl f) = inl f
+    further (inr f) = inr (ap (λ n. suc n) f.0, f.1)
+
+-- the element that a loop is at stands at its place
+pub is_there : {X : Type 0} (xs : List X) (i : ℕ) (x y : X) → x ≡ get_or xs i x → slice_get xs i ≡ Some y → y ≡ x
+is_there xs i x y is at = sym (is ∙ get_or_from_slice_get xs i y x at)

@@ -1,0 +1,15 @@
+-- One table more.
+use Rattle.std.proofs.Common.{◌≡◌, ◌∙◌, sym, ap, arith, List, ℕ, Some, inl, inr, ◌⊎◌, length, ◌∷◌, [], ◌++◌, subst}
+use Rattle.std.specs.Prelude.{slice_get}
+use Rattle.qil_names.specs.Tables.{values_at}
+use Rattle.qil_numbering.specs.Numbered.{block_moves}
+use Rattle.qil_numbering.proofs.Parts.{last_or_before, is_there}
+use Rattle.qil_numbering.proofs.Tables.{one_more}
+use Rattle.qil_numbering.proofs.number.moves_of_all.Goals as goal
+
+pub loop-block-preserved : goal.loop-block-preserved
+loop-block-preserved g c = record {
+  len = omega (arith, c.in_ok-push.ensures.len, c.loop-block.invariant.len);
+  moves = one_more (λ b t. (x : List ℕ) → values_at t.lists x ≡ block_moves c.args.resolver.now.image.now c.args.resolver.now.temps.now x b) c.args.blocks.now c.loop-block.out.items _ _ c.block-item.result c.in_ok-moves_of.field-0
+      c.loop-block.invariant.len c.block-item.is c.in_ok-push.ensures.items c.in_ok-moves_of.ensures c.loop-block.invariant.moves;
+}

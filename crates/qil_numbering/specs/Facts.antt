@@ -1,0 +1,26 @@
+-- What numbering takes from the rules that a checked program keeps.
+use Rattle.std.specs.Prelude.{◌≡◌, ℕ, ◌≤◌, List, [], length, map, Some, slice_get}
+use Rattle.std.specs.List.{All}
+use Rattle.qil_tree.specs.declared.tree.Func.{Func}
+use Rattle.qil_tree.specs.declared.tree.Block.{Block}
+use Rattle.qil_tree.specs.declared.tree.Program.{Program}
+use Rattle.qil_names.specs.Numbers.{noted}
+use Rattle.qil_meaning.specs.Names.{temps_named}
+use Rattle.qil_meaning.specs.Step.{func_named, block_labelled}
+use Rattle.qil_numbering.specs.Gather.{labels_in}
+
+-- a function's temporaries and blocks have numbers of 16 bits, and its labels are distinct
+pub record IsNumerable {A : Type 0} (func : Func A) : Type 0 where
+  pub few_temps : length (temps_named func) ≤ 65535
+  pub few_blocks : length func.blocks ≤ 65535
+  pub labels : noted [] (labels_in func.blocks) ≡ labels_in func.blocks
+
+-- all functions are, and their names are distinct
+pub record AreNumerable {A : Type 0} (p : Program A) : Type 0 where
+  pub each : All IsNumerable p.funcs
+  pub names : noted [] (map (λ f. f.name) p.funcs) ≡ map (λ f. f.name) p.funcs
+
+-- each function and each block is the one that its name finds
+pub record Finds {A : Type 0} (p : Program A) : Type 0 where
+  pub func : (i : ℕ) (f : Func A) → slice_get p.funcs i ≡ Some f → func_named p.funcs f.name ≡ Some f
+  pub block : (i : ℕ) (f : Func A) (j : ℕ) (b : Block A) → slice_get p.funcs i ≡ Some f → slice_get f.blocks j ≡ Some b → block_labelled f.blocks b.label ≡ Some b

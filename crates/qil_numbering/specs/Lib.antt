@@ -1,0 +1,8 @@
+-- The definitions of this crate.
+pub mod Gather
+pub mod Slots
+pub mod Numbered
+pub mod Named
+pub mod Moves
+pub mod Classes
+pub mod Facts

@@ -1,0 +1,17 @@
+//! The numbered form of a program, which a machine is to run: temporaries and blocks are numbers, globals addresses.
+//!
+//! What the code of a function is follows from its tree: `specs/Numbered.antt` has it as a function, and
+//! `specs/Named.antt` reads the parts back through names.
+#![tactic(auto)]
+
+mod classes;
+mod gather;
+mod moves;
+mod number;
+mod numbered;
+mod resolve;
+
+pub use numbered::{
+    BlockId, Edge, NumberedArgument, NumberedBlock, NumberedExpr, NumberedFunc, NumberedInst,
+    NumberedJump, PhiMove, Receiver, Slot, Source,
+};

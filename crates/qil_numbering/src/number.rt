@@ -1,0 +1,220 @@
+//! From a checked program to its code.
+
+ghost use Rattle.std.specs.Prelude.{◌≡◌, ◌<◌, ◌≤◌, All, List, ℕ, IfOk, Some, map, slice_get, length};
+ghost use Rattle.std.specs.Option.{ForSome};
+ghost use Rattle.qil_tree.specs.declared.tree.Block.{Block};
+ghost use Rattle.qil_names.specs.Tables.{values_at};
+ghost use Rattle.qil_numbering.specs.Gather.{labels_in};
+ghost use Rattle.qil_numbering.specs.Numbered.{inst_of, block_moves, edge_of, jump_of, block_of, param_of, func_code};
+ghost use Rattle.qil_numbering.specs.Facts.{IsNumerable};
+
+use crate::classes::classes_of;
+use crate::gather::{labels_of, temps_of};
+use crate::moves::moves_of;
+use crate::numbered::{
+    BlockId, Edge, FuncCode, NumberedBlock, NumberedFunc, NumberedInst, NumberedJump, PhiMove, Slot,
+};
+use crate::resolve::Resolver;
+use qil_layout::Image;
+use qil_names::{Groups, Numbers};
+use qil_tree::{AbiType, Block, Func, Inst, Items, Jump, JumpKind, Name};
+use std::alloc::{AllocError, Allocator};
+use std::hash::RandomState;
+
+/// The blocks of a function, with what the phis of each do for each block that may be left.
+#[derive(Drop)]
+pub struct Shape<'r, 'c, 'a, A: Allocator> {
+    resolver: &'r Resolver<'r, 'c, 'a, A>,
+    blocks: &'r [Block<'a, A>],
+    moves: Vec<Groups<'a, PhiMove, A>, A>,
+    ghost labels_are: { resolver.now.labels.now ≡ labels_in blocks.now },
+    ghost each_block: { length moves.items ≡ length blocks.now },
+    ghost moves_are: { (i : ℕ) (b : Block A) → slice_get blocks.now i ≡ Some b → ForSome (slice_get moves.items i) (λ t. (x : List ℕ) → values_at t.lists x ≡ block_moves resolver.now.image.now resolver.now.temps.now x b) },
+}
+
+/// What the phis of each block do, for each block that may be left.
+fn moves_of_all<'a, A: Allocator + Copy>(
+    alloc: A,
+    keys: RandomState,
+    resolver: &Resolver<'_, '_, 'a, A>,
+    blocks: &[Block<'a, A>],
+) -> Result<Vec<Groups<'a, PhiMove, A>, A>, AllocError>
+    ensures len { IfOk result (λ v. length v.items ≡ length blocks.now) }
+    ensures moves { IfOk result (λ v. (i : ℕ) (b : Block A) → slice_get blocks.now i ≡ Some b → ForSome (slice_get v.items i) (λ t. (x : List ℕ) → values_at t.lists x ≡ block_moves resolver.now.image.now resolver.now.temps.now x b)) }
+{
+    let mut out = Vec::with_capacity(alloc, blocks.len())?;
+    for block in blocks {
+        out.push(moves_of(alloc, keys, resolver, block)?)?;
+    }
+    Ok(out)
+}
+
+/// The moves of a list, in one of its own.
+fn copied<A: Allocator + Copy>(alloc: A, moves: &[PhiMove]) -> Result<Vec<PhiMove, A>, AllocError>
+    ensures { IfOk result (λ v. v.items ≡ moves.now) }
+{
+    let mut out = Vec::with_capacity(alloc, moves.len())?;
+    for one in moves {
+        out.push(*one)?;
+    }
+    Ok(out)
+}
+
+impl<'r, 'c, 'a, A: Allocator + Copy> Shape<'r, 'c, 'a, A> {
+    fn moves(&self, alloc: A, left: &Name<'a>, number: usize) -> Result<Vec<PhiMove, A>, AllocError>
+        requires { number < length self.now.blocks.now }
+        ensures { (b : Block A) → slice_get self.now.blocks.now number ≡ Some b → IfOk result (λ v. v.items ≡ block_moves self.now.resolver.now.image.now self.now.resolver.now.temps.now left.now b) }
+    {
+        let table = &self.moves[number];
+        match table.get(left.bytes()) {
+            Some(list) => copied(alloc, list.as_slice()),
+            None => Ok(Vec::new(alloc)),
+        }
+    }
+
+    /// The way from a block to the block of a label.
+    fn edge(&self, alloc: A, left: &Name<'a>, label: &Name<'a>) -> Result<Edge<A>, AllocError>
+        ensures { IfOk result (λ e. e ≡ edge_of self.now.resolver.now.image.now self.now.blocks.now self.now.resolver.now.temps.now left.now label.now) }
+    {
+        match self.resolver.labels.number(label.bytes()) {
+            Some(number) => Ok(Edge {
+                to: BlockId {
+                    index: number as u16,
+                },
+                moves: Items::new(self.moves(alloc, left, number)?),
+            }),
+            None => Ok(Edge {
+                to: BlockId { index: 0 },
+                moves: Items::new(Vec::new(alloc)),
+            }),
+        }
+    }
+
+    fn jump(
+        &self,
+        alloc: A,
+        left: &Name<'a>,
+        jump: &Jump<'a>,
+    ) -> Result<NumberedJump<A>, AllocError>
+        ensures { IfOk result (λ j. j ≡ jump_of self.now.resolver.now.image.now self.now.blocks.now self.now.resolver.now.temps.now left.now jump.now.kind) }
+    {
+        match &jump.kind {
+            JumpKind::Jmp(to) => Ok(NumberedJump::Jmp(self.edge(alloc, left, to)?)),
+            JumpKind::Jnz(value, if_set, if_zero) => {
+                let set = self.edge(alloc, left, if_set)?;
+                let zero = self.edge(alloc, left, if_zero)?;
+                Ok(NumberedJump::Jnz(self.resolver.source(value), set, zero))
+            }
+            JumpKind::Ret(None) => Ok(NumberedJump::Ret(None)),
+            JumpKind::Ret(Some(value)) => Ok(NumberedJump::Ret(Some(self.resolver.source(value)))),
+            JumpKind::Hlt => Ok(NumberedJump::Hlt),
+        }
+    }
+
+    fn insts(&self, alloc: A, insts: &[Inst<'a, A>]) -> Result<Vec<NumberedInst<A>, A>, AllocError>
+        ensures { IfOk result (λ v. v.items ≡ map (inst_of self.now.resolver.now.image.now self.now.resolver.now.temps.now) insts.now) }
+    {
+        let mut out = Vec::with_capacity(alloc, insts.len())?;
+        for inst in insts {
+            out.push(self.resolver.inst(alloc, inst)?)?;
+        }
+        Ok(out)
+    }
+
+    fn block(&self, alloc: A, block: &Block<'a, A>) -> Result<NumberedBlock<A>, AllocError>
+        ensures { IfOk result (λ b. b ≡ block_of self.now.resolver.now.image.now self.now.blocks.now self.now.resolver.now.temps.now block.now) }
+    {
+        let insts = self.insts(alloc, block.insts.as_slice())?;
+        let jump = self.jump(alloc, &block.label, &block.jump)?;
+        Ok(NumberedBlock {
+            insts: Items::new(insts),
+            jump,
+        })
+    }
+
+    /// All blocks, numbered.
+    pub fn numbered(&self, alloc: A) -> Result<Vec<NumberedBlock<A>, A>, AllocError>
+        ensures { IfOk result (λ v. v.items ≡ map (block_of self.now.resolver.now.image.now self.now.blocks.now self.now.resolver.now.temps.now) self.now.blocks.now) }
+    {
+        let mut out = Vec::with_capacity(alloc, self.blocks.len())?;
+        for block in self.blocks {
+            out.push(self.block(alloc, block)?)?;
+        }
+        Ok(out)
+    }
+}
+
+/// The parameters and the blocks of a function, numbered.
+fn parts_of<'a, A: Allocator + Copy>(
+    alloc: A,
+    keys: RandomState,
+    image: &Image<'_, 'a, A>,
+    temps: &Numbers<'a, A>,
+    labels: &Numbers<'a, A>,
+    func: &Func<'a, A>,
+) -> Result<(Vec<(Slot, AbiType), A>, Vec<NumberedBlock<A>, A>), AllocError>
+    requires few_temps { length temps.now ≤ 65535 }
+    requires few_labels { length labels.now ≤ 65535 }
+    requires labels { labels.now ≡ labels_in func.now.blocks }
+    ensures params { IfOk result (λ v. v.0.items ≡ map (param_of temps.now) func.now.params) }
+    ensures blocks { IfOk result (λ v. v.1.items ≡ map (block_of image.now func.now.blocks temps.now) func.now.blocks) }
+{
+    let resolver = Resolver {
+        image,
+        temps,
+        labels,
+    };
+    let params = resolver.params(alloc, func.params.as_slice())?;
+    let blocks = func.blocks.as_slice();
+    let moves = moves_of_all(alloc, keys, &resolver, blocks)?;
+    let shape = Shape {
+        resolver: &resolver,
+        blocks,
+        moves,
+    };
+    let numbered = shape.numbered(alloc)?;
+    Ok((params, numbered))
+}
+
+/// A function, numbered.
+fn func_code<'a, A: Allocator + Copy>(
+    alloc: A,
+    keys: RandomState,
+    image: &Image<'_, 'a, A>,
+    func: &Func<'a, A>,
+) -> Result<FuncCode<'a, A>, AllocError>
+    requires { IsNumerable func.now }
+    ensures { IfOk result (λ k. k ≡ func_code image.now func.now) }
+{
+    let temps = temps_of(alloc, keys, func)?;
+    let labels = labels_of(alloc, keys, func.blocks.as_slice())?;
+    let classes = classes_of(alloc, keys, func, &temps)?;
+    let (params, blocks) = parts_of(alloc, keys, image, &temps, &labels, func)?;
+    Ok(FuncCode {
+        code: NumberedFunc {
+            classes: Items::new(classes),
+            params: Items::new(params),
+            returns: func.returns,
+            blocks: Items::new(blocks),
+        },
+        temps,
+        labels,
+    })
+}
+
+/// All functions of a program, numbered.
+pub fn funcs_code<'a, A: Allocator + Copy>(
+    alloc: A,
+    keys: RandomState,
+    image: &Image<'_, 'a, A>,
+    funcs: &[Func<'a, A>],
+) -> Result<Vec<FuncCode<'a, A>, A>, AllocError>
+    requires { All IsNumerable funcs.now }
+    ensures { IfOk result (λ v. v.items ≡ map (func_code image.now) funcs.now) }
+{
+    let mut out = Vec::with_capacity(alloc, funcs.len())?;
+    for func in funcs {
+        out.push(func_code(alloc, keys, image, func)?)?;
+    }
+    Ok(out)
+}

@@ -1,0 +1,150 @@
+//! From the parts of a tree to numbered parts: what the names in a function stand for.
+
+ghost use Rattle.std.specs.Prelude.{◌≡◌, ◌≤◌, IfOk, map, length};
+ghost use Rattle.qil_tree.specs.declared.tree.Operand.TheVariants as operands;
+ghost use Rattle.qil_numbering.specs.Numbered.{slot_in, source_of, expr_of, receiver_of, argument_of, inst_of, param_of, move_with};
+
+use crate::numbered::{
+    NumberedArgument, NumberedExpr, NumberedInst, PhiMove, Receiver, Slot, Source,
+};
+use qil_layout::Image;
+use qil_names::Numbers;
+use qil_tree::{
+    AbiType, Argument, CallResult, Expr, Inst, InstKind, Items, Name, Operand, Param, Target,
+};
+use std::alloc::{AllocError, Allocator};
+
+/// What names stand for in a function: temporaries and labels for their numbers, globals for their addresses.
+#[derive(Drop)]
+pub struct Resolver<'r, 'c, 'a, A: Allocator> {
+    pub image: &'r Image<'c, 'a, A>,
+    pub temps: &'r Numbers<'a, A>,
+    pub labels: &'r Numbers<'a, A>,
+    ghost few_temps: { length temps.now ≤ 65535 },
+    ghost few_labels: { length labels.now ≤ 65535 },
+}
+
+impl<'r, 'c, 'a, A: Allocator + Copy> Resolver<'r, 'c, 'a, A> {
+    fn slot(&self, name: &Name<'a>) -> Slot
+        ensures { result ≡ slot_in self.now.temps.now name.now }
+    {
+        match self.temps.number(name.bytes()) {
+            Some(number) => Slot {
+                index: number as u16,
+            },
+            None => Slot { index: 0 },
+        }
+    }
+
+    fn address(&self, name: &Name<'a>) -> Source
+        ensures { result ≡ source_of self.now.image.now self.now.temps.now (operands.Global name.now) }
+    {
+        match self.image.address(name.bytes()) {
+            Some(address) => Source::Constant(address),
+            None => Source::Constant(0),
+        }
+    }
+
+    pub fn source(&self, operand: &Operand<'a>) -> Source
+        ensures { result ≡ source_of self.now.image.now self.now.temps.now operand.now }
+    {
+        match operand {
+            Operand::Number(number) => Source::Constant(*number),
+            Operand::Global(name) => self.address(name),
+            Operand::Temp(name) => Source::Slot(self.slot(name)),
+        }
+    }
+
+    fn expr(&self, expr: &Expr<'a>) -> NumberedExpr
+        ensures { result ≡ expr_of self.now.image.now self.now.temps.now expr.now }
+    {
+        match expr {
+            Expr::Unary(op, value) => NumberedExpr::Unary(*op, self.source(value)),
+            Expr::Binary(op, left, right) => {
+                NumberedExpr::Binary(*op, self.source(left), self.source(right))
+            }
+            Expr::Compare(op, class, left, right) => {
+                NumberedExpr::Compare(*op, *class, self.source(left), self.source(right))
+            }
+            Expr::Extend(op, value) => NumberedExpr::Extend(*op, self.source(value)),
+            Expr::Load(op, address) => NumberedExpr::Load(*op, self.source(address)),
+        }
+    }
+
+    fn receiver(&self, taken: &CallResult<'a>) -> Receiver
+        ensures { result ≡ receiver_of self.now.temps.now taken.now }
+    {
+        Receiver {
+            slot: self.slot(&taken.name),
+            abi_type: taken.abi_type,
+        }
+    }
+
+    fn arguments(
+        &self,
+        alloc: A,
+        arguments: &[Argument<'a>],
+    ) -> Result<Vec<NumberedArgument, A>, AllocError>
+        ensures { IfOk result (λ v. v.items ≡ map (argument_of self.now.image.now self.now.temps.now) arguments.now) }
+    {
+        let mut out = Vec::new(alloc);
+        for argument in arguments {
+            out.push(NumberedArgument {
+                abi_type: argument.abi_type,
+                source: self.source(&argument.value),
+            })?;
+        }
+        Ok(out)
+    }
+
+    pub fn inst(&self, alloc: A, inst: &Inst<'a, A>) -> Result<NumberedInst<A>, AllocError>
+        ensures { IfOk result (λ i. i ≡ inst_of self.now.image.now self.now.temps.now inst.now) }
+    {
+        Ok(match &inst.kind {
+            InstKind::Assign(to, expr) => {
+                NumberedInst::Assign(to.class, self.slot(&to.name), self.expr(expr))
+            }
+            InstKind::Alloc(to, op, count) => {
+                NumberedInst::Alloc(to.class, self.slot(&to.name), *op, self.source(count))
+            }
+            InstKind::Store(width, value, to) => {
+                NumberedInst::Store(*width, self.source(value), self.source(to))
+            }
+            InstKind::Blit(from, to, count) => {
+                NumberedInst::Blit(self.source(from), self.source(to), *count)
+            }
+            InstKind::Call(to, callee, arguments) => {
+                let passed = self.arguments(alloc, arguments.as_slice())?;
+                let receiver = match to {
+                    None => None,
+                    Some(taken) => Some(self.receiver(taken)),
+                };
+                NumberedInst::Call(receiver, self.source(callee), Items::new(passed))
+            }
+        })
+    }
+
+    pub fn phi_move(&self, target: &Target<'a>, value: &Operand<'a>) -> PhiMove
+        ensures { result ≡ move_with self.now.image.now self.now.temps.now target.now value.now }
+    {
+        PhiMove {
+            class: target.class,
+            target: self.slot(&target.name),
+            source: self.source(value),
+        }
+    }
+
+    pub fn params(
+        &self,
+        alloc: A,
+        params: &[Param<'a>],
+    ) -> Result<Vec<(Slot, AbiType), A>, AllocError>
+        ensures { IfOk result (λ v. v.items ≡ map (param_of self.now.temps.now) params.now) }
+    {
+        let mut out = Vec::new(alloc);
+        for param in params {
+            out.push((self.slot(&param.name), param.abi_type))?;
+        }
+        Ok(out)
+    }
+}
