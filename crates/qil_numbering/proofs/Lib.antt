@@ -7,3 +7,8 @@ pub mod Tables
 pub mod Whole
 pub mod Spots
 pub mod Apart
+pub mod FactsNames
+pub mod FactsBlocks
+pub mod FactsTemps
+pub mod Facts
+pub mod Readers

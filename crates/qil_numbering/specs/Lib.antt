@@ -6,3 +6,4 @@ pub mod Named
 pub mod Moves
 pub mod Classes
 pub mod Facts
+pub mod Reading

@@ -5,12 +5,14 @@
 #![tactic(auto)]
 
 mod classes;
+mod code;
 mod gather;
 mod moves;
-mod number;
 mod numbered;
 mod resolve;
+mod shape;
 
+pub use code::{Code, number};
 pub use numbered::{
     BlockId, Edge, NumberedArgument, NumberedBlock, NumberedExpr, NumberedFunc, NumberedInst,
     NumberedJump, PhiMove, Receiver, Slot, Source,

@@ -3,6 +3,10 @@
 ghost use Rattle.std.specs.Prelude.{◌≡◌};
 
 use super::*;
+use qil_tree::{
+    AbiType, AllocOp, Argument, BinaryOp, CallResult, Class, CompareOp, Expr, Extension, Inst,
+    InstKind, Items, Jump, JumpKind, LoadOp, Name, Operand, Phi, PhiSource, Target, UnaryOp, Width,
+};
 use std::alloc::{AllocFailed, Global};
 use std::test::*;
 

@@ -3,7 +3,7 @@ use Rattle.std.proofs.Common.{◌≡◌, ◌∙◌, ap, []}
 use Rattle.qil_names.specs.Numbers.{noted}
 use Rattle.qil_numbering.specs.Gather.{labels_in}
 use Rattle.qil_numbering.proofs.Whole.{code-is}
-use Rattle.qil_numbering.proofs.number.func_code.Goals as goal
+use Rattle.qil_numbering.proofs.shape.func_code.Goals as goal
 
 pub returns : goal.returns
 returns g c =

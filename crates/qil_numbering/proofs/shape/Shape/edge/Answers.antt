@@ -2,7 +2,7 @@
 use Rattle.std.proofs.Common.{◌∙◌, ap}
 use Rattle.qil_names.specs.Numbers.{place_of}
 use Rattle.qil_numbering.proofs.Edges.{edge-there, edge-nowhere}
-use Rattle.qil_numbering.proofs.number.Shape.edge.Goals as goal
+use Rattle.qil_numbering.proofs.shape.Shape.edge.Goals as goal
 
 pub returns-in_ok-moves-in-Some : goal.returns-in_ok-moves-in-Some
 returns-in_ok-moves-in-Some g c =

@@ -5,7 +5,7 @@ use Rattle.qil_names.specs.Tables.{values_at}
 use Rattle.qil_numbering.specs.Numbered.{block_moves}
 use Rattle.qil_numbering.proofs.Parts.{last_or_before, is_there}
 use Rattle.qil_numbering.proofs.Tables.{one_more}
-use Rattle.qil_numbering.proofs.number.moves_of_all.Goals as goal
+use Rattle.qil_numbering.proofs.shape.moves_of_all.Goals as goal
 
 pub loop-block-preserved : goal.loop-block-preserved
 loop-block-preserved g c = record {

@@ -1,0 +1,31 @@
+-- What numbering takes from the rules that a checked program keeps.
+use Rattle.std.proofs.Common.{◌≡◌, ℕ, map, get_or, slice_get, Some}
+use Rattle.std.proofs.lemmas.Option.{slice_get-get_or}
+use Rattle.qil_tree.specs.declared.tree.Func.{Func}
+use Rattle.qil_tree.specs.declared.tree.Program.{Program}
+use Rattle.qil_checker.specs.Rules.{WellFormed}
+use Rattle.qil_numbering.specs.Facts.{IsNumerable, AreNumerable, Finds}
+use Rattle.qil_numbering.specs.Gather.{labels_in}
+use Rattle.qil_numbering.proofs.Apart.{noted-same}
+use Rattle.qil_numbering.proofs.FactsNames.{names_apart, found_by}
+use Rattle.qil_numbering.proofs.FactsBlocks.{labels_apart, few_blocks}
+use Rattle.qil_numbering.proofs.FactsTemps.{few_temps}
+
+pub func_numerable : {A : Type 0} (p : Program A) → WellFormed p → (n : ℕ) (f : Func A) → slice_get p.funcs n ≡ Some f → IsNumerable f
+func_numerable p kept n f there = record {
+  few_temps = few_temps p kept n f there;
+  few_blocks = few_blocks p kept n f there;
+  labels = noted-same (labels_in f.blocks) (labels_apart p kept n f there);
+}
+
+pub numerable : {A : Type 0} (p : Program A) → WellFormed p → AreNumerable p
+numerable p kept = record {
+  each = λ i d lt. func_numerable p kept i (get_or p.funcs i d) (slice_get-get_or p.funcs i d lt);
+  names = noted-same (map (λ f. f.name) p.funcs) (names_apart p kept);
+}
+
+pub finds : {A : Type 0} (p : Program A) → WellFormed p → Finds p
+finds p kept = record {
+  func = λ i f there. found_by (λ g. g.name) p.funcs (names_apart p kept) i f there;
+  block = λ i f j b there at. found_by (λ c. c.label) f.blocks (labels_apart p kept i f there) j b at;
+}

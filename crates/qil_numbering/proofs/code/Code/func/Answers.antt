@@ -1,0 +1,23 @@
+-- The code of a function stands at the function's number.
+use Rattle.std.proofs.Common.{◌≡◌, ◌∙◌, ap}
+use Rattle.std.specs.Prelude.{slice_get, map}
+use Rattle.std.specs.Option.{option_copied}
+use Rattle.std.proofs.lemmas.Option.{slice_get-map}
+use Rattle.qil_numbering.specs.Numbered.{func_code}
+use Rattle.qil_numbering.specs.Reading.{func_code_at}
+use Rattle.qil_numbering.proofs.Readers.{few-found}
+use Rattle.qil_numbering.proofs.code.Code.func.Goals as goal
+
+pub returns-clause-code : goal.returns-clause-code
+returns-clause-code g c =
+    c.item_at.ensures
+    ∙ ap (λ ks. slice_get ks c.args.func.index) (c.as_slice.ensures.value ∙ c.self.invariant.funcs_are)
+    ∙ slice_get-map (func_code c.self.inside.program.now) c.self.inside.program.now.funcs c.args.func.index
+    ∙ ap (λ p. func_code_at p c.args.func.index) c.self.view_is
+
+pub returns-clause-few : goal.returns-clause-few
+returns-clause-few g c =
+    few-found c.self.inside.program.now c.args.func.index c.item_at.result c.self.invariant.numerable
+    (c.item_at.ensures
+    ∙ ap (λ ks. slice_get ks c.args.func.index) (c.as_slice.ensures.value ∙ c.self.invariant.funcs_are)
+    ∙ slice_get-map (func_code c.self.inside.program.now) c.self.inside.program.now.funcs c.args.func.index)

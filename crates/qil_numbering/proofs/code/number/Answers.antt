@@ -1,0 +1,31 @@
+-- What numbering takes from the rules, and the code that it makes.
+use Rattle.std.proofs.Common.{◌≡◌, ◌∙◌, sym, ap, subst, [], length}
+use Rattle.std.specs.Prelude.{All, map}
+use Rattle.qil_checker.specs.Rules.{WellFormed}
+use Rattle.qil_parser.specs.Trees.{HasBlocks}
+use Rattle.qil_layout.proofs.FewFunctions.{few_functions}
+use Rattle.qil_names.specs.Numbers.{noted}
+use Rattle.qil_numbering.specs.Facts.{IsNumerable}
+use Rattle.qil_numbering.specs.Numbered.{func_code}
+use Rattle.qil_numbering.proofs.Facts.{numerable, finds}
+use Rattle.qil_numbering.proofs.code.number.Goals as goal
+
+pub funcs_code-requires : goal.funcs_code-requires
+funcs_code-requires g c =
+    let kept : WellFormed c.program-program.result.now = subst WellFormed (sym c.program-program.ensures.program) c.program-program.ensures.well_formed in
+    subst (λ fs. All IsNumerable fs) (sym c.as_slice-2.ensures) (numerable c.program-program.result.now kept).each
+
+pub invariant_of-result : goal.invariant_of-result
+invariant_of-result g c =
+    let p = c.program-program.result.now in
+    let kept : WellFormed p = subst WellFormed (sym c.program-program.ensures.program) c.program-program.ensures.well_formed in
+    let image : c.args.image.now ≡ p = c.requires ∙ sym c.program-program.ensures.program in
+    record {
+      image_is = image;
+      names_are = c.in_ok-names.ensures ∙ ap (λ fs. noted [] (map (λ f. f.name) fs)) c.as_slice.ensures ∙ (numerable p kept).names;
+      funcs_are = c.in_ok-funcs.ensures ∙ ap (λ fs. map (func_code c.args.image.now) fs) c.as_slice-2.ensures ∙ ap (λ q. map (func_code q) p.funcs) image;
+      few = few_functions p kept;
+      blocks = subst HasBlocks (sym c.program-program.ensures.program) c.program-program.ensures.blocks;
+      numerable = numerable p kept;
+      finds = finds p kept;
+    }

@@ -1,0 +1,212 @@
+//! The code of a program, and what it says of functions, blocks, slots and instructions by their numbers.
+
+ghost use Rattle.std.specs.Prelude.{◌≡◌, ◌<◌, ◌≤◌, ℕ, List, IfSome, IfOk, IsSome, option_map, slice_get, length};
+ghost use Rattle.std.specs.Option.{option_copied};
+ghost use Rattle.qil_names.specs.Numbers.{place_of};
+ghost use Rattle.qil_numbering.specs.Numbered.{func_at, block_at, names_of};
+ghost use Rattle.qil_numbering.specs.Reading.{func_names, func_code_at, params_at, returns_at, class_at, labels_at, block_code_at, inst_code_at, jump_code_at};
+
+use crate::gather::funcs_of;
+use crate::numbered::{BlockId, FuncCode, NumberedBlock, NumberedInst, NumberedJump, Slot};
+use crate::shape::funcs_code;
+use qil_checker::Checked;
+use qil_layout::{FuncId, Image};
+use qil_names::Numbers;
+use qil_tree::{AbiType, Block, Class, Name, Program};
+use std::alloc::{AllocError, Allocator};
+use std::hash::RandomState;
+use std::marker::Model;
+
+/// The item at a place, if there is one.
+fn item_at<T>(items: &[T], index: u16) -> Option<&T>
+    ensures { option_copied result ≡ slice_get items.now index }
+{
+    items.get(usize::from(index))
+}
+
+/// A checked program, numbered. Specifications see the program: what its code is follows from that.
+#[derive(Drop)]
+pub struct Code<'c, 'a, A: Allocator> {
+    program: &'c Program<'a, A>,
+    image: &'c Image<'c, 'a, A>,
+    names: Numbers<'a, A>,
+    funcs: Vec<FuncCode<'a, A>, A>,
+}
+
+impl<'c, 'a, A: Allocator> Model for Code<'c, 'a, A> {
+    ghost use Rattle.qil_tree.specs.declared.tree.Program.{Program};
+    ghost use Rattle.qil_numbering.specs.Reading.{IsCodeOf};
+
+    ghost Value = { Program A };
+
+    ghost view = { λ code. code.program.now };
+
+    ghost invariant = { λ code. IsCodeOf code.program.now code.image.now code.names code.funcs.items };
+}
+
+impl<'c, 'a, A: Allocator + Copy> Code<'c, 'a, A> {
+    /// Where the program lies.
+    pub fn image(&self) -> &'c Image<'c, 'a, A>
+        ensures { result.now ≡ self.now }
+    {
+        self.image
+    }
+
+    /// The code of a function, if there is one of that number.
+    pub fn func(&self, func: FuncId) -> Option<&FuncCode<'a, A>>
+        ensures code { option_copied result ≡ func_code_at self.now func.index }
+        ensures few { IfSome result (λ k. (length k.now.temps ≤ 65535) × (length k.now.labels ≤ 65535)) }
+    {
+        item_at(self.funcs.as_slice(), func.index)
+    }
+
+    /// The function of a name, without its sigil.
+    pub fn func_named(&self, name: &[u8]) -> Option<FuncId>
+        ensures { option_map (λ f. f.index) result ≡ place_of (func_names self.now) name.now }
+    {
+        match self.names.number(name) {
+            Some(number) => Some(FuncId {
+                index: number as u16,
+            }),
+            None => None,
+        }
+    }
+
+    /// The parameters of a function: slot and type.
+    pub fn params(&self, func: FuncId) -> &[(Slot, AbiType)]
+        ensures { result.now ≡ params_at self.now func.index }
+    {
+        match self.func(func) {
+            Some(found) => found.code.params.as_slice(),
+            None => &[],
+        }
+    }
+
+    /// The type of what a function returns, if it returns a value.
+    pub fn returns(&self, func: FuncId) -> Option<AbiType>
+        ensures { result ≡ returns_at self.now func.index }
+    {
+        match self.func(func) {
+            Some(found) => found.code.returns,
+            None => None,
+        }
+    }
+
+    /// The slot of a temporary, whose name is without its sigil.
+    pub fn slot_of(&self, func: FuncId, name: &[u8]) -> Option<Slot>
+        ensures { option_map (λ s. s.index) result ≡ place_of (names_of self.now func.index) name.now }
+    {
+        match self.func(func) {
+            Some(found) => match found.temps.number(name) {
+                Some(number) => Some(Slot {
+                    index: number as u16,
+                }),
+                None => None,
+            },
+            None => None,
+        }
+    }
+
+    /// The name of the temporary of a slot.
+    pub fn name_of(&self, func: FuncId, slot: Slot) -> Option<Name<'a>>
+        ensures { result ≡ slice_get (names_of self.now func.index) slot.index }
+    {
+        match self.func(func) {
+            Some(found) => match item_at(found.temps.names(), slot.index) {
+                Some(name) => Some(Name::new(name)),
+                None => None,
+            },
+            None => None,
+        }
+    }
+
+    /// The class of the temporary of a slot.
+    pub fn class_of(&self, func: FuncId, slot: Slot) -> Option<Class>
+        ensures { result ≡ class_at self.now func.index slot.index }
+    {
+        match self.func(func) {
+            Some(found) => item_at(found.code.classes.as_slice(), slot.index).copied(),
+            None => None,
+        }
+    }
+
+    /// The block of a label, which is without its sigil.
+    pub fn block_of(&self, func: FuncId, label: &[u8]) -> Option<BlockId>
+        ensures { option_map (λ b. b.index) result ≡ place_of (labels_at self.now func.index) label.now }
+    {
+        match self.func(func) {
+            Some(found) => match found.labels.number(label) {
+                Some(number) => Some(BlockId {
+                    index: number as u16,
+                }),
+                None => None,
+            },
+            None => None,
+        }
+    }
+
+    /// The code of a block, if there is one of those numbers.
+    pub fn block(&self, func: FuncId, block: BlockId) -> Option<&NumberedBlock<A>>
+        ensures { option_copied result ≡ block_code_at self.now func.index block.index }
+    {
+        match self.func(func) {
+            Some(found) => item_at(found.code.blocks.as_slice(), block.index),
+            None => None,
+        }
+    }
+
+    /// An instruction of a block, counted from 0.
+    pub fn inst(&self, func: FuncId, block: BlockId, index: usize) -> Option<&NumberedInst<A>>
+        ensures { option_copied result ≡ inst_code_at self.now func.index block.index index }
+    {
+        match self.block(func, block) {
+            Some(found) => found.insts.as_slice().get(index),
+            None => None,
+        }
+    }
+
+    /// The jump of a block.
+    pub fn jump(&self, func: FuncId, block: BlockId) -> Option<&NumberedJump<A>>
+        ensures { option_copied result ≡ jump_code_at self.now func.index block.index }
+    {
+        match self.block(func, block) {
+            Some(found) => Some(&found.jump),
+            None => None,
+        }
+    }
+
+    /// A block of the tree, if there is one of those numbers.
+    pub fn source(&self, func: FuncId, block: BlockId) -> Option<&'c Block<'a, A>>
+        ensures { option_copied result ≡ block_at self.now func.index block.index }
+    {
+        match self.program.funcs.as_slice().get(usize::from(func.index)) {
+            Some(found) => found.blocks.as_slice().get(usize::from(block.index)),
+            None => None,
+        }
+    }
+}
+
+/// Numbers a checked program, which lies as its image says. `keys` are those of the tables by name.
+///
+/// # Errors
+///
+/// Only want of memory.
+pub fn number<'c, 'a, A: Allocator + Copy>(
+    alloc: A,
+    keys: RandomState,
+    checked: &'c Checked<'a, A>,
+    image: &'c Image<'c, 'a, A>,
+) -> Result<Code<'c, 'a, A>, AllocError>
+    requires { image.now ≡ checked.now.program }
+    ensures { IfOk result (λ code. code ≡ checked.entry.now.program) }
+{
+    let program = checked.program();
+    let names = funcs_of(alloc, keys, program.funcs.as_slice())?;
+    let funcs = funcs_code(alloc, keys, image, program.funcs.as_slice())?;
+    Ok(Code {
+        program,
+        image,
+        names,
+        funcs,
+    })
+}
