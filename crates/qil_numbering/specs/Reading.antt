@@ -1,5 +1,5 @@
 -- What the readers of a code say, by the number of a function, a block, a slot or an instruction.
-use Rattle.std.specs.Prelude.{◌≡◌, ◌≤◌, ℕ, length, List, [], map, Option, Some, None, option_map, unwrap_or, slice_get}
+use Rattle.std.specs.Prelude.{◌≡◌, ◌≤◌, ℕ, length, List, [], map, Option, Some, None, option_map, unwrap_or, slice_get, if◌then◌else◌, ◌==◌}
 use Rattle.std.specs.Option.{option_and_then}
 use Rattle.qil_tree.specs.declared.ops.AbiType.{AbiType}
 use Rattle.qil_tree.specs.declared.ops.Class.{Class}
@@ -10,7 +10,9 @@ use Rattle.qil_meaning.specs.Names.{temps_named}
 use Rattle.qil_numbering.specs.declared.numbered.Slot.{Slot}
 use Rattle.qil_numbering.specs.declared.numbered.PhiMove.{PhiMove}
 use Rattle.qil_numbering.specs.declared.numbered.NumberedInst.{NumberedInst}
+use Rattle.qil_numbering.specs.declared.numbered.Edge.{Edge}
 use Rattle.qil_numbering.specs.declared.numbered.NumberedJump.{NumberedJump}
+use Rattle.qil_numbering.specs.declared.numbered.NumberedJump.TheVariants as jumps
 use Rattle.qil_numbering.specs.declared.numbered.NumberedBlock.{NumberedBlock}
 use Rattle.qil_numbering.specs.declared.numbered.FuncCode.{FuncCode}
 use Rattle.qil_numbering.specs.Gather.{labels_in}
@@ -43,6 +45,24 @@ inst_code_at p f b k = option_and_then (λ block. slice_get block.insts k) (bloc
 
 abbrev pub jump_code_at : {A : Type 0} → Program A → ℕ → ℕ → Option (NumberedJump A)
 jump_code_at p f b = option_map (λ block. block.jump) (block_code_at p f b)
+
+abbrev pub insts_at : {A : Type 0} → Program A → ℕ → ℕ → List (NumberedInst A)
+insts_at p f b = unwrap_or (option_map (λ block. block.insts) (block_code_at p f b)) []
+
+-- the moves of an edge, if it leads to a block
+abbrev pub moves_to : {A : Type 0} → ℕ → Edge A → List PhiMove → List PhiMove
+moves_to b e others = if e.to.index == b then e.moves else others
+
+abbrev pub moves_by : {A : Type 0} → ℕ → Option (NumberedJump A) → List PhiMove
+moves_by b None = []
+moves_by b (Some (jumps.Jmp e)) = moves_to b e []
+moves_by b (Some (jumps.Jnz a e g)) = moves_to b e (moves_to b g [])
+moves_by b (Some (jumps.Ret a)) = []
+moves_by b (Some jumps.Hlt) = []
+
+-- what the phis of a block do where another is left for it
+abbrev pub phis_at : {A : Type 0} → Program A → ℕ → ℕ → ℕ → List PhiMove
+phis_at p f from to = moves_by to (jump_code_at p f from)
 
 -- ---- what a code keeps of its program
 

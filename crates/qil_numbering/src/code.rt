@@ -4,10 +4,12 @@ ghost use Rattle.std.specs.Prelude.{◌≡◌, ◌<◌, ◌≤◌, ℕ, List, If
 ghost use Rattle.std.specs.Option.{option_copied};
 ghost use Rattle.qil_names.specs.Numbers.{place_of};
 ghost use Rattle.qil_numbering.specs.Numbered.{func_at, block_at, names_of};
-ghost use Rattle.qil_numbering.specs.Reading.{func_names, func_code_at, params_at, returns_at, class_at, labels_at, block_code_at, inst_code_at, jump_code_at};
+ghost use Rattle.qil_numbering.specs.Reading.{func_names, func_code_at, params_at, returns_at, class_at, labels_at, block_code_at, inst_code_at, jump_code_at, insts_at, phis_at};
 
 use crate::gather::funcs_of;
-use crate::numbered::{BlockId, FuncCode, NumberedBlock, NumberedInst, NumberedJump, Slot};
+use crate::numbered::{
+    BlockId, FuncCode, NumberedBlock, NumberedInst, NumberedJump, PhiMove, Slot,
+};
 use crate::shape::funcs_code;
 use qil_checker::Checked;
 use qil_layout::{FuncId, Image};
@@ -182,6 +184,62 @@ impl<'c, 'a, A: Allocator + Copy> Code<'c, 'a, A> {
         match self.program.funcs.as_slice().get(usize::from(func.index)) {
             Some(found) => found.blocks.as_slice().get(usize::from(block.index)),
             None => None,
+        }
+    }
+}
+
+impl<'c, 'a, A: Allocator + Copy> Code<'c, 'a, A> {
+    /// How many temporaries a function has.
+    pub fn slot_count(&self, func: FuncId) -> usize
+        ensures { result ≡ length (names_of self.now func.index) }
+    {
+        match self.func(func) {
+            Some(found) => found.temps.names().len(),
+            None => 0,
+        }
+    }
+
+    /// The label of a block, without its sigil.
+    pub fn label_of(&self, func: FuncId, block: BlockId) -> Option<Name<'a>>
+        ensures { result ≡ option_map (λ b. b.label) (block_at self.now func.index block.index) }
+    {
+        match self.source(func, block) {
+            Some(found) => Some(Name::new(found.label.bytes())),
+            None => None,
+        }
+    }
+
+    /// How many instructions a block has.
+    pub fn inst_count(&self, func: FuncId, block: BlockId) -> usize
+        ensures { result ≡ length (insts_at self.now func.index block.index) }
+    {
+        match self.block(func, block) {
+            Some(found) => found.insts.as_slice().len(),
+            None => 0,
+        }
+    }
+
+    /// What the phis of a block do where another block is left for it; nothing where no jump leads there.
+    pub fn phis(&self, func: FuncId, from: BlockId, to: BlockId) -> &[PhiMove]
+        ensures { result.now ≡ phis_at self.now func.index from.index to.index }
+    {
+        match self.jump(func, from) {
+            Some(NumberedJump::Jmp(edge)) => {
+                if edge.to.index == to.index {
+                    return edge.moves.as_slice();
+                }
+                &[]
+            }
+            Some(NumberedJump::Jnz(_, set, zero)) => {
+                if set.to.index == to.index {
+                    return set.moves.as_slice();
+                }
+                if zero.to.index == to.index {
+                    return zero.moves.as_slice();
+                }
+                &[]
+            }
+            _ => &[],
         }
     }
 }

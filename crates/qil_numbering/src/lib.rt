@@ -11,9 +11,11 @@ mod moves;
 mod numbered;
 mod resolve;
 mod shape;
+#[cfg(test)]
+mod tests;
 
 pub use code::{Code, number};
 pub use numbered::{
-    BlockId, Edge, NumberedArgument, NumberedBlock, NumberedExpr, NumberedFunc, NumberedInst,
-    NumberedJump, PhiMove, Receiver, Slot, Source,
+    BlockId, Edge, FuncCode, NumberedArgument, NumberedBlock, NumberedExpr, NumberedFunc,
+    NumberedInst, NumberedJump, PhiMove, Receiver, Slot, Source,
 };
