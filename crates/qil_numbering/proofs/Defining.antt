@@ -1,5 +1,5 @@
 -- The class of the first definition, by the targets of a function's text and by all that stands in it.
-use Rattle.std.proofs.Common.{◌≡◌, refl, sym, ap, ◌∙◌, Bool, true, false, if◌then◌else◌, List, [], ◌∷◌, ◌++◌, Option, Some, None}
+use Rattle.std.proofs.Common.{◌≡◌, refl, sym, ap, ◌∙◌, List, [], ◌∷◌, ◌++◌, Option, Some, None}
 use Rattle.std.specs.Prelude.{map, unwrap_or}
 use Rattle.qil_tree.specs.declared.ops.Class.TheVariants as classes
 use Rattle.qil_numbering.specs.Numbered.{class_of_temp}
@@ -20,7 +20,7 @@ use Rattle.qil_tree.specs.declared.tree.Block.{Block}
 use Rattle.qil_tree.specs.declared.tree.Func.{Func}
 use Rattle.qil_tree.specs.Types.{class_of}
 use Rattle.qil_checker.specs.declared.mention.Mention.{Mention}
-use Rattle.qil_checker.specs.Mentions.{operand_mentions, read_mentions, target_mentions, long_mentions, source_mentions, phi_mentions, kind_mentions, inst_mentions, jump_mentions, block_mentions, param_mention, func_mentions}
+use Rattle.qil_checker.specs.Mentions.{operand_mentions, read_mentions, target_mentions, long_mentions, source_mentions, phi_mentions, inst_mentions, jump_mentions, block_mentions, param_mention, func_mentions}
 use Rattle.qil_checker.specs.Operands.{Read, inst_reads, inst_target, inst_long_class}
 use Rattle.qil_meaning.specs.State.{Name}
 use Rattle.qil_meaning.specs.Poke.{class_in, defined_by}

@@ -12,3 +12,7 @@ pub mod FactsBlocks
 pub mod FactsTemps
 pub mod Facts
 pub mod Readers
+pub mod Has
+pub mod Naming
+pub mod KnownLabels
+pub mod NamedCode

@@ -5,7 +5,6 @@ use Rattle.std.specs.List.{list_any}
 use Rattle.std.specs.Str.{bytes_eq}
 use Rattle.std.proofs.lemmas.List.{append-nil}
 use Rattle.std.proofs.lemmas.Slice.Eq.{bytes_eq-Decides}
-use Rattle.indexmap.specs.IndexSet.{insert_key}
 use Rattle.qil_names.specs.Numbers.{noted}
 use Rattle.qil_names.proofs.NumberLemmas.{noted_append}
 use Rattle.qil_meaning.specs.State.{Name}

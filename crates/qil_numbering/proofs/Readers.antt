@@ -1,5 +1,5 @@
 -- What the readers of a code say of a function that is there, and of one that isn't.
-use Rattle.std.proofs.Common.{◌≡◌, ◌≤◌, ◌∙◌, refl, sym, ap, subst, arith, length, Bor, ℕ, List, [], ◌∷◌, Option, Some, None}
+use Rattle.std.proofs.Common.{◌≡◌, ◌≤◌, ◌∙◌, refl, sym, ap, subst, arith, length, Bor, ℕ, List, [], Option, Some, None}
 use Rattle.std.specs.Prelude.{map, option_map, unwrap_or, slice_get}
 use Rattle.std.specs.Option.{option_and_then, option_copied}
 use Rattle.std.specs.Prelude.{IfSome}

@@ -1,7 +1,6 @@
 -- Places in lists that are put together: of one element, and of two, the one before the other.
-use Rattle.std.proofs.Common.{◌≡◌, refl, ap, subst, ℕ, zero, suc, ◌<◌, List, [], ◌∷◌, ◌++◌, Some, arith}
-use Rattle.std.specs.Prelude.{map, slice_get}
-use Rattle.std.specs.List.{flat_map}
+use Rattle.std.proofs.Common.{◌≡◌, refl, ℕ, zero, suc, ◌<◌, List, [], ◌∷◌, ◌++◌, Some, arith}
+use Rattle.std.specs.Prelude.{slice_get}
 
 abbrev pub One : {X : Type 0} → List X → X → Type 0
 One xs x = (n : ℕ) × (slice_get xs n ≡ Some x)

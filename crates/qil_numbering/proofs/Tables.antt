@@ -1,5 +1,5 @@
 -- Tables beside blocks: what holds of each pair holds with one pair more.
-use Rattle.std.proofs.Common.{◌≡◌, ◌∙◌, sym, ap, ℕ, ◌⊎◌, inl, inr, List, [], ◌∷◌, ◌++◌, length, get_or, Some, subst}
+use Rattle.std.proofs.Common.{◌≡◌, ◌∙◌, sym, ℕ, ◌⊎◌, inl, inr, List, [], ◌∷◌, ◌++◌, length, get_or, Some, subst}
 use Rattle.std.specs.Prelude.{slice_get}
 use Rattle.qil_numbering.proofs.Parts.{last_or_before, is_there}
 

@@ -1,5 +1,5 @@
 -- The code of a function, put together from its parts.
-use Rattle.std.proofs.Common.{◌≡◌, ◌∙◌, sym, ap, List}
+use Rattle.std.proofs.Common.{◌≡◌, ◌∙◌, ap, List}
 use Rattle.std.specs.Prelude.{map, Option}
 use Rattle.qil_tree.specs.declared.ops.AbiType.{AbiType}
 use Rattle.qil_tree.specs.declared.ops.Class.{Class}

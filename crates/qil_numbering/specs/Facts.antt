@@ -1,10 +1,14 @@
 -- What numbering takes from the rules that a checked program keeps.
-use Rattle.std.specs.Prelude.{◌≡◌, ℕ, ◌≤◌, List, [], length, map, Some, slice_get}
+use Rattle.std.specs.Prelude.{◌≡◌, ℕ, ◌≤◌, List, [], ◌∷◌, length, map, Some, slice_get}
 use Rattle.std.specs.List.{All}
 use Rattle.qil_tree.specs.declared.tree.Func.{Func}
+use Rattle.qil_tree.specs.declared.tree.JumpKind.{JumpKind}
+use Rattle.qil_tree.specs.declared.tree.JumpKind.TheVariants as jumps
 use Rattle.qil_tree.specs.declared.tree.Block.{Block}
 use Rattle.qil_tree.specs.declared.tree.Program.{Program}
+use Rattle.qil_checker.specs.Text.{IsAmong}
 use Rattle.qil_names.specs.Numbers.{noted}
+use Rattle.qil_meaning.specs.State.{Name}
 use Rattle.qil_meaning.specs.Names.{temps_named}
 use Rattle.qil_meaning.specs.Step.{func_named, block_labelled}
 use Rattle.qil_numbering.specs.Gather.{labels_in}
@@ -24,3 +28,14 @@ pub record AreNumerable {A : Type 0} (p : Program A) : Type 0 where
 pub record Finds {A : Type 0} (p : Program A) : Type 0 where
   pub func : (i : ℕ) (f : Func A) → slice_get p.funcs i ≡ Some f → func_named p.funcs f.name ≡ Some f
   pub block : (i : ℕ) (f : Func A) (j : ℕ) (b : Block A) → slice_get p.funcs i ≡ Some f → slice_get f.blocks j ≡ Some b → block_labelled f.blocks b.label ≡ Some b
+
+-- the labels that a jump names
+abbrev pub jump_labels : JumpKind → List Name
+jump_labels (jumps.Jmp l) = l ∷ []
+jump_labels (jumps.Jnz a l m) = l ∷ (m ∷ [])
+jump_labels (jumps.Ret a) = []
+jump_labels jumps.Hlt = []
+
+-- each label that a jump names is that of a block of its function
+pub record KnowsLabels {A : Type 0} (p : Program A) : Type 0 where
+  pub known : (i : ℕ) (f : Func A) (j : ℕ) (b : Block A) (l : Name) → slice_get p.funcs i ≡ Some f → slice_get f.blocks j ≡ Some b → IsAmong l (jump_labels b.jump.kind) → IsAmong l (labels_in f.blocks)

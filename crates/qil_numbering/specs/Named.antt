@@ -1,5 +1,5 @@
 -- Numbered parts, read back through names.
-use Rattle.std.specs.Prelude.{ℕ, List, map, Option, Some, None, option_map, unwrap_or}
+use Rattle.std.specs.Prelude.{List, map, option_map, unwrap_or}
 use Rattle.qil_tree.specs.declared.ops.Class.{Class}
 use Rattle.qil_tree.specs.declared.tree.Operand.{Operand}
 use Rattle.qil_tree.specs.declared.tree.Operand.TheVariants as operands

@@ -1,5 +1,5 @@
 -- The code of a program, as a function of its tree: temporaries and blocks as their numbers, globals as their addresses.
-use Rattle.std.specs.Prelude.{ℕ, List, [], ◌∷◌, map, flat_map, Option, Some, None, option_map, unwrap_or, slice_get}
+use Rattle.std.specs.Prelude.{ℕ, List, [], map, flat_map, Option, Some, None, option_map, unwrap_or, slice_get}
 use Rattle.qil_tree.specs.declared.ops.AbiType.{AbiType}
 use Rattle.qil_tree.specs.declared.ops.Class.{Class}
 use Rattle.qil_tree.specs.declared.ops.Class.TheVariants as classes
@@ -27,7 +27,6 @@ use Rattle.qil_meaning.specs.Names.{temps_named}
 use Rattle.qil_meaning.specs.Poke.{class_in}
 use Rattle.qil_meaning.specs.Step.{phi_moves, block_labelled}
 use Rattle.qil_meaning.specs.Step as step
-use Rattle.qil_numbering.specs.declared.numbered.BlockId.{BlockId}
 use Rattle.qil_numbering.specs.declared.numbered.Slot.{Slot}
 use Rattle.qil_numbering.specs.declared.numbered.Source.{Source}
 use Rattle.qil_numbering.specs.declared.numbered.Source.TheVariants as sources

@@ -16,8 +16,8 @@ use Rattle.qil_numbering.specs.declared.numbered.NumberedJump.TheVariants as jum
 use Rattle.qil_numbering.specs.declared.numbered.NumberedBlock.{NumberedBlock}
 use Rattle.qil_numbering.specs.declared.numbered.FuncCode.{FuncCode}
 use Rattle.qil_numbering.specs.Gather.{labels_in}
-use Rattle.qil_numbering.specs.Facts.{AreNumerable, Finds}
-use Rattle.qil_numbering.specs.Numbered.{class_of_temp, param_of, block_of, func_code, func_at, block_at}
+use Rattle.qil_numbering.specs.Facts.{AreNumerable, Finds, KnowsLabels}
+use Rattle.qil_numbering.specs.Numbered.{class_of_temp, param_of, block_of, func_code, func_at}
 
 abbrev pub func_names : {A : Type 0} → Program A → List Name
 func_names p = map (λ f. f.name) p.funcs
@@ -74,3 +74,4 @@ pub record IsCodeOf {A : Type 0} (p image : Program A) (names : List Name) (func
   pub blocks : HasBlocks p
   pub numerable : AreNumerable p
   pub finds : Finds p
+  pub knows : KnowsLabels p

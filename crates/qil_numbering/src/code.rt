@@ -1,9 +1,12 @@
 //! The code of a program, and what it says of functions, blocks, slots and instructions by their numbers.
 
-ghost use Rattle.std.specs.Prelude.{◌≡◌, ◌<◌, ◌≤◌, ℕ, List, IfSome, IfOk, IsSome, option_map, slice_get, length};
+ghost use Rattle.std.specs.Prelude.{◌≡◌, ◌<◌, ◌≤◌, ℕ, List, Some, IfSome, IfOk, IsSome, option_map, slice_get, length};
 ghost use Rattle.std.specs.Option.{option_copied};
+ghost use Rattle.qil_tree.specs.declared.tree.Inst.{Inst};
+ghost use Rattle.qil_tree.specs.declared.tree.Block.{Block};
 ghost use Rattle.qil_names.specs.Numbers.{place_of};
-ghost use Rattle.qil_numbering.specs.Numbered.{func_at, block_at, names_of};
+ghost use Rattle.qil_numbering.specs.Numbered.{func_at, block_at, inst_at, names_of};
+ghost use Rattle.qil_numbering.specs.Named.{named_inst, named_jump, resolved_inst, resolved_jump};
 ghost use Rattle.qil_numbering.specs.Reading.{func_names, func_code_at, params_at, returns_at, class_at, labels_at, block_code_at, inst_code_at, jump_code_at, insts_at, phis_at};
 
 use crate::gather::funcs_of;
@@ -159,7 +162,9 @@ impl<'c, 'a, A: Allocator + Copy> Code<'c, 'a, A> {
 
     /// An instruction of a block, counted from 0.
     pub fn inst(&self, func: FuncId, block: BlockId, index: usize) -> Option<&NumberedInst<A>>
-        ensures { option_copied result ≡ inst_code_at self.now func.index block.index index }
+        ensures code { option_copied result ≡ inst_code_at self.now func.index block.index index }
+        ensures named { (inst : Inst A) → inst_at self.now func.index block.index index ≡ Some inst
+            → option_map (named_inst (names_of self.now func.index)) (option_copied result) ≡ Some (resolved_inst self.now inst.kind) }
     {
         match self.block(func, block) {
             Some(found) => found.insts.as_slice().get(index),
@@ -169,8 +174,11 @@ impl<'c, 'a, A: Allocator + Copy> Code<'c, 'a, A> {
 
     /// The jump of a block.
     pub fn jump(&self, func: FuncId, block: BlockId) -> Option<&NumberedJump<A>>
-        ensures { option_copied result ≡ jump_code_at self.now func.index block.index }
+        ensures code { option_copied result ≡ jump_code_at self.now func.index block.index }
+        ensures named { (source : Block A) → block_at self.now func.index block.index ≡ Some source
+            → option_map (named_jump (names_of self.now func.index) (labels_at self.now func.index)) (option_copied result) ≡ Some (resolved_jump self.now source.jump.kind) }
     {
+        let _ = &self.program;
         match self.block(func, block) {
             Some(found) => Some(&found.jump),
             None => None,

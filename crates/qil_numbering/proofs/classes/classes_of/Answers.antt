@@ -1,9 +1,8 @@
 -- The table has the definitions, so the classes are those of the temporaries.
-use Rattle.std.proofs.Common.{◌≡◌, ◌∙◌, ap, List, ℕ}
+use Rattle.std.proofs.Common.{◌∙◌, ap}
 use Rattle.std.specs.Prelude.{map, unwrap_or}
 use Rattle.qil_tree.specs.declared.ops.Class.TheVariants as classes
 use Rattle.qil_names.specs.Tables.{value_at}
-use Rattle.qil_numbering.specs.Numbered.{class_of_temp}
 use Rattle.qil_numbering.proofs.Defining.{map-class}
 use Rattle.qil_numbering.proofs.classes.classes_of.Goals as goal
 

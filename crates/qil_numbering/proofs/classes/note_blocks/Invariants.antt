@@ -1,10 +1,9 @@
 -- The classes so far, with those of what is left, are all.
 use Rattle.std.proofs.Common.{◌≡◌, List, ℕ, drop}
-use Rattle.std.specs.Prelude.{map}
 use Rattle.std.specs.Option.{option_or}
 use Rattle.std.specs.List.{flat_map}
 use Rattle.qil_names.specs.Tables.{value_at}
-use Rattle.qil_numbering.specs.Classes.{param_target, inst_targets, block_targets, first_class}
+use Rattle.qil_numbering.specs.Classes.{block_targets, first_class}
 use Rattle.qil_numbering.proofs.classes.note_blocks.Given as goal
 
 abbrev pub invariant-loop-block : goal.invariant-loop-block

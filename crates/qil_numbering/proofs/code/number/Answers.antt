@@ -1,5 +1,5 @@
 -- What numbering takes from the rules, and the code that it makes.
-use Rattle.std.proofs.Common.{◌≡◌, ◌∙◌, sym, ap, subst, [], length}
+use Rattle.std.proofs.Common.{◌≡◌, ◌∙◌, sym, ap, subst, []}
 use Rattle.std.specs.Prelude.{All, map}
 use Rattle.qil_checker.specs.Rules.{WellFormed}
 use Rattle.qil_parser.specs.Trees.{HasBlocks}
@@ -8,6 +8,7 @@ use Rattle.qil_names.specs.Numbers.{noted}
 use Rattle.qil_numbering.specs.Facts.{IsNumerable}
 use Rattle.qil_numbering.specs.Numbered.{func_code}
 use Rattle.qil_numbering.proofs.Facts.{numerable, finds}
+use Rattle.qil_numbering.proofs.KnownLabels.{knows_labels}
 use Rattle.qil_numbering.proofs.code.number.Goals as goal
 
 pub funcs_code-requires : goal.funcs_code-requires
@@ -28,4 +29,5 @@ invariant_of-result g c =
       blocks = subst HasBlocks (sym c.program-program.ensures.program) c.program-program.ensures.blocks;
       numerable = numerable p kept;
       finds = finds p kept;
+      knows = knows_labels p kept;
     }

@@ -1,6 +1,5 @@
 -- The names so far, with those that are left, are all.
 use Rattle.std.proofs.Common.{◌≡◌, drop}
-use Rattle.std.specs.List.{flat_map}
 use Rattle.qil_names.specs.Numbers.{noted}
 use Rattle.qil_numbering.specs.Gather.{sources_names}
 use Rattle.qil_numbering.proofs.gather.note_sources.Given as goal

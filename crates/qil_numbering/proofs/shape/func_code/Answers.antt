@@ -1,5 +1,5 @@
 -- The parts of a function are those of its code.
-use Rattle.std.proofs.Common.{◌≡◌, ◌∙◌, ap, []}
+use Rattle.std.proofs.Common.{◌∙◌, ap, []}
 use Rattle.qil_names.specs.Numbers.{noted}
 use Rattle.qil_numbering.specs.Gather.{labels_in}
 use Rattle.qil_numbering.proofs.Whole.{code-is}

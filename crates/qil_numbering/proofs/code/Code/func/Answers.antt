@@ -1,7 +1,6 @@
 -- The code of a function stands at the function's number.
-use Rattle.std.proofs.Common.{◌≡◌, ◌∙◌, ap}
-use Rattle.std.specs.Prelude.{slice_get, map}
-use Rattle.std.specs.Option.{option_copied}
+use Rattle.std.proofs.Common.{◌∙◌, ap}
+use Rattle.std.specs.Prelude.{slice_get}
 use Rattle.std.proofs.lemmas.Option.{slice_get-map}
 use Rattle.qil_numbering.specs.Numbered.{func_code}
 use Rattle.qil_numbering.specs.Reading.{func_code_at}

@@ -1,5 +1,5 @@
 -- The name of the temporary of a slot.
-use Rattle.std.proofs.Common.{◌≡◌, ◌∙◌, ap, sym, Some}
+use Rattle.std.proofs.Common.{◌∙◌, ap, sym, Some}
 use Rattle.std.specs.Prelude.{slice_get, option_map}
 use Rattle.std.proofs.lemmas.Option.{slice_get-map}
 use Rattle.qil_numbering.proofs.Readers.{coded, uncoded, temps-there, no-names}

@@ -1,5 +1,5 @@
 -- The parameters of a function that is there.
-use Rattle.std.proofs.Common.{◌∙◌, ap}
+use Rattle.std.proofs.Common.{◌∙◌}
 use Rattle.qil_numbering.proofs.Readers.{coded, params-there}
 use Rattle.qil_numbering.proofs.code.Code.params.Goals as goal
 

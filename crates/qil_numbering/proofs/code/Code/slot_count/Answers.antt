@@ -1,5 +1,5 @@
 -- How many temporaries a function has.
-use Rattle.std.proofs.Common.{◌≡◌, ◌∙◌, sym, ap, length}
+use Rattle.std.proofs.Common.{◌∙◌, sym, ap, length}
 use Rattle.std.proofs.lemmas.List.{length-map}
 use Rattle.qil_numbering.proofs.Readers.{coded, uncoded, temps-there, no-names}
 use Rattle.qil_numbering.proofs.code.Code.slot_count.Goals as goal
