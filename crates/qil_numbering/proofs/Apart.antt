@@ -1,5 +1,5 @@
 -- Names of which no two are equal are noted as they stand.
-use Rattle.std.proofs.Common.{◌≡◌, ◌≢◌, refl, sym, ap, ◌∙◌, ℕ, suc, ◌<◌, Bool, true, false, List, [], ◌∷◌, Some, arith}
+use Rattle.std.proofs.Common.{◌≡◌, refl, sym, ap, ◌∙◌, ℕ, suc, ◌<◌, Bool, true, false, List, [], ◌∷◌, Some, arith}
 use Rattle.std.specs.Prelude.{slice_get, filter, not}
 use Rattle.std.specs.Str.{bytes_eq}
 use Rattle.std.proofs.lemmas.Slice.Eq.{bytes_eq-Decides}
@@ -32,12 +32,3 @@ once-same (x ∷ xs) h =
 
 pub noted-same : (xs : List Name) → AreApart xs → noted [] xs ≡ xs
 noted-same xs h = noted-once xs ∙ once-same xs h
-
--- ---- names that stand once
-
-unequal : (x y : Name) → not (bytes_eq x y) ≡ true → x ≢ y
-unequal x y e = by (bytes_eq x y) refl e
-  where
-    by : (b : Bool) → bytes_eq x y ≡ b → not b ≡ true → x ≢ y
-    by true f g = absurd cc
-    by false f g = λ s. grind (arith, f, s, bytes_eq-Decides x y)
