@@ -103,6 +103,17 @@ impl<A: Allocator + Copy> Memory<A> {
         }
     }
 
+    /// The byte at an address, if it is live. It takes no memory.
+    pub fn byte(&self, address: u64) -> Option<u8>
+        ensures value { result ≡ live self.now address }
+        ensures inside { IfSome result (λ _. address < STACK_END) }
+    {
+        match self.live_bytes(address, 1) {
+            Some(bytes) => Some(bytes[0]),
+            None => None,
+        }
+    }
+
     /// Writes the `n` low bytes of a number from an address on, the least significant first, and answers the number that
     /// stood there, which `put_back` puts back. It takes no memory.
     ///

@@ -7,7 +7,7 @@ use Rattle.qil_checker.specs.Rules.{WellFormed}
 use Rattle.qil_numbering.specs.Facts.{IsNumerable, AreNumerable, Finds}
 use Rattle.qil_numbering.specs.Gather.{labels_in}
 use Rattle.qil_numbering.proofs.Apart.{noted-same}
-use Rattle.qil_numbering.proofs.FactsNames.{names_apart, found_by}
+use Rattle.qil_numbering.proofs.FactsNames.{names_apart, found_by, placed_by, mapped_at}
 use Rattle.qil_numbering.proofs.FactsBlocks.{labels_apart, few_blocks}
 use Rattle.qil_numbering.proofs.FactsTemps.{few_temps}
 
@@ -28,4 +28,5 @@ pub finds : {A : Type 0} (p : Program A) → WellFormed p → Finds p
 finds p kept = record {
   func = λ i f there. found_by (λ g. g.name) p.funcs (names_apart p kept) i f there;
   block = λ i f j b there at. found_by (λ c. c.label) f.blocks (labels_apart p kept i f there) j b at;
+  number = λ i f there. placed_by (map (λ g. g.name) p.funcs) (names_apart p kept) i f.name (mapped_at (λ g. g.name) p.funcs i f there);
 }

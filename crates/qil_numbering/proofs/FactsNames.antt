@@ -11,6 +11,7 @@ use Rattle.qil_checker.specs.declared.rule.Rule.TheVariants.{C1}
 use Rattle.qil_checker.specs.declared.mention.What.TheVariants.{FunctionName}
 use Rattle.qil_checker.specs.Mentions.{data_mentions, func_mentions, texts_in}
 use Rattle.qil_checker.specs.Rules.{WellFormed}
+use Rattle.qil_names.specs.Numbers.{place_of}
 use Rattle.qil_meaning.specs.State.{Name}
 use Rattle.qil_numbering.proofs.Spots.{One, Two, one_more, two_more, one_behind}
 use Rattle.qil_numbering.proofs.Apart.{AreApart}
@@ -78,3 +79,19 @@ found_by name (y ∷ ys) h (suc i) x e =
     found_next (name y) (name x) y x (find (λ z. bytes_eq (name z) (name x)) ys) (bytes_eq (name y) (name x)) refl
     (λ s. h 0 (suc i) (name x) (omega arith) (ap Some s) (mapped_at name ys i x e))
     (found_by name ys (λ j k z l a b. h (suc j) (suc k) z (omega (arith, l)) a b) i x e)
+
+-- ---- what numbers names have
+
+placed_next : (y x : Name) (deep : Option ℕ) (i : ℕ) (b : Bool) → bytes_eq y x ≡ b → (y ≡ x → ⊥) → deep ≡ Some i → (if b then Some 0 else option_map (λ j. suc j) deep) ≡ Some (suc i)
+placed_next y x deep i true e n d = absurd (n ((bytes_eq-Decides y x).0 e))
+placed_next y x deep i false e n d = ap (option_map (λ j. suc j)) d
+
+-- where no two names are equal, each has its place as its number
+pub placed_by : (ns : List Name) → AreApart ns → (i : ℕ) (x : Name) → slice_get ns i ≡ Some x → place_of ns x ≡ Some i
+unfolding place_of
+placed_by [] h i x e = absurd cc
+placed_by (n ∷ ns) h zero x e = let same : bytes_eq n x ≡ true = (bytes_eq-Decides n x).1 (ap (λ o. unwrap_or o x) e) in rw same refl
+placed_by (n ∷ ns) h (suc i) x e =
+    placed_next n x (place_of ns x) i (bytes_eq n x) refl
+    (λ s. h 0 (suc i) x (omega arith) (ap Some s) e)
+    (placed_by ns (λ j k z l a b. h (suc j) (suc k) z (omega (arith, l)) a b) i x e)

@@ -38,7 +38,7 @@ use Rattle.qil_numbering.proofs.FactsNames.{func_text}
 abbrev other : Name → Name → Bool
 other x y = not (bytes_eq x y)
 
-abbrev Differ : Name → Name → Type 0
+abbrev pub Differ : Name → Name → Type 0
 Differ x y = x ≢ y
 
 others_at : (x y : Name) (ys : List Name) (b : Bool) → bytes_eq x y ≡ b → All (Differ x) ys → All (Differ x) (if not b then y ∷ ys else ys)
@@ -49,7 +49,7 @@ others-differ : (x : Name) (ys : List Name) → All (Differ x) (filter (other x)
 others-differ x [] = All-nil (Differ x)
 others-differ x (y ∷ ys) = others_at x y (filter (other x) ys) (bytes_eq x y) refl (others-differ x ys)
 
-once-differ : (xs : List Name) → AllPairs Differ (once xs)
+pub once-differ : (xs : List Name) → AllPairs Differ (once xs)
 unfolding once
 once-differ [] = λ i j d l within. absurd (omega (arith, l, within))
 once-differ (x ∷ xs) =
@@ -168,6 +168,9 @@ func_there f =
     there_behind (on f.line (FunctionName f.name) ∷ []) (params ++ blocks) (map (λ q. q.name) f.params ++ flat_map block_names f.blocks)
     (both_there params blocks (map (λ q. q.name) f.params) (flat_map block_names f.blocks)
     (params_there f.line f.params) (all_there (block_mentions f.returns) block_names (block_there f.returns) f.blocks))
+
+pub temps_there : {A : Type 0} (f : Func A) → All (IsTemporary (func_mentions f)) (temps_named f)
+temps_there f = let all = map (λ q. q.name) f.params ++ flat_map block_names f.blocks in once-all (IsTemporary (func_mentions f)) all (func_there f)
 
 -- by rule C12
 pub few_temps : {A : Type 0} (p : Program A) → WellFormed p → (n : ℕ) (f : Func A) → slice_get p.funcs n ≡ Some f → length (temps_named f) ≤ 65535

@@ -15,4 +15,10 @@ pub mod Readers
 pub mod Has
 pub mod Naming
 pub mod KnownLabels
+pub mod KnownTemps
+pub mod UnknownTemps
 pub mod NamedCode
+pub mod PhiMoves
+pub mod Ranged
+pub mod RangedCode
+pub mod EdgesNamed

@@ -45,7 +45,7 @@ second_source p ns a b h = first_source p ns b [] (HasAll-right ns (operand_name
 
 -- ---- instructions
 
-abbrev reads_names : List Read → List Name
+abbrev pub reads_names : List Read → List Name
 reads_names rs = flat_map (λ r. operand_names r.operand) rs
 
 pub named-expr : {A : Type 0} (p : Program A) (ns : List Name) (c : Class) (e : Expr) → HasAll ns (reads_names (expr_reads c e)) → named_expr ns (expr_of p ns e) ≡ resolved_expr p e

@@ -1,6 +1,8 @@
 -- Lists taken apart at a place.
-use Rattle.std.proofs.Common.{◌≡◌, ◌∙◌, sym, ap, refl, subst, ℕ, zero, suc, ◌+◌, ◌<◌, ◌⊎◌, inl, inr, List, [], ◌∷◌, ◌++◌, length, get_or, drop, Some, None, add-one, drop-cons}
-use Rattle.std.specs.Prelude.{slice_get, unwrap_or}
+use Rattle.std.proofs.Common.{◌≡◌, ◌∙◌, sym, ap, refl, subst, ℕ, zero, suc, ◌+◌, ◌<◌, ◌⊎◌, inl, inr, List, [], ◌∷◌, ◌++◌, length, get_or, drop, Some, None, add-one, drop-cons, append_assoc}
+use Rattle.std.specs.Prelude.{map, slice_get, unwrap_or}
+use Rattle.std.specs.List.{All}
+use Rattle.std.proofs.lemmas.List.Elements.{All-nil, All-cons, All-append}
 use Rattle.std.proofs.lemmas.Option.{get_or_from_slice_get}
 
 -- the elements from a place on: the one there, and those behind it
@@ -24,3 +26,14 @@ last_or_before (x ∷ xs) y t (suc i) e = further (last_or_before xs y t i e)
 -- the element that a loop is at stands at its place
 pub is_there : {X : Type 0} (xs : List X) (i : ℕ) (x y : X) → x ≡ get_or xs i x → slice_get xs i ≡ Some y → y ≡ x
 is_there xs i x y is at = sym (is ∙ get_or_from_slice_get xs i y x at)
+
+-- with an element more of which P holds, it holds of each
+pub all_more : {X : Type 0} (P : X → Type 0) (xs ys : List X) (x : X) → ys ≡ xs ++ x ∷ [] → P x → All P xs → All P ys
+all_more P xs ys x is here all = subst (λ l. All P l) (sym is) (All-append P xs (x ∷ []) all (All-cons P x [] here (All-nil P)))
+
+-- what a loop has made so far, with what is left: one element more
+pub mapped_more : {X Y : Type 0} (f : X → Y) (xs : List X) (i : ℕ) (x : X) (ys zs all : List Y) (y : Y) → x ≡ get_or xs i x → i < length xs → zs ≡ ys ++ y ∷ [] → y ≡ f x
+    → ys ++ map f (drop i xs) ≡ all → zs ++ map f (drop (i + 1) xs) ≡ all
+mapped_more f xs i x ys zs all y is lt more made before =
+    let rest = map f (drop (i + 1) xs) in
+    ap (λ l. l ++ rest) more ∙ append_assoc ys (y ∷ []) rest ∙ ap (λ z. ys ++ (z ∷ rest)) made ∙ ap (λ l. ys ++ map f l) (sym (at_drop xs i x is lt)) ∙ before

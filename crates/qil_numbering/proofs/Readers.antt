@@ -39,7 +39,7 @@ no_func p (Some func) at = not_none (func_code p func) at
 pub uncoded : {A : Type 0} (p : Program A) (i : ℕ) → None ≡ func_code_at p i → func_at p i ≡ None
 uncoded p i at = no_func p (func_at p i) at
 
-func_at_numerable : {A : Type 0} (p : Program A) (i : ℕ) (func : Func A) → AreNumerable p → func_at p i ≡ Some func → IsNumerable func
+pub func_at_numerable : {A : Type 0} (p : Program A) (i : ℕ) (func : Func A) → AreNumerable p → func_at p i ≡ Some func → IsNumerable func
 func_at_numerable p i func all there = subst IsNumerable (get_or_from_slice_get p.funcs i func func there) (all.each i func (slice_get_within p.funcs i func there))
 
 -- ---- of a function that is there

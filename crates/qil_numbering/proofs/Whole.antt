@@ -32,3 +32,6 @@ code-is p func classes params blocks temps labels t l c q b = λ i. record {
   temps = t i;
   labels = l i;
 }
+
+pub codes-are : {A : Type 0} (p image : Program A) (funcs : List (Func A)) (ks : List (FuncCode A)) → ks ≡ map (func_code image) funcs → funcs ≡ p.funcs → image ≡ p → ks ≡ map (func_code p) p.funcs
+codes-are p image funcs ks is same whole = is ∙ ap (λ fs. map (func_code image) fs) same ∙ ap (λ q. map (func_code q) p.funcs) whole

@@ -3,6 +3,7 @@ pub mod Gather
 pub mod Slots
 pub mod Numbered
 pub mod Named
+pub mod Ranges
 pub mod Moves
 pub mod Classes
 pub mod Facts

@@ -1,5 +1,5 @@
 -- What the readers of a code say, by the number of a function, a block, a slot or an instruction.
-use Rattle.std.specs.Prelude.{◌≡◌, ◌≤◌, ℕ, length, List, [], map, Option, Some, None, option_map, unwrap_or, slice_get, if◌then◌else◌, ◌==◌}
+use Rattle.std.specs.Prelude.{◌≡◌, ◌≤◌, ℕ, All, length, List, [], map, Option, Some, None, option_map, unwrap_or, slice_get, if◌then◌else◌, ◌==◌}
 use Rattle.std.specs.Option.{option_and_then}
 use Rattle.qil_tree.specs.declared.ops.AbiType.{AbiType}
 use Rattle.qil_tree.specs.declared.ops.Class.{Class}
@@ -16,7 +16,8 @@ use Rattle.qil_numbering.specs.declared.numbered.NumberedJump.TheVariants as jum
 use Rattle.qil_numbering.specs.declared.numbered.NumberedBlock.{NumberedBlock}
 use Rattle.qil_numbering.specs.declared.numbered.FuncCode.{FuncCode}
 use Rattle.qil_numbering.specs.Gather.{labels_in}
-use Rattle.qil_numbering.specs.Facts.{AreNumerable, Finds, KnowsLabels}
+use Rattle.qil_numbering.specs.Facts.{AreNumerable, Finds, KnowsLabels, KnowsTemps}
+use Rattle.qil_numbering.specs.Ranges.{FuncIsShort}
 use Rattle.qil_numbering.specs.Numbered.{class_of_temp, param_of, block_of, func_code, func_at}
 
 abbrev pub func_names : {A : Type 0} → Program A → List Name
@@ -66,6 +67,9 @@ phis_at p f from to = moves_by to (jump_code_at p f from)
 
 -- ---- what a code keeps of its program
 
+abbrev pub IsShortCode : {A : Type 0} → Program A → Type 0
+IsShortCode p = All FuncIsShort (map (func_code p) p.funcs)
+
 pub record IsCodeOf {A : Type 0} (p image : Program A) (names : List Name) (funcs : List (FuncCode A)) : Type 0 where
   pub image_is : image ≡ p
   pub names_are : names ≡ func_names p
@@ -75,3 +79,5 @@ pub record IsCodeOf {A : Type 0} (p image : Program A) (names : List Name) (func
   pub numerable : AreNumerable p
   pub finds : Finds p
   pub knows : KnowsLabels p
+  pub temps : KnowsTemps p
+  pub short : IsShortCode p

@@ -1,12 +1,18 @@
 //! The code of a program, and what it says of functions, blocks, slots and instructions by their numbers.
 
-ghost use Rattle.std.specs.Prelude.{◌≡◌, ◌<◌, ◌≤◌, ℕ, List, Some, IfSome, IfOk, IsSome, option_map, slice_get, length};
+ghost use Rattle.std.specs.Prelude.{◌≡◌, ◌<◌, ◌≤◌, ℕ, List, Some, IfSome, IfOk, IsSome, map, option_map, slice_get, length};
 ghost use Rattle.std.specs.Option.{option_copied};
+ghost use Rattle.std.specs.List.{flat_map};
 ghost use Rattle.qil_tree.specs.declared.tree.Inst.{Inst};
 ghost use Rattle.qil_tree.specs.declared.tree.Block.{Block};
 ghost use Rattle.qil_names.specs.Numbers.{place_of};
+ghost use Rattle.qil_checker.specs.Text.{IsAmong};
+ghost use Rattle.qil_meaning.specs.Poke.{temp_class};
+ghost use Rattle.qil_meaning.specs.Step.{phi_moves};
+ghost use Rattle.qil_numbering.specs.Facts.{Finds, KnowsLabels, jump_labels};
+ghost use Rattle.qil_numbering.specs.Ranges.{BlockInRange, FuncInRange};
 ghost use Rattle.qil_numbering.specs.Numbered.{func_at, block_at, inst_at, names_of};
-ghost use Rattle.qil_numbering.specs.Named.{named_inst, named_jump, resolved_inst, resolved_jump};
+ghost use Rattle.qil_numbering.specs.Named.{named_inst, named_move, named_jump, resolved_inst, resolved_move, resolved_jump};
 ghost use Rattle.qil_numbering.specs.Reading.{func_names, func_code_at, params_at, returns_at, class_at, labels_at, block_code_at, inst_code_at, jump_code_at, insts_at, phis_at};
 
 use crate::gather::funcs_of;
@@ -61,6 +67,9 @@ impl<'c, 'a, A: Allocator + Copy> Code<'c, 'a, A> {
     pub fn func(&self, func: FuncId) -> Option<&FuncCode<'a, A>>
         ensures code { option_copied result ≡ func_code_at self.now func.index }
         ensures few { IfSome result (λ k. (length k.now.temps ≤ 65535) × (length k.now.labels ≤ 65535)) }
+        ensures range { IfSome result (λ k. FuncInRange k.now) }
+        ensures finds { Finds self.now }
+        ensures knows { KnowsLabels self.now }
     {
         item_at(self.funcs.as_slice(), func.index)
     }
@@ -99,7 +108,8 @@ impl<'c, 'a, A: Allocator + Copy> Code<'c, 'a, A> {
 
     /// The slot of a temporary, whose name is without its sigil.
     pub fn slot_of(&self, func: FuncId, name: &[u8]) -> Option<Slot>
-        ensures { option_map (λ s. s.index) result ≡ place_of (names_of self.now func.index) name.now }
+        ensures place { option_map (λ s. s.index) result ≡ place_of (names_of self.now func.index) name.now }
+        ensures finds { Finds self.now }
     {
         match self.func(func) {
             Some(found) => match found.temps.number(name) {
@@ -127,8 +137,11 @@ impl<'c, 'a, A: Allocator + Copy> Code<'c, 'a, A> {
 
     /// The class of the temporary of a slot.
     pub fn class_of(&self, func: FuncId, slot: Slot) -> Option<Class>
-        ensures { result ≡ class_at self.now func.index slot.index }
+        ensures code { result ≡ class_at self.now func.index slot.index }
+        ensures defined { (name : List ℕ) → slice_get (names_of self.now func.index) slot.index ≡ Some name → result ≡ temp_class (func_at self.now func.index) name }
+        ensures finds { Finds self.now }
     {
+        let _ = &self.program;
         match self.func(func) {
             Some(found) => item_at(found.code.classes.as_slice(), slot.index).copied(),
             None => None,
@@ -152,7 +165,10 @@ impl<'c, 'a, A: Allocator + Copy> Code<'c, 'a, A> {
 
     /// The code of a block, if there is one of those numbers.
     pub fn block(&self, func: FuncId, block: BlockId) -> Option<&NumberedBlock<A>>
-        ensures { option_copied result ≡ block_code_at self.now func.index block.index }
+        ensures code { option_copied result ≡ block_code_at self.now func.index block.index }
+        ensures range { IfSome result (λ k. BlockInRange (length (names_of self.now func.index)) (length (labels_at self.now func.index)) k.now) }
+        ensures finds { Finds self.now }
+        ensures knows { KnowsLabels self.now }
     {
         match self.func(func) {
             Some(found) => item_at(found.code.blocks.as_slice(), block.index),
@@ -227,8 +243,7 @@ impl<'c, 'a, A: Allocator + Copy> Code<'c, 'a, A> {
         }
     }
 
-    /// What the phis of a block do where another block is left for it; nothing where no jump leads there.
-    pub fn phis(&self, func: FuncId, from: BlockId, to: BlockId) -> &[PhiMove]
+    fn moves_between(&self, func: FuncId, from: BlockId, to: BlockId) -> &[PhiMove]
         ensures { result.now ≡ phis_at self.now func.index from.index to.index }
     {
         match self.jump(func, from) {
@@ -249,6 +264,17 @@ impl<'c, 'a, A: Allocator + Copy> Code<'c, 'a, A> {
             }
             _ => &[],
         }
+    }
+
+    /// What the phis of a block do where another block is left for it; nothing where no jump leads there.
+    pub fn phis(&self, func: FuncId, from: BlockId, to: BlockId) -> &[PhiMove]
+        ensures code { result.now ≡ phis_at self.now func.index from.index to.index }
+        ensures named { (left target : Block A) → block_at self.now func.index from.index ≡ Some left → block_at self.now func.index to.index ≡ Some target
+            → IsAmong target.label (jump_labels left.jump.kind)
+            → map (named_move (names_of self.now func.index)) result.now ≡ map (resolved_move self.now) (flat_map (phi_moves left.label) target.phis) }
+    {
+        let _ = &self.program;
+        self.moves_between(func, from, to)
     }
 }
 

@@ -7,6 +7,7 @@ ghost use Rattle.qil_names.specs.Tables.{values_at};
 ghost use Rattle.qil_numbering.specs.Gather.{labels_in};
 ghost use Rattle.qil_numbering.specs.Numbered.{inst_of, block_moves, edge_of, jump_of, block_of, param_of, func_code};
 ghost use Rattle.qil_numbering.specs.Facts.{IsNumerable};
+ghost use Rattle.qil_numbering.specs.Ranges.{IsShort, JumpIsShort, BlockIsShort, FuncIsShort};
 
 use crate::classes::classes_of;
 use crate::gather::{labels_of, temps_of};
@@ -20,6 +21,10 @@ use qil_names::{Groups, Numbers};
 use qil_tree::{AbiType, Block, Func, Inst, Items, Jump, JumpKind, Name};
 use std::alloc::{AllocError, Allocator};
 use std::hash::RandomState;
+
+/// An index of 32 bits goes through fewer items than these. A list of so many would itself take more than 100 GB, so that
+/// it counts as want of memory.
+const INDEX_LIMIT: usize = 1 << 32;
 
 /// The blocks of a function, with what the phis of each do for each block that may be left.
 #[derive(Drop)]
@@ -51,8 +56,12 @@ fn moves_of_all<'a, A: Allocator + Copy>(
 
 /// The moves of a list, in one of its own.
 fn copied<A: Allocator + Copy>(alloc: A, moves: &[PhiMove]) -> Result<Vec<PhiMove, A>, AllocError>
-    ensures { IfOk result (λ v. v.items ≡ moves.now) }
+    ensures moves { IfOk result (λ v. v.items ≡ moves.now) }
+    ensures short { IfOk result (λ v. IsShort v.items) }
 {
+    if moves.len() >= INDEX_LIMIT {
+        return Err(AllocError);
+    }
     let mut out = Vec::with_capacity(alloc, moves.len())?;
     for one in moves {
         out.push(*one)?;
@@ -63,7 +72,8 @@ fn copied<A: Allocator + Copy>(alloc: A, moves: &[PhiMove]) -> Result<Vec<PhiMov
 impl<'r, 'c, 'a, A: Allocator + Copy> Shape<'r, 'c, 'a, A> {
     fn moves(&self, alloc: A, left: &Name<'a>, number: usize) -> Result<Vec<PhiMove, A>, AllocError>
         requires { number < length self.now.blocks.now }
-        ensures { (b : Block A) → slice_get self.now.blocks.now number ≡ Some b → IfOk result (λ v. v.items ≡ block_moves self.now.resolver.now.image.now self.now.resolver.now.temps.now left.now b) }
+        ensures moves { (b : Block A) → slice_get self.now.blocks.now number ≡ Some b → IfOk result (λ v. v.items ≡ block_moves self.now.resolver.now.image.now self.now.resolver.now.temps.now left.now b) }
+        ensures short { IfOk result (λ v. IsShort v.items) }
     {
         let table = &self.moves[number];
         match table.get(left.bytes()) {
@@ -74,7 +84,8 @@ impl<'r, 'c, 'a, A: Allocator + Copy> Shape<'r, 'c, 'a, A> {
 
     /// The way from a block to the block of a label.
     fn edge(&self, alloc: A, left: &Name<'a>, label: &Name<'a>) -> Result<Edge<A>, AllocError>
-        ensures { IfOk result (λ e. e ≡ edge_of self.now.resolver.now.image.now self.now.blocks.now self.now.resolver.now.temps.now left.now label.now) }
+        ensures edge { IfOk result (λ e. e ≡ edge_of self.now.resolver.now.image.now self.now.blocks.now self.now.resolver.now.temps.now left.now label.now) }
+        ensures short { IfOk result (λ e. IsShort e.moves) }
     {
         match self.resolver.labels.number(label.bytes()) {
             Some(number) => Ok(Edge {
@@ -96,7 +107,8 @@ impl<'r, 'c, 'a, A: Allocator + Copy> Shape<'r, 'c, 'a, A> {
         left: &Name<'a>,
         jump: &Jump<'a>,
     ) -> Result<NumberedJump<A>, AllocError>
-        ensures { IfOk result (λ j. j ≡ jump_of self.now.resolver.now.image.now self.now.blocks.now self.now.resolver.now.temps.now left.now jump.now.kind) }
+        ensures jump { IfOk result (λ j. j ≡ jump_of self.now.resolver.now.image.now self.now.blocks.now self.now.resolver.now.temps.now left.now jump.now.kind) }
+        ensures short { IfOk result (λ j. JumpIsShort j) }
     {
         match &jump.kind {
             JumpKind::Jmp(to) => Ok(NumberedJump::Jmp(self.edge(alloc, left, to)?)),
@@ -112,8 +124,12 @@ impl<'r, 'c, 'a, A: Allocator + Copy> Shape<'r, 'c, 'a, A> {
     }
 
     fn insts(&self, alloc: A, insts: &[Inst<'a, A>]) -> Result<Vec<NumberedInst<A>, A>, AllocError>
-        ensures { IfOk result (λ v. v.items ≡ map (inst_of self.now.resolver.now.image.now self.now.resolver.now.temps.now) insts.now) }
+        ensures insts { IfOk result (λ v. v.items ≡ map (inst_of self.now.resolver.now.image.now self.now.resolver.now.temps.now) insts.now) }
+        ensures short { IfOk result (λ v. IsShort v.items) }
     {
+        if insts.len() >= INDEX_LIMIT {
+            return Err(AllocError);
+        }
         let mut out = Vec::with_capacity(alloc, insts.len())?;
         for inst in insts {
             out.push(self.resolver.inst(alloc, inst)?)?;
@@ -122,7 +138,8 @@ impl<'r, 'c, 'a, A: Allocator + Copy> Shape<'r, 'c, 'a, A> {
     }
 
     fn block(&self, alloc: A, block: &Block<'a, A>) -> Result<NumberedBlock<A>, AllocError>
-        ensures { IfOk result (λ b. b ≡ block_of self.now.resolver.now.image.now self.now.blocks.now self.now.resolver.now.temps.now block.now) }
+        ensures block { IfOk result (λ b. b ≡ block_of self.now.resolver.now.image.now self.now.blocks.now self.now.resolver.now.temps.now block.now) }
+        ensures short { IfOk result (λ b. BlockIsShort b) }
     {
         let insts = self.insts(alloc, block.insts.as_slice())?;
         let jump = self.jump(alloc, &block.label, &block.jump)?;
@@ -134,7 +151,8 @@ impl<'r, 'c, 'a, A: Allocator + Copy> Shape<'r, 'c, 'a, A> {
 
     /// All blocks, numbered.
     pub fn numbered(&self, alloc: A) -> Result<Vec<NumberedBlock<A>, A>, AllocError>
-        ensures { IfOk result (λ v. v.items ≡ map (block_of self.now.resolver.now.image.now self.now.blocks.now self.now.resolver.now.temps.now) self.now.blocks.now) }
+        ensures blocks { IfOk result (λ v. v.items ≡ map (block_of self.now.resolver.now.image.now self.now.blocks.now self.now.resolver.now.temps.now) self.now.blocks.now) }
+        ensures short { IfOk result (λ v. All BlockIsShort v.items) }
     {
         let mut out = Vec::with_capacity(alloc, self.blocks.len())?;
         for block in self.blocks {
@@ -158,6 +176,7 @@ fn parts_of<'a, A: Allocator + Copy>(
     requires labels { labels.now ≡ labels_in func.now.blocks }
     ensures params { IfOk result (λ v. v.0.items ≡ map (param_of temps.now) func.now.params) }
     ensures blocks { IfOk result (λ v. v.1.items ≡ map (block_of image.now func.now.blocks temps.now) func.now.blocks) }
+    ensures short { IfOk result (λ v. All BlockIsShort v.1.items) }
 {
     let resolver = Resolver {
         image,
@@ -184,7 +203,8 @@ fn func_code<'a, A: Allocator + Copy>(
     func: &Func<'a, A>,
 ) -> Result<FuncCode<'a, A>, AllocError>
     requires { IsNumerable func.now }
-    ensures { IfOk result (λ k. k ≡ func_code image.now func.now) }
+    ensures code { IfOk result (λ k. k ≡ func_code image.now func.now) }
+    ensures short { IfOk result (λ k. FuncIsShort k) }
 {
     let temps = temps_of(alloc, keys, func)?;
     let labels = labels_of(alloc, keys, func.blocks.as_slice())?;
@@ -210,7 +230,8 @@ pub fn funcs_code<'a, A: Allocator + Copy>(
     funcs: &[Func<'a, A>],
 ) -> Result<Vec<FuncCode<'a, A>, A>, AllocError>
     requires { All IsNumerable funcs.now }
-    ensures { IfOk result (λ v. v.items ≡ map (func_code image.now) funcs.now) }
+    ensures codes { IfOk result (λ v. v.items ≡ map (func_code image.now) funcs.now) }
+    ensures short { IfOk result (λ v. All FuncIsShort v.items) }
 {
     let mut out = Vec::with_capacity(alloc, funcs.len())?;
     for func in funcs {

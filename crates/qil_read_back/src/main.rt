@@ -6,6 +6,8 @@
 #![tactic(auto)]
 
 mod reader;
+#[cfg(test)]
+mod tests;
 
 use qil_checker::{Checked, check};
 use qil_layout::{Image, layout};
@@ -32,10 +34,10 @@ enum Answer {
 }
 
 /// Whether each function is read back as it stands in the text.
-fn compare(checked: &Checked<'_, Global>, code: &Code<'_, '_, Global>) -> Answer {
+fn compare<'r>(checked: &'r Checked<'_, Global>, code: &'r Code<'_, '_, Global>) -> Answer {
     for func in checked.program().funcs.as_slice() {
-        let difference = match Reader::new(code, func.name.bytes()) {
-            Some(reader) => reader.difference(func),
+        let difference = match Reader::new(code, func) {
+            Some(reader) => reader.difference(),
             None => Some(func.line),
         };
         if let Some(line) = difference {

@@ -11,18 +11,22 @@ use qil_tree::{
 };
 use std::alloc::Global;
 
-/// One function of a code.
+/// A function of a tree, and that of its name in a code.
 #[derive(Clone, Copy, Drop)]
-pub struct Reader<'r, 'c, 'a> {
+pub struct Reader<'r, 'c, 'a, 't> {
     code: &'r Code<'c, 'a, Global>,
     func: FuncId,
+    tree: &'r Func<'t, Global>,
 }
 
-impl<'r, 'c, 'a> Reader<'r, 'c, 'a> {
-    /// The function of a name.
-    pub fn new(code: &'r Code<'c, 'a, Global>, name: &[u8]) -> Option<Reader<'r, 'c, 'a>> {
-        let func = code.func_named(name)?;
-        Some(Reader { code, func })
+impl<'r, 'c, 'a, 't> Reader<'r, 'c, 'a, 't> {
+    /// The function of a tree, if the code has one of its name.
+    pub fn new(
+        code: &'r Code<'c, 'a, Global>,
+        tree: &'r Func<'t, Global>,
+    ) -> Option<Reader<'r, 'c, 'a, 't>> {
+        let func = code.func_named(tree.name.bytes())?;
+        Some(Reader { code, func, tree })
     }
 
     fn is_temp(&self, slot: Slot, name: &Name<'_>) -> bool {
@@ -156,9 +160,12 @@ impl<'r, 'c, 'a> Reader<'r, 'c, 'a> {
         let Some(to) = self.code.block_of(self.func, label.bytes()) else {
             return false
         };
-        let Some(block) = self.code.source(self.func, to) else {
+        let Some(block) = self.tree.blocks.as_slice().get(usize::from(to.index)) else {
             return false
         };
+        if block.label.bytes() != label.bytes() {
+            return false;
+        }
         let moves = self.code.phis(self.func, from, to);
         for (found, phi) in moves.iter().zip(block.phis.as_slice().iter()) {
             if !self.is_move(found, phi, left) {
@@ -228,13 +235,13 @@ impl<'r, 'c, 'a> Reader<'r, 'c, 'a> {
     }
 
     /// The first line of the function that is read back otherwise.
-    pub fn difference(&self, func: &Func<'_, Global>) -> Option<u32> {
-        if self.code.returns(self.func) != func.returns
-            || !self.are_params(func.params.as_slice())
+    pub fn difference(&self) -> Option<u32> {
+        if self.code.returns(self.func) != self.tree.returns
+            || !self.are_params(self.tree.params.as_slice())
         {
-            return Some(func.line);
+            return Some(self.tree.line);
         }
-        for block in func.blocks.as_slice() {
+        for block in self.tree.blocks.as_slice() {
             if let Some(line) = self.block_difference(block) {
                 return Some(line);
             }

@@ -7,8 +7,11 @@ use Rattle.qil_layout.proofs.FewFunctions.{few_functions}
 use Rattle.qil_names.specs.Numbers.{noted}
 use Rattle.qil_numbering.specs.Facts.{IsNumerable}
 use Rattle.qil_numbering.specs.Numbered.{func_code}
+use Rattle.qil_numbering.specs.Ranges.{FuncIsShort}
 use Rattle.qil_numbering.proofs.Facts.{numerable, finds}
 use Rattle.qil_numbering.proofs.KnownLabels.{knows_labels}
+use Rattle.qil_numbering.proofs.KnownTemps.{knows_temps}
+use Rattle.qil_numbering.proofs.Whole.{codes-are}
 use Rattle.qil_numbering.proofs.code.number.Goals as goal
 
 pub funcs_code-requires : goal.funcs_code-requires
@@ -21,13 +24,17 @@ invariant_of-result g c =
     let p = c.program-program.result.now in
     let kept : WellFormed p = subst WellFormed (sym c.program-program.ensures.program) c.program-program.ensures.well_formed in
     let image : c.args.image.now ≡ p = c.requires ∙ sym c.program-program.ensures.program in
+    let funcs_are : c.in_ok-funcs.funcs.items ≡ map (func_code p) p.funcs =
+    codes-are p c.args.image.now _ c.in_ok-funcs.funcs.items c.in_ok-funcs.ensures.codes c.as_slice-2.ensures image in
     record {
       image_is = image;
       names_are = c.in_ok-names.ensures ∙ ap (λ fs. noted [] (map (λ f. f.name) fs)) c.as_slice.ensures ∙ (numerable p kept).names;
-      funcs_are = c.in_ok-funcs.ensures ∙ ap (λ fs. map (func_code c.args.image.now) fs) c.as_slice-2.ensures ∙ ap (λ q. map (func_code q) p.funcs) image;
+      funcs_are = funcs_are;
       few = few_functions p kept;
       blocks = subst HasBlocks (sym c.program-program.ensures.program) c.program-program.ensures.blocks;
       numerable = numerable p kept;
       finds = finds p kept;
       knows = knows_labels p kept;
+      temps = knows_temps p kept;
+      short = subst (λ ks. All FuncIsShort ks) funcs_are c.in_ok-funcs.ensures.short;
     }

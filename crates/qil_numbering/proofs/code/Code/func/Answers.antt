@@ -1,9 +1,11 @@
 -- The code of a function stands at the function's number.
-use Rattle.std.proofs.Common.{◌∙◌, ap}
+use Rattle.std.proofs.Common.{◌∙◌, ap, subst}
 use Rattle.std.specs.Prelude.{slice_get}
 use Rattle.std.proofs.lemmas.Option.{slice_get-map}
+use Rattle.qil_numbering.specs.Facts.{Finds, KnowsLabels}
 use Rattle.qil_numbering.specs.Numbered.{func_code}
 use Rattle.qil_numbering.specs.Reading.{func_code_at}
+use Rattle.qil_numbering.proofs.RangedCode.{func-ranges}
 use Rattle.qil_numbering.proofs.Readers.{few-found}
 use Rattle.qil_numbering.proofs.code.Code.func.Goals as goal
 
@@ -20,3 +22,16 @@ returns-clause-few g c =
     (c.item_at.ensures
     ∙ ap (λ ks. slice_get ks c.args.func.index) (c.as_slice.ensures.value ∙ c.self.invariant.funcs_are)
     ∙ slice_get-map (func_code c.self.inside.program.now) c.self.inside.program.now.funcs c.args.func.index)
+
+pub returns-clause-range : goal.returns-clause-range
+returns-clause-range g c =
+    func-ranges c.self.inside.program.now c.args.func.index c.item_at.result c.self.invariant.blocks c.self.invariant.knows c.self.invariant.short
+    (c.item_at.ensures
+    ∙ ap (λ ks. slice_get ks c.args.func.index) (c.as_slice.ensures.value ∙ c.self.invariant.funcs_are)
+    ∙ slice_get-map (func_code c.self.inside.program.now) c.self.inside.program.now.funcs c.args.func.index)
+
+pub returns-clause-finds : goal.returns-clause-finds
+returns-clause-finds g c = subst Finds c.self.view_is c.self.invariant.finds
+
+pub returns-clause-knows : goal.returns-clause-knows
+returns-clause-knows g c = subst KnowsLabels c.self.view_is c.self.invariant.knows

@@ -13,6 +13,6 @@ returns-in-Some-clause-named g c = λ inst at.
     let code : option_copied c.get.result ≡ inst_code_at c.args.self.now c.args.func.index c.args.block.index c.args.index =
     copied_at c.get.result c.as_slice.result.now c.args.index c.get.ensures.lookup.3
     ∙ ap (λ xs. slice_get xs c.args.index) c.as_slice.ensures
-    ∙ ap (λ o. option_and_then (λ block. slice_get block.insts c.args.index) o) c.in-Some.ensures in
+    ∙ ap (λ o. option_and_then (λ block. slice_get block.insts c.args.index) o) c.in-Some.ensures.code in
     ap (λ o. option_map (named_inst (names_of c.args.self.now c.args.func.index)) o) code
     ∙ inst-named c.args.self.now c.args.func.index c.args.block.index c.args.index inst at

@@ -10,5 +10,5 @@ use Rattle.qil_numbering.proofs.code.Code.jump.Goals as goal
 
 pub returns-in-Some-clause-named : goal.returns-in-Some-clause-named
 returns-in-Some-clause-named g c = λ source at.
-    ap (λ o. option_map (named_jump (names_of c.args.self.now c.args.func.index) (labels_at c.args.self.now c.args.func.index)) (option_map (λ block. block.jump) o)) c.in-Some.ensures
+    ap (λ o. option_map (named_jump (names_of c.args.self.now c.args.func.index) (labels_at c.args.self.now c.args.func.index)) (option_map (λ block. block.jump) o)) c.in-Some.ensures.code
     ∙ jump-named c.args.self.now c.args.func.index c.args.block.index source (subst KnowsLabels c.self.view_is c.self.invariant.knows) at

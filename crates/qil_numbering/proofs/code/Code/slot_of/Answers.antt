@@ -7,11 +7,11 @@ use Rattle.qil_numbering.proofs.code.Code.slot_of.Goals as goal
 pub overflow_cast-result : goal.overflow_cast-result
 overflow_cast-result g c = omega (arith, c.in-Some-number.ensures.within, c.in-Some.ensures.few.0)
 
-pub returns-in-Some-number : goal.returns-in-Some-number
-returns-in-Some-number g c = c.in-Some-number.ensures.place ∙ ap (λ ns. place_of ns c.args.name.now) (temps-there c.args.self.now c.args.func.index c.in-Some.found.now (coded _ _ _ c.in-Some.ensures.code))
+pub returns-in-Some-number-clause-place : goal.returns-in-Some-number-clause-place
+returns-in-Some-number-clause-place g c = c.in-Some-number.ensures.place ∙ ap (λ ns. place_of ns c.args.name.now) (temps-there c.args.self.now c.args.func.index c.in-Some.found.now (coded _ _ _ c.in-Some.ensures.code))
 
-pub returns-in-None-number : goal.returns-in-None-number
-returns-in-None-number g c = c.in-None-number.ensures.place ∙ ap (λ ns. place_of ns c.args.name.now) (temps-there c.args.self.now c.args.func.index c.in-Some.found.now (coded _ _ _ c.in-Some.ensures.code))
+pub returns-in-None-number-clause-place : goal.returns-in-None-number-clause-place
+returns-in-None-number-clause-place g c = c.in-None-number.ensures.place ∙ ap (λ ns. place_of ns c.args.name.now) (temps-there c.args.self.now c.args.func.index c.in-Some.found.now (coded _ _ _ c.in-Some.ensures.code))
 
-pub returns-in-None : goal.returns-in-None
-returns-in-None g c = no-place _ c.args.name.now (no-names c.args.self.now c.args.func.index (uncoded c.args.self.now c.args.func.index c.in-None.ensures.code))
+pub returns-in-None-clause-place : goal.returns-in-None-clause-place
+returns-in-None-clause-place g c = no-place _ c.args.name.now (no-names c.args.self.now c.args.func.index (uncoded c.args.self.now c.args.func.index c.in-None.ensures.code))
