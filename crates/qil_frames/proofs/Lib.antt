@@ -1,0 +1,6 @@
+pub mod Innermost
+pub mod ValueLemmas
+pub mod Exchanging
+pub mod PhiLemmas
+pub mod Within
+pub mod Entering

@@ -1,0 +1,10 @@
+use Rattle.std.proofs.Common.{◌-◌, ◌∙◌, arith}
+use Rattle.qil_frames.specs.Frames.{with_slot}
+use Rattle.qil_frames.proofs.Innermost.{on_last, has_frame, last_held}
+use Rattle.qil_frames.proofs.frames.Frames.set.Goals as goal
+
+pub returns-clause-old : goal.returns-clause-old
+returns-clause-old g c = c.set.ensures.old ∙ last_held c.self.inside.stack.items c.args.self.now (c.len-last.result - 1) _ c.args.slot c.self.view_is (has_frame c.args.self.now c.args.slot c.requires) (omega arith) c.index_mut-frame.ensures.value
+
+pub returns-clause-new : goal.returns-clause-new
+returns-clause-new g c = on_last c.self.inside.stack.items c.args.self.now (with_slot c.args.slot c.args.value) (c.len-last.result - 1) _ _ c.self.view_is (has_frame c.args.self.now c.args.slot c.requires) (omega arith) c.index_mut-frame.ensures.value c.set.ensures.new

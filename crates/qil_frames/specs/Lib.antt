@@ -1,0 +1,4 @@
+-- The definitions.
+pub mod Frames
+pub mod Enter
+pub mod Kept

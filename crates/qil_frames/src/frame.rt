@@ -1,0 +1,247 @@
+//! One call that is not over.
+
+ghost use Rattle.std.specs.Prelude.{◌≡◌, ◌≢◌, ◌<◌, ◌≤◌, ◌^◌, ◌↔◌, length, replicate, None, Err, IfOk, IfErr, OnErr, IsTrue, get_or};
+ghost use Rattle.std.specs.List.{All};
+ghost use Rattle.qil_numbering.specs.Ranges.{MoveInRange, IsShort};
+ghost use Rattle.qil_frames.specs.Frames.{SlotFrame, with_slot, at_index, at_place};
+ghost use Rattle.qil_frames.specs.Enter.{gathered, AreSlots, returned};
+ghost use Rattle.qil_frames.specs.Kept.{HasEntered, ExplainsPhis};
+
+use crate::phis::{do_phis, undo_phis};
+use crate::saved::{PhiFault, PhiSaved};
+use qil_layout::FuncId;
+use qil_numbering::{BlockId, PhiMove, Receiver, Slot};
+use std::alloc::{AllocError, Allocator};
+use std::marker::Model;
+
+#[derive(Debug, Drop)]
+struct Body<A: Allocator> {
+    slots: Vec<Option<u64>, A>,
+    func: u16,
+    block: u16,
+    index: u32,
+    floor: u32,
+    result: Option<Receiver>,
+}
+
+/// A call that is not over, behind one pointer.
+#[derive(Debug, Drop)]
+pub struct Frame<A: Allocator> {
+    body: Box<Body<A>, A>,
+}
+
+impl<A: Allocator> Model for Frame<A> {
+    ghost use Rattle.std.specs.Prelude.{length, ◌≤◌};
+    ghost use Rattle.qil_frames.specs.Frames.{SlotFrame};
+
+    ghost Value = { SlotFrame };
+
+    ghost view = { λ f. record { func = f.body.value.func; block = f.body.value.block; index = f.body.value.index; slots = f.body.value.slots.items; floor = f.body.value.floor; result = f.body.value.result } };
+
+    ghost invariant = { λ f. length f.body.value.slots.items ≤ 65535 };
+}
+
+impl<A: Allocator + Copy> Frame<A> {
+    /// A frame at the start of a function, with that many slots, all unset. It takes two allocations.
+    pub fn new(
+        alloc: A,
+        func: FuncId,
+        slots: u16,
+        floor: u64,
+        receiver: Option<Receiver>,
+    ) -> Result<Frame<A>, AllocError>
+        requires { floor < 2 ^ 32 }
+        ensures { IfOk result (λ f. f ≡ record { func = func.index; block = 0; index = 0; slots = replicate slots None; floor = floor; result = receiver }) }
+    {
+        let slots = vec![in alloc; None; usize::from(slots)]?;
+        let body = Box::new(
+            alloc,
+            Body {
+                slots,
+                func: func.index,
+                block: 0,
+                index: 0,
+                floor: floor as u32,
+                result: receiver,
+            },
+        )?;
+        Ok(Frame { body })
+    }
+
+    /// An equal frame. It takes two allocations.
+    pub fn try_clone(&self) -> Result<Frame<A>, AllocError>
+        ensures { IfOk result (λ f. f ≡ self.now) }
+    {
+        let alloc = *self.body.slots.allocator();
+        let slots = Vec::from_slice(alloc, self.body.slots.as_slice())?;
+        let body = Box::new(
+            alloc,
+            Body {
+                slots,
+                func: self.body.func,
+                block: self.body.block,
+                index: self.body.index,
+                floor: self.body.floor,
+                result: self.body.result,
+            },
+        )?;
+        Ok(Frame { body })
+    }
+
+    /// Enters a block at its start.
+    #[inline(always)]
+    pub(crate) fn enter(
+        &mut self,
+        alloc: A,
+        block: BlockId,
+        moves: &[PhiMove],
+    ) -> Result<PhiSaved<A>, PhiFault>
+        requires moves { All (MoveInRange (length self.old.slots)) moves.now }
+        requires short { IsShort moves.now }
+        ensures ok { IfOk result (λ kept. HasEntered block.index moves.now self.old self.new kept) }
+        ensures fault { IfErr result (λ e. ExplainsPhis e (gathered self.old.slots moves.now)) }
+        ensures few { length moves.now ≤ 1 → result ≢ Err PhiFault.OutOfMemory }
+        ensures err { OnErr result (self.new ≡ self.old) }
+    {
+        let body = self.body.as_mut();
+        match do_phis(alloc, &mut body.slots, moves) {
+            Ok(slots) => {
+                let left = BlockId { index: body.block };
+                let index = body.index;
+                body.block = block.index;
+                body.index = 0;
+                Ok(PhiSaved::from_parts(left, index, slots))
+            }
+            Err(fault) => Err(fault),
+        }
+    }
+}
+
+impl<A: Allocator> Frame<A> {
+    /// Goes back to the block that was left.
+    #[inline(always)]
+    pub(crate) fn undo_enter(&mut self, kept: PhiSaved<A>)
+        requires { AreSlots kept.slots (length self.old.slots) }
+        ensures { self.new ≡ returned kept self.old }
+    {
+        let (block, index, slots) = kept.into_parts();
+        let body = self.body.as_mut();
+        undo_phis(&mut body.slots, &slots);
+        body.block = block.index;
+        body.index = index;
+    }
+
+    #[inline(always)]
+    pub fn func(&self) -> FuncId
+        ensures { result.index ≡ self.now.func }
+    {
+        FuncId {
+            index: self.body.func,
+        }
+    }
+
+    #[inline(always)]
+    pub fn block(&self) -> BlockId
+        ensures { result.index ≡ self.now.block }
+    {
+        BlockId {
+            index: self.body.block,
+        }
+    }
+
+    /// How many instructions of the block are done.
+    #[inline(always)]
+    pub fn index(&self) -> u32
+        ensures { result ≡ self.now.index }
+    {
+        self.body.index
+    }
+
+    /// The top of the stack from before the call.
+    #[inline(always)]
+    pub fn floor(&self) -> u64
+        ensures value { result ≡ self.now.floor }
+        ensures fits { result < 2 ^ 32 }
+    {
+        u64::from(self.body.floor)
+    }
+
+    /// What takes the value that is returned.
+    #[inline(always)]
+    pub fn result(&self) -> Option<Receiver>
+        ensures { result ≡ self.now.result }
+    {
+        self.body.result
+    }
+
+    #[inline(always)]
+    pub fn slots(&self) -> &[Option<u64>]
+        ensures value { result.now ≡ self.now.slots }
+        ensures few { length self.now.slots ≤ 65535 }
+    {
+        self.body.slots.as_slice()
+    }
+
+    #[inline(always)]
+    pub fn get(&self, slot: Slot) -> Option<u64>
+        requires { slot.index < length self.now.slots }
+        ensures { result ≡ get_or self.now.slots slot.index None }
+    {
+        self.body.slots[usize::from(slot.index)]
+    }
+
+    /// Sets a slot, and gives what stood there.
+    #[inline(always)]
+    pub fn set(&mut self, slot: Slot, value: Option<u64>) -> Option<u64>
+        requires { slot.index < length self.old.slots }
+        ensures old { result ≡ get_or self.old.slots slot.index None }
+        ensures new { self.new ≡ with_slot slot value self.old }
+    {
+        let body = self.body.as_mut();
+        let old = body.slots[usize::from(slot.index)];
+        body.slots[usize::from(slot.index)] = value;
+        old
+    }
+
+    #[inline(always)]
+    pub fn set_index(&mut self, index: u32)
+        ensures { self.new ≡ at_index index self.old }
+    {
+        self.body.index = index;
+    }
+
+    #[inline(always)]
+    pub fn set_place(&mut self, block: BlockId, index: u32)
+        ensures { self.new ≡ at_place block.index index self.old }
+    {
+        let body = self.body.as_mut();
+        body.block = block.index;
+        body.index = index;
+    }
+
+    /// Whether two frames are equal in all that they hold.
+    pub fn same(&self, other: &Frame<A>) -> bool
+        ensures { IsTrue result ↔ (self.now ≡ other.now) }
+    {
+        self.body.func == other.body.func
+            && self.body.block == other.body.block
+            && self.body.index == other.body.index
+            && self.body.floor == other.body.floor
+            && self.body.result == other.body.result
+            && same_slots(&self.body.slots, &other.body.slots)
+    }
+}
+
+fn same_slots(left: &[Option<u64>], right: &[Option<u64>]) -> bool
+    ensures { IsTrue result ↔ (left.now ≡ right.now) }
+{
+    if left.len() != right.len() {
+        return false;
+    }
+    for (i, value) in left.iter().enumerate() {
+        if *value != right[i] {
+            return false;
+        }
+    }
+    true
+}
