@@ -1,0 +1,12 @@
+//! The state of a machine as code holds it, by numbers, and the state by names that it stands for.
+#![tactic(auto)]
+
+mod arguments;
+mod status;
+#[cfg(test)]
+mod tests;
+mod values;
+
+pub use arguments::{argument, check_arguments, is_in_shape};
+pub use status::{Fault, Status};
+pub use values::{evaluate, fitted, taken_by, value};
