@@ -1,0 +1,9 @@
+use Rattle.qil_machine.proofs.Advancing.{step_done, step_faulted}
+use Rattle.qil_machine.proofs.machine.Machine.advance_into.Goals as goal
+
+pub returns-in-Ok-clause-step : goal.returns-in-Ok-clause-step
+returns-in-Ok-clause-step g c = step_done c.args.self.now _ c.in-Ok.ensures.does
+
+pub returns-in-Err-Fault-clause-step : goal.returns-in-Err-Fault-clause-step
+returns-in-Err-Fault-clause-step g c =
+    step_faulted c.args.self.now c.step.new.self c.end.new.self c.in-Err-Fault.fault c.in-Err-Fault.ensures.err (rw c.in-Err-Fault.field-0-is at c.in-Err-Fault.ensures.fault) c.end.ensures.after

@@ -1,0 +1,39 @@
+use Rattle.std.proofs.Common.{◌≡◌, ◌∙◌, ap, sym, subst, Ok, OnOk, IfErr, arith}
+use Rattle.qil_state.specs.State.{state_of, head_names}
+use Rattle.qil_state.specs.Stepping.{left_whole}
+use Rattle.qil_machine.specs.Results.{Explains}
+use Rattle.qil_machine.proofs.Jumps.{branch_fails, branched_zero, branched_set}
+use Rattle.qil_machine.proofs.machine.Machine.branch.Goals as goal
+
+pub returns-in-Err-clause-fault : goal.returns-in-Err-clause-fault
+returns-in-Err-clause-fault g c =
+    ap (left_whole c.args.self.now) c.requires.jump
+    ∙ branch_fails _ c.args.self.now c.innermost.result.now c.slots.result.now c.args.source c.args.if_set.now c.args.if_zero.now c.in-Err.fault c.self.view_is c.self.invariant c.innermost.ensures c.slots.ensures.value c.in-Err.ensures
+
+pub returns-then-value-eq0-clause-does : goal.returns-then-value-eq0-clause-does
+returns-then-value-eq0-clause-does g c =
+    subst (λ o. OnOk c.go_along.result (o ≡ Ok (state_of c.go_along.new.self)))
+    (sym (ap (left_whole c.args.self.now) c.requires.jump
+    ∙ branched_zero _ c.args.self.now c.innermost.result.now c.slots.result.now c.args.source c.args.if_set.now c.args.if_zero.now c.in-Ok.value c.self.view_is c.self.invariant c.innermost.ensures c.slots.ensures.value c.in-Ok.ensures c.if-value-eq0.true))
+    c.go_along.ensures.does
+
+pub returns-then-value-eq0-clause-fault : goal.returns-then-value-eq0-clause-fault
+returns-then-value-eq0-clause-fault g c =
+    subst (λ o. IfErr c.go_along.result (Explains (head_names c.args.self.now.program c.args.self.now.frames) o))
+    (sym (ap (left_whole c.args.self.now) c.requires.jump
+    ∙ branched_zero _ c.args.self.now c.innermost.result.now c.slots.result.now c.args.source c.args.if_set.now c.args.if_zero.now c.in-Ok.value c.self.view_is c.self.invariant c.innermost.ensures c.slots.ensures.value c.in-Ok.ensures c.if-value-eq0.true))
+    c.go_along.ensures.fault
+
+pub returns-clause-does : goal.returns-clause-does
+returns-clause-does g c =
+    subst (λ o. OnOk c.go_along-2.result (o ≡ Ok (state_of c.go_along-2.new.self)))
+    (sym (ap (left_whole c.args.self.now) c.requires.jump
+    ∙ branched_set _ c.args.self.now c.innermost.result.now c.slots.result.now c.args.source c.args.if_set.now c.args.if_zero.now c.in-Ok.value c.self.view_is c.self.invariant c.innermost.ensures c.slots.ensures.value c.in-Ok.ensures (omega (arith, c.if-value-eq0.false))))
+    c.go_along-2.ensures.does
+
+pub returns-clause-fault : goal.returns-clause-fault
+returns-clause-fault g c =
+    subst (λ o. IfErr c.go_along-2.result (Explains (head_names c.args.self.now.program c.args.self.now.frames) o))
+    (sym (ap (left_whole c.args.self.now) c.requires.jump
+    ∙ branched_set _ c.args.self.now c.innermost.result.now c.slots.result.now c.args.source c.args.if_set.now c.args.if_zero.now c.in-Ok.value c.self.view_is c.self.invariant c.innermost.ensures c.slots.ensures.value c.in-Ok.ensures (omega (arith, c.if-value-eq0.false))))
+    c.go_along-2.ensures.fault

@@ -1,0 +1,6 @@
+use Rattle.qil_machine.specs.Moves.{at}
+use Rattle.qil_machine.proofs.Undoing.{slot_here}
+use Rattle.qil_machine.proofs.machine.Machine.undo_wrote_to.Goals as goal
+
+pub set-requires : goal.set-requires
+set-requires g c = slot_here _ c.args.self.now (at c.args.index) c.args.slot c.args.value c.self.view_is c.requires.frame

@@ -1,0 +1,12 @@
+-- The definitions.
+pub mod Moves
+pub mod Kinds
+pub mod Deltas
+pub mod Fitting
+pub mod Places
+pub mod Results
+pub mod Steps
+pub mod Starting
+pub mod Calls
+pub mod Pokes
+pub mod Readings

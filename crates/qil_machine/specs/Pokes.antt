@@ -1,0 +1,31 @@
+-- What a poke of a temporary does, and why it is refused.
+use Rattle.std.specs.Prelude.{◌≡◌, ◌≤◌, ℕ, length, Some, Ok, Err, slice_get}
+use Rattle.qil_tree.specs.declared.ops.Class.{Class}
+use Rattle.qil_ops.specs.Values.{width, Low}
+use Rattle.qil_meaning.specs.State.{Name}
+use Rattle.qil_meaning.specs.Poke.{poke_temp, no_frame, unknown_temporary}
+use Rattle.qil_numbering.specs.declared.numbered.Slot.{Slot}
+use Rattle.qil_frames.specs.Frames.{HasFrame, HasSlot, on_innermost, with_slot}
+use Rattle.qil_state.specs.State.{Whole, state_of, head_names}
+use Rattle.qil_machine.specs.declared.error.PokeError.{PokeError}
+use Rattle.qil_machine.specs.declared.error.PokeError.TheVariants as errors
+
+-- the innermost frame has the slot, and a poke of its temporary cuts the value to that class
+pub record IsOfClass {A : Type 0} (w : Whole A) (s : Slot) (c : Class) : Type 0 where
+  pub slot : HasSlot w.frames s
+  pub poke : (x : Name) (v : ℕ) → slice_get (head_names w.program w.frames) s.index ≡ Some x
+      → poke_temp w.program (state_of w) x v ≡ Ok (state_of (record w { frames = on_innermost (with_slot s (Some (Low (width c) v))) w.frames }))
+
+-- no frame is left, or the innermost function has no temporary with that slot
+abbrev pub Refuses : {A : Type 0} → Whole A → Slot → PokeError → Type 0
+Refuses w s errors.NoFrame = (x : Name) (v : ℕ) → poke_temp w.program (state_of w) x v ≡ Err no_frame
+Refuses w s errors.UnknownTemporary = HasFrame w.frames × (length (head_names w.program w.frames) ≤ s.index)
+Refuses w s errors.DeadAddress = ⊥
+Refuses w s errors.OutOfMemory = ⊥
+
+-- the fault of a poke by name
+abbrev pub RefusesName : {A : Type 0} → Whole A → Name → ℕ → PokeError → Type 0
+RefusesName w x v errors.NoFrame = poke_temp w.program (state_of w) x v ≡ Err no_frame
+RefusesName w x v errors.UnknownTemporary = poke_temp w.program (state_of w) x v ≡ Err unknown_temporary
+RefusesName w x v errors.DeadAddress = ⊥
+RefusesName w x v errors.OutOfMemory = ⊥

@@ -1,0 +1,13 @@
+-- What is read of temporaries by number, and by name.
+use Rattle.std.specs.Prelude.{ℕ, ◌==◌, List, [], ◌∷◌, find, Option, None}
+use Rattle.qil_meaning.specs.State.{Name, Frame}
+use Rattle.qil_frames.specs.Frames.{SlotFrame}
+
+-- the innermost frame of a function, where the innermost comes first
+abbrev pub frame_of : ℕ → List SlotFrame → Option SlotFrame
+frame_of i fs = find (λ f. f.func == i) fs
+
+-- what a temporary of the innermost frame holds
+abbrev pub temp_here : List Frame → Name → Option ℕ
+temp_here [] x = None
+temp_here (f ∷ fs) x = f.temps x

@@ -1,0 +1,245 @@
+//! What a move keeps, so that it can be undone: 24 bytes, and one allocation at most for most of what doesn't fit.
+
+ghost use Rattle.std.specs.Prelude.{◌≡◌, ◌<◌, ◌≤◌, ◌^◌, [], length};
+ghost use Rattle.qil_layout.specs.Layout.{low_bytes};
+ghost use Rattle.qil_machine.specs.Moves.{at, end_of, weight};
+ghost use Rattle.qil_machine.specs.Kinds.{slots_move, one, bytes_move, called_move, returned_move, grown_move, copied_move, wrote_move, ended_move, poked_slot_move, poked_bytes_move};
+
+use qil_frames::{Frame, KeptSlots, PhiSaved, SavedSlot};
+use qil_memory::Saved;
+use qil_numbering::Slot;
+use std::alloc::Allocator;
+use std::marker::Model;
+
+/// What an allocation on the stack keeps.
+#[derive(Debug, Drop)]
+pub(crate) struct Grown<A: Allocator> {
+    pub(crate) index: u32,
+    pub(crate) slot: Slot,
+    pub(crate) value: Option<u64>,
+    pub(crate) saved: Saved<A>,
+}
+
+/// What a copy of bytes keeps.
+#[derive(Debug, Drop)]
+pub(crate) struct Copied<A: Allocator> {
+    pub(crate) index: u32,
+    pub(crate) saved: Saved<A>,
+}
+
+/// The kinds of moves. A flag says whether a slot was set; then the number is what it held.
+#[derive(Debug, Drop)]
+pub(crate) enum Kind<A: Allocator> {
+    /// Flag, slot, index, old value.
+    Assigned(bool, Slot, u32, u64),
+    /// How many bytes, index, address, and the number that they spelled.
+    Stored(u8, u32, u32, u64),
+    /// The block that was left, at its end.
+    Left(u16),
+    LeftOne(bool, u16, Slot, u64),
+    /// Both slots were set.
+    LeftTwo(u16, Slot, Slot, u64, u64),
+    LeftMany(u16, Box<Vec<SavedSlot, A>, A>),
+    /// The caller's index.
+    Called(u32),
+    /// Flag of the caller's slot, the top, what the slot held, and the frame itself.
+    Returned(bool, u32, u64, Frame<A>),
+    Grew(Box<Grown<A>, A>),
+    Copied(Box<Copied<A>, A>),
+    /// Index, and how many bytes had been written.
+    Wrote(u32, u32),
+    /// Flag, slot, index, how many bytes had been written, old value.
+    WroteTo(bool, Slot, u32, u32, u64),
+    /// A fault, or an exit.
+    Ended,
+    /// Flag, slot, old value.
+    PokedSlot(bool, Slot, u64),
+    /// How many bytes, address, and the number that they spelled.
+    PokedBytes(u8, u32, u64),
+}
+
+/// What a move of a machine keeps. `Machine::undo` puts it back. Specifications see one record for all kinds.
+#[derive(Debug, Drop)]
+pub struct Delta<A: Allocator> {
+    pub(crate) kind: Kind<A>,
+}
+
+impl<A: Allocator> Model for Delta<A> {
+    ghost use Rattle.qil_machine.specs.Moves.{Move};
+    ghost use Rattle.qil_machine.specs.Deltas.{move_of, IsKind};
+
+    ghost Value = { Move };
+
+    ghost view = { λ d. move_of d.kind };
+
+    ghost invariant = { λ d. IsKind d.kind };
+}
+
+/// The kinds, made from what they keep.
+impl<A: Allocator> Delta<A> {
+    #[inline(always)]
+    pub(crate) fn assigned(slot: Slot, old: Option<u64>, index: u32) -> Delta<A>
+        ensures { result ≡ slots_move (at index) (one slot old) }
+    {
+        match old {
+            Some(old) => Delta {
+                kind: Kind::Assigned(true, slot, index, old),
+            },
+            None => Delta {
+                kind: Kind::Assigned(false, slot, index, 0),
+            },
+        }
+    }
+
+    #[inline(always)]
+    pub(crate) fn stored(count: u8, index: u32, address: u32, number: u64) -> Delta<A>
+        requires { count ≤ 8 }
+        ensures { result ≡ bytes_move index address (low_bytes count number) }
+    {
+        Delta {
+            kind: Kind::Stored(count, index, address, number),
+        }
+    }
+
+    #[inline(always)]
+    pub(crate) fn left(saved: PhiSaved<A>) -> Delta<A>
+        ensures { result ≡ slots_move (end_of saved.block) saved.slots }
+    {
+        let (block, _, slots) = saved.into_parts();
+        let block = block.index;
+        match slots {
+            KeptSlots::None => Delta {
+                kind: Kind::Left(block),
+            },
+            KeptSlots::One(set, slot, value) => Delta {
+                kind: Kind::LeftOne(set, block, slot, value),
+            },
+            KeptSlots::Two(a, b, x, y) => Delta {
+                kind: Kind::LeftTwo(block, a, b, x, y),
+            },
+            KeptSlots::Many(kept) => Delta {
+                kind: Kind::LeftMany(block, kept),
+            },
+        }
+    }
+
+    #[inline(always)]
+    pub(crate) fn called(index: u32) -> Delta<A>
+        ensures { result ≡ called_move index }
+    {
+        Delta {
+            kind: Kind::Called(index),
+        }
+    }
+
+    #[inline(always)]
+    pub(crate) fn returned(frame: Frame<A>, top: u32, old: Option<u64>) -> Delta<A>
+        ensures { result ≡ returned_move frame top old }
+    {
+        let _ = frame.slots();
+        match old {
+            Some(old) => Delta {
+                kind: Kind::Returned(true, top, old, frame),
+            },
+            None => Delta {
+                kind: Kind::Returned(false, top, 0, frame),
+            },
+        }
+    }
+
+    pub(crate) fn grew(grown: Box<Grown<A>, A>) -> Delta<A>
+        requires { length grown.value.saved.bytes ≤ 2 ^ 32 }
+        ensures { result ≡ grown_move grown.value.index grown.value.slot grown.value.value grown.value.saved }
+    {
+        Delta {
+            kind: Kind::Grew(grown),
+        }
+    }
+
+    pub(crate) fn copied(copied: Box<Copied<A>, A>) -> Delta<A>
+        requires { length copied.value.saved.bytes ≤ 2 ^ 32 }
+        ensures { result ≡ copied_move copied.value.index copied.value.saved }
+    {
+        Delta {
+            kind: Kind::Copied(copied),
+        }
+    }
+
+    pub(crate) fn wrote(index: u32, count: u32) -> Delta<A>
+        ensures { result ≡ wrote_move index count [] }
+    {
+        Delta {
+            kind: Kind::Wrote(index, count),
+        }
+    }
+
+    pub(crate) fn wrote_to(slot: Slot, old: Option<u64>, index: u32, count: u32) -> Delta<A>
+        ensures { result ≡ wrote_move index count (one slot old) }
+    {
+        match old {
+            Some(old) => Delta {
+                kind: Kind::WroteTo(true, slot, index, count, old),
+            },
+            None => Delta {
+                kind: Kind::WroteTo(false, slot, index, count, 0),
+            },
+        }
+    }
+
+    #[inline(always)]
+    pub(crate) fn ended() -> Delta<A>
+        ensures { result ≡ ended_move }
+    {
+        Delta { kind: Kind::Ended }
+    }
+
+    pub(crate) fn poked_slot(slot: Slot, old: Option<u64>) -> Delta<A>
+        ensures { result ≡ poked_slot_move slot old }
+    {
+        match old {
+            Some(old) => Delta {
+                kind: Kind::PokedSlot(true, slot, old),
+            },
+            None => Delta {
+                kind: Kind::PokedSlot(false, slot, 0),
+            },
+        }
+    }
+
+    pub(crate) fn poked_bytes(count: u8, address: u32, number: u64) -> Delta<A>
+        requires { count ≤ 8 }
+        ensures { result ≡ poked_bytes_move address (low_bytes count number) }
+    {
+        Delta {
+            kind: Kind::PokedBytes(count, address, number),
+        }
+    }
+}
+
+impl<A: Allocator> Delta<A> {
+    /// How much this keeps: 4, and 2 for each value of a slot, 1 for each byte, 1 for each slot of a frame.
+    pub fn weight(&self) -> u64
+        ensures { result ≡ weight self.now }
+    {
+        match &self.kind {
+            Kind::Assigned(_, _, _, _) => 6,
+            Kind::Stored(count, _, _, _) => 4 + u64::from(*count),
+            Kind::Left(_) => 4,
+            Kind::LeftOne(_, _, _, _) => 6,
+            Kind::LeftTwo(_, _, _, _, _) => 8,
+            Kind::LeftMany(_, kept) => 4 + 2 * (kept.len() as u64),
+            Kind::Called(_) => 4,
+            Kind::Returned(_, _, _, frame) => {
+                let received = if frame.result().is_some() { 2 } else { 0 };
+                4 + received + frame.slots().len() as u64
+            }
+            Kind::Grew(grown) => 6 + grown.saved.byte_count() as u64,
+            Kind::Copied(copied) => 4 + copied.saved.byte_count() as u64,
+            Kind::Wrote(_, _) => 4,
+            Kind::WroteTo(_, _, _, _, _) => 6,
+            Kind::Ended => 4,
+            Kind::PokedSlot(_, _, _) => 6,
+            Kind::PokedBytes(count, _, _) => 4 + u64::from(*count),
+        }
+    }
+}

@@ -1,0 +1,314 @@
+//! Whether what a move kept fits a machine. Only what the move puts back is looked at, and the frames that it touches.
+
+ghost use Rattle.std.specs.Prelude.{◌≡◌, ◌↔◌, [], IsTrue, true, option_copied, slice_get};
+ghost use Rattle.qil_layout.specs.Layout.{low_bytes};
+ghost use Rattle.qil_memory.specs.Places.{HasPlaces};
+ghost use Rattle.qil_numbering.specs.Numbered.{block_at};
+ghost use Rattle.qil_frames.specs.Enter.{AreSlots};
+ghost use Rattle.qil_frames.specs.Frames.{HasSlot};
+ghost use Rattle.qil_frames.specs.Kept.{saved_slot};
+ghost use Rattle.qil_state.specs.State.{PlaceFits, FrameFits, ReceiverFits, IsMachine};
+ghost use Rattle.qil_machine.specs.Moves.{at, end_of, without, Fits};
+ghost use Rattle.qil_machine.specs.Kinds.{slots_move, one, bytes_move, called_move, returned_move, grown_move, copied_move, wrote_move, ended_move, poked_slot_move, poked_bytes_move};
+ghost use Rattle.qil_machine.specs.Fitting.{HasIndex, HasBlock, HasSlots, HasFloor, FloorFits, MayReturn};
+
+use crate::delta::{Delta, Grown, Kind};
+use crate::machine::Machine;
+use crate::undo::value_of;
+use qil_frames::{Frame, Frames, SavedSlot};
+use qil_memory::{CAPACITY, Memory, STACK_BASE, Saved};
+use qil_numbering::{BlockId, Code, Receiver, Slot};
+use std::alloc::Allocator;
+
+impl<A: Allocator + Copy> Delta<A> {
+    /// Whether `Machine::undo` may put this back into the machine: all places that it names are there, and the machine
+    /// would be one that the type allows. What a move of a machine gives fits that machine.
+    pub fn fits(&self, machine: &Machine<'_, '_, A>) -> bool
+        ensures { IsTrue result ↔ Fits self.now machine.now }
+    {
+        match &self.kind {
+            Kind::Assigned(set, slot, index, value) => {
+                machine.fits_assigned(*slot, value_of(*set, *value), *index)
+            }
+            Kind::Stored(count, index, address, number) => {
+                machine.fits_stored(*count, *index, *address, *number)
+            }
+            Kind::Left(block) => machine.fits_left(*block, &[]),
+            Kind::LeftOne(set, block, slot, value) => {
+                machine.fits_left(*block, &[saved_slot(*set, *slot, *value)])
+            }
+            Kind::LeftTwo(block, a, b, x, y) => {
+                let kept = [saved_slot(true, *a, *x), saved_slot(true, *b, *y)];
+                machine.fits_left(*block, &kept)
+            }
+            Kind::LeftMany(block, kept) => machine.fits_left(*block, kept.as_slice()),
+            Kind::Called(index) => machine.fits_called(*index),
+            Kind::Returned(set, top, value, frame) => {
+                machine.fits_returned(frame, *top, value_of(*set, *value))
+            }
+            Kind::Grew(grown) => machine.fits_grew(grown),
+            Kind::Copied(copied) => machine.fits_copied(copied.index, &copied.saved),
+            Kind::Wrote(index, count) => machine.fits_wrote(*index, *count),
+            Kind::WroteTo(set, slot, index, count, value) => {
+                machine.fits_wrote_to(*slot, value_of(*set, *value), *index, *count)
+            }
+            Kind::Ended => machine.fits_ended(),
+            Kind::PokedSlot(set, slot, value) => {
+                machine.fits_poked_slot(*slot, value_of(*set, *value))
+            }
+            Kind::PokedBytes(count, address, number) => {
+                machine.fits_poked_bytes(*count, *address, *number)
+            }
+        }
+    }
+}
+
+/// The kinds, each from what it keeps. Where slots are put back, it fits if the slots are there and the rest of it fits.
+impl<'c, 'a, A: Allocator + Copy> Machine<'c, 'a, A> {
+    fn fits_assigned(&self, slot: Slot, value: Option<u64>, index: u32) -> bool
+        ensures { IsTrue result ↔ Fits (slots_move (at index) (one slot value)) self.now }
+    {
+        let is_slot = self.has_slot(slot);
+        let is_index = self.fits_index(index);
+        is_slot && is_index
+    }
+
+    fn fits_index(&self, index: u32) -> bool
+        ensures { IsTrue result ↔ Fits (slots_move (at index) []) self.now }
+    {
+        has_index(self.code, &self.frames, index)
+    }
+
+    fn fits_stored(&self, count: u8, index: u32, address: u32, number: u64) -> bool
+        ensures { IsTrue result ↔ Fits (bytes_move index address (low_bytes count number)) self.now }
+    {
+        let is_index = has_index(self.code, &self.frames, index);
+        let are_places = has_places(&self.memory, count, address, number);
+        is_index && are_places
+    }
+
+    fn fits_left(&self, block: u16, kept: &[SavedSlot]) -> bool
+        ensures { IsTrue result ↔ Fits (slots_move (end_of block) kept.now) self.now }
+    {
+        let are_slots = self.has_slots(kept);
+        let is_block = self.fits_end(block);
+        are_slots && is_block
+    }
+
+    fn fits_end(&self, block: u16) -> bool
+        ensures { IsTrue result ↔ Fits (slots_move (end_of block) []) self.now }
+    {
+        has_block(self.code, &self.frames, BlockId { index: block })
+    }
+
+    fn fits_called(&self, index: u32) -> bool
+        ensures { IsTrue result ↔ Fits (called_move index) self.now }
+    {
+        caller_has_index(self.code, &self.frames, index)
+    }
+
+    fn fits_returned(&self, frame: &Frame<A>, top: u32, value: Option<u64>) -> bool
+        ensures { IsTrue result ↔ Fits (returned_move frame.now top value) self.now }
+    {
+        may_return(self.code, &self.frames, frame, u64::from(top))
+    }
+
+    fn fits_grew(&self, grown: &Grown<A>) -> bool
+        ensures { IsTrue result ↔ Fits (grown_move grown.now.index grown.now.slot grown.now.value grown.now.saved) self.now }
+    {
+        let is_slot = self.has_slot(grown.slot);
+        let is_saved = self.fits_copied(grown.index, &grown.saved);
+        is_slot && is_saved
+    }
+
+    fn fits_copied(&self, index: u32, saved: &Saved<A>) -> bool
+        ensures { IsTrue result ↔ Fits (copied_move index saved.now) self.now }
+    {
+        let is_memory = saved.fits(&self.memory);
+        let is_floor = has_floor(&self.frames, saved.top());
+        let is_index = has_index(self.code, &self.frames, index);
+        let _ = self.memory.top();
+        is_memory && is_floor && is_index
+    }
+
+    fn fits_wrote(&self, index: u32, count: u32) -> bool
+        ensures { IsTrue result ↔ Fits (wrote_move index count []) self.now }
+    {
+        let is_index = has_index(self.code, &self.frames, index);
+        let is_count = count as usize <= self.output.len();
+        is_index && is_count
+    }
+
+    fn fits_wrote_to(&self, slot: Slot, value: Option<u64>, index: u32, count: u32) -> bool
+        ensures { IsTrue result ↔ Fits (wrote_move index count (one slot value)) self.now }
+    {
+        let is_slot = self.has_slot(slot);
+        let is_count = self.fits_wrote(index, count);
+        is_slot && is_count
+    }
+
+    fn fits_ended(&self) -> bool
+        ensures { IsTrue result ↔ Fits ended_move self.now }
+    {
+        self.frames.depth() > 0
+    }
+
+    fn fits_poked_slot(&self, slot: Slot, value: Option<u64>) -> bool
+        ensures { IsTrue result ↔ Fits (poked_slot_move slot value) self.now }
+    {
+        self.has_slot(slot)
+    }
+
+    fn fits_poked_bytes(&self, count: u8, address: u32, number: u64) -> bool
+        ensures { IsTrue result ↔ Fits (poked_bytes_move address (low_bytes count number)) self.now }
+    {
+        has_places(&self.memory, count, address, number)
+    }
+
+    fn has_slot(&self, slot: Slot) -> bool
+        ensures slot { IsTrue result ↔ HasSlot self.now.frames slot }
+        ensures machine { IsMachine self.now }
+    {
+        has_slot(&self.frames, slot)
+    }
+
+    fn has_slots(&self, kept: &[SavedSlot]) -> bool
+        ensures { IsTrue result ↔ HasSlots self.now.frames kept.now }
+    {
+        let frames = &self.frames;
+        frames.depth() > 0 && are_within(kept, frames.innermost().slots().len())
+    }
+}
+
+/// What a slot held, as it is put back.
+fn saved_slot(set: bool, slot: Slot, value: u64) -> SavedSlot
+    ensures { result ≡ saved_slot set slot value }
+{
+    SavedSlot {
+        slot,
+        value: value_of(set, value),
+    }
+}
+
+fn has_slot<A: Allocator>(frames: &Frames<A>, slot: Slot) -> bool
+    ensures { IsTrue result ↔ HasSlot frames.now slot }
+{
+    frames.depth() > 0 && usize::from(slot.index) < frames.innermost().slots().len()
+}
+
+/// Whether each slot is one of the first `count`.
+fn are_within(kept: &[SavedSlot], count: usize) -> bool
+    ensures { IsTrue result ↔ AreSlots kept.now count }
+{
+    kept.iter().all(|kept| usize::from(kept.slot.index) < count)
+}
+
+/// Whether a block has an instruction at the index, or ends there.
+fn is_place<A: Allocator + Copy>(code: &Code<'_, '_, A>, frame: &Frame<A>, index: u32) -> bool
+    ensures { IsTrue result ↔ PlaceFits (block_at code.now frame.now.func frame.now.block) index }
+{
+    match code.source(frame.func(), frame.block()) {
+        Some(block) => index as usize <= block.insts.as_slice().len(),
+        None => false,
+    }
+}
+
+fn has_index<A: Allocator + Copy>(code: &Code<'_, '_, A>, frames: &Frames<A>, index: u32) -> bool
+    ensures { IsTrue result ↔ HasIndex code.now frames.now index }
+{
+    frames.depth() > 0 && is_place(code, frames.innermost(), index)
+}
+
+fn has_block<A: Allocator + Copy>(
+    code: &Code<'_, '_, A>,
+    frames: &Frames<A>,
+    block: BlockId,
+) -> bool
+    ensures { IsTrue result ↔ HasBlock code.now frames.now block.index }
+{
+    frames.depth() > 0 && code.source(frames.innermost().func(), block).is_some()
+}
+
+/// The frame under the innermost.
+fn caller<A: Allocator>(frames: &Frames<A>) -> Option<&Frame<A>>
+    ensures { option_copied result ≡ slice_get (without true frames.now) 0 }
+{
+    match frames.frames().split_last() {
+        Some((_, callers)) => callers.last(),
+        None => None,
+    }
+}
+
+fn caller_has_index<A: Allocator + Copy>(
+    code: &Code<'_, '_, A>,
+    frames: &Frames<A>,
+    index: u32,
+) -> bool
+    ensures { IsTrue result ↔ HasIndex code.now (without true frames.now) index }
+{
+    match caller(frames) {
+        Some(frame) => is_place(code, frame, index),
+        None => false,
+    }
+}
+
+fn has_places<A: Allocator + Copy>(memory: &Memory<A>, count: u8, address: u32, number: u64) -> bool
+    ensures { IsTrue result ↔ HasPlaces memory.now address (low_bytes count number) }
+{
+    let inside = memory.has_bytes(u64::from(address), usize::from(count));
+    count == 0 || inside
+}
+
+fn has_floor<A: Allocator>(frames: &Frames<A>, top: u64) -> bool
+    ensures { IsTrue result ↔ HasFloor frames.now top }
+{
+    frames.depth() > 0 && frames.innermost().floor() <= top
+}
+
+/// Whether a floor isn't under that of the caller, nor under the stack.
+fn is_floor<A: Allocator>(frames: &Frames<A>, floor: u64) -> bool
+    ensures { IsTrue result ↔ FloorFits frames.now floor }
+{
+    if frames.depth() == 0 {
+        STACK_BASE <= floor
+    } else {
+        frames.innermost().floor() <= floor
+    }
+}
+
+/// Whether the caller has the slot that takes a result.
+fn is_receiver<A: Allocator>(frames: &Frames<A>, receiver: Option<Receiver>) -> bool
+    ensures { IsTrue result ↔ ReceiverFits frames.now receiver }
+{
+    match receiver {
+        None => true,
+        Some(to) => has_slot(frames, to.slot),
+    }
+}
+
+/// Whether a frame is one of the code.
+fn is_frame<A: Allocator + Copy>(code: &Code<'_, '_, A>, frame: &Frame<A>) -> bool
+    ensures { IsTrue result ↔ FrameFits code.now frame.now }
+{
+    let are_slots = code.slot_count(frame.func()) == frame.slots().len();
+    let stands = is_place(code, frame, frame.index());
+    are_slots && stands
+}
+
+/// Whether a frame may come back, with this top of the stack.
+fn may_return<A: Allocator + Copy>(
+    code: &Code<'_, '_, A>,
+    frames: &Frames<A>,
+    frame: &Frame<A>,
+    top: u64,
+) -> bool
+    ensures { IsTrue result ↔ MayReturn code.now frames.now frame.now top }
+{
+    let few = frames.depth() < 1_000;
+    let high = top <= STACK_BASE + CAPACITY;
+    let floor = frame.floor() <= top;
+    let low = is_floor(frames, frame.floor());
+    let is_frame = is_frame(code, frame);
+    let receiver = is_receiver(frames, frame.result());
+    few && high && floor && low && is_frame && receiver
+}

@@ -1,0 +1,156 @@
+//! Jumps: what stands at the end of a block is done.
+
+ghost use Rattle.std.specs.Prelude.{◌≡◌, ◌≢◌, ◌≤◌, None, Some, Ok, Err, IfOk, IfErr, OnOk, OnErr, slice_get, length};
+ghost use Rattle.qil_numbering.specs.declared.numbered.NumberedJump.{NumberedJump};
+ghost use Rattle.qil_numbering.proofs.EdgesNamed.{IsEdgeOf};
+ghost use Rattle.qil_state.specs.State.{state_of, head_names};
+ghost use Rattle.qil_state.specs.Stepping.{left_whole, went_whole};
+ghost use Rattle.qil_checker.specs.Mentions.{returned_class};
+ghost use Rattle.qil_machine.specs.Places.{IsRunning, Made};
+ghost use Rattle.qil_machine.specs.Results.{Explains};
+ghost use Rattle.qil_machine.specs.Steps.{IsHere, HasSource, MayReturn, JumpTakes};
+
+use crate::delta::Delta;
+use crate::error::StepError;
+use crate::machine::Machine;
+use qil_numbering::{Edge, NumberedBlock, NumberedJump, Source};
+use qil_state::{Fault, fitted, value};
+use qil_tree::{AbiType, Class};
+use std::alloc::Allocator;
+
+impl<'c, 'a, A: Allocator + Copy> Machine<'c, 'a, A> {
+    /// Goes along an edge of the jump at the end of the block.
+    #[inline(always)]
+    pub(crate) fn go_along(
+        &mut self,
+        block: &NumberedBlock<A>,
+        edge: &Edge<A>,
+        index: u32,
+    ) -> Result<Delta<A>, StepError>
+        requires running { IsRunning self.old }
+        requires here { IsHere self.old.program self.old.frames block.now index }
+        requires end { slice_get block.now.insts index ≡ None }
+        requires edge { IsEdgeOf edge.now block.now.jump }
+        ensures does { OnOk result (went_whole self.old edge.now ≡ Ok (state_of self.new)) }
+        ensures made { IfOk result (λ d. Made d self.old self.new) }
+        ensures fault { IfErr result (Explains (head_names self.old.program self.old.frames) (went_whole self.old edge.now)) }
+        ensures few { length edge.now.moves ≤ 1 → result ≢ Err StepError.OutOfMemory }
+        ensures err { OnErr result (self.new ≡ self.old) }
+    {
+        let _ = &self.code;
+        let _ = block;
+        let _ = index;
+        let delta = match self.go(edge) {
+            Ok(delta) => delta,
+            Err(error) => return Err(error),
+        };
+        Ok(delta)
+    }
+
+    /// Goes along the first edge unless the operand's low 32 bits are zero, else along the second.
+    #[inline(always)]
+    pub(crate) fn branch(
+        &mut self,
+        block: &NumberedBlock<A>,
+        source: Source,
+        if_set: &Edge<A>,
+        if_zero: &Edge<A>,
+        index: u32,
+    ) -> Result<Delta<A>, StepError>
+        requires running { IsRunning self.old }
+        requires here { IsHere self.old.program self.old.frames block.now index }
+        requires end { slice_get block.now.insts index ≡ None }
+        requires jump { block.now.jump ≡ NumberedJump.Jnz source if_set.now if_zero.now }
+        ensures does { OnOk result (left_whole self.old block.now.jump ≡ Ok (state_of self.new)) }
+        ensures made { IfOk result (λ d. Made d self.old self.new) }
+        ensures fault { IfErr result (Explains (head_names self.old.program self.old.frames) (left_whole self.old block.now.jump)) }
+        ensures few { length if_set.now.moves ≤ 1 → length if_zero.now.moves ≤ 1 → result ≢ Err StepError.OutOfMemory }
+        ensures err { OnErr result (self.new ≡ self.old) }
+    {
+        let value = match value::<A>(self.frames.innermost().slots(), Class::W, source) {
+            Ok(value) => value,
+            Err(fault) => return Err(StepError::Fault(fault)),
+        };
+        if value == 0 {
+            return self.go_along(block, if_zero, index);
+        }
+        self.go_along(block, if_set, index)
+    }
+
+    /// Returns the value of an operand.
+    #[inline(always)]
+    pub(crate) fn return_value(&mut self, source: Source) -> Result<Delta<A>, StepError>
+        requires running { IsRunning self.old }
+        requires source { HasSource self.old.frames source }
+        ensures does { OnOk result (left_whole self.old (NumberedJump.Ret (Some source)) ≡ Ok (state_of self.new)) }
+        ensures made { IfOk result (λ d. Made d self.old self.new) }
+        ensures fault { IfErr result (Explains (head_names self.old.program self.old.frames) (left_whole self.old (NumberedJump.Ret (Some source)))) }
+        ensures memory { result ≢ Err StepError.OutOfMemory }
+        ensures err { OnErr result (self.new ≡ self.old) }
+    {
+        let frame = self.frames.innermost();
+        let returns = self.code.returns(frame.func());
+        let value = match value::<A>(frame.slots(), class_returned(returns), source) {
+            Ok(value) => value,
+            Err(fault) => return Err(StepError::Fault(fault)),
+        };
+        let value = fitted(returns.unwrap_or(AbiType::W), value);
+        Ok(self.ret(Some(value)))
+    }
+
+    /// Returns, with the value of an operand or without one.
+    #[inline(always)]
+    pub(crate) fn give_back(&mut self, source: Option<Source>) -> Result<Delta<A>, StepError>
+        requires running { IsRunning self.old }
+        requires source { MayReturn self.old.frames source }
+        ensures does { OnOk result (left_whole self.old (NumberedJump.Ret source) ≡ Ok (state_of self.new)) }
+        ensures made { IfOk result (λ d. Made d self.old self.new) }
+        ensures fault { IfErr result (Explains (head_names self.old.program self.old.frames) (left_whole self.old (NumberedJump.Ret source))) }
+        ensures memory { result ≢ Err StepError.OutOfMemory }
+        ensures err { OnErr result (self.new ≡ self.old) }
+    {
+        let _ = self.frames.innermost();
+        match source {
+            Some(source) => self.return_value(source),
+            None => Ok(self.ret(None)),
+        }
+    }
+
+    /// Does the jump at the end of the block.
+    #[inline(always)]
+    pub(crate) fn leave(
+        &mut self,
+        block: &NumberedBlock<A>,
+        index: u32,
+    ) -> Result<Delta<A>, StepError>
+        requires running { IsRunning self.old }
+        requires here { IsHere self.old.program self.old.frames block.now index }
+        requires end { slice_get block.now.insts index ≡ None }
+        ensures does { OnOk result (left_whole self.old block.now.jump ≡ Ok (state_of self.new)) }
+        ensures made { IfOk result (λ d. Made d self.old self.new) }
+        ensures fault { IfErr result (Explains (head_names self.old.program self.old.frames) (left_whole self.old block.now.jump)) }
+        ensures memory { (result ≡ Err StepError.OutOfMemory) → JumpTakes block.now.jump }
+        ensures err { OnErr result (self.new ≡ self.old) }
+    {
+        let _ = self.frames.innermost();
+        match &block.jump {
+            NumberedJump::Jmp(edge) => self.go_along(block, edge, index),
+            NumberedJump::Jnz(source, if_set, if_zero) => {
+                self.branch(block, *source, if_set, if_zero, index)
+            }
+            NumberedJump::Ret(source) => self.give_back(*source),
+            NumberedJump::Hlt => Err(StepError::Fault(Fault::Halted)),
+        }
+    }
+}
+
+/// The class in which a returned value is read.
+#[inline(always)]
+fn class_returned(returns: Option<AbiType>) -> Class
+    ensures { result ≡ returned_class returns }
+{
+    match returns {
+        Some(abi_type) => abi_type.class(),
+        None => Class::W,
+    }
+}

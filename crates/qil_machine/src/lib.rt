@@ -1,0 +1,26 @@
+//! The machine: one state changed in place, a small record of each move, and the way back by it.
+#![tactic(auto)]
+
+mod advance;
+mod call;
+mod delta;
+mod error;
+mod fits;
+mod jump;
+mod log;
+mod machine;
+mod output;
+mod poke;
+mod readers;
+mod reading;
+mod same;
+mod start;
+mod step;
+#[cfg(test)]
+mod tests;
+mod undo;
+
+pub use delta::Delta;
+pub use error::{MoveError, PokeError, StartError};
+pub use log::{Keeps, One};
+pub use machine::Machine;

@@ -1,0 +1,108 @@
+//! Pokes: bytes of memory, or one temporary of the innermost frame, are replaced. Place and status stay.
+
+ghost use Rattle.std.specs.Prelude.{◌≡◌, ℕ, List, Some, Ok, Err, IfOk, IfErr, OnOk, OnErr, slice_get};
+ghost use Rattle.qil_memory.specs.Calls.{IsWidth};
+ghost use Rattle.qil_meaning.specs.Poke.{poke_memory, poke_temp, dead_bytes};
+ghost use Rattle.qil_state.specs.State.{state_of, head_names};
+ghost use Rattle.qil_frames.specs.Frames.{HasSlot};
+ghost use Rattle.qil_machine.specs.Places.{Made};
+ghost use Rattle.qil_machine.specs.Pokes.{IsOfClass, Refuses, RefusesName};
+
+use crate::delta::Delta;
+use crate::error::PokeError;
+use crate::machine::Machine;
+use qil_numbering::Slot;
+use qil_ops::unary;
+use qil_tree::{Class, UnaryOp};
+use std::alloc::Allocator;
+
+impl<'c, 'a, A: Allocator + Copy> Machine<'c, 'a, A> {
+    /// Replaces 1, 2, 4 or 8 bytes of memory by the low bytes of a number. It takes no memory.
+    ///
+    /// # Errors
+    ///
+    /// `DeadAddress` where not all of them are live.
+    pub fn poke_memory(
+        &mut self,
+        address: u64,
+        width: u64,
+        number: u64,
+    ) -> Result<Delta<A>, PokeError>
+        requires { IsWidth width }
+        ensures poke { OnOk result (poke_memory (state_of self.old) address width number ≡ Ok (state_of self.new)) }
+        ensures made { IfOk result (λ d. Made d self.old self.new) }
+        ensures dead { IfErr result (λ e. (e ≡ PokeError.DeadAddress) × (poke_memory (state_of self.old) address width number ≡ Err dead_bytes)) }
+        ensures err { OnErr result (self.new ≡ self.old) }
+    {
+        let old = match self.memory.exchange(address, width, number) {
+            Ok(old) => old,
+            Err(_) => return Err(PokeError::DeadAddress),
+        };
+        Ok(Delta::poked_bytes(width as u8, address as u32, old))
+    }
+    /// Replaces a temporary of the innermost frame by a number, cut to its class. It takes no memory.
+    ///
+    /// # Errors
+    ///
+    /// `NoFrame` where the run is done, `UnknownTemporary` where the innermost function has no such slot.
+    pub fn poke_temp(&mut self, slot: Slot, value: u64) -> Result<Delta<A>, PokeError>
+        ensures slot { OnOk result (HasSlot self.old.frames slot) }
+        ensures poke { (name : List ℕ) → slice_get (head_names self.old.program self.old.frames) slot.index ≡ Some name → OnOk result (poke_temp self.old.program (state_of self.old) name value ≡ Ok (state_of self.new)) }
+        ensures made { IfOk result (λ d. Made d self.old self.new) }
+        ensures why { IfErr result (Refuses self.old slot) }
+        ensures err { OnErr result (self.new ≡ self.old) }
+    {
+        let class = self.class_here(slot)?;
+        let old = self
+            .frames
+            .set(slot, Some(unary(UnaryOp::Copy, class, value)));
+        Ok(Delta::poked_slot(slot, old))
+    }
+
+    /// Replaces a temporary of the innermost frame, whose name is without its sigil, as `poke_temp` does.
+    ///
+    /// # Errors
+    ///
+    /// `NoFrame` where the run is done, `UnknownTemporary` where the innermost function has no such temporary.
+    pub fn poke_named(&mut self, name: &[u8], value: u64) -> Result<Delta<A>, PokeError>
+        ensures poke { OnOk result (poke_temp self.old.program (state_of self.old) name.now value ≡ Ok (state_of self.new)) }
+        ensures made { IfOk result (λ d. Made d self.old self.new) }
+        ensures why { IfErr result (RefusesName self.old name.now value) }
+        ensures err { OnErr result (self.new ≡ self.old) }
+    {
+        match self.slot_here(name) {
+            Ok(slot) => self.poke_temp(slot, value),
+            Err(error) => Err(error),
+        }
+    }
+
+    /// The slot of a temporary of the innermost frame.
+    fn slot_here(&self, name: &[u8]) -> Result<Slot, PokeError>
+        ensures slot { IfOk result (λ slot. HasSlot self.now.frames slot × (slice_get (head_names self.now.program self.now.frames) slot.index ≡ Some name.now)) }
+        ensures why { (value : ℕ) → IfErr result (RefusesName self.now name.now value) }
+    {
+        if self.frames.depth() == 0 {
+            return Err(PokeError::NoFrame);
+        }
+        let func = self.frames.innermost().func();
+        match self.code.slot_of(func, name) {
+            Some(slot) => Ok(slot),
+            None => Err(PokeError::UnknownTemporary),
+        }
+    }
+
+    /// The class of what a slot of the innermost frame holds.
+    fn class_here(&self, slot: Slot) -> Result<Class, PokeError>
+        ensures class { IfOk result (IsOfClass self.now slot) }
+        ensures why { IfErr result (Refuses self.now slot) }
+    {
+        if self.frames.depth() == 0 {
+            return Err(PokeError::NoFrame);
+        }
+        let func = self.frames.innermost().func();
+        match self.code.class_of(func, slot) {
+            Some(class) => Ok(class),
+            None => Err(PokeError::UnknownTemporary),
+        }
+    }
+}

@@ -1,0 +1,36 @@
+//! Equal machines: the test, and the making of one.
+
+ghost use Rattle.std.specs.Prelude.{◌≡◌, ◌↔◌, IsTrue, IfOk};
+
+use crate::machine::Machine;
+use std::alloc::{AllocError, Allocator};
+
+impl<'c, 'a, A: Allocator + Copy> Machine<'c, 'a, A> {
+    /// Whether two machines of one program are equal in all that they hold, dead bytes of memory too. It takes no memory.
+    pub fn same(&self, other: &Machine<'_, '_, A>) -> bool
+        requires { self.now.program ≡ other.now.program }
+        ensures { IsTrue result ↔ (self.now ≡ other.now) }
+    {
+        self.status == other.status
+            && self.output.as_slice() == other.output.as_slice()
+            && self.frames.same(&other.frames)
+            && self.memory.same(&other.memory)
+    }
+
+    /// An equal machine, over the same code, with as much room for output.
+    pub fn try_clone(&self) -> Result<Machine<'c, 'a, A>, AllocError>
+        ensures { IfOk result (λ m. m ≡ self.now) }
+    {
+        let frames = self.frames.try_clone()?;
+        let memory = self.memory.try_clone()?;
+        let mut output = Vec::with_capacity(*self.output.allocator(), self.output.capacity())?;
+        output.extend_from_slice(self.output.as_slice())?;
+        Ok(Machine {
+            code: self.code,
+            frames,
+            memory,
+            output,
+            status: self.status,
+        })
+    }
+}

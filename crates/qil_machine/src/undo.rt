@@ -1,0 +1,224 @@
+//! The way back: what a move kept is put back, by its kind. No call here takes memory.
+
+ghost use Rattle.std.specs.Prelude.{◌≡◌, ◌≤◌, []};
+ghost use Rattle.qil_layout.specs.Layout.{low_bytes};
+ghost use Rattle.qil_numbering.specs.Numbered.{block_at};
+ghost use Rattle.qil_numbering.specs.Ranges.{IsShort};
+ghost use Rattle.qil_frames.specs.Frames.{on_innermost};
+ghost use Rattle.qil_frames.specs.Kept.{kept_slots};
+ghost use Rattle.qil_state.specs.State.{ReceiverFits};
+ghost use Rattle.qil_machine.specs.Moves.{at, end_of, inst_count, undone, Fits};
+ghost use Rattle.qil_machine.specs.Kinds.{slots_move, one, bytes_move, called_move, returned_move, grown_move, copied_move, wrote_move, ended_move, poked_slot_move, poked_bytes_move, with_received, value_of};
+
+use crate::delta::{Copied, Delta, Grown, Kind};
+use crate::machine::Machine;
+use qil_frames::{Frame, Frames, KeptSlots, PhiSaved};
+use qil_layout::FuncId;
+use qil_numbering::{BlockId, Code, Receiver, Slot};
+use qil_state::Status;
+use std::alloc::Allocator;
+
+impl<'c, 'a, A: Allocator + Copy> Machine<'c, 'a, A> {
+    /// Puts back what a move kept. `Delta::fits` is the test of its condition.
+    pub fn undo(&mut self, delta: Delta<A>)
+        requires { Fits delta self.old }
+        ensures { self.new ≡ undone delta self.old }
+    {
+        let Delta { kind } = delta;
+        match kind {
+            Kind::Assigned(set, slot, index, value) => {
+                self.undo_assigned(slot, value_of(set, value), index);
+            }
+            Kind::Stored(count, index, address, number) => {
+                self.undo_stored(count, index, address, number);
+            }
+            Kind::Left(block) => self.undo_left(block, KeptSlots::None),
+            Kind::LeftOne(set, block, slot, value) => {
+                self.undo_left(block, KeptSlots::One(set, slot, value));
+            }
+            Kind::LeftTwo(block, a, b, x, y) => self.undo_left(block, KeptSlots::Two(a, b, x, y)),
+            Kind::LeftMany(block, kept) => self.undo_left(block, KeptSlots::Many(kept)),
+            Kind::Called(index) => self.undo_called(index),
+            Kind::Returned(set, top, value, frame) => {
+                self.undo_returned(frame, top, value_of(set, value));
+            }
+            Kind::Grew(grown) => self.undo_grew(Box::into_inner(grown)),
+            Kind::Copied(copied) => self.undo_copied(Box::into_inner(copied)),
+            Kind::Wrote(index, count) => self.undo_wrote(index, count),
+            Kind::WroteTo(set, slot, index, count, value) => {
+                self.undo_wrote_to(slot, value_of(set, value), index, count);
+            }
+            Kind::Ended => self.undo_ended(),
+            Kind::PokedSlot(set, slot, value) => self.undo_poked_slot(slot, value_of(set, value)),
+            Kind::PokedBytes(count, address, number) => {
+                self.undo_poked_bytes(count, address, number);
+            }
+        }
+    }
+}
+
+/// The kinds, each from what it keeps.
+impl<'c, 'a, A: Allocator + Copy> Machine<'c, 'a, A> {
+    #[inline(always)]
+    fn undo_assigned(&mut self, slot: Slot, value: Option<u64>, index: u32)
+        requires { Fits (slots_move (at index) (one slot value)) self.old }
+        ensures { self.new ≡ undone (slots_move (at index) (one slot value)) self.old }
+    {
+        let _ = self.frames.set(slot, value);
+        self.frames.set_index(index);
+        self.status = Status::Running;
+    }
+
+    #[inline(always)]
+    fn undo_stored(&mut self, count: u8, index: u32, address: u32, number: u64)
+        requires few { count ≤ 8 }
+        requires fits { Fits (bytes_move index address (low_bytes count number)) self.old }
+        ensures { self.new ≡ undone (bytes_move index address (low_bytes count number)) self.old }
+    {
+        self.memory
+            .put_back(u64::from(address), u64::from(count), number);
+        self.frames.set_index(index);
+        self.status = Status::Running;
+    }
+
+    #[inline(always)]
+    fn undo_left(&mut self, block: u16, slots: KeptSlots<A>)
+        requires fits { Fits (slots_move (end_of block) (kept_slots slots)) self.old }
+        requires short { IsShort (kept_slots slots) }
+        ensures { self.new ≡ undone (slots_move (end_of block) (kept_slots slots)) self.old }
+    {
+        let block = BlockId { index: block };
+        let end = end_of(self.code, self.frames.innermost().func(), block);
+        self.frames
+            .undo_enter(PhiSaved::from_parts(block, end, slots));
+        self.status = Status::Running;
+    }
+
+    #[inline(always)]
+    fn undo_called(&mut self, index: u32)
+        requires { Fits (called_move index) self.old }
+        ensures { self.new ≡ undone (called_move index) self.old }
+    {
+        let _ = self.frames.pop();
+        self.frames.set_index(index);
+        self.status = Status::Running;
+    }
+
+    #[inline(always)]
+    fn undo_returned(&mut self, frame: Frame<A>, top: u32, value: Option<u64>)
+        requires { Fits (returned_move frame top value) self.old }
+        ensures { self.new ≡ undone (returned_move frame top value) self.old }
+    {
+        self.memory.set_top(u64::from(top));
+        put_received(&mut self.frames, frame.result(), value);
+        self.frames.push(frame);
+        self.status = Status::Running;
+    }
+
+    #[inline(never)]
+    fn undo_grew(&mut self, grown: Grown<A>)
+        requires { Fits (grown_move grown.index grown.slot grown.value grown.saved) self.old }
+        ensures { self.new ≡ undone (grown_move grown.index grown.slot grown.value grown.saved) self.old }
+    {
+        let Grown {
+            index,
+            slot,
+            value,
+            saved,
+        } = grown;
+        let _ = self.memory.top();
+        self.memory.undo(saved);
+        let _ = self.frames.set(slot, value);
+        self.frames.set_index(index);
+        self.status = Status::Running;
+    }
+
+    #[inline(never)]
+    fn undo_copied(&mut self, copied: Copied<A>)
+        requires { Fits (copied_move copied.index copied.saved) self.old }
+        ensures { self.new ≡ undone (copied_move copied.index copied.saved) self.old }
+    {
+        let Copied { index, saved } = copied;
+        let _ = self.memory.top();
+        self.memory.undo(saved);
+        self.frames.set_index(index);
+        self.status = Status::Running;
+    }
+
+    fn undo_wrote(&mut self, index: u32, count: u32)
+        requires { Fits (wrote_move index count []) self.old }
+        ensures { self.new ≡ undone (wrote_move index count []) self.old }
+    {
+        let length = count as usize;
+        self.output.truncate(length);
+        self.frames.set_index(index);
+        self.status = Status::Running;
+    }
+
+    fn undo_wrote_to(&mut self, slot: Slot, value: Option<u64>, index: u32, count: u32)
+        requires { Fits (wrote_move index count (one slot value)) self.old }
+        ensures { self.new ≡ undone (wrote_move index count (one slot value)) self.old }
+    {
+        self.output.truncate(count as usize);
+        let _ = self.frames.set(slot, value);
+        self.frames.set_index(index);
+        self.status = Status::Running;
+    }
+
+    fn undo_ended(&mut self)
+        requires { Fits ended_move self.old }
+        ensures { self.new ≡ undone ended_move self.old }
+    {
+        self.status = Status::Running;
+    }
+
+    fn undo_poked_slot(&mut self, slot: Slot, value: Option<u64>)
+        requires { Fits (poked_slot_move slot value) self.old }
+        ensures { self.new ≡ undone (poked_slot_move slot value) self.old }
+    {
+        let _ = self.frames.set(slot, value);
+    }
+
+    fn undo_poked_bytes(&mut self, count: u8, address: u32, number: u64)
+        requires few { count ≤ 8 }
+        requires fits { Fits (poked_bytes_move address (low_bytes count number)) self.old }
+        ensures { self.new ≡ undone (poked_bytes_move address (low_bytes count number)) self.old }
+    {
+        self.memory
+            .put_back(u64::from(address), u64::from(count), number);
+    }
+}
+
+/// A value, where there is one.
+#[inline(always)]
+pub(crate) fn value_of(set: bool, value: u64) -> Option<u64>
+    ensures { result ≡ value_of set value }
+{
+    if set { Some(value) } else { None }
+}
+
+/// How many instructions a block has.
+#[inline(always)]
+fn end_of<A: Allocator + Copy>(code: &Code<'_, '_, A>, func: FuncId, block: BlockId) -> u32
+    ensures { result ≡ inst_count (block_at code.now func.index block.index) }
+{
+    match code.block(func, block) {
+        Some(found) => found.insts.as_slice().len() as u32,
+        None => 0,
+    }
+}
+
+/// Puts a value into the slot that takes a result, if there is one.
+#[inline(always)]
+fn put_received<A: Allocator>(
+    frames: &mut Frames<A>,
+    receiver: Option<Receiver>,
+    value: Option<u64>,
+)
+    requires { ReceiverFits frames.old receiver }
+    ensures { frames.new ≡ on_innermost (with_received receiver value) frames.old }
+{
+    if let Some(to) = receiver {
+        let _ = frames.set(to.slot, value);
+    }
+}
