@@ -1,5 +1,4 @@
-"""A well-formed program with a dozen and more of each kind of thing. It is refused for its first data object alone, on
-line 2, since data isn't run yet: nothing in it breaks a rule, and its tables find room."""
+"""A program with a dozen and more of each kind of thing: data, fields, parameters, blocks, phis, sources, functions."""
 
 MANY = 13
 lines = ["# many of each"]
@@ -11,7 +10,7 @@ for n in range(MANY):
     lines.append(f"export function w $f{n}({params}) {{")
     lines.append("@start")
     lines += [f"\t%v{m} =w add %p{m}, {m}" for m in range(MANY)]
-    lines += [f"\t%a{m} =l alloc8 {m}\n\tstorew %v{m}, %a{m}" for m in range(MANY)]
+    lines += [f"\t%a{m} =l alloc8 {m + 4}\n\tstorew %v{m}, %a{m}" for m in range(MANY)]
     lines.append("\tjnz %p0, @b0, @last")
     for m in range(MANY):
         lines.append(f"@b{m}")
@@ -29,7 +28,3 @@ for n in range(MANY):
 
 with open("program.ssa", "w") as program:
     program.write("\n".join(lines) + "\n")
-with open("transcript", "w") as transcript:
-    transcript.write("refused: P2 line 2\n")
-with open("status", "w") as status:
-    status.write("1\n")

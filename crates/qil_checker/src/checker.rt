@@ -1,7 +1,7 @@
 //! The check of a program.
 
 ghost use Rattle.std.specs.Prelude.{◌≡◌, ℕ, IfOk, IfErr};
-ghost use Rattle.qil_parser.specs.Trees.{HasBlocks};
+ghost use Rattle.qil_tree.specs.Trees.{HasBlocks};
 ghost use Rattle.qil_checker.specs.Mentions.{texts};
 ghost use Rattle.qil_checker.specs.Rules.{WellFormed, Broken};
 ghost use Rattle.qil_checker.specs.Check.{IsTold, IsRefusedBy};
@@ -11,7 +11,7 @@ ghost use Rattle.qil_checker.specs.declared.rule.Rule.{Rule};
 use crate::form::Form;
 use crate::rule::Rule;
 use crate::whole::{Refusal, Whole};
-use qil_parser::Program;
+use qil_tree::Program;
 use std::alloc::{AllocError, Allocator};
 use std::hash::RandomState;
 use std::marker::Model;
@@ -45,7 +45,7 @@ pub struct Checked<'a, A: Allocator> {
 }
 
 impl<'a, A: Allocator> Model for Checked<'a, A> {
-    ghost use Rattle.qil_parser.specs.Trees.{HasBlocks};
+    ghost use Rattle.qil_tree.specs.Trees.{HasBlocks};
     ghost use Rattle.qil_checker.specs.Check.{Verdict};
     ghost use Rattle.qil_checker.specs.Rules.{WellFormed};
     ghost use Rattle.qil_checker.specs.Forms.{HasForm};
@@ -58,7 +58,7 @@ impl<'a, A: Allocator> Model for Checked<'a, A> {
 }
 
 impl<'a, A: Allocator> Checked<'a, A> {
-    ghost use Rattle.qil_parser.specs.Trees.{HasBlocks};
+    ghost use Rattle.qil_tree.specs.Trees.{HasBlocks};
     ghost use Rattle.qil_checker.specs.Rules.{WellFormed};
     ghost use Rattle.qil_checker.specs.Forms.{HasForm};
 

@@ -1,6 +1,6 @@
 //! The form of a program: whether each temporary has one definition.
 
-use qil_parser::Name;
+use qil_tree::Name;
 
 /// Whether each temporary of a program has one definition.
 #[derive(Debug, Drop)]

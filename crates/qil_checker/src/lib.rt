@@ -15,8 +15,3 @@ mod whole;
 pub use checker::{CheckError, Checked, check};
 pub use form::Form;
 pub use rule::Rule;
-
-#[cfg(test)]
-mod operand_tests;
-#[cfg(test)]
-mod tests;

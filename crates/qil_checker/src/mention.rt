@@ -2,7 +2,7 @@
 
 ghost use Rattle.std.specs.Prelude.{◌≡◌};
 
-use qil_parser::{AbiType, Class, Name, PhiSource};
+use qil_tree::{AbiType, Class, Name, PhiSource};
 use std::marker::Model;
 
 /// The labels and values of a phi, in its order. Specifications see the list of them.

@@ -5,7 +5,7 @@ ghost use Rattle.qil_checker.specs.Tables.{place_of, first, is, AreKnown, AreSam
 ghost use Rattle.qil_checker.specs.Text.{AreDistinct, labels_of};
 
 use crate::table::Table;
-use qil_parser::{Name, PhiSource};
+use qil_tree::{Name, PhiSource};
 use std::alloc::{AllocError, Allocator};
 use std::hash::RandomState;
 

@@ -8,7 +8,7 @@ ghost use Rattle.qil_checker.specs.Tables.{list_at, predecessors_of, names_in};
 use crate::mention::{Mention, PhiSources, What};
 use crate::phi_labels::{labels_of, same_once};
 use indexmap::IndexMap;
-use qil_parser::Name;
+use qil_tree::Name;
 use std::alloc::{AllocError, Allocator};
 use std::hash::RandomState;
 

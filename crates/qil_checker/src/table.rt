@@ -8,7 +8,7 @@ ghost use Rattle.std.specs.Option.{option_or};
 ghost use Rattle.qil_checker.specs.Tables.{place_of, at_name};
 
 use indexmap::IndexMap;
-use qil_parser::Name;
+use qil_tree::Name;
 use std::alloc::{AllocError, Allocator};
 use std::hash::RandomState;
 

@@ -12,7 +12,7 @@ use crate::mention::{Kind, Mention, What};
 use crate::predecessors::{Predecessors, all_predecessors, are_predecessors};
 use crate::rule::Rule;
 use crate::table::Table;
-use qil_parser::{Class, Name};
+use qil_tree::{Class, Name};
 use std::alloc::{AllocError, Allocator};
 use std::hash::RandomState;
 

@@ -6,7 +6,7 @@ ghost use Rattle.qil_checker.specs.Operands.{right_class, stored_class, expr_rea
 ghost use Rattle.qil_checker.specs.Mentions.{on, Edge, read_mentions, operand_mentions, target_mentions, long_mentions, source_mentions, phi_mentions, kind_mentions, inst_mentions, returned_class, jump_mentions, block_mentions, param_mention, func_mentions, item_mentions, field_mentions, data_mentions};
 
 use crate::mention::{Mention, PhiSources, What};
-use qil_parser::{
+use qil_tree::{
     AbiType, Argument, BinaryOp, Block, CallResult, Class, Data, Expr, Extension, Field, Func,
     Inst, InstKind, Item, JumpKind, LoadOp, Name, Operand, Param, Phi, PhiSource, Target, Width,
 };

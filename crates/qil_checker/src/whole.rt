@@ -16,7 +16,7 @@ use crate::rule::Rule;
 use crate::table::Table;
 use crate::text::Text;
 use crate::walk;
-use qil_parser::{Data, Definition, Func, Name, Program};
+use qil_tree::{Data, Definition, Func, Name, Program};
 use std::alloc::{AllocError, Allocator};
 use std::hash::RandomState;
 

@@ -1,5 +1,5 @@
 -- The value of digits that are read one after the other, where the value is cut at a limit.
-use Rattle.std.proofs.Common.{◌≡◌, ℕ, ◌+◌, ◌*◌, ◌-◌, ◌≤◌, ◌<◌, ◌^◌, List, [], ◌∷◌, length, fold, min, drop, get_or, refl, sym, ap, ◌∙◌, arith, drop-cons, add-one}
+use Rattle.std.proofs.Common.{◌≡◌, ℕ, ◌+◌, ◌*◌, ◌-◌, ◌<◌, List, [], ◌∷◌, length, fold, min, drop, get_or, refl, sym, ap, ◌∙◌, arith, drop-cons, add-one}
 
 -- the value of digits that come after a value
 abbrev pub value_after : ℕ → List ℕ → ℕ

@@ -1,5 +1,5 @@
 -- Words behind spacing, and the word at the front.
-use Rattle.std.proofs.Common.{◌≡◌, ℕ, zero, suc, ◌+◌, Bool, true, false, cond, List, [], ◌∷◌, take, drop, refl, arith, ap, sym, ◌∙◌, inl, inr}
+use Rattle.std.proofs.Common.{◌≡◌, ℕ, zero, suc, ◌+◌, true, false, List, [], ◌∷◌, take, drop, refl, arith, ap, sym, ◌∙◌, inl, inr}
 use Rattle.std.specs.List.{prefix_len}
 use Rattle.std.proofs.lemmas.Bool.{cases_Bool}
 use Rattle.qil_commands.specs.Words.{is_spacing, is_word_byte, goes_on, onto_first, words_of}

@@ -1,5 +1,5 @@
 -- The words of a line.
-use Rattle.std.specs.Prelude.{ℕ, ◌==◌, ◌||◌, Bool, true, false, not, cond, List, [], ◌∷◌}
+use Rattle.std.specs.Prelude.{ℕ, ◌==◌, ◌||◌, Bool, false, not, cond, List, [], ◌∷◌}
 
 -- a space, a tab or byte 13
 abbrev pub is_spacing : ℕ → Bool

@@ -2,6 +2,7 @@
 
 ghost use Rattle.std.specs.Prelude.{◌≡◌};
 
+use qil_tree::Width;
 use std::fmt;
 use std::marker::Model;
 
@@ -40,8 +41,44 @@ impl<'a> Name<'a> {
 pub enum Verb {
     Step,
     Back,
+    Continue,
+    Reverse,
+    Set,
+    Poke,
+    Break,
+    Watch,
+    Delete,
+    Stops,
     Print,
+    Temps,
+    Mem,
+    Where,
+    List,
+    Out,
     Quit,
+}
+
+/// What a watch looks at, as the word behind `watch` says.
+#[derive(Debug, Drop)]
+pub enum Looked<'a> {
+    Bytes(Width),
+    /// A temporary of the function of this name.
+    Temp(Name<'a>),
+}
+
+/// An address in a command.
+#[derive(Debug, Drop)]
+pub enum Address<'a> {
+    Number(u64),
+    /// So many bytes behind the address of a global, modulo 2^64.
+    Global(Name<'a>, u64),
+}
+
+/// A place in a function: a block, and an index of its instructions. Behind the last one stands the jump.
+#[derive(Debug, Drop)]
+pub struct BreakPlace<'a> {
+    pub label: Name<'a>,
+    pub index: u64,
 }
 
 /// What a line asks of a session.
@@ -51,8 +88,36 @@ pub enum Command<'a> {
     Step(u32),
     /// Move backward up to this many times, 1 to 4,294,967,295.
     Back(u32),
+    /// Move forward to the first place with a reason to stop.
+    Continue,
+    /// Move backward to the first place with a reason to stop.
+    Reverse,
+    /// Give a temporary of the innermost frame a value, as 64 bits in two's complement.
+    Set(Name<'a>, u64),
+    /// Write the low bytes of a value to memory.
+    Poke(Width, Address<'a>, u64),
+    /// Stop where a function is at a place; at its first instruction where none is said.
+    Break(Name<'a>, Option<BreakPlace<'a>>),
+    /// Stop where bytes of memory change.
+    WatchBytes(Width, Address<'a>),
+    /// Stop where a temporary of a function changes.
+    WatchTemp(Name<'a>, Name<'a>),
+    /// Take the stop of this number away.
+    Delete(u64),
+    /// Show the stops.
+    Stops,
     /// Show a temporary of the innermost frame.
     Print(Name<'a>),
+    /// Show all temporaries of the innermost frame.
+    Temps,
+    /// Show so many bytes of memory, 1 to 256.
+    Mem(Address<'a>, u32),
+    /// Show the frames.
+    Where,
+    /// Show the block that the innermost frame is in.
+    List,
+    /// Show what was written.
+    Out,
     /// End the session: the rest of the script isn't read.
     Quit,
 }

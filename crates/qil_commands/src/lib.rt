@@ -3,11 +3,12 @@
 #![tactic(auto)]
 
 mod command;
+mod next;
 mod numbers;
 mod read;
 mod words;
 
-pub use command::{Command, Name, Refused};
+pub use command::{Address, BreakPlace, Command, Name, Refused};
 pub use read::read_command;
 
 #[cfg(test)]

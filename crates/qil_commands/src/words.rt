@@ -33,7 +33,7 @@ pub struct Words<'a> {
 impl<'a> Words<'a> {
     /// Takes the next word.
     pub fn next(&mut self) -> Option<&'a [u8]>
-        ensures { MatchOption result (words_of self.old.rest.now ≡ [])
+        ensures { MatchOption result ((words_of self.old.rest.now ≡ []) × (words_of self.new.rest.now ≡ []))
             (λ word. words_of self.old.rest.now ≡ word.now ∷ words_of self.new.rest.now) }
     {
         let line = &self.rest[spacing_len(self.rest)..];

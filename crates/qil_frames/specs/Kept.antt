@@ -1,10 +1,8 @@
 -- What is kept of slots as a list, and what phis make of slots.
-use Rattle.std.specs.Prelude.{◌≡◌, ℕ, Bool, true, false, List, [], ◌∷◌, length, Option, Some, None, Result, Ok, Err, IsOk}
+use Rattle.std.specs.Prelude.{◌≡◌, ℕ, Bool, true, false, List, [], ◌∷◌, length, Option, Some, None, Result, Ok, Err}
 use Rattle.qil_numbering.specs.declared.numbered.Slot.{Slot}
 use Rattle.qil_numbering.specs.declared.numbered.PhiMove.{PhiMove}
 use Rattle.qil_frames.specs.declared.saved.SavedSlot.{SavedSlot}
-use Rattle.qil_frames.specs.declared.saved.PhiFault.{PhiFault}
-use Rattle.qil_frames.specs.declared.saved.PhiFault.TheVariants.{Unset, OutOfMemory}
 use Rattle.qil_frames.specs.declared.saved.KeptSlots.{KeptSlots}
 use Rattle.qil_frames.specs.declared.saved.KeptSlots.TheVariants as kept
 use Rattle.qil_frames.specs.Frames.{SlotFrame, at_place}
@@ -31,11 +29,6 @@ pub record AreDone (ms : List PhiMove) (old new : List (Option ℕ)) (kept : Lis
   pub undo : put_back kept new ≡ old
   pub fits : AreSlots kept (length old)
   pub count : length kept ≡ length ms
-
--- want of memory comes only where no slot is unset
-abbrev pub ExplainsPhis : PhiFault → Result (List SavedSlot) Slot → Type 0
-ExplainsPhis (Unset s) r = r ≡ Err s
-ExplainsPhis OutOfMemory r = IsOk r
 
 -- a frame is at the start of block b with the phis done, and what is kept is the rest of the frame that it was
 pub record HasEntered (b : ℕ) (ms : List PhiMove) (old new : SlotFrame) (kept : LeftBlock) : Type 0 where

@@ -4,8 +4,8 @@ ghost use Rattle.std.specs.Prelude.{◌≡◌, ◌≢◌, ◌<◌, ◌≤◌, �
 ghost use Rattle.std.specs.List.{All};
 ghost use Rattle.qil_numbering.specs.Ranges.{MoveInRange, IsShort};
 ghost use Rattle.qil_frames.specs.Frames.{SlotFrame, with_slot, at_index, at_place};
-ghost use Rattle.qil_frames.specs.Enter.{gathered, AreSlots, returned};
-ghost use Rattle.qil_frames.specs.Kept.{HasEntered, ExplainsPhis};
+ghost use Rattle.qil_frames.specs.Enter.{gathered, AreSlots, returned, Explains};
+ghost use Rattle.qil_frames.specs.Kept.{HasEntered};
 
 use crate::phis::{do_phis, undo_phis};
 use crate::saved::{PhiFault, PhiSaved};
@@ -99,7 +99,7 @@ impl<A: Allocator + Copy> Frame<A> {
         requires moves { All (MoveInRange (length self.old.slots)) moves.now }
         requires short { IsShort moves.now }
         ensures ok { IfOk result (λ kept. HasEntered block.index moves.now self.old self.new kept) }
-        ensures fault { IfErr result (λ e. ExplainsPhis e (gathered self.old.slots moves.now)) }
+        ensures fault { IfErr result (λ e. Explains e (gathered self.old.slots moves.now)) }
         ensures few { length moves.now ≤ 1 → result ≢ Err PhiFault.OutOfMemory }
         ensures err { OnErr result (self.new ≡ self.old) }
     {

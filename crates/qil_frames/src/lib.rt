@@ -10,6 +10,3 @@ mod values;
 pub use frame::Frame;
 pub use frames::Frames;
 pub use saved::{KeptSlots, PhiFault, PhiSaved, SavedSlot};
-
-#[cfg(test)]
-mod tests;

@@ -5,3 +5,4 @@ pub mod Table
 pub mod Answer
 pub mod Callee
 pub mod Laws
+pub mod Codes

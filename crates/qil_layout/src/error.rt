@@ -1,6 +1,7 @@
 //! Why data can't be laid out.
 
 ghost use Rattle.std.specs.Prelude.{◌≡◌};
+ghost use Rattle.qil_layout.specs.Codes.{layout_code};
 
 use std::alloc::{AllocError, AllocFailed};
 use std::fmt;
@@ -15,13 +16,26 @@ pub enum LayoutCode {
     Y2,
 }
 
-impl fmt::Display for LayoutCode {
-    fn fmt<W: fmt::Write>(&self, f: &mut fmt::Formatter<W>) -> fmt::Result {
-        let code = match *self {
+impl LayoutCode {
+    /// The code that is told.
+    pub fn as_str(self) -> &'static str
+        ensures { result.now ≡ layout_code self }
+    {
+        match self {
             LayoutCode::Y1 => "Y1",
             LayoutCode::Y2 => "Y2",
-        };
-        write!(f, "{code}")
+        }
+    }
+}
+
+impl fmt::Display for LayoutCode {
+    ghost use Rattle.std.specs.Prelude.{Some};
+    ghost use Rattle.qil_layout.specs.Codes.{layout_code};
+
+    ghost output = { λ code. Some (layout_code code) };
+
+    fn fmt<W: fmt::Write>(&self, f: &mut fmt::Formatter<W>) -> fmt::Result {
+        f.write_str(self.as_str())
     }
 }
 

@@ -7,7 +7,7 @@ ghost use Rattle.qil_layout.specs.Table.{found};
 
 use crate::place::{DATA_BASE, span_of};
 use crate::table::Table;
-use qil_parser::{Data, Field, Item, Width};
+use qil_tree::{Data, Field, Item, Width};
 use std::alloc::{AllocError, Allocator};
 
 /// Pushes the low bytes of a number that a width has, the least significant first.

@@ -11,7 +11,7 @@ use crate::fill;
 use crate::names::{EXIT, FUNC_BASE, FUNC_STRIDE, PUTCHAR, PUTS, names_of};
 use crate::table::Table;
 use qil_checker::Checked;
-use qil_parser::{Name, Program};
+use qil_tree::{Name, Program};
 use std::alloc::Allocator;
 use std::hash::RandomState;
 use std::marker::Model;

@@ -19,6 +19,3 @@ pub use laws::{
     padding_is_zero,
 };
 pub use place::{DATA_BASE, rounded_up};
-
-#[cfg(test)]
-mod tests;

@@ -9,7 +9,7 @@ ghost use Rattle.qil_layout.specs.Answer.{IsFault};
 use crate::error::LayoutError;
 use crate::place::{DATA_BASE, span_of};
 use crate::table::Table;
-use qil_parser::{Data, Func, Program};
+use qil_tree::{Data, Func, Program};
 use std::alloc::{AllocError, Allocator};
 use std::hash::RandomState;
 

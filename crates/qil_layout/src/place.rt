@@ -5,7 +5,7 @@ ghost use Rattle.qil_layout.specs.Layout.{rounded, is_alignment, align_of, start
 
 use crate::error::LayoutCode;
 use crate::room::after_fields;
-use qil_parser::Data;
+use qil_tree::Data;
 use std::alloc::Allocator;
 
 /// The address of the first byte of the data.

@@ -5,7 +5,7 @@ ghost use Rattle.std.specs.List.{sum_by};
 ghost use Rattle.qil_layout.specs.Layout.{width_bytes, item_size, field_size};
 ghost use Rattle.qil_layout.specs.Room.{IsLeft};
 
-use qil_parser::{Field, Item, Width};
+use qil_tree::{Field, Item, Width};
 use std::alloc::Allocator;
 
 /// The bytes of a number or an address of that width.

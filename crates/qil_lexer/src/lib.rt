@@ -16,6 +16,3 @@ pub use laws::{cut_shapes, escape_line, one_cut, one_fault, one_string};
 pub use lexer::tokens;
 pub use token::{Token, TokenKind};
 pub use value::{number_value, string_bytes};
-
-#[cfg(test)]
-mod tests;

@@ -12,11 +12,10 @@ use Rattle.qil_frames.specs.Frames.{SlotFrame}
 use Rattle.qil_state.specs.declared.status.Fault.{Fault}
 use Rattle.qil_state.specs.declared.status.Status.TheVariants.{Faulted}
 use Rattle.qil_state.specs.Faults.{fault_of}
-use Rattle.qil_state.specs.State.{Whole, whole, state_of, head_names, FramesFit, IsMachine}
+use Rattle.qil_state.specs.State.{Whole, whole, state_of, head_names, FramesFit, IsMachine, IsNext}
 use Rattle.qil_state.specs.Stepping.{stepped_whole, performed_whole, left_whole}
 use Rattle.qil_state.proofs.Place.{none_some, some_same}
 use Rattle.qil_state.proofs.Stepping.{Found, found, found_jump, step_settled, faulted_step}
-use Rattle.qil_machine.specs.Places.{IsNext}
 use Rattle.qil_machine.specs.Steps.{IsHere, HasInst}
 
 -- ---- an instruction

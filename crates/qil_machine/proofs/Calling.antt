@@ -35,13 +35,13 @@ use Rattle.qil_state.specs.declared.status.Status.{Status}
 use Rattle.qil_state.specs.declared.status.Status.TheVariants.{Running, Exited}
 use Rattle.qil_state.specs.declared.status.Fault.{Fault}
 use Rattle.qil_state.specs.Faults.{fault_of}
-use Rattle.qil_state.specs.State.{Whole, whole, state_of, frame_state, frames_state, head_names, func_name, label_in, PlaceFits, FrameFits}
+use Rattle.qil_state.specs.State.{Whole, whole, state_of, frame_state, frames_state, head_names, func_name, label_in, PlaceFits, FrameFits, IsNext}
 use Rattle.qil_state.specs.Values.{argument_values, shape_by}
 use Rattle.qil_state.specs.Beginning.{begun_slots, passed_values}
 use Rattle.qil_state.proofs.Beginning.{begun_temps, begun_long, begun_shape, passed_fit}
 use Rattle.qil_state.proofs.Place.{BlockHere, block_here, block_at_here}
 use Rattle.qil_machine.specs.Calls.{HasArguments, head_passed, called_whole, TakesOne}
-use Rattle.qil_machine.specs.Places.{IsRunning, IsNext}
+use Rattle.qil_machine.specs.Places.{IsRunning}
 use Rattle.qil_machine.proofs.Steps.{AreOf}
 
 -- ---- the shape of a call

@@ -47,7 +47,7 @@ use Rattle.qil_machine.specs.declared.error.StepError.TheVariants as errors
 use Rattle.qil_machine.specs.Moves.{inst_count}
 use Rattle.qil_machine.specs.Places.{IsRunning, IsLeaving}
 use Rattle.qil_machine.specs.Results.{gives, status_after, without_innermost, Explains, PhisExplain}
-use Rattle.qil_machine.specs.Steps.{StandsIn, IsHere, MayReturn}
+use Rattle.qil_machine.specs.Steps.{StandsIn, IsHere, HasReturned}
 use Rattle.qil_machine.proofs.Steps.{ReadIn}
 
 -- ---- before a jump along an edge
@@ -231,14 +231,14 @@ pub jmp_is : {A : Type 0} (m now : Whole A) (fr : SlotFrame) (e : Edge A) → m 
 jmp_is {A} m now fr e same ok at = subst (λ (x : Whole A). left_whole x (jumps.Jmp e) ≡ went_whole x e) same (jmp_left m m.program m.frames m.memory m.output m.status fr e refl ok.frames at)
 
 -- the operand of a return has its slot
-source_at : {A : Type 0} (p : Program A) (f : SlotFrame) (fs : List SlotFrame) (block : NumberedBlock A) (k : ℕ) (o : Option Source) → FrameFits p f → StandsIn p f block k → block.jump ≡ jumps.Ret o → MayReturn (f ∷ fs) o
+source_at : {A : Type 0} (p : Program A) (f : SlotFrame) (fs : List SlotFrame) (block : NumberedBlock A) (k : ℕ) (o : Option Source) → FrameFits p f → StandsIn p f block k → block.jump ≡ jumps.Ret o → HasReturned (f ∷ fs) o
 source_at {A} p f fs block k None fits stands is = tt
 source_at {A} p f fs block k (Some a) fits stands is =
     subst (λ n. InRange n a) fits.slots (subst (λ (j : NumberedJump A). JumpInRange (length (names_of p f.func)) (length (labels_at p f.func)) j) is stands.range.jump)
 
-source_in : {A : Type 0} (p : Program A) (fs : List SlotFrame) (block : NumberedBlock A) (k : ℕ) (o : Option Source) → FramesFit p fs → IsHere p fs block k → block.jump ≡ jumps.Ret o → MayReturn fs o
+source_in : {A : Type 0} (p : Program A) (fs : List SlotFrame) (block : NumberedBlock A) (k : ℕ) (o : Option Source) → FramesFit p fs → IsHere p fs block k → block.jump ≡ jumps.Ret o → HasReturned fs o
 source_in p [] block k o fits here is = absurd here
 source_in p (f ∷ fs) block k o fits here is = source_at p f fs block k o fits.0 here is
 
-pub may_return : {A : Type 0} (m now : Whole A) (block : NumberedBlock A) (k : ℕ) (o : Option Source) → m ≡ now → IsMachine m → IsHere now.program now.frames block k → block.jump ≡ jumps.Ret o → MayReturn now.frames o
+pub may_return : {A : Type 0} (m now : Whole A) (block : NumberedBlock A) (k : ℕ) (o : Option Source) → m ≡ now → IsMachine m → IsHere now.program now.frames block k → block.jump ≡ jumps.Ret o → HasReturned now.frames o
 may_return {A} m now block k o same ok here is = source_in now.program now.frames block k o (frames_in m now same ok) here is

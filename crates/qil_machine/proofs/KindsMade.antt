@@ -14,11 +14,11 @@ use Rattle.qil_frames.specs.Enter.{LeftBlock, entered_by, HasLeft, Fits as PhiFi
 use Rattle.qil_frames.specs.Frames.{SlotFrame, HasSlot, held, on_innermost, with_slot, at_index}
 use Rattle.qil_state.specs.declared.status.Status.{Status}
 use Rattle.qil_state.specs.declared.status.Status.TheVariants.{Running}
-use Rattle.qil_state.specs.State.{Whole, whole, IsMachine, FramesFor, Floors}
+use Rattle.qil_state.specs.State.{Whole, whole, IsMachine, FramesFor, Floors, IsNext}
 use Rattle.qil_machine.specs.Moves.{Move, at, end_of}
 use Rattle.qil_machine.specs.Kinds.{slots_move, one, bytes_move, copied_move, grown_move, returned_move, held_by, with_received}
-use Rattle.qil_machine.specs.Places.{IsRunning, IsNext, IsLeaving, Made}
-use Rattle.qil_machine.specs.Results.{gives, taken_by, status_after}
+use Rattle.qil_machine.specs.Places.{IsRunning, IsLeaving, Made}
+use Rattle.qil_machine.specs.Results.{gives, received_value, status_after}
 use Rattle.qil_machine.proofs.Made.{assigned, stored, copied, grown, returned, left, floor_low}
 
 pub assigned_made : {A : Type 0} (m now : Whole A) (d : Move) (s : Slot) (k : ℕ) (v old : Option ℕ) (hs gs : List SlotFrame) → m ≡ now → IsMachine m → IsRunning now → HasSlot now.frames s → IsNext now.program now.frames k
@@ -70,8 +70,8 @@ returned_made {A} m now d f fs gs mem t v old st same ok is run ef em eg eo et e
     subst (λ (w : Whole A). IsRunning w → Made d w (whole m.program gs mem m.output st)) same
     (λ run. rw (ed, eo, et, em, es ∙ ap (λ l. status_after l v) eg ∙ status_gives f.result v fs, eg)
     (subst (λ l. Made (returned_move f m.memory.top (held_by f.result fs)) (whole m.program l m.memory m.output m.status) (whole m.program (gives f.result v fs) (with_top m.memory f.floor) m.output (status_after fs v))) (sym ef)
-    (returned m.program f fs m.memory m.output m.status (status_after fs v) (taken_by f.result v) run (subst (λ l. IsMachine (whole m.program l m.memory m.output m.status)) ef ok) is
-    (status_fits fs f.result v (taken_by f.result v))))) run
+    (returned m.program f fs m.memory m.output m.status (status_after fs v) (received_value f.result v) run (subst (λ l. IsMachine (whole m.program l m.memory m.output m.status)) ef ok) is
+    (status_fits fs f.result v (received_value f.result v))))) run
 
 -- ---- jumps
 

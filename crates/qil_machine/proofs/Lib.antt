@@ -15,4 +15,8 @@ pub mod Texts
 pub mod Callees
 pub mod PokingTemps
 pub mod Watching
+pub mod Standing
 pub mod PokingNames
+pub mod PokingSlots
+pub mod Weights
+pub mod KindsWeigh

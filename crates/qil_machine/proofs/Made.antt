@@ -16,12 +16,13 @@ use Rattle.qil_frames.specs.Frames.{SlotFrame, HasFrame, HasSlot, held, on_inner
 use Rattle.qil_numbering.specs.declared.numbered.PhiMove.{PhiMove}
 use Rattle.qil_frames.specs.Enter as enter
 use Rattle.qil_frames.specs.Enter.{LeftBlock, gathered, written, enters, entered_by, put_back, AreSlots, Fits as PhiFits}
+use Rattle.qil_frames.proofs.ValueLemmas.{length-written}
 use Rattle.qil_state.specs.declared.status.Status.{Status}
 use Rattle.qil_state.specs.declared.status.Status.TheVariants.{Running, Done, Exited, Faulted}
-use Rattle.qil_state.specs.State.{Whole, whole, PlaceFits, FrameFits, ReceiverFits, FramesFit, Floors, FramesFor, IsMachine}
+use Rattle.qil_state.specs.State.{Whole, whole, PlaceFits, FrameFits, ReceiverFits, FramesFit, Floors, FramesFor, IsMachine, IsNext}
 use Rattle.qil_machine.specs.Moves.{Move, inst_count, stays, at, end_of, without, frame_back, undone, FitsFrame, FitsBytes, FitsTop, FitsOutput}
 use Rattle.qil_machine.specs.Kinds.{slots_move, one, bytes_move, called_move, received, held_by, with_received, returned_move, grown_move, copied_move, wrote_move, ended_move, poked_slot_move, poked_bytes_move}
-use Rattle.qil_machine.specs.Places.{IsNext, IsLeaving, Made}
+use Rattle.qil_machine.specs.Places.{IsLeaving, Made}
 
 -- a move that gives back a machine fits where its places exist
 pub made : {A : Type 0} (d : Move) (m w : Whole A) → IsMachine m → IsMachine w → undone d w ≡ m → (d.added ≡ true → HasFrame w.frames) → FitsFrame d.place d.slots (without d.added w.frames)
@@ -270,10 +271,6 @@ returned {A} p f fs m out st st2 v run ok mem some =
     undo not_added (received_frame f.result v (held_by f.result fs) fs ok.frames.1) tt (mem.low, mem.high) tt
 
 -- ---- another block is entered
-
-length-written : (ks : List SavedSlot) (vs : List (Option ℕ)) → length (written ks vs) ≡ length vs
-length-written [] vs = refl
-length-written (k ∷ ks) vs = length-written ks (set vs k.slot.index k.value) ∙ length-set vs k.slot.index k.value
 
 err_ok : {X Y Z : Type 0} {e : Y} {x : X} → Err e ≡ Ok x → Z
 err_ok e = absurd (subst (λ o. elim o as (λ _. Type 0) [ Ok x ↦ ⊥ | Err y ↦ Unit {0} ]) e tt)

@@ -31,13 +31,12 @@ use Rattle.qil_state.specs.declared.status.Fault.TheVariants as faults
 use Rattle.qil_state.specs.declared.status.Status.{Status}
 use Rattle.qil_state.specs.Faults.{fault_of, told}
 use Rattle.qil_state.specs.Values.{AreSlots, evaluated}
-use Rattle.qil_state.specs.State.{Whole, whole, state_of, frame_state, frames_state, head_names, FramesFit, IsMachine}
+use Rattle.qil_state.specs.State.{Whole, whole, state_of, frame_state, frames_state, head_names, FramesFit, IsMachine, IsNext}
 use Rattle.qil_state.specs.Stepping.{performed_whole}
 use Rattle.qil_state.proofs.Place.{none_some, some_same}
 use Rattle.qil_state.proofs.Reading.{are_slots, slot_written}
 use Rattle.qil_machine.specs.declared.error.StepError.{StepError}
 use Rattle.qil_machine.specs.declared.error.StepError.TheVariants as errors
-use Rattle.qil_machine.specs.Places.{IsNext}
 use Rattle.qil_machine.specs.Results.{Explains, GrowExplains}
 use Rattle.qil_machine.specs.Steps.{HasInst}
 use Rattle.qil_machine.proofs.Does.{assign_does, assign_faults, store_does, store_faults, blit_does, blit_is, grow_does, grow_faults, grow_goes, ReadsFirst, ReadsBoth, first_unset, second_unset}

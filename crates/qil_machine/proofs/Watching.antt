@@ -5,7 +5,7 @@ use Rattle.std.specs.Str.{bytes_eq}
 use Rattle.std.proofs.lemmas.Bool.Decides.{nat_tests}
 use Rattle.std.proofs.lemmas.List.{reverse-reverse}
 use Rattle.std.proofs.lemmas.Slice.Eq.{bytes_eq-Decides}
-use Rattle.std.proofs.lemmas.Option.{slice_get_within}
+use Rattle.std.proofs.lemmas.Option.{slice_get_within, slice_get-get_or}
 use Rattle.qil_tree.specs.declared.ops.Class.{Class}
 use Rattle.qil_tree.specs.declared.tree.Func.{Func}
 use Rattle.qil_tree.specs.declared.tree.Program.{Program}
@@ -57,7 +57,7 @@ same_test {A} p i j f g false true finds ef eg eb ec =
     let name : g.name ≡ f.name = ap (λ (h : Func A). h.name) (some_same g f (sym eg ∙ ap (func_at p) same ∙ ef)) in
     sym eb ∙ (bytes_eq-Decides g.name f.name).1 name
 
-same_func : {A : Type 0} (p : Program A) (i : ℕ) (func : Func A) (f : SlotFrame) → Finds p → func_at p i ≡ Some func → FrameFits p f → bytes_eq (func_name (func_at p f.func)) func.name ≡ (f.func == i)
+pub same_func : {A : Type 0} (p : Program A) (i : ℕ) (func : Func A) (f : SlotFrame) → Finds p → func_at p i ≡ Some func → FrameFits p f → bytes_eq (func_name (func_at p f.func)) func.name ≡ (f.func == i)
 same_func {A} p i func f finds ef fits =
     let here = there_by p f.func f.block f.index (func_at p f.func) refl fits.place in
     ap (λ (o : Option (Func A)). bytes_eq (func_name o) func.name) here.is
@@ -143,3 +143,10 @@ pub is_held : {A : Type 0} (m now : Whole A) (s : Slot) (x : Name) (v : Option �
 is_held {A} m now s x v same ok ev at =
     ev ∙ held_here m.program m.frames s x ok.frames (ap (λ (w : Whole A). slice_get (head_names w.program w.frames) s.index) same ∙ at)
     ∙ ap (λ (w : Whole A). temp_here (state_of w).frames x) same
+
+-- a slot without a name has no class
+pub no_slot : {A : Type 0} {X : Type 0} (m now : Whole A) (q : Program A) (i s : ℕ) (c : Class) → m ≡ now → q ≡ m.program → Some c ≡ class_at q i s → slice_get (names_of now.program i) s ≡ None → X
+no_slot {A} m now q i s c same program there none =
+    let within : s < length (names_of q i) = within_code q i s c there in
+    let here : slice_get (names_of q i) s ≡ None = ap (λ (r : Program A). slice_get (names_of r i) s) (program ∙ ap (λ (w : Whole A). w.program) same) ∙ none in
+    none_some (sym here ∙ slice_get-get_or (names_of q i) s [] within)

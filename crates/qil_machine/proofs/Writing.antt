@@ -21,14 +21,14 @@ use Rattle.qil_numbering.specs.Numbered.{names_of}
 use Rattle.qil_frames.specs.Frames.{SlotFrame, on_innermost, at_index}
 use Rattle.qil_state.specs.declared.status.Status.{Status}
 use Rattle.qil_state.specs.Faults.{fault_of}
-use Rattle.qil_state.specs.State.{Whole, whole, state_of, frame_state, frames_state, head_names, FramesFit, ReceiverFits, IsMachine}
+use Rattle.qil_state.specs.State.{Whole, whole, state_of, frame_state, frames_state, head_names, FramesFit, ReceiverFits, IsMachine, IsNext}
 use Rattle.qil_state.proofs.Reading.{are_slots, slot_written}
 use Rattle.qil_machine.specs.declared.error.StepError.{StepError}
 use Rattle.qil_machine.specs.declared.error.StepError.TheVariants as errors
 use Rattle.qil_machine.specs.Moves.{Move}
 use Rattle.qil_machine.specs.Kinds.{wrote_move, received, held_by, with_received}
-use Rattle.qil_machine.specs.Places.{IsRunning, IsNext, Made}
-use Rattle.qil_machine.specs.Results.{taken_by, gives, Explains, WriteExplains, TextExplains}
+use Rattle.qil_machine.specs.Places.{IsRunning, Made}
+use Rattle.qil_machine.specs.Results.{received_value, gives, Explains, WriteExplains, TextExplains}
 use Rattle.qil_machine.specs.Calls.{called_whole, TakesOne, bytes_from, PutsText}
 use Rattle.qil_machine.proofs.Made.{wrote}
 use Rattle.qil_machine.proofs.Steps.{AreOf}
@@ -54,14 +54,14 @@ pub wrote_made : {A : Type 0} (m now : Whole A) (d : Move) (to : Option Receiver
     → Made d (record now { output = take n now.output }) (whole m.program gs m.memory m.output m.status)
 wrote_made {A} m now d to k n v old hs gs same ok run h next l eh eo eg ed =
     subst (λ (w : Whole A). IsRunning w → ReceiverFits w.frames to → IsNext w.program w.frames k → n ≤ length w.output → Made d (record w { output = take n w.output }) (whole m.program gs m.memory m.output m.status)) same
-    (λ run h next l. rw (ed, eo, eg, eh) (wrote_at m.program m.frames m.memory m.output m.status to k n (taken_by to v) run ok h next l)) run h next l
+    (λ run h next l. rw (ed, eo, eg, eh) (wrote_at m.program m.frames m.memory m.output m.status to k n (received_value to v) run ok h next l)) run h next l
 
 -- ---- what is done
 
 writes_at : {A : Type 0} (p : Program A) (f : SlotFrame) (fs : List SlotFrame) (m : Buffers) (out : List ℕ) (st : Status) (to : Option Receiver) (bytes : List ℕ) (k v : ℕ) → FramesFit p (f ∷ fs) → ReceiverFits (f ∷ fs) to → IsNext p (f ∷ fs) k
     → length out + length bytes ≤ 2 ^ 20
     → writes (state_of (whole p (f ∷ fs) m out st)) (frame_state p fs f) (frames_state p fs) (option_map (named_receiver (names_of p f.func)) to) bytes v
-    ≡ Ok (state_of (whole p (at_index (k + 1) (with_received to (taken_by to (Some v)) f) ∷ fs) m (out ++ bytes) st))
+    ≡ Ok (state_of (whole p (at_index (k + 1) (with_received to (received_value to (Some v)) f) ∷ fs) m (out ++ bytes) st))
 writes_at {A} p f fs m out st None bytes k v fits h n room =
     let S : State = state_of (whole p (f ∷ fs) m out st) in
     let F : meaning.Frame = frame_state p fs f in

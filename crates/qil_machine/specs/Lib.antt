@@ -10,3 +10,4 @@ pub mod Starting
 pub mod Calls
 pub mod Pokes
 pub mod Readings
+pub mod Costs

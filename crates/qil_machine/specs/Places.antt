@@ -1,5 +1,5 @@
 -- Where a running machine stands before a move of some kind.
-use Rattle.std.specs.Prelude.{◌≡◌, ℕ, ◌+◌, List, [], ◌∷◌, ◌++◌}
+use Rattle.std.specs.Prelude.{◌≡◌, ℕ, List, [], ◌∷◌, ◌++◌}
 use Rattle.qil_tree.specs.declared.tree.Program.{Program}
 use Rattle.qil_numbering.specs.Numbered.{block_at}
 use Rattle.qil_frames.specs.Frames.{SlotFrame}
@@ -9,11 +9,6 @@ use Rattle.qil_machine.specs.Moves.{Move, inst_count, undone, Fits}
 
 abbrev pub IsRunning : {A : Type 0} → Whole A → Type 0
 IsRunning w = w.status ≡ Running
-
--- the innermost frame stands at an index, and its block has another behind it
-abbrev pub IsNext : {A : Type 0} → Program A → List SlotFrame → ℕ → Type 0
-IsNext p [] k = ⊥
-IsNext p (f ∷ fs) k = (f.index ≡ k) × PlaceFits (block_at p f.func f.block) (k + 1)
 
 -- the innermost frame stands at the end of its block, and its function has another of that number
 abbrev pub IsLeaving : {A : Type 0} → Program A → List SlotFrame → ℕ → Type 0

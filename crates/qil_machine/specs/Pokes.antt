@@ -1,10 +1,13 @@
 -- What a poke of a temporary does, and why it is refused.
-use Rattle.std.specs.Prelude.{◌≡◌, ◌≤◌, ℕ, length, Some, Ok, Err, slice_get}
+use Rattle.std.specs.Prelude.{◌≡◌, ◌≤◌, ℕ, List, [], ◌∷◌, length, Option, Some, None, Result, Ok, Err, slice_get}
 use Rattle.qil_tree.specs.declared.ops.Class.{Class}
+use Rattle.qil_tree.specs.declared.tree.Program.{Program}
 use Rattle.qil_ops.specs.Values.{width, Low}
-use Rattle.qil_meaning.specs.State.{Name}
-use Rattle.qil_meaning.specs.Poke.{poke_temp, no_frame, unknown_temporary}
+use Rattle.qil_meaning.specs.State.{Name, Frame, State}
+use Rattle.qil_meaning.specs.Step.{func_named}
+use Rattle.qil_meaning.specs.Poke.{PokeFault, poke_temp, no_frame, unknown_temporary}
 use Rattle.qil_numbering.specs.declared.numbered.Slot.{Slot}
+use Rattle.qil_numbering.specs.Numbered.{names_in}
 use Rattle.qil_frames.specs.Frames.{HasFrame, HasSlot, on_innermost, with_slot}
 use Rattle.qil_state.specs.State.{Whole, state_of, head_names}
 use Rattle.qil_machine.specs.declared.error.PokeError.{PokeError}
@@ -29,3 +32,29 @@ RefusesName w x v errors.NoFrame = poke_temp w.program (state_of w) x v ≡ Err 
 RefusesName w x v errors.UnknownTemporary = poke_temp w.program (state_of w) x v ≡ Err unknown_temporary
 RefusesName w x v errors.DeadAddress = ⊥
 RefusesName w x v errors.OutOfMemory = ⊥
+
+-- ---- by number
+
+-- the names of the temporaries of the innermost frame, by slot
+abbrev pub names_by_slot : {A : Type 0} → Program A → List Frame → List Name
+names_by_slot p [] = []
+names_by_slot p (f ∷ fs) = names_in (func_named p.funcs f.func)
+
+abbrev pub poke_by : {A : Type 0} → Program A → State → ℕ → Option Name → Result State PokeFault
+poke_by p s v None = Err unknown_temporary
+poke_by p s v (Some x) = poke_temp p s x v
+
+abbrev pub poke_slot_in : {A : Type 0} → Program A → State → List Frame → Slot → ℕ → Result State PokeFault
+poke_slot_in p s [] slot v = Err no_frame
+poke_slot_in p s (f ∷ fs) slot v = poke_by p s v (slice_get (names_by_slot p (f ∷ fs)) slot.index)
+
+-- the state with that value for the temporary of a slot of the innermost frame
+abbrev pub poke_slot : {A : Type 0} → Program A → State → Slot → ℕ → Result State PokeFault
+poke_slot p s slot v = poke_slot_in p s s.frames slot v
+
+-- the fault of a poke by slot
+abbrev pub RefusesSlot : {A : Type 0} → Whole A → Slot → ℕ → PokeError → Type 0
+RefusesSlot w slot v errors.NoFrame = poke_slot w.program (state_of w) slot v ≡ Err no_frame
+RefusesSlot w slot v errors.UnknownTemporary = poke_slot w.program (state_of w) slot v ≡ Err unknown_temporary
+RefusesSlot w slot v errors.DeadAddress = ⊥
+RefusesSlot w slot v errors.OutOfMemory = ⊥

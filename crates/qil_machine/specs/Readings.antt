@@ -1,5 +1,5 @@
 -- What is read of temporaries by number, and by name.
-use Rattle.std.specs.Prelude.{ℕ, ◌==◌, List, [], ◌∷◌, find, Option, None}
+use Rattle.std.specs.Prelude.{ℕ, Bool, ◌==◌, ◌&&◌, List, [], ◌∷◌, find, Option, None}
 use Rattle.qil_meaning.specs.State.{Name, Frame}
 use Rattle.qil_frames.specs.Frames.{SlotFrame}
 
@@ -11,3 +11,7 @@ frame_of i fs = find (λ f. f.func == i) fs
 abbrev pub temp_here : List Frame → Name → Option ℕ
 temp_here [] x = None
 temp_here (f ∷ fs) x = f.temps x
+
+-- a frame is in a block of a function, with so many instructions done
+abbrev pub stands_at : ℕ → ℕ → ℕ → SlotFrame → Bool
+stands_at i b k f = (f.func == i) && ((f.block == b) && f.index == k)

@@ -21,12 +21,12 @@ use Rattle.qil_machine.specs.declared.error.StepError.TheVariants as errors
 use Rattle.qil_machine.specs.Kinds.{with_received}
 
 -- what the slot that takes a result gets of it
-abbrev pub taken_by : Option Receiver → Option ℕ → Option ℕ
-taken_by None v = None
-taken_by (Some to) v = option_map (taken to.abi_type) v
+abbrev pub received_value : Option Receiver → Option ℕ → Option ℕ
+received_value None v = None
+received_value (Some to) v = option_map (taken to.abi_type) v
 
 abbrev pub gives : Option Receiver → Option ℕ → List SlotFrame → List SlotFrame
-gives to v fs = on_innermost (with_received to (taken_by to v)) fs
+gives to v fs = on_innermost (with_received to (received_value to v)) fs
 
 abbrev pub status_after : List SlotFrame → Option ℕ → Status
 status_after [] v = Done v

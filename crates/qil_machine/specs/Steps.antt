@@ -35,9 +35,9 @@ abbrev pub HasSource : List SlotFrame → Source → Type 0
 HasSource [] source = ⊥
 HasSource (f ∷ fs) source = InRange (length f.slots) source
 
-abbrev pub MayReturn : List SlotFrame → Option Source → Type 0
-MayReturn fs None = Unit {0}
-MayReturn fs (Some source) = HasSource fs source
+abbrev pub HasReturned : List SlotFrame → Option Source → Type 0
+HasReturned fs None = Unit {0}
+HasReturned fs (Some source) = HasSource fs source
 
 -- ---- which steps may take memory
 

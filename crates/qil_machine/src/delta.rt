@@ -3,6 +3,7 @@
 ghost use Rattle.std.specs.Prelude.{◌≡◌, ◌<◌, ◌≤◌, ◌^◌, [], length};
 ghost use Rattle.qil_layout.specs.Layout.{low_bytes};
 ghost use Rattle.qil_machine.specs.Moves.{at, end_of, weight};
+ghost use Rattle.qil_machine.specs.Deltas.{move_of};
 ghost use Rattle.qil_machine.specs.Kinds.{slots_move, one, bytes_move, called_move, returned_move, grown_move, copied_move, wrote_move, ended_move, poked_slot_move, poked_bytes_move};
 
 use qil_frames::{Frame, KeptSlots, PhiSaved, SavedSlot};
@@ -13,23 +14,23 @@ use std::marker::Model;
 
 /// What an allocation on the stack keeps.
 #[derive(Debug, Drop)]
-pub(crate) struct Grown<A: Allocator> {
-    pub(crate) index: u32,
-    pub(crate) slot: Slot,
-    pub(crate) value: Option<u64>,
-    pub(crate) saved: Saved<A>,
+pub struct Grown<A: Allocator> {
+    pub index: u32,
+    pub slot: Slot,
+    pub value: Option<u64>,
+    pub saved: Saved<A>,
 }
 
 /// What a copy of bytes keeps.
 #[derive(Debug, Drop)]
-pub(crate) struct Copied<A: Allocator> {
-    pub(crate) index: u32,
-    pub(crate) saved: Saved<A>,
+pub struct Copied<A: Allocator> {
+    pub index: u32,
+    pub saved: Saved<A>,
 }
 
 /// The kinds of moves. A flag says whether a slot was set; then the number is what it held.
 #[derive(Debug, Drop)]
-pub(crate) enum Kind<A: Allocator> {
+pub enum Kind<A: Allocator> {
     /// Flag, slot, index, old value.
     Assigned(bool, Slot, u32, u64),
     /// How many bytes, index, address, and the number that they spelled.
@@ -217,6 +218,14 @@ impl<A: Allocator> Delta<A> {
 }
 
 impl<A: Allocator> Delta<A> {
+    /// The kind of the move with what it keeps, which is all that is kept.
+    pub fn into_kind(self) -> Kind<A>
+        ensures { move_of result ≡ self }
+    {
+        let Delta { kind } = self;
+        kind
+    }
+
     /// How much this keeps: 4, and 2 for each value of a slot, 1 for each byte, 1 for each slot of a frame.
     pub fn weight(&self) -> u64
         ensures { result ≡ weight self.now }

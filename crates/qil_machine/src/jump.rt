@@ -6,9 +6,11 @@ ghost use Rattle.qil_numbering.proofs.EdgesNamed.{IsEdgeOf};
 ghost use Rattle.qil_state.specs.State.{state_of, head_names};
 ghost use Rattle.qil_state.specs.Stepping.{left_whole, went_whole};
 ghost use Rattle.qil_checker.specs.Mentions.{returned_class};
+ghost use Rattle.qil_machine.specs.Moves.{weight};
+ghost use Rattle.qil_machine.specs.Costs.{entered_weight, returned_weight, jump_weight};
 ghost use Rattle.qil_machine.specs.Places.{IsRunning, Made};
 ghost use Rattle.qil_machine.specs.Results.{Explains};
-ghost use Rattle.qil_machine.specs.Steps.{IsHere, HasSource, MayReturn, JumpTakes};
+ghost use Rattle.qil_machine.specs.Steps.{IsHere, HasSource, HasReturned, JumpTakes};
 
 use crate::delta::Delta;
 use crate::error::StepError;
@@ -33,6 +35,7 @@ impl<'c, 'a, A: Allocator + Copy> Machine<'c, 'a, A> {
         requires edge { IsEdgeOf edge.now block.now.jump }
         ensures does { OnOk result (went_whole self.old edge.now ≡ Ok (state_of self.new)) }
         ensures made { IfOk result (λ d. Made d self.old self.new) }
+        ensures weighs { IfOk result (λ d. weight d ≡ entered_weight self.old self.new) }
         ensures fault { IfErr result (Explains (head_names self.old.program self.old.frames) (went_whole self.old edge.now)) }
         ensures few { length edge.now.moves ≤ 1 → result ≢ Err StepError.OutOfMemory }
         ensures err { OnErr result (self.new ≡ self.old) }
@@ -63,6 +66,7 @@ impl<'c, 'a, A: Allocator + Copy> Machine<'c, 'a, A> {
         requires jump { block.now.jump ≡ NumberedJump.Jnz source if_set.now if_zero.now }
         ensures does { OnOk result (left_whole self.old block.now.jump ≡ Ok (state_of self.new)) }
         ensures made { IfOk result (λ d. Made d self.old self.new) }
+        ensures weighs { IfOk result (λ d. weight d ≡ entered_weight self.old self.new) }
         ensures fault { IfErr result (Explains (head_names self.old.program self.old.frames) (left_whole self.old block.now.jump)) }
         ensures few { length if_set.now.moves ≤ 1 → length if_zero.now.moves ≤ 1 → result ≢ Err StepError.OutOfMemory }
         ensures err { OnErr result (self.new ≡ self.old) }
@@ -84,6 +88,7 @@ impl<'c, 'a, A: Allocator + Copy> Machine<'c, 'a, A> {
         requires source { HasSource self.old.frames source }
         ensures does { OnOk result (left_whole self.old (NumberedJump.Ret (Some source)) ≡ Ok (state_of self.new)) }
         ensures made { IfOk result (λ d. Made d self.old self.new) }
+        ensures weighs { IfOk result (λ d. weight d ≡ returned_weight self.old.frames) }
         ensures fault { IfErr result (Explains (head_names self.old.program self.old.frames) (left_whole self.old (NumberedJump.Ret (Some source)))) }
         ensures memory { result ≢ Err StepError.OutOfMemory }
         ensures err { OnErr result (self.new ≡ self.old) }
@@ -102,9 +107,10 @@ impl<'c, 'a, A: Allocator + Copy> Machine<'c, 'a, A> {
     #[inline(always)]
     pub(crate) fn give_back(&mut self, source: Option<Source>) -> Result<Delta<A>, StepError>
         requires running { IsRunning self.old }
-        requires source { MayReturn self.old.frames source }
+        requires source { HasReturned self.old.frames source }
         ensures does { OnOk result (left_whole self.old (NumberedJump.Ret source) ≡ Ok (state_of self.new)) }
         ensures made { IfOk result (λ d. Made d self.old self.new) }
+        ensures weighs { IfOk result (λ d. weight d ≡ returned_weight self.old.frames) }
         ensures fault { IfErr result (Explains (head_names self.old.program self.old.frames) (left_whole self.old (NumberedJump.Ret source))) }
         ensures memory { result ≢ Err StepError.OutOfMemory }
         ensures err { OnErr result (self.new ≡ self.old) }
@@ -128,6 +134,7 @@ impl<'c, 'a, A: Allocator + Copy> Machine<'c, 'a, A> {
         requires end { slice_get block.now.insts index ≡ None }
         ensures does { OnOk result (left_whole self.old block.now.jump ≡ Ok (state_of self.new)) }
         ensures made { IfOk result (λ d. Made d self.old self.new) }
+        ensures weighs { IfOk result (λ d. weight d ≡ jump_weight self.old self.new block.now.jump) }
         ensures fault { IfErr result (Explains (head_names self.old.program self.old.frames) (left_whole self.old block.now.jump)) }
         ensures memory { (result ≡ Err StepError.OutOfMemory) → JumpTakes block.now.jump }
         ensures err { OnErr result (self.new ≡ self.old) }

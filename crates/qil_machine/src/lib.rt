@@ -12,15 +12,13 @@ mod machine;
 mod output;
 mod poke;
 mod readers;
-mod reading;
 mod same;
 mod start;
 mod step;
-#[cfg(test)]
-mod tests;
 mod undo;
+mod watched;
 
-pub use delta::Delta;
+pub use delta::{Copied, Delta, Grown, Kind};
 pub use error::{MoveError, PokeError, StartError};
 pub use log::{Keeps, One};
 pub use machine::Machine;

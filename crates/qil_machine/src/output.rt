@@ -1,14 +1,16 @@
 //! The functions that every program has and that write.
 
-ghost use Rattle.std.specs.Prelude.{◌≡◌, ◌+◌, ◌<◌, ◌≤◌, ◌^◌, ◌∷◌, ◌++◌, ℕ, [], length, take, vec_len, vec_capacity, None, Some, Ok, IfOk, IfErr, OnOk, OnErr};
+ghost use Rattle.std.specs.Prelude.{◌≡◌, ◌+◌, ◌*◌, ◌<◌, ◌≤◌, ◌^◌, ◌∷◌, ◌++◌, ℕ, [], length, take, vec_len, vec_capacity, None, Some, Ok, IfOk, IfErr, OnOk, OnErr};
 ghost use Rattle.qil_memory.specs.Buffers.{stack_end};
 ghost use Rattle.qil_memory.specs.Live.{live};
 ghost use Rattle.qil_meaning.specs.State.{dead_address};
 ghost use Rattle.qil_meaning.specs.Calls.{text_at};
 ghost use Rattle.qil_frames.specs.Frames.{on_innermost, at_index};
-ghost use Rattle.qil_state.specs.State.{state_of, head_names, ReceiverFits};
+ghost use Rattle.qil_state.specs.State.{state_of, head_names, ReceiverFits, IsNext};
 ghost use Rattle.qil_machine.specs.Calls.{HasArguments, called_whole, bytes_from, AreLive, PutsText};
-ghost use Rattle.qil_machine.specs.Places.{IsRunning, IsNext, Made};
+ghost use Rattle.qil_machine.specs.Moves.{weight};
+ghost use Rattle.qil_machine.specs.Costs.{receiver_count, called_weight};
+ghost use Rattle.qil_machine.specs.Places.{IsRunning, Made};
 ghost use Rattle.qil_machine.specs.Results.{gives, Explains, WriteExplains, TextExplains};
 
 use crate::call::only_argument;
@@ -35,6 +37,7 @@ impl<'c, 'a, A: Allocator + Copy> Machine<'c, 'a, A> {
         requires behind { count ≤ length self.old.output }
         ensures after { self.new ≡ record self.old { frames = on_innermost (at_index (index + 1)) (gives to (Some value) self.old.frames) } }
         ensures made { Made result (record self.old { output = take count self.old.output }) self.new }
+        ensures weighs { weight result ≡ 4 + 2 * receiver_count to }
     {
         let old = receive(&mut self.frames, to, Some(value));
         self.frames.set_index(index + 1);
@@ -59,6 +62,7 @@ impl<'c, 'a, A: Allocator + Copy> Machine<'c, 'a, A> {
         ensures after { OnOk result (self.new ≡ record self.old { frames = on_innermost (at_index (index + 1)) (gives to (Some byte) self.old.frames); output = self.old.output ++ byte ∷ [] }) }
         ensures room { OnOk result (length self.old.output + 1 ≤ 2 ^ 20) }
         ensures made { IfOk result (λ d. Made d self.old self.new) }
+        ensures weighs { IfOk result (λ d. weight d ≡ 4 + 2 * receiver_count to) }
         ensures fault { IfErr result (λ e. WriteExplains e (length self.old.output + 1)) }
         ensures err { OnErr result (self.new ≡ self.old) }
     {
@@ -87,6 +91,7 @@ impl<'c, 'a, A: Allocator + Copy> Machine<'c, 'a, A> {
         requires args { HasArguments self.old.frames args.now }
         ensures does { (address : ℕ) → OnOk result (called_whole self.old to args.now address (Some Callee.PutChar) ≡ Ok (state_of self.new)) }
         ensures made { IfOk result (λ d. Made d self.old self.new) }
+        ensures weighs { IfOk result (λ d. weight d ≤ called_weight to self.old.frames self.new.frames) }
         ensures fault { (address : ℕ) → IfErr result (Explains (head_names self.old.program self.old.frames) (called_whole self.old to args.now address (Some Callee.PutChar))) }
         ensures err { OnErr result (self.new ≡ self.old) }
     {
@@ -117,6 +122,7 @@ impl<'c, 'a, A: Allocator + Copy> Machine<'c, 'a, A> {
         requires small { index + 1 < 2 ^ 32 }
         ensures after { OnOk result (PutsText address index to self.new self.old) }
         ensures made { IfOk result (λ d. Made d self.old self.new) }
+        ensures weighs { IfOk result (λ d. weight d ≡ 4 + 2 * receiver_count to) }
         ensures fault { IfErr result (TextExplains (text_at (live self.old.memory) address) (length self.old.output)) }
         ensures err { OnErr result (self.new ≡ self.old) }
     {
@@ -149,6 +155,7 @@ impl<'c, 'a, A: Allocator + Copy> Machine<'c, 'a, A> {
         requires args { HasArguments self.old.frames args.now }
         ensures does { (address : ℕ) → OnOk result (called_whole self.old to args.now address (Some Callee.Puts) ≡ Ok (state_of self.new)) }
         ensures made { IfOk result (λ d. Made d self.old self.new) }
+        ensures weighs { IfOk result (λ d. weight d ≤ called_weight to self.old.frames self.new.frames) }
         ensures fault { (address : ℕ) → IfErr result (Explains (head_names self.old.program self.old.frames) (called_whole self.old to args.now address (Some Callee.Puts))) }
         ensures err { OnErr result (self.new ≡ self.old) }
     {

@@ -1,12 +1,14 @@
 //! Pokes: bytes of memory, or one temporary of the innermost frame, are replaced. Place and status stay.
 
-ghost use Rattle.std.specs.Prelude.{◌≡◌, ℕ, List, Some, Ok, Err, IfOk, IfErr, OnOk, OnErr, slice_get};
+ghost use Rattle.std.specs.Prelude.{◌≡◌, ◌≤◌, ℕ, List, Some, Ok, Err, IfOk, IfErr, OnOk, OnErr, slice_get};
 ghost use Rattle.qil_memory.specs.Calls.{IsWidth};
 ghost use Rattle.qil_meaning.specs.Poke.{poke_memory, poke_temp, dead_bytes};
+ghost use Rattle.qil_meaning.specs.Cost.{temp_poke_cost, bytes_poke_cost};
 ghost use Rattle.qil_state.specs.State.{state_of, head_names};
 ghost use Rattle.qil_frames.specs.Frames.{HasSlot};
+ghost use Rattle.qil_machine.specs.Moves.{weight};
 ghost use Rattle.qil_machine.specs.Places.{Made};
-ghost use Rattle.qil_machine.specs.Pokes.{IsOfClass, Refuses, RefusesName};
+ghost use Rattle.qil_machine.specs.Pokes.{IsOfClass, Refuses, RefusesName, RefusesSlot, names_by_slot, poke_slot};
 
 use crate::delta::Delta;
 use crate::error::PokeError;
@@ -31,6 +33,7 @@ impl<'c, 'a, A: Allocator + Copy> Machine<'c, 'a, A> {
         requires { IsWidth width }
         ensures poke { OnOk result (poke_memory (state_of self.old) address width number ≡ Ok (state_of self.new)) }
         ensures made { IfOk result (λ d. Made d self.old self.new) }
+        ensures cost { IfOk result (λ d. weight d ≤ bytes_poke_cost width) }
         ensures dead { IfErr result (λ e. (e ≡ PokeError.DeadAddress) × (poke_memory (state_of self.old) address width number ≡ Err dead_bytes)) }
         ensures err { OnErr result (self.new ≡ self.old) }
     {
@@ -48,8 +51,11 @@ impl<'c, 'a, A: Allocator + Copy> Machine<'c, 'a, A> {
     pub fn poke_temp(&mut self, slot: Slot, value: u64) -> Result<Delta<A>, PokeError>
         ensures slot { OnOk result (HasSlot self.old.frames slot) }
         ensures poke { (name : List ℕ) → slice_get (head_names self.old.program self.old.frames) slot.index ≡ Some name → OnOk result (poke_temp self.old.program (state_of self.old) name value ≡ Ok (state_of self.new)) }
+        ensures by_slot { OnOk result (poke_slot self.old.program (state_of self.old) slot value ≡ Ok (state_of self.new)) }
         ensures made { IfOk result (λ d. Made d self.old self.new) }
+        ensures cost { IfOk result (λ d. weight d ≤ temp_poke_cost) }
         ensures why { IfErr result (Refuses self.old slot) }
+        ensures refuses { IfErr result (RefusesSlot self.old slot value) }
         ensures err { OnErr result (self.new ≡ self.old) }
     {
         let class = self.class_here(slot)?;
@@ -67,6 +73,7 @@ impl<'c, 'a, A: Allocator + Copy> Machine<'c, 'a, A> {
     pub fn poke_named(&mut self, name: &[u8], value: u64) -> Result<Delta<A>, PokeError>
         ensures poke { OnOk result (poke_temp self.old.program (state_of self.old) name.now value ≡ Ok (state_of self.new)) }
         ensures made { IfOk result (λ d. Made d self.old self.new) }
+        ensures cost { IfOk result (λ d. weight d ≤ temp_poke_cost) }
         ensures why { IfErr result (RefusesName self.old name.now value) }
         ensures err { OnErr result (self.new ≡ self.old) }
     {
@@ -94,6 +101,7 @@ impl<'c, 'a, A: Allocator + Copy> Machine<'c, 'a, A> {
     /// The class of what a slot of the innermost frame holds.
     fn class_here(&self, slot: Slot) -> Result<Class, PokeError>
         ensures class { IfOk result (IsOfClass self.now slot) }
+        ensures names { names_by_slot self.now.program (state_of self.now).frames ≡ head_names self.now.program self.now.frames }
         ensures why { IfErr result (Refuses self.now slot) }
     {
         if self.frames.depth() == 0 {

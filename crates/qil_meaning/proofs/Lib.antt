@@ -22,3 +22,4 @@ pub mod Readings
 pub mod NameRows
 pub mod Phis
 pub mod StopRows
+pub mod Costs

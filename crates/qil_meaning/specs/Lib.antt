@@ -15,3 +15,4 @@ pub mod Targets
 pub mod Names
 pub mod Slots
 pub mod Laws
+pub mod Cost

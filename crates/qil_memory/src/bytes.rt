@@ -36,7 +36,8 @@ fn number_of_any(bytes: &[u8]) -> u64
 #[inline(always)]
 pub fn spelled(bytes: &[u8]) -> u64
     requires { length bytes.now ≤ 8 }
-    ensures { low_bytes (length bytes.now) result ≡ bytes.now }
+    ensures number { result ≡ number bytes.now }
+    ensures bytes { low_bytes (length bytes.now) result ≡ bytes.now }
 {
     number_of(bytes)
 }

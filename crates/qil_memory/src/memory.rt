@@ -1,15 +1,16 @@
 //! The memory of a run: the bytes of the data, and a stack that grows upward and keeps its dead bytes.
 
-ghost use Rattle.std.specs.Prelude.{◌≡◌, ◌≢◌, ◌+◌, ◌-◌, ◌<◌, ◌≤◌, ◌^◌, ◌↔◌, [], length, IsTrue, IsSome, IfSome, OnSome, OnOk, OnErr, IfOk, IfErr};
+ghost use Rattle.std.specs.Prelude.{◌≡◌, ◌≢◌, ◌+◌, ◌-◌, ◌<◌, ◌≤◌, ◌^◌, ◌↔◌, [], length, IsTrue, IsSome, IfSome, OnSome, OnOk, OnErr, IfOk, IfErr, option_map};
 ghost use Rattle.qil_layout.specs.Layout.{data_base, rounded, low_bytes, zeros, bytes_of};
 ghost use Rattle.qil_memory.specs.Buffers.{stack_base, stack_end, fresh, IsMemory};
-ghost use Rattle.qil_memory.specs.Live.{live, laid, below};
+ghost use Rattle.qil_memory.specs.Bytes.{number};
+ghost use Rattle.qil_memory.specs.Live.{live, read, laid, below};
 ghost use Rattle.qil_memory.specs.Calls.{IsWidth, IsAlignment, loaded, stored, overlap, blitted, Explains};
 ghost use Rattle.qil_memory.specs.Undo.{Fits, undone, with_bytes, with_top};
 ghost use Rattle.qil_memory.specs.Places.{IsLive, IsSpan, HasBytes, HasPlaces, bytes_at, live_end};
 ghost use Rattle.qil_memory.specs.Kept.{listed, IsThrifty};
 
-use crate::bytes::{clear, exchange, number_of, write, write_number, zeroed};
+use crate::bytes::{clear, exchange, number_of, spelled, write, write_number, zeroed};
 use crate::fault::{AllocFault, BlitFault, Dead};
 use crate::saved::{KeptBytes, Saved, keep};
 use qil_layout::{DATA_BASE, Image, rounded_up};
@@ -100,6 +101,20 @@ impl<A: Allocator + Copy> Memory<A> {
         match self.live_bytes(address, n) {
             Some(bytes) => Ok(number_of(bytes)),
             None => Err(Dead { address }),
+        }
+    }
+
+    /// The number in the `n` bytes from an address on, if all are live: they are its low bytes, so that equal numbers are of
+    /// equal bytes. It takes no memory.
+    #[inline(always)]
+    pub fn number_at(&self, address: u64, n: u64) -> Option<u64>
+        requires { IsWidth n }
+        ensures number { result ≡ option_map number (read (live self.now) address n) }
+        ensures bytes { option_map (low_bytes n) result ≡ read (live self.now) address n }
+    {
+        match self.live_bytes(address, n) {
+            Some(bytes) => Some(spelled(bytes)),
+            None => None,
         }
     }
 

@@ -21,7 +21,7 @@ use Rattle.qil_numbering.specs.declared.numbered.Edge.{Edge}
 use Rattle.qil_numbering.specs.declared.numbered.NumberedJump.{NumberedJump}
 use Rattle.qil_numbering.specs.declared.numbered.NumberedJump.TheVariants as numbered_jumps
 use Rattle.qil_numbering.specs.declared.numbered.NumberedBlock.{NumberedBlock}
-use Rattle.qil_numbering.specs.Facts.{AreNumerable, Finds, KnowsLabels, jump_labels}
+use Rattle.qil_numbering.specs.Facts.{AreNumerable, Finds, KnowsLabels, NumbersBlocks, jump_labels}
 use Rattle.qil_numbering.specs.Gather.{labels_in}
 use Rattle.qil_numbering.specs.Slots.{name_at, number_in}
 use Rattle.qil_numbering.specs.Numbered.{edge_of, jump_of, block_of, block_moves, moves_into, func_at, block_in, block_at, names_of, names_in}
@@ -136,6 +136,11 @@ own_number ls x k apart at =
 
 labels_differ : {A : Type 0} (f : Func A) → noted [] (labels_in f.blocks) ≡ labels_in f.blocks → AllPairs Differ (labels_in f.blocks)
 labels_differ f h = let ls = labels_in f.blocks in subst (AllPairs Differ) (sym (noted-once ls) ∙ h) (once-differ ls)
+
+pub numbers_blocks : {A : Type 0} (p : Program A) → AreNumerable p → NumbersBlocks p
+numbers_blocks p all = record {
+  number = λ i f j b there at. own_number (labels_in f.blocks) b.label j (labels_differ f (func_at_numerable p i f all there).labels) (mapped_at (λ c. c.label) f.blocks j b at);
+}
 
 -- what is known of the block to which a jump may lead
 pub record Reached {A : Type 0} (f : Func A) (k : ℕ) (t : Block A) : Type 0 where

@@ -9,7 +9,7 @@ use Rattle.std.proofs.lemmas.Option.{slice_get_within, get_or_from_slice_get, sl
 use Rattle.qil_tree.specs.declared.tree.Block.{Block}
 use Rattle.qil_tree.specs.declared.tree.Func.{Func}
 use Rattle.qil_tree.specs.declared.tree.Program.{Program}
-use Rattle.qil_parser.specs.Trees.{HasBlock, HasBlocks}
+use Rattle.qil_tree.specs.Trees.{HasBlock, HasBlocks}
 use Rattle.qil_meaning.specs.State.{Name}
 use Rattle.qil_meaning.specs.Names.{block_names, temps_named}
 use Rattle.qil_numbering.specs.declared.numbered.NumberedBlock.{NumberedBlock}

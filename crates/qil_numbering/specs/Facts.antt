@@ -14,6 +14,7 @@ use Rattle.qil_meaning.specs.Names.{temps_named}
 use Rattle.qil_meaning.specs.Poke.{class_in}
 use Rattle.qil_meaning.specs.Step.{func_named, block_labelled}
 use Rattle.qil_numbering.specs.Gather.{labels_in}
+use Rattle.qil_numbering.specs.Slots.{number_in}
 use Rattle.qil_numbering.specs.Numbered.{class_of_temp}
 
 -- a function's temporaries and blocks have numbers of 16 bits, and its labels are distinct
@@ -32,6 +33,10 @@ pub record Finds {A : Type 0} (p : Program A) : Type 0 where
   pub func : (i : ℕ) (f : Func A) → slice_get p.funcs i ≡ Some f → func_named p.funcs f.name ≡ Some f
   pub block : (i : ℕ) (f : Func A) (j : ℕ) (b : Block A) → slice_get p.funcs i ≡ Some f → slice_get f.blocks j ≡ Some b → block_labelled f.blocks b.label ≡ Some b
   pub number : (i : ℕ) (f : Func A) → slice_get p.funcs i ≡ Some f → place_of (map (λ f. f.name) p.funcs) f.name ≡ Some i
+
+-- each block has its label's number among the labels of its function: no two blocks of a function have one label
+pub record NumbersBlocks {A : Type 0} (p : Program A) : Type 0 where
+  pub number : (i : ℕ) (f : Func A) (j : ℕ) (b : Block A) → slice_get p.funcs i ≡ Some f → slice_get f.blocks j ≡ Some b → number_in (labels_in f.blocks) b.label ≡ j
 
 -- the labels that a jump names
 abbrev pub jump_labels : JumpKind → List Name

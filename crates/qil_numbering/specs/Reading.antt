@@ -4,7 +4,7 @@ use Rattle.std.specs.Option.{option_and_then}
 use Rattle.qil_tree.specs.declared.ops.AbiType.{AbiType}
 use Rattle.qil_tree.specs.declared.ops.Class.{Class}
 use Rattle.qil_tree.specs.declared.tree.Program.{Program}
-use Rattle.qil_parser.specs.Trees.{HasBlocks}
+use Rattle.qil_tree.specs.Trees.{HasBlocks}
 use Rattle.qil_meaning.specs.State.{Name}
 use Rattle.qil_meaning.specs.Names.{temps_named}
 use Rattle.qil_numbering.specs.declared.numbered.Slot.{Slot}

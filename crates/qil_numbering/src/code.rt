@@ -9,7 +9,7 @@ ghost use Rattle.qil_names.specs.Numbers.{place_of};
 ghost use Rattle.qil_checker.specs.Text.{IsAmong};
 ghost use Rattle.qil_meaning.specs.Poke.{temp_class};
 ghost use Rattle.qil_meaning.specs.Step.{phi_moves};
-ghost use Rattle.qil_numbering.specs.Facts.{Finds, KnowsLabels, jump_labels};
+ghost use Rattle.qil_numbering.specs.Facts.{Finds, KnowsLabels, NumbersBlocks, jump_labels};
 ghost use Rattle.qil_numbering.specs.Ranges.{BlockInRange, FuncInRange};
 ghost use Rattle.qil_numbering.specs.Numbered.{func_at, block_at, inst_at, names_of};
 ghost use Rattle.qil_numbering.specs.Named.{named_inst, named_move, named_jump, resolved_inst, resolved_move, resolved_jump};
@@ -213,6 +213,16 @@ impl<'c, 'a, A: Allocator + Copy> Code<'c, 'a, A> {
 }
 
 impl<'c, 'a, A: Allocator + Copy> Code<'c, 'a, A> {
+    /// What is so of the names in every code, with nothing to run: each function and each block is found by its name, and no
+    /// two have one name.
+    #[inline(always)]
+    pub fn names_are_distinct(&self)
+        ensures finds { Finds self.now }
+        ensures numbers { NumbersBlocks self.now }
+    {
+        let _ = &self.program;
+    }
+
     /// How many temporaries a function has.
     pub fn slot_count(&self, func: FuncId) -> usize
         ensures { result ≡ length (names_of self.now func.index) }

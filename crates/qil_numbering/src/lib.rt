@@ -11,8 +11,6 @@ mod moves;
 mod numbered;
 mod resolve;
 mod shape;
-#[cfg(test)]
-mod tests;
 
 pub use code::{Code, number};
 pub use numbered::{

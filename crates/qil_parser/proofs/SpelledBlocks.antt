@@ -12,7 +12,7 @@ use Rattle.qil_parser.specs.declared.program_cursor.Defined.{Defined}
 use Rattle.qil_parser.specs.Token.{Tok}
 use Rattle.qil_parser.specs.Functions.{Front, FuncOf, blocks_of}
 use Rattle.qil_parser.specs.Programs.{ThingOf, DefLine, Spells, funcs_in}
-use Rattle.qil_parser.specs.Trees.{HasBlock, HasBlocks}
+use Rattle.qil_tree.specs.Trees.{HasBlock, HasBlocks}
 
 module _ {A : Type 0} where
   a_block : (fronts : List (Front A × Option Jump)) (last : Front A × Jump) → 0 < length (blocks_of fronts last)

@@ -6,7 +6,6 @@ pub mod Grammar
 pub mod Functions
 pub mod DataGrammar
 pub mod Programs
-pub mod Trees
 pub mod Parsing
 pub mod FunctionParsing
 pub mod Fault

@@ -23,8 +23,3 @@ pub use qil_tree::{
     Expr, Extension, Field, Func, Inst, InstKind, Item, Items, Jump, JumpKind, LoadOp, Name,
     Operand, Param, Phi, PhiSource, Program, Target, UnaryOp, Width,
 };
-
-#[cfg(test)]
-mod data_tests;
-#[cfg(test)]
-mod tests;

@@ -4,7 +4,7 @@ ghost use Rattle.std.specs.Prelude.{◌≡◌, List, ℕ, IfOk, IfErr};
 ghost use Rattle.qil_lexer.specs.Cut.{Cuts};
 ghost use Rattle.qil_parser.specs.Token.{Tok, seen};
 ghost use Rattle.qil_parser.specs.Programs.{Spells};
-ghost use Rattle.qil_parser.specs.Trees.{HasBlocks};
+ghost use Rattle.qil_tree.specs.Trees.{HasBlocks};
 ghost use Rattle.qil_parser.specs.Fault.{TokenFault, last_line};
 ghost use Rattle.qil_parser.specs.Outcome.{IsFault, IsProgram, IsRefusal, IsAnswered, code_of};
 ghost use Rattle.qil_tree.specs.declared.tree.Program.{Program};

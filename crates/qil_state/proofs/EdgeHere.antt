@@ -1,7 +1,6 @@
 -- An edge, from the place of the innermost frame to the block that it leads to.
-use Rattle.std.proofs.Common.{◌≡◌, refl, sym, ap, ◌∙◌, subst, ℕ, List, [], ◌∷◌, length, Option, Some, Ok, Err, arith}
+use Rattle.std.proofs.Common.{◌≡◌, refl, sym, ap, ◌∙◌, subst, List, ◌∷◌, length, Option, Some, Ok, Err, arith}
 use Rattle.std.specs.List.{All, flat_map}
-use Rattle.std.proofs.lemmas.List.{length-set}
 use Rattle.qil_tree.specs.declared.tree.Block.{Block}
 use Rattle.qil_tree.specs.declared.tree.Func.{Func}
 use Rattle.qil_tree.specs.declared.tree.Program.{Program}
@@ -19,7 +18,8 @@ use Rattle.qil_numbering.specs.Reading.{labels_at}
 use Rattle.qil_numbering.proofs.EdgesNamed.{EdgeNamed}
 use Rattle.qil_frames.specs.declared.saved.SavedSlot.{SavedSlot}
 use Rattle.qil_frames.specs.Frames.{SlotFrame}
-use Rattle.qil_frames.specs.Enter.{gathered, written, entered}
+use Rattle.qil_frames.specs.Enter.{gathered, entered}
+use Rattle.qil_frames.proofs.ValueLemmas.{length-written}
 use Rattle.qil_state.specs.State.{label_in, FrameFits, PlaceFits, frame_state, frames_state}
 use Rattle.qil_state.proofs.Reading.{are_slots}
 use Rattle.qil_state.proofs.Place.{block_at_here}
@@ -57,13 +57,9 @@ edge_here {A} p f fs s func e fits ef named range =
 
 -- ---- the frame after it
 
-length_written : (ks : List SavedSlot) (vs : List (Option ℕ)) → length (written ks vs) ≡ length vs
-length_written [] vs = refl
-length_written (k ∷ ks) vs = length_written ks _ ∙ length-set vs k.slot.index k.value
-
 pub entered_fits : {A : Type 0} (p : Program A) (f : SlotFrame) (func : Func A) (left : Name) (e : Edge A) (ks : List SavedSlot)
     → FrameFits p f → func_at p f.func ≡ Some func → EdgeNamed p f.func func left e → FrameFits p (entered e.to.index ks f)
 entered_fits {A} p f func left e ks fits ef named = record {
   place = subst (λ (o : Option (Block A)). PlaceFits o 0) (sym (block_at_here p f.func e.to.index func named.target ef named.there)) (omega arith);
-  slots = fits.slots ∙ sym (length_written ks f.slots);
+  slots = fits.slots ∙ sym (length-written ks f.slots);
 }

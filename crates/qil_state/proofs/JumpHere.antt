@@ -35,7 +35,7 @@ pub labels_here : {A : Type 0} (p : Program A) (i : ℕ) (func : Func A) → fun
 labels_here {A} p i func ef = ap (λ (o : Option (Func A)). unwrap_or (option_map (λ func. labels_in func.blocks) o) []) ef
 
 -- the jump by number, read back
-jump_back : {A : Type 0} (p : Program A) (i j : ℕ) (block : NumberedBlock A) (here : BlockHere p i j block) → KnowsLabels p
+pub jump_back : {A : Type 0} (p : Program A) (i j : ℕ) (block : NumberedBlock A) (here : BlockHere p i j block) → KnowsLabels p
     → named_jump (names_of p i) (labels_at p i) block.jump ≡ resolved_jump p here.block.jump.kind
 jump_back {A} p i j block here knows =
     let func : Func A = here.func in
@@ -46,7 +46,7 @@ jump_back {A} p i j block here knows =
     ∙ named-jump-kind p func.blocks ns b.label b.jump.kind (jump-has ns b (block-has func j b here.block_is))
     (all-among ls (jump_labels b.jump.kind) (λ l. knows.known i func j b l here.func_is here.block_is))
 
-none_left : {X Y : Type 0} (g : X → Y) (o : Option X) → option_map g o ≡ None → o ≡ None
+pub none_left : {X Y : Type 0} (g : X → Y) (o : Option X) → option_map g o ≡ None → o ≡ None
 none_left g None e = refl
 none_left g (Some x) e = none_some (sym e)
 

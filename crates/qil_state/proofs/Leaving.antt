@@ -154,7 +154,7 @@ pub record IsEntered (f : SlotFrame) (fs : List SlotFrame) (b : ℕ) (r : Result
   pub gathered_is : r ≡ kept slots
   pub new_is : entered b slots f ∷ fs ≡ new
 
-is_entered : (f : SlotFrame) (fs : List SlotFrame) (b : ℕ) (r : Result (List SavedSlot) Slot) (new : List SlotFrame) → enters b f fs r ≡ Ok new → IsEntered f fs b r new
+pub is_entered : (f : SlotFrame) (fs : List SlotFrame) (b : ℕ) (r : Result (List SavedSlot) Slot) (new : List SlotFrame) → enters b f fs r ≡ Ok new → IsEntered f fs b r new
 is_entered f fs b (Ok ks) new e = record { slots = ks; gathered_is = refl; new_is = cc }
 is_entered f fs b (Err s) new e = absurd cc
 

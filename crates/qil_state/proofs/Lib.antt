@@ -11,3 +11,4 @@ pub mod EdgeHere
 pub mod Leaving
 pub mod Passing
 pub mod Beginning
+pub mod Costs

@@ -23,7 +23,7 @@ use Rattle.qil_numbering.specs.declared.numbered.NumberedArgument.{NumberedArgum
 use Rattle.qil_numbering.specs.Slots.{name_at}
 use Rattle.qil_numbering.specs.Named.{named_argument, named_receiver}
 use Rattle.qil_numbering.specs.Ranges.{InRange}
-use Rattle.qil_state.specs.Values.{AreSlots, unless_set, unset_in, held_by, argument_value, argument_values, shape_by}
+use Rattle.qil_state.specs.Values.{AreSlots, unless_set, unset_in, held_or_zero, argument_value, argument_values, shape_by}
 use Rattle.qil_state.proofs.Reading.{slot_val, slot_val_is}
 
 -- the first unset slot from the left
@@ -40,7 +40,7 @@ known_unless : (ns : List Name) (c : Class) (s : Slot) (o : Option ℕ) → valu
 known_unless ns c s None = refl
 known_unless ns c s (Some v) = refl
 
-slot_val_unless : (ns : List Name) (vs : List (Option ℕ)) (c : Class) (a : Source) → values_unless ns (Low (width c) (held_by vs a)) (unset_in vs a) ≡ slot_val ns vs c a
+slot_val_unless : (ns : List Name) (vs : List (Option ℕ)) (c : Class) (a : Source) → values_unless ns (Low (width c) (held_or_zero vs a)) (unset_in vs a) ≡ slot_val ns vs c a
 slot_val_unless ns vs c (sources.Constant n) = refl
 slot_val_unless ns vs c (sources.Slot s) = known_unless ns c s (get_or vs s.index None)
 

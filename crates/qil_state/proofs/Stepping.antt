@@ -17,7 +17,7 @@ use Rattle.qil_state.specs.declared.status.Fault.{Fault}
 use Rattle.qil_state.specs.declared.status.Status.{Status}
 use Rattle.qil_state.specs.declared.status.Status.TheVariants.{Faulted}
 use Rattle.qil_state.specs.Faults.{fault_of}
-use Rattle.qil_state.specs.State.{Whole, whole, state_of, head_names, PlaceFits}
+use Rattle.qil_state.specs.State.{Whole, whole, state_of, head_names, PlaceFits, IsNext}
 use Rattle.qil_state.specs.Stepping.{stepped, stepped_whole, performed_whole, left_whole}
 use Rattle.qil_state.proofs.Place.{none_some, some_same}
 use Rattle.qil_state.proofs.InstHere.{InstHere, inst_here}
@@ -39,11 +39,6 @@ faulted_step {A} x y p fs m out st why is same e =
     (λ e. sym (step_settled p (state_of (whole p fs m out st)) (Err (fault_of (head_names p fs) why)) e)) e
 
 -- ---- what stands at the place of the innermost frame
-
--- that frame stands at an index, and its block has another behind it
-abbrev pub IsNext : {A : Type 0} → Program A → List SlotFrame → ℕ → Type 0
-IsNext p [] k = ⊥
-IsNext p (f ∷ fs) k = (f.index ≡ k) × PlaceFits (block_at p f.func f.block) (k + 1)
 
 pub record Found {A : Type 0} (x : Whole A) (inst : NumberedInst A) (k : ℕ) : Type 0 where
   pub does : stepped_whole x ≡ performed_whole x inst

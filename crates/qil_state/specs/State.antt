@@ -1,5 +1,5 @@
 -- All that a machine holds, and the state that it stands for.
-use Rattle.std.specs.Prelude.{◌≡◌, ℕ, ◌<◌, ◌≤◌, ◌^◌, List, [], ◌∷◌, length, Option, Some, None, option_map}
+use Rattle.std.specs.Prelude.{◌≡◌, ℕ, ◌+◌, ◌<◌, ◌≤◌, ◌^◌, List, [], ◌∷◌, length, Option, Some, None, option_map}
 use Rattle.qil_tree.specs.declared.tree.CallResult.{CallResult}
 use Rattle.qil_tree.specs.declared.tree.Block.{Block}
 use Rattle.qil_tree.specs.declared.tree.Func.{Func}
@@ -86,6 +86,11 @@ state_of w = record {
 abbrev pub PlaceFits : {A : Type 0} → Option (Block A) → ℕ → Type 0
 PlaceFits None k = ⊥
 PlaceFits (Some b) k = k ≤ length b.insts
+
+-- the innermost frame stands at an index, and its block has another behind it
+abbrev pub IsNext : {A : Type 0} → Program A → List SlotFrame → ℕ → Type 0
+IsNext p [] k = ⊥
+IsNext p (f ∷ fs) k = (f.index ≡ k) × PlaceFits (block_at p f.func f.block) (k + 1)
 
 -- a frame stands in a block of the code, at an instruction or behind the last, and has the slots of its function
 pub record FrameFits {A : Type 0} (p : Program A) (f : SlotFrame) : Type 0 where

@@ -39,13 +39,13 @@ unset_in vs (sources.Constant n) = None
 unset_in vs (sources.Slot s) = unless_set s (get_or vs s.index None)
 
 -- what an operand holds; of an unset slot 0
-abbrev pub held_by : List (Option ℕ) → Source → ℕ
-held_by vs (sources.Constant n) = n
-held_by vs (sources.Slot s) = unwrap_or (get_or vs s.index None) 0
+abbrev pub held_or_zero : List (Option ℕ) → Source → ℕ
+held_or_zero vs (sources.Constant n) = n
+held_or_zero vs (sources.Slot s) = unwrap_or (get_or vs s.index None) 0
 
 -- an argument in the class of the type that is written at it
 abbrev pub argument_value : List (Option ℕ) → NumberedArgument → ℕ
-argument_value vs a = Low (width (class_of a.abi_type)) (held_by vs a.source)
+argument_value vs a = Low (width (class_of a.abi_type)) (held_or_zero vs a.source)
 
 abbrev pub argument_values : List (Option ℕ) → List NumberedArgument → List ℕ
 argument_values vs args = map (argument_value vs) args

@@ -11,7 +11,7 @@ ghost use Rattle.qil_meaning.specs.Values.{vals};
 ghost use Rattle.qil_meaning.specs.Calls.{agree, agree_all, gives, is_in_shape as has_shape};
 ghost use Rattle.qil_numbering.specs.Named.{named_argument, named_receiver};
 ghost use Rattle.qil_numbering.specs.Ranges.{InRange};
-ghost use Rattle.qil_state.specs.Values.{AreSlots, unset_in, held_by, argument_value, argument_values, told_with, shape_by};
+ghost use Rattle.qil_state.specs.Values.{AreSlots, unset_in, held_or_zero, argument_value, argument_values, told_with, shape_by};
 
 use crate::status::Fault;
 use qil_numbering::{NumberedArgument, Receiver, Slot, Source};
@@ -23,7 +23,7 @@ use std::alloc::Allocator;
 #[inline(always)]
 fn held(slots: &[Option<u64>], source: Source) -> u64
     requires { InRange (length slots.now) source }
-    ensures { result ≡ held_by slots.now source }
+    ensures { result ≡ held_or_zero slots.now source }
 {
     match source {
         Source::Constant(v) => v,

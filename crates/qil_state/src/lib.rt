@@ -3,8 +3,6 @@
 
 mod arguments;
 mod status;
-#[cfg(test)]
-mod tests;
 mod values;
 
 pub use arguments::{argument, check_arguments, is_in_shape};

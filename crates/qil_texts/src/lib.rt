@@ -5,6 +5,3 @@ mod canonical;
 
 pub use canonical::{canonical_spells, inst_text, jump_text, phi_text};
 pub use qil_streams::{Put, Stopped};
-
-#[cfg(test)]
-mod tests;

@@ -1,186 +1,264 @@
 -- From the answers of a session to the transcript.
-use Rattle.std.proofs.Common.{◌≡◌, ℕ, ◌^◌, List, ◌++◌, take, sym, ◌∙◌, ap, refl, subst, append_assoc, inl, inr}
-use Rattle.std.specs.Prelude.{Option, Some, None, Ok, Err}
-use Rattle.std.specs.Io.KnownBytes.{Appends}
-use Rattle.qil_plain.specs.declared.tree.Program.{Program}
-use Rattle.qil_checker.specs.declared.form.Form.{Form}
-use Rattle.qil_transcript.specs.declared.load.Loaded.{Loaded}
-use Rattle.qil_plain_meaning.specs.State.{State}
-use Rattle.qil_plain_meaning.specs.Timeline.{begun}
-use Rattle.qil_streams.specs.Device.{IsFrontOf}
-use Rattle.qil_streams.specs.Script.{lines_of, whole_lines_of}
-use Rattle.qil_streams.proofs.DeviceLemmas.{Appends-append}
-use Rattle.qil_transcript.specs.declared.serving.IoFault.TheVariants.{Read, Write, TooLong}
-use Rattle.qil_transcript.specs.declared.outcome.Outcome.TheVariants as outcomes
-use Rattle.qil_transcript.specs.declared.load.Refusal.{Refusal}
-use Rattle.qil_transcript.specs.Session.{Sitting, IsAnswered, answers}
+use Rattle.std.proofs.Common.{◌≡◌, ◌≢◌, ℕ, ◌^◌, List, [], ◌++◌, take, sym, ◌∙◌, ap, refl, subst, append_assoc, inl, inr}
 use Rattle.std.proofs.Common.{true, false}
 use Rattle.std.proofs.lemmas.Bool.{false≢true}
-use Rattle.qil_transcript.proofs.SimpleLemmas.{plain_simple}
-use Rattle.qil_plain_meaning.specs.declared.start.StartFault.{StartFault}
-use Rattle.qil_plain_meaning.specs.Start.{start_of}
-use Rattle.qil_transcript.specs.declared.load.Refusal.TheVariants as refusals
+use Rattle.std.specs.Prelude.{Option, Some, None, Ok, Err}
+use Rattle.std.specs.Io.KnownBytes.{Appends}
+use Rattle.qil_streams.specs.Device.{IsFrontOf}
+use Rattle.qil_streams.specs.Script.{lines_of, whole_lines_of}
+use Rattle.qil_streams.proofs.DeviceLemmas.{Appends-nil, Appends-append}
+use Rattle.qil_tree.specs.declared.tree.Program.{Program}
+use Rattle.qil_checker.specs.Check.{Verdict}
+use Rattle.qil_layout.specs.Layout.{fault_of}
+use Rattle.qil_layout.specs.Answer.{IsFault}
+use Rattle.qil_layout.specs.declared.error.LayoutCode.{LayoutCode}
+use Rattle.qil_layout.specs.declared.error.LayoutError.{LayoutError}
+use Rattle.qil_layout.specs.declared.error.LayoutError.TheVariants as layout
+use Rattle.qil_machine.specs.Starting.{StartExplains}
+use Rattle.qil_machine.specs.declared.error.StartError.{StartError}
+use Rattle.qil_machine.specs.declared.error.StartError.TheVariants as start
+use Rattle.qil_meaning.specs.State.{State}
+use Rattle.qil_meaning.specs.Start.{start_of}
+use Rattle.qil_meaning.specs.Timeline.{Timeline, begun}
+use Rattle.qil_meaning.specs.declared.start.StartFault.{StartFault}
+use Rattle.qil_session.specs.Situation.{Situation}
+use Rattle.qil_session.specs.Answers.{IsAnswered, answers}
+use Rattle.qil_session.specs.Kept.{Kept, situation}
+use Rattle.qil_transcript.specs.declared.serving.IoFault.TheVariants.{Read, Write, TooLong}
 use Rattle.qil_transcript.specs.declared.outcome.Outcome.{Outcome}
-use Rattle.qil_transcript.specs.Load.{Accepts, IsSimple, Refuses, RefusesText}
-use Rattle.qil_transcript.specs.Debug.{Begins, IsSession, IsNoSession, IsRefused, Written, load_lines, refused_line}
+use Rattle.qil_transcript.specs.declared.outcome.Outcome.TheVariants as outcomes
+use Rattle.qil_transcript.specs.declared.load.LoadError.{LoadError}
+use Rattle.qil_transcript.specs.declared.load.LoadError.TheVariants as errors
+use Rattle.qil_transcript.specs.declared.refusal.Refusal.{Refusal}
+use Rattle.qil_transcript.specs.declared.refusal.Refusal.TheVariants as refusals
+use Rattle.qil_transcript.specs.Load.{Accepts, Checks, Refuses, RefusesCheck, IsCheckFault}
+use Rattle.qil_transcript.specs.LoadError.{of_layout, of_start}
+use Rattle.qil_transcript.specs.Debug.{Setup, Begins, IsSession, IsNoSession, Written, load_lines, opened, refused_line}
+use Rattle.qil_transcript.specs.Handed.{IsRefused}
 use Rattle.qil_transcript.proofs.ServeLemmas.{Promise, ample}
 
--- the load lines of a program and a form are those of their loaded
-pub load_lines-is : {A : Type 0} (p : Program A) (form : Form) (loaded : Loaded A) (start : State) → form ≡ loaded.form → p ≡ loaded.program →
-    load_lines p form start ≡ load_lines loaded.program loaded.form start
-load_lines-is p form loaded start f e = ap (λ q. load_lines q form start) e ∙ ap (λ x. load_lines loaded.program x start) f
+-- the load lines of a program
+abbrev pub heading : {A : Type 0} → Setup → Verdict A → State → List ℕ
+heading s verdict start = load_lines verdict.program verdict.form (begun s.keeps start)
 
--- a session that begins is at the start of its program
-pub sitting-is : {A : Type 0} (s : Sitting A) (p : Program A) (start : State) → s.program ≡ p → s.timeline ≡ begun start → s ≡ record { program = p; timeline = begun start }
-sitting-is s p start e t = λ i. record { program = e i; timeline = t i }
+-- a session over a history that has made no move stands at the start of its program
+pub begun_session : {A H : Type 0} (program : H → Program A) (timeline : H → Timeline) (k : Kept H) (h : H) (s : Setup) (p : Program A) (start : State) (limit : ℕ)
+    → k ≡ record { history = h; stops = record { given = 0; kept = [] }; limit = limit } → s.limit ≡ limit → program h ≡ p → timeline h ≡ begun s.keeps start
+    → situation program timeline k ≡ opened s p start
+begun_session {A} {H} program timeline k h s p start limit e l ep et =
+    ap (λ (x : Kept H). situation program timeline x) e ∙ (λ i. record { program = ep i; timeline = et i; stops = record { given = 0; kept = [] }; limit = sym l i })
 
 -- what a session began with, and what was written of it before the answers
-pub record Opened {A : Type 0} (text entry args : List ℕ) (loaded : Loaded A) (start : State) (first : Sitting A) (w0 w1 : Option (List ℕ)) : Type 0 where
-  pub begins : Begins text entry args loaded start
-  pub first_is : first ≡ record { program = loaded.program; timeline = begun start }
-  pub told : Appends w0 w1 (load_lines loaded.program loaded.form start)
+pub record Opened {A : Type 0} (s : Setup) (verdict : Verdict A) (start : State) (first : Situation A) (w0 w1 : Option (List ℕ)) : Type 0 where
+  pub begins : Begins s verdict start
+  pub first_is : first ≡ opened s verdict.program start
+  pub told : Appends w0 w1 (heading s verdict start)
 
-is_session : {A : Type 0} (text entry args : List ℕ) (loaded : Loaded A) (start : State) (first : Sitting A) (lines : List (List ℕ)) (told : List ℕ) →
-    Begins text entry args loaded start → first ≡ record { program = loaded.program; timeline = begun start } → IsAnswered first lines told →
-    IsSession A text entry args lines (load_lines loaded.program loaded.form start ++ told)
-is_session {A} text entry args loaded start first lines told begins first_is answered = record {
-  loaded = loaded;
+-- the load lines of a session are those of the timeline that it begins with
+heading-is : {A : Type 0} (s : Setup) (verdict : Verdict A) (start : State) (first : Situation A) → first ≡ opened s verdict.program start →
+    load_lines verdict.program verdict.form first.timeline ≡ heading s verdict start
+heading-is {A} s verdict start first e = ap (λ (x : Situation A). load_lines verdict.program verdict.form x.timeline) e
+
+pub opened_with : {A : Type 0} (s : Setup) (verdict : Verdict A) (start : State) (first : Situation A) (w0 w1 : Option (List ℕ)) → Begins s verdict start →
+    first ≡ opened s verdict.program start → Appends w0 w1 (load_lines verdict.program verdict.form first.timeline) → Opened s verdict start first w0 w1
+opened_with s verdict start first w0 w1 begins e told = record {
+  begins = begins;
+  first_is = e;
+  told = subst (λ (lines : List ℕ). Appends w0 w1 lines) (heading-is s verdict start first e) told;
+}
+
+pub stopped_heading : {A : Type 0} (s : Setup) (verdict : Verdict A) (start : State) (first : Situation A) (w0 w1 : Option (List ℕ)) → first ≡ opened s verdict.program start
+    → ((front : List ℕ) × IsFrontOf front (load_lines verdict.program verdict.form first.timeline) × Appends w0 w1 front)
+    → (front : List ℕ) × IsFrontOf front (heading s verdict start) × Appends w0 w1 front
+stopped_heading s verdict start first w0 w1 e stopped =
+    (stopped.0, subst (λ (lines : List ℕ). IsFrontOf stopped.0 lines) (heading-is s verdict start first e) stopped.1, stopped.2)
+
+is_session : {A : Type 0} (s : Setup) (verdict : Verdict A) (start : State) (first : Situation A) (lines : List (List ℕ)) (told : List ℕ) →
+    Begins s verdict start → first ≡ opened s verdict.program start → IsAnswered first lines told →
+    IsSession A s lines (heading s verdict start ++ told)
+is_session {A} s verdict start first lines told begins first_is answered = record {
+  verdict = verdict;
   start = start;
   begins = begins;
   answered = told;
-  answers = subst (λ (s : Sitting A). IsAnswered s lines told) first_is answered;
+  answers = subst (λ (x : Situation A). IsAnswered x lines told) first_is answered;
   written_is = refl;
 }
 
-pub Written-ended : {A T : Type 0} (v : T) (text entry args : List ℕ) (loaded : Loaded A) (start : State) (first : Sitting A) (known left w0 w1 w2 : Option (List ℕ))
-    → Opened text entry args loaded start first w0 w1 → Promise (Ok v) first known left w1 w2
-    → Written A outcomes.Ended text entry args known left w0 w2
-Written-ended v text entry args loaded start first None left w0 w1 w2 o p = tt
-Written-ended v text entry args loaded start first (Some script) left w0 w1 w2 o p = (
-  load_lines loaded.program loaded.form start ++ p.0,
-  Appends-append w0 w1 w2 (load_lines loaded.program loaded.form start) p.0 o.told p.1,
-  (is_session text entry args loaded start first (lines_of script) p.0 o.begins o.first_is p.2.0, p.2.1),
+pub Written-ended : {A T : Type 0} (v : T) (s : Setup) (verdict : Verdict A) (start : State) (first : Situation A) (known left w0 w1 w2 : Option (List ℕ))
+    → Opened s verdict start first w0 w1 → Promise (Ok v) first known left w1 w2
+    → Written A outcomes.Ended s known left w0 w2
+Written-ended v s verdict start first None left w0 w1 w2 o p = tt
+Written-ended v s verdict start first (Some script) left w0 w1 w2 o p = (
+  heading s verdict start ++ p.0,
+  Appends-append w0 w1 w2 (heading s verdict start) p.0 o.told p.1,
+  (is_session s verdict start first (lines_of script) p.0 o.begins o.first_is p.2.0, p.2.1),
 )
 
-pub Written-too_long : {A : Type 0} (T : Type 0) (text entry args : List ℕ) (loaded : Loaded A) (start : State) (first : Sitting A) (known left w0 w1 w2 : Option (List ℕ))
-    → Opened text entry args loaded start first w0 w1 → Promise {T = T} (Err TooLong) first known left w1 w2
-    → Written A outcomes.TooLong text entry args known left w0 w2
-Written-too_long T text entry args loaded start first None left w0 w1 w2 o p = tt
-Written-too_long T text entry args loaded start first (Some script) left w0 w1 w2 o p = (
-  load_lines loaded.program loaded.form start ++ p.0,
-  Appends-append w0 w1 w2 (load_lines loaded.program loaded.form start) p.0 o.told p.1,
-  (is_session text entry args loaded start first (whole_lines_of (take (2 ^ 24) script)) p.0 o.begins o.first_is p.2.0, p.2.1),
+pub Written-too_long : {A : Type 0} (T : Type 0) (s : Setup) (verdict : Verdict A) (start : State) (first : Situation A) (known left w0 w1 w2 : Option (List ℕ))
+    → Opened s verdict start first w0 w1 → Promise {T = T} (Err TooLong) first known left w1 w2
+    → Written A outcomes.TooLong s known left w0 w2
+Written-too_long T s verdict start first None left w0 w1 w2 o p = tt
+Written-too_long T s verdict start first (Some script) left w0 w1 w2 o p = (
+  heading s verdict start ++ p.0,
+  Appends-append w0 w1 w2 (heading s verdict start) p.0 o.told p.1,
+  (is_session s verdict start first (whole_lines_of (take (2 ^ 24) script)) p.0 o.begins o.first_is p.2.0, p.2.1),
 )
 
-pub Written-read : {A : Type 0} (T : Type 0) (text entry args : List ℕ) (loaded : Loaded A) (start : State) (first : Sitting A) (known left w0 w1 w2 : Option (List ℕ))
-    → Opened text entry args loaded start first w0 w1 → Promise {T = T} (Err Read) first known left w1 w2
-    → Written A outcomes.ReadFault text entry args known left w0 w2
-Written-read T text entry args loaded start first None left w0 w1 w2 o p = tt
-Written-read T text entry args loaded start first (Some script) left w0 w1 w2 o p =
+pub Written-read : {A : Type 0} (T : Type 0) (s : Setup) (verdict : Verdict A) (start : State) (first : Situation A) (known left w0 w1 w2 : Option (List ℕ))
+    → Opened s verdict start first w0 w1 → Promise {T = T} (Err Read) first known left w1 w2
+    → Written A outcomes.ReadFault s known left w0 w2
+Written-read T s verdict start first None left w0 w1 w2 o p = tt
+Written-read T s verdict start first (Some script) left w0 w1 w2 o p =
     let (read, taken, answered, goes) = p.2 in (
-      load_lines loaded.program loaded.form start ++ p.0,
-      Appends-append w0 w1 w2 (load_lines loaded.program loaded.form start) p.0 o.told p.1,
-      (read, taken, is_session text entry args loaded start first (whole_lines_of read) p.0 o.begins o.first_is answered, goes),
+      heading s verdict start ++ p.0,
+      Appends-append w0 w1 w2 (heading s verdict start) p.0 o.told p.1,
+      (read, taken, is_session s verdict start first (whole_lines_of read) p.0 o.begins o.first_is answered, goes),
     )
 
-pub Written-write : {A : Type 0} (T : Type 0) (text entry args : List ℕ) (loaded : Loaded A) (start : State) (first : Sitting A) (known left w0 w1 w2 : Option (List ℕ))
-    → Opened text entry args loaded start first w0 w1 → Promise {T = T} (Err Write) first known left w1 w2
-    → Written A outcomes.WriteFault text entry args known left w0 w2
-Written-write T text entry args loaded start first None left w0 w1 w2 o p = tt
-Written-write T text entry args loaded start first (Some script) left w0 w1 w2 o p =
+pub Written-write : {A : Type 0} (T : Type 0) (s : Setup) (verdict : Verdict A) (start : State) (first : Situation A) (known left w0 w1 w2 : Option (List ℕ))
+    → Opened s verdict start first w0 w1 → Promise {T = T} (Err Write) first known left w1 w2
+    → Written A outcomes.WriteFault s known left w0 w2
+Written-write T s verdict start first None left w0 w1 w2 o p = tt
+Written-write T s verdict start first (Some script) left w0 w1 w2 o p =
     let (all, answered, front) = p.2 in (
-      load_lines loaded.program loaded.form start ++ p.0,
-      Appends-append w0 w1 w2 (load_lines loaded.program loaded.form start) p.0 o.told p.1,
+      heading s verdict start ++ p.0,
+      Appends-append w0 w1 w2 (heading s verdict start) p.0 o.told p.1,
       (
-        load_lines loaded.program loaded.form start ++ all,
-        inr (is_session text entry args loaded start first (lines_of script) all o.begins o.first_is answered),
-        (front.0, ap (λ v. load_lines loaded.program loaded.form start ++ v) front.1 ∙ sym (append_assoc (load_lines loaded.program loaded.form start) p.0 front.0)),
+        heading s verdict start ++ all,
+        inr (is_session s verdict start first (lines_of script) all o.begins o.first_is answered),
+        (front.0, ap (λ v. heading s verdict start ++ v) front.1 ∙ sym (append_assoc (heading s verdict start) p.0 front.0)),
       ),
     )
 
 -- the load lines stopped
-pub Written-load : {A : Type 0} (text entry args : List ℕ) (loaded : Loaded A) (start : State) (known left w0 w1 : Option (List ℕ))
-    → Begins text entry args loaded start → ((front : List ℕ) × IsFrontOf front (load_lines loaded.program loaded.form start) × Appends w0 w1 front)
-    → Written A outcomes.WriteFault text entry args known left w0 w1
-Written-load text entry args loaded start None left w0 w1 begins p = tt
-Written-load {A} text entry args loaded start (Some script) left w0 w1 begins p =
-    let first : Sitting A = record { program = loaded.program; timeline = begun start } in
+pub Written-load : {A : Type 0} (s : Setup) (verdict : Verdict A) (start : State) (known left w0 w1 : Option (List ℕ))
+    → Begins s verdict start → ((front : List ℕ) × IsFrontOf front (heading s verdict start) × Appends w0 w1 front)
+    → Written A outcomes.WriteFault s known left w0 w1
+Written-load s verdict start None left w0 w1 begins p = tt
+Written-load {A} s verdict start (Some script) left w0 w1 begins p =
+    let first : Situation A = opened s verdict.program start in
     let more = ample first (lines_of script) in
     let told = answers first (lines_of script) more.0 in (
       p.0,
       p.2,
       (
-        load_lines loaded.program loaded.form start ++ told,
-        inr (is_session text entry args loaded start first (lines_of script) told begins refl (more.0, more.1, refl)),
+        heading s verdict start ++ told,
+        inr (is_session s verdict start first (lines_of script) told begins refl (more.0, more.1, refl)),
         (p.1.0 ++ told, ap (λ v. v ++ told) p.1.1 ∙ append_assoc p.0 p.1.0 told),
       ),
     )
 
+-- memory was wanting before anything was written
+pub Written-memory : (A : Type 0) (s : Setup) (known left w0 w1 : Option (List ℕ)) → w1 ≡ w0 → Written A outcomes.Memory s known left w0 w1
+Written-memory A s None left w0 w1 same = tt
+Written-memory A s (Some script) left w0 w1 same = ([], subst (λ (w : Option (List ℕ)). Appends w0 w []) (sym same) (Appends-nil w0), refl)
+
+-- ---- refusals
+
 -- a refusal was told
-pub Written-refused : (A : Type 0) (text entry args : List ℕ) (refusal : Refusal) (known left w0 w1 : Option (List ℕ))
-    → Refuses A text entry args refusal → Appends w0 w1 (refused_line refusal)
-    → Written A outcomes.Refused text entry args known left w0 w1
-Written-refused A text entry args refusal None left w0 w1 refuses p = tt
-Written-refused A text entry args refusal (Some script) left w0 w1 refuses p =
+Written-refused : (A : Type 0) (s : Setup) (refusal : Refusal) (known left w0 w1 : Option (List ℕ))
+    → Refuses A s.text s.entry s.args refusal → Appends w0 w1 (refused_line refusal)
+    → Written A outcomes.Refused s known left w0 w1
+Written-refused A s refusal None left w0 w1 refuses p = tt
+Written-refused A s refusal (Some script) left w0 w1 refuses p =
     (refused_line refusal, p, record { refusal = refusal; refuses = refuses; written_is = refl })
 
 -- the line of a refusal stopped
-pub Written-refusal_stopped : (A : Type 0) (text entry args : List ℕ) (refusal : Refusal) (known left w0 w1 : Option (List ℕ))
-    → Refuses A text entry args refusal → ((front : List ℕ) × IsFrontOf front (refused_line refusal) × Appends w0 w1 front)
-    → Written A outcomes.WriteFault text entry args known left w0 w1
-Written-refusal_stopped A text entry args refusal None left w0 w1 refuses p = tt
-Written-refusal_stopped A text entry args refusal (Some script) left w0 w1 refuses p =
+Written-refusal_stopped : (A : Type 0) (s : Setup) (refusal : Refusal) (known left w0 w1 : Option (List ℕ))
+    → Refuses A s.text s.entry s.args refusal → ((front : List ℕ) × IsFrontOf front (refused_line refusal) × Appends w0 w1 front)
+    → Written A outcomes.WriteFault s known left w0 w1
+Written-refusal_stopped A s refusal None left w0 w1 refuses p = tt
+Written-refusal_stopped A s refusal (Some script) left w0 w1 refuses p =
     (p.0, p.2, (refused_line refusal, inl (record { refusal = refusal; refuses = refuses; written_is = refl }), p.1))
 
-pub opened : {A : Type 0} (text entry args : List ℕ) (loaded : Loaded A) (start : State) (first : Sitting A) (form : Form) (w0 w1 : Option (List ℕ))
-    → Begins text entry args loaded start → form ≡ loaded.form → first.program ≡ loaded.program → first.timeline ≡ begun start
-    → Appends w0 w1 (load_lines first.program form start)
-    → Opened text entry args loaded start first w0 w1
-opened text entry args loaded start first form w0 w1 begins f e t told = record {
-  begins = begins;
-  first_is = sitting-is first loaded.program start e t;
-  told = subst (λ (lines : List ℕ). Appends w0 w1 lines) (load_lines-is first.program form loaded start f e) told;
-}
-
-pub stopped_lines : {A : Type 0} (p : Program A) (form : Form) (loaded : Loaded A) (start : State) (w0 w1 : Option (List ℕ)) → form ≡ loaded.form → p ≡ loaded.program
-    → ((front : List ℕ) × IsFrontOf front (load_lines p form start) × Appends w0 w1 front)
-    → (front : List ℕ) × IsFrontOf front (load_lines loaded.program loaded.form start) × Appends w0 w1 front
-stopped_lines p form loaded start w0 w1 f e stopped =
-    (stopped.0, subst (λ (lines : List ℕ). IsFrontOf stopped.0 lines) (load_lines-is p form loaded start f e) stopped.1, stopped.2)
-
--- a text that is refused whatever its entry is
-pub refuses_text : (A : Type 0) (text entry args : List ℕ) (refusal : Refusal) → RefusesText A text refusal → Refuses A text entry args refusal
-refuses_text A text entry args (refusals.Text code line) h = h
-refuses_text A text entry args (refusals.Tokens code line) h = h
-refuses_text A text entry args (refusals.Rule rule line) h = h
-refuses_text A text entry args (refusals.NotRun line) h = h
-refuses_text A text entry args (refusals.Start fault) h = absurd h
+-- the text is refused for that, or memory was wanting
+abbrev pub Explained : Type 0 → Setup → LoadError → Type 0
+Explained A s (errors.Refused refusal) = Refuses A s.text s.entry s.args refusal
+Explained A s errors.OutOfMemory = Unit {0}
 
 -- what was refused and how that was put
-pub Written-refuse : (A : Type 0) (outcome : Outcome) (text entry args : List ℕ) (refusal : Refusal) (known left w0 w1 : Option (List ℕ))
-    → Refuses A text entry args refusal → IsRefused outcome w0 w1 (refused_line refusal) → Written A outcome text entry args known left w0 w1
-Written-refuse A outcomes.Ended text entry args refusal known left w0 w1 refuses p = absurd p
-Written-refuse A outcomes.Refused text entry args refusal known left w0 w1 refuses p = Written-refused A text entry args refusal known left w0 w1 refuses p
-Written-refuse A outcomes.ReadFault text entry args refusal known left w0 w1 refuses p = absurd p
-Written-refuse A outcomes.WriteFault text entry args refusal known left w0 w1 refuses p = Written-refusal_stopped A text entry args refusal known left w0 w1 refuses p
-Written-refuse A outcomes.TooLong text entry args refusal known left w0 w1 refuses p = absurd p
-Written-refuse A outcomes.Memory text entry args refusal known left w0 w1 refuses p = absurd p
+pub Written-refuse : (A : Type 0) (outcome : Outcome) (s : Setup) (error : LoadError) (known left w0 w1 : Option (List ℕ))
+    → Explained A s error → IsRefused outcome error w0 w1 → Written A outcome s known left w0 w1
+Written-refuse A outcomes.Refused s (errors.Refused refusal) known left w0 w1 refuses p = Written-refused A s refusal known left w0 w1 refuses p
+Written-refuse A outcomes.WriteFault s (errors.Refused refusal) known left w0 w1 refuses p = Written-refusal_stopped A s refusal known left w0 w1 refuses p
+Written-refuse A outcomes.Memory s errors.OutOfMemory known left w0 w1 refuses p = Written-memory A s known left w0 w1 p
+Written-refuse A outcomes.Ended s (errors.Refused refusal) known left w0 w1 refuses p = absurd p
+Written-refuse A outcomes.ReadFault s (errors.Refused refusal) known left w0 w1 refuses p = absurd p
+Written-refuse A outcomes.TooLong s (errors.Refused refusal) known left w0 w1 refuses p = absurd p
+Written-refuse A outcomes.Memory s (errors.Refused refusal) known left w0 w1 refuses p = absurd p
+Written-refuse A outcomes.Ended s errors.OutOfMemory known left w0 w1 refuses p = absurd p
+Written-refuse A outcomes.Refused s errors.OutOfMemory known left w0 w1 refuses p = absurd p
+Written-refuse A outcomes.ReadFault s errors.OutOfMemory known left w0 w1 refuses p = absurd p
+Written-refuse A outcomes.WriteFault s errors.OutOfMemory known left w0 w1 refuses p = absurd p
+Written-refuse A outcomes.TooLong s errors.OutOfMemory known left w0 w1 refuses p = absurd p
+
+-- what is told of a refusal is no session
+pub refused-no_session : (outcome : Outcome) (error : LoadError) (w0 w1 : Option (List ℕ)) → IsRefused outcome error w0 w1 → IsNoSession outcome
+refused-no_session outcomes.Refused error w0 w1 p = tt
+refused-no_session outcomes.WriteFault error w0 w1 p = tt
+refused-no_session outcomes.Memory error w0 w1 p = tt
+refused-no_session outcomes.Ended (errors.Refused refusal) w0 w1 p = absurd p
+refused-no_session outcomes.ReadFault (errors.Refused refusal) w0 w1 p = absurd p
+refused-no_session outcomes.TooLong (errors.Refused refusal) w0 w1 p = absurd p
+refused-no_session outcomes.Ended errors.OutOfMemory w0 w1 p = absurd p
+refused-no_session outcomes.ReadFault errors.OutOfMemory w0 w1 p = absurd p
+refused-no_session outcomes.TooLong errors.OutOfMemory w0 w1 p = absurd p
+
+-- want of memory is no refusal
+pub wanting-not_refused : (outcome : Outcome) (error : LoadError) (w0 w1 : Option (List ℕ)) → IsRefused outcome error w0 w1 → error ≡ errors.OutOfMemory → outcome ≢ outcomes.Refused
+wanting-not_refused outcome error w0 w1 p e r =
+    subst (λ (x : Outcome). IsRefused x errors.OutOfMemory w0 w1) r (subst (λ (x : LoadError). IsRefused outcome x w0 w1) e p)
+
+-- ---- why each part refuses
+
+pub check-explained : (A : Type 0) (s : Setup) (error : LoadError) → IsCheckFault A s.text error → Explained A s error
+check-explained A s (errors.Refused (refusals.Text code line)) h = h
+check-explained A s (errors.Refused (refusals.Tokens code line)) h = h
+check-explained A s (errors.Refused (refusals.Rule rule line)) h = h
+check-explained A s (errors.Refused (refusals.Layout code line)) h = absurd h
+check-explained A s (errors.Refused (refusals.Start fault)) h = absurd h
+check-explained A s errors.OutOfMemory h = tt
+
+pub layout-explained : {A : Type 0} (s : Setup) (verdict : Verdict A) (error : LayoutError) (load : LoadError) → Checks s.text verdict
+    → IsFault (fault_of verdict.program) error → load ≡ of_layout error → Explained A s load
+layout-explained {A} s verdict (layout.Refused code line) load checks fault e =
+    subst (λ (x : LoadError). Explained A s x) (sym e) (verdict, checks, fault)
+layout-explained {A} s verdict layout.OutOfMemory load checks fault e = subst (λ (x : LoadError). Explained A s x) (sym e) tt
+
+pub start-explained : {A : Type 0} (s : Setup) (verdict : Verdict A) (p : Program A) (error : StartError) (load : LoadError) → Accepts s.text verdict → p ≡ verdict.program
+    → StartExplains (start_of p s.entry s.args) error → load ≡ of_start error → Explained A s load
+start-explained {A} s verdict p start.NoEntry load accepts same why e =
+    subst (λ (x : LoadError). Explained A s x) (sym e) (verdict, accepts, ap (λ (q : Program A). start_of q s.entry s.args) (sym same) ∙ why)
+start-explained {A} s verdict p start.ArgumentCount load accepts same why e =
+    subst (λ (x : LoadError). Explained A s x) (sym e) (verdict, accepts, ap (λ (q : Program A). start_of q s.entry s.args) (sym same) ∙ why)
+start-explained {A} s verdict p start.OutOfMemory load accepts same why e = subst (λ (x : LoadError). Explained A s x) (sym e) tt
+
+-- a program without a fault of layout isn't refused for one
+pub layout-wanting : {A : Type 0} (p : Program A) (error : LayoutError) (load : LoadError) → fault_of p ≡ None → IsFault (fault_of p) error → load ≡ of_layout error → load ≡ errors.OutOfMemory
+layout-wanting p (layout.Refused code line) load none fault e = absurd cc
+layout-wanting p layout.OutOfMemory load none fault e = e
+
+-- a program that starts isn't refused its start
+pub start-wanting : {A : Type 0} (p : Program A) (entry args : List ℕ) (state : State) (error : StartError) (load : LoadError) → start_of p entry args ≡ Ok state
+    → StartExplains (start_of p entry args) error → load ≡ of_start error → load ≡ errors.OutOfMemory
+start-wanting p entry args state start.NoEntry load ok why e = absurd cc
+start-wanting p entry args state start.ArgumentCount load ok why e = absurd cc
+start-wanting p entry args state start.OutOfMemory load ok why e = e
 
 -- ---- where no session can be, and where one must be
 
-pub no_session : (A : Type 0) (text entry args : List ℕ) (checked : Loaded A) (outcome : Outcome) (refusal : Refusal) → Refuses A text entry args refusal →
-    ((r : Refusal) → RefusesText A text r → false ≡ true) →
-    ((loaded : Loaded A) → Accepts text loaded → checked.program ≡ loaded.program) →
-    ((fault : StartFault) → start_of checked.program entry args ≡ Err fault → IsNoSession outcome) → IsNoSession outcome
-no_session A text entry args checked outcome (refusals.Text code line) h only_refused only_accepted only_start = absurd (false≢true (only_refused (refusals.Text code line) h))
-no_session A text entry args checked outcome (refusals.Tokens code line) h only_refused only_accepted only_start = absurd (false≢true (only_refused (refusals.Tokens code line) h))
-no_session A text entry args checked outcome (refusals.Rule rule line) h only_refused only_accepted only_start = absurd (false≢true (only_refused (refusals.Rule rule line) h))
-no_session A text entry args checked outcome (refusals.NotRun line) h only_refused only_accepted only_start = absurd (false≢true (only_refused (refusals.NotRun line) h))
-no_session A text entry args checked outcome (refusals.Start fault) h only_refused only_accepted only_start =
-    let (loaded, accepts, starts) = h in
-    only_start fault (ap (λ (p : Program A). start_of p entry args) (only_accepted loaded accepts) ∙ starts)
-
--- ---- what is run is of one block each
-
-pub is_simple : {A : Type 0} (text : List ℕ) (loaded : Loaded A) → Accepts text loaded → IsSimple loaded.program
-is_simple text loaded accepts = plain_simple accepts.verdict.program loaded.program accepts.run
+pub no_session : (A : Type 0) (s : Setup) (p : Program A) (outcome : Outcome) (refusal : Refusal) → Refuses A s.text s.entry s.args refusal →
+    ((r : Refusal) → RefusesCheck A s.text r → false ≡ true) →
+    ((verdict : Verdict A) → Checks s.text verdict → p ≡ verdict.program) →
+    ((fault : StartFault) → start_of p s.entry s.args ≡ Err fault → IsNoSession outcome) →
+    ((code : LayoutCode) (line : ℕ) → fault_of p ≡ Some (code, line) → IsNoSession outcome) → IsNoSession outcome
+no_session A s p outcome (refusals.Text code line) h only_refused same only_start only_layout = absurd (false≢true (only_refused (refusals.Text code line) h))
+no_session A s p outcome (refusals.Tokens code line) h only_refused same only_start only_layout = absurd (false≢true (only_refused (refusals.Tokens code line) h))
+no_session A s p outcome (refusals.Rule rule line) h only_refused same only_start only_layout = absurd (false≢true (only_refused (refusals.Rule rule line) h))
+no_session A s p outcome (refusals.Layout code line) h only_refused same only_start only_layout =
+    let (verdict, checks, fault) = h in
+    only_layout code line (ap (λ (q : Program A). fault_of q) (same verdict checks) ∙ fault)
+no_session A s p outcome (refusals.Start fault) h only_refused same only_start only_layout =
+    let (verdict, accepts, starts) = h in
+    only_start fault (ap (λ (q : Program A). start_of q s.entry s.args) (same verdict accepts.checks) ∙ starts)

@@ -23,8 +23,8 @@ use Rattle.qil_checker.specs.declared.checker.CheckError.TheVariants as check
 use Rattle.qil_checker.specs.Mentions.{texts}
 use Rattle.qil_checker.specs.Rules.{WellFormed, Broken}
 use Rattle.qil_checker.specs.Check.{Verdict, IsTold}
-use Rattle.qil_transcript.specs.declared.load.Refusal.{Refusal}
-use Rattle.qil_transcript.specs.declared.load.Refusal.TheVariants as refusals
+use Rattle.qil_transcript.specs.declared.refusal.Refusal.{Refusal}
+use Rattle.qil_transcript.specs.declared.refusal.Refusal.TheVariants as refusals
 use Rattle.qil_transcript.specs.declared.load.LoadError.{LoadError}
 use Rattle.qil_transcript.specs.declared.load.LoadError.TheVariants.{OutOfMemory}
 use Rattle.qil_transcript.specs.Load.{IsProgramOf, Checks, RefusesCheck, IsCheckFault}
@@ -117,7 +117,7 @@ none_refused A text ts p (refusals.Tokens code line) h only_fault only_cut no_fa
 none_refused A text ts p (refusals.Rule rule line) h only_fault only_cut no_fault only_spelled no_broken =
     let same : p ≡ h.program = only_spelled h.program (spelled_here text ts h.program only_cut h.of_text) in
     no_broken rule line (subst (λ (q : Program A). Broken q rule line) (sym same) h.breaks)
-none_refused A text ts p (refusals.NotRun line) h only_fault only_cut no_fault only_spelled no_broken = absurd h
+none_refused A text ts p (refusals.Layout code line) h only_fault only_cut no_fault only_spelled no_broken = absurd h
 none_refused A text ts p (refusals.Start fault) h only_fault only_cut no_fault only_spelled no_broken = absurd h
 
 -- what is said of each error that comes so is said of the result

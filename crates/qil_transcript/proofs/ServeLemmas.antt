@@ -5,14 +5,20 @@ use Rattle.std.proofs.lemmas.List.{append-nil}
 use Rattle.std.specs.Bool.{MatchBool}
 use Rattle.std.proofs.lemmas.Bool.{true≢false, false≢true}
 use Rattle.std.proofs.lemmas.List.Folds.{list_any-append}
+use Rattle.qil_tree.specs.declared.ops.Width.{Width}
 use Rattle.qil_commands.specs.declared.command.Command.{Command}
-use Rattle.qil_commands.specs.declared.command.Command.TheVariants.{Step, Back, Print, Quit}
+use Rattle.qil_commands.specs.declared.command.Command.TheVariants as commands
 use Rattle.qil_commands.specs.declared.command.Refused.{Refused}
+use Rattle.qil_commands.specs.Command.{command_of}
 use Rattle.qil_streams.specs.Reader.{IsLine}
 use Rattle.qil_streams.specs.Script.{lines_of, whole_lines_of}
-use Rattle.qil_commands.specs.Command.{command_of}
-use Rattle.qil_plain_meaning.specs.Timeline.{position, at_end}
-use Rattle.qil_transcript.specs.Session.{Sitting, Answer, answer, answers, AreLawful, IsLawful, IsAnswered, is_quit, quits}
+use Rattle.qil_meaning.specs.State.{State}
+use Rattle.qil_meaning.specs.Poke.{PokeFault}
+use Rattle.qil_meaning.specs.Timeline.{position, at_end}
+use Rattle.qil_stops.specs.Listed.{is_listed}
+use Rattle.qil_stops.specs.declared.stop.StopKind.{StopKind}
+use Rattle.qil_session.specs.Situation.{Situation, has_kind, is_full}
+use Rattle.qil_session.specs.Answers.{Answer, AnswersLine, answer, answers, AreLawful, IsLawful, IsAnswered, is_quit, quits, if_back, poke_answer, poke_at, stop_answer}
 use Rattle.std.specs.Prelude.{IfSome}
 use Rattle.std.specs.Io.KnownBytes.{Consumes, Appends, IsAtEnd, prepend_known}
 use Rattle.qil_transcript.specs.declared.serving.IoFault.{IoFault}
@@ -22,37 +28,69 @@ use Rattle.qil_streams.proofs.DeviceLemmas.{Appends-nil, Appends-append, Consume
 use Rattle.qil_streams.specs.Device.{IsFrontOf}
 use Rattle.std.proofs.Common.{subst}
 use Rattle.std.proofs.Math.Seq.{take-append_seam, take-append-add}
-use Rattle.qil_transcript.specs.declared.session.Next.{Next}
-use Rattle.qil_transcript.specs.Serve.{IsServed, IsTooLong, AnswersLine}
+use Rattle.qil_session.specs.declared.session.Next.{Next}
+use Rattle.qil_transcript.specs.Serve.{IsServed, IsTooLong}
 use Rattle.qil_streams.proofs.ScriptLemmas.{Cut, Cut-nil, Cut-line, Cut-whole_part, Cut-end, Cut-last}
 use Rattle.qil_transcript.proofs.KeptLemmas.{command_of-kept}
 
--- After these lines, with these wants, `told` was answered and the s is `now`, whatever comes next.
-pub record Told {A : Type 0} (first : Sitting A) (before : List (List ℕ)) (wants : List (Option ℕ)) (told : List ℕ) (now : Sitting A) : Type 0 where
+-- After these lines, with these wants, `told` was answered and the session is `now`, whatever comes next.
+pub record Told {A : Type 0} (first : Situation A) (before : List (List ℕ)) (wants : List (Option ℕ)) (told : List ℕ) (now : Situation A) : Type 0 where
   pub goes : quits before ≡ false
   pub lawful : (rest : List (List ℕ)) (more : List (Option ℕ)) → AreLawful now rest more → AreLawful first (before ++ rest) (wants ++ more)
   pub text : (rest : List (List ℕ)) (more : List (Option ℕ)) → answers first (before ++ rest) (wants ++ more) ≡ told ++ answers now rest more
 
-pub Told-nil : {A : Type 0} (first : Sitting A) → Told first [] [] [] first
+pub Told-nil : {A : Type 0} (first : Situation A) → Told first [] [] [] first
 Told-nil first = record { goes = refl; lawful = λ rest more h. h; text = λ rest more. refl }
 
 cond_goes : {A : Type 0} (b : Bool) (x y : Answer A) → x.goes ≡ true → y.goes ≡ true → (cond b x y).goes ≡ true
 cond_goes true x y p q = p
 cond_goes false x y p q = q
 
+if_back-goes : {A : Type 0} (s : Situation A) (x : Answer A) → x.goes ≡ true → (if_back s x).goes ≡ true
+if_back-goes s x p = cond_goes (position s.timeline == 0) _ _ refl (cond_goes (length s.timeline.past == 0) _ x refl p)
+
+poke_answer-goes : {A : Type 0} (s : Situation A) (r : Result State PokeFault) → (poke_answer s r).goes ≡ true
+poke_answer-goes s (Ok state) = refl
+poke_answer-goes s (Err why) = refl
+
+poke_at-goes : {A : Type 0} (s : Situation A) (w : Width) (v : ℕ) (a : Option ℕ) → (poke_at s w v a).goes ≡ true
+poke_at-goes s w v None = refl
+poke_at-goes s w v (Some a) = poke_answer-goes s _
+
+stop_answer-goes : {A : Type 0} (s : Situation A) (kind : Option StopKind) → (stop_answer s kind).goes ≡ true
+stop_answer-goes s None = refl
+stop_answer-goes s (Some kind) = cond_goes (has_kind s.program kind) _ _ (cond_goes (is_full s.stops) _ _ refl refl) refl
+
 -- only `quit` ends a session
-pub answer_goes : {A : Type 0} (s : Sitting A) (said : Result (Option Command) Refused) (want : Option ℕ) → is_quit said ≡ false → (answer s said want).goes ≡ true
+pub answer_goes : {A : Type 0} (s : Situation A) (said : Result (Option Command) Refused) (want : Option ℕ) → is_quit said ≡ false → (answer s said want).goes ≡ true
 unfolding answer
-answer_goes s (Ok (Some (Step n))) None h = cond_goes (at_end s.timeline) _ _ refl refl
-answer_goes s (Ok (Some (Step n))) (Some k) h = refl
-answer_goes s (Ok (Some (Back n))) want h = cond_goes (position s.timeline == 0) _ _ refl refl
-answer_goes s (Ok (Some (Print x))) want h = refl
-answer_goes s (Ok (Some Quit)) want h = absurd (true≢false h)
+answer_goes s (Ok (Some (commands.Step n))) None h = cond_goes (at_end s.timeline) _ _ refl refl
+answer_goes s (Ok (Some (commands.Step n))) (Some k) h = refl
+answer_goes s (Ok (Some (commands.Back n))) want h = if_back-goes s _ refl
+answer_goes s (Ok (Some commands.Continue)) None h = cond_goes (at_end s.timeline) _ _ refl refl
+answer_goes s (Ok (Some commands.Continue)) (Some k) h = refl
+answer_goes s (Ok (Some commands.Reverse)) want h = if_back-goes s _ refl
+answer_goes s (Ok (Some (commands.Set x v))) None h = poke_answer-goes s _
+answer_goes s (Ok (Some (commands.Set x v))) (Some k) h = refl
+answer_goes s (Ok (Some (commands.Poke w at v))) None h = poke_at-goes s w v _
+answer_goes s (Ok (Some (commands.Poke w at v))) (Some k) h = refl
+answer_goes s (Ok (Some (commands.Break func at))) want h = stop_answer-goes s _
+answer_goes s (Ok (Some (commands.WatchBytes w at))) want h = stop_answer-goes s _
+answer_goes s (Ok (Some (commands.WatchTemp func x))) want h = stop_answer-goes s _
+answer_goes s (Ok (Some (commands.Delete n))) want h = cond_goes (is_listed n s.stops.kept) _ _ refl refl
+answer_goes s (Ok (Some commands.Stops)) want h = refl
+answer_goes s (Ok (Some (commands.Print x))) want h = refl
+answer_goes s (Ok (Some commands.Temps)) want h = refl
+answer_goes s (Ok (Some (commands.Mem at n))) want h = refl
+answer_goes s (Ok (Some commands.Where)) want h = refl
+answer_goes s (Ok (Some commands.List)) want h = refl
+answer_goes s (Ok (Some commands.Out)) want h = refl
+answer_goes s (Ok (Some commands.Quit)) want h = absurd (true≢false h)
 answer_goes s (Ok None) want h = refl
 answer_goes s (Err refusal) want h = refl
 
 -- one more line
-pub Told-line : {A : Type 0} (first : Sitting A) (before : List (List ℕ)) (wants : List (Option ℕ)) (told : List ℕ) (now : Sitting A) (line : List ℕ) (want : Option ℕ) (text : List ℕ) (next : Sitting A)
+pub Told-line : {A : Type 0} (first : Situation A) (before : List (List ℕ)) (wants : List (Option ℕ)) (told : List ℕ) (now : Situation A) (line : List ℕ) (want : Option ℕ) (text : List ℕ) (next : Situation A)
     → Told first before wants told now → is_quit (command_of line) ≡ false → IsLawful now (command_of line) want
     → text ≡ (answer now (command_of line) want).text → next ≡ (answer now (command_of line) want).left
     → Told first (before ++ line ∷ []) (wants ++ want ∷ []) (told ++ text) next
@@ -65,7 +103,7 @@ Told-line first before wants told now line want text next r no_quit lawful is_te
     }
 
 -- no want is lawful
-pub none_lawful : {A : Type 0} (s : Sitting A) (said : Result (Option Command) Refused) → IsLawful s said None
+pub none_lawful : {A : Type 0} (s : Situation A) (said : Result (Option Command) Refused) → IsLawful s said None
 unfolding IsLawful
 none_lawful s said = tt
 
@@ -74,7 +112,7 @@ either true A h = h
 either false A h = ([], refl)
 
 -- where memory is never wanting, that is lawful
-pub ample : {A : Type 0} (s : Sitting A) (lines : List (List ℕ)) → (wants : List (Option ℕ)) × AreLawful s lines wants
+pub ample : {A : Type 0} (s : Situation A) (lines : List (List ℕ)) → (wants : List (Option ℕ)) × AreLawful s lines wants
 ample s [] = ([], refl)
 ample s (line ∷ lines) =
     let one = answer s (command_of line) None in
@@ -82,30 +120,43 @@ ample s (line ∷ lines) =
     (None ∷ rest.0, (none_lawful s (command_of line), rest.1))
 
 -- what was told answers the lines so far
-pub Told-answered : {A : Type 0} (first : Sitting A) (before : List (List ℕ)) (wants : List (Option ℕ)) (told : List ℕ) (now : Sitting A) → Told first before wants told now → IsAnswered first before told
+pub Told-answered : {A : Type 0} (first : Situation A) (before : List (List ℕ)) (wants : List (Option ℕ)) (told : List ℕ) (now : Situation A) → Told first before wants told now → IsAnswered first before told
 Told-answered first before wants told now r =
     (wants ++ [], rw (append-nil before) at (r.lawful [] [] refl), sym (rw (append-nil before, append-nil told) at (r.text [] [])))
 
-quit_goes : {A : Type 0} (now : Sitting A) (said : Result (Option Command) Refused) → is_quit said ≡ true → (answer now said None).goes ≡ false
-unfolding answer
-quit_goes now (Ok (Some (Step n))) h = absurd (false≢true h)
-quit_goes now (Ok (Some (Back n))) h = absurd (false≢true h)
-quit_goes now (Ok (Some (Print x))) h = absurd (false≢true h)
-quit_goes now (Ok (Some Quit)) h = refl
-quit_goes now (Ok None) h = absurd (false≢true h)
-quit_goes now (Err refusal) h = absurd (false≢true h)
+-- a line that ends the session says `quit`
+quit_is : (said : Result (Option Command) Refused) → is_quit said ≡ true → said ≡ Ok (Some commands.Quit)
+quit_is (Ok (Some (commands.Step n))) h = absurd (false≢true h)
+quit_is (Ok (Some (commands.Back n))) h = absurd (false≢true h)
+quit_is (Ok (Some commands.Continue)) h = absurd (false≢true h)
+quit_is (Ok (Some commands.Reverse)) h = absurd (false≢true h)
+quit_is (Ok (Some (commands.Set x v))) h = absurd (false≢true h)
+quit_is (Ok (Some (commands.Poke w at v))) h = absurd (false≢true h)
+quit_is (Ok (Some (commands.Break func at))) h = absurd (false≢true h)
+quit_is (Ok (Some (commands.WatchBytes w at))) h = absurd (false≢true h)
+quit_is (Ok (Some (commands.WatchTemp func x))) h = absurd (false≢true h)
+quit_is (Ok (Some (commands.Delete n))) h = absurd (false≢true h)
+quit_is (Ok (Some commands.Stops)) h = absurd (false≢true h)
+quit_is (Ok (Some (commands.Print x))) h = absurd (false≢true h)
+quit_is (Ok (Some commands.Temps)) h = absurd (false≢true h)
+quit_is (Ok (Some (commands.Mem at n))) h = absurd (false≢true h)
+quit_is (Ok (Some commands.Where)) h = absurd (false≢true h)
+quit_is (Ok (Some commands.List)) h = absurd (false≢true h)
+quit_is (Ok (Some commands.Out)) h = absurd (false≢true h)
+quit_is (Ok (Some commands.Quit)) h = refl
+quit_is (Ok None) h = absurd (false≢true h)
+quit_is (Err refusal) h = absurd (false≢true h)
 
-quit_text : {A : Type 0} (now : Sitting A) (said : Result (Option Command) Refused) → is_quit said ≡ true → (answer now said None).text ≡ []
+quit_goes : {A : Type 0} (now : Situation A) (said : Result (Option Command) Refused) → is_quit said ≡ true → (answer now said None).goes ≡ false
 unfolding answer
-quit_text now (Ok (Some (Step n))) h = absurd (false≢true h)
-quit_text now (Ok (Some (Back n))) h = absurd (false≢true h)
-quit_text now (Ok (Some (Print x))) h = absurd (false≢true h)
-quit_text now (Ok (Some Quit)) h = refl
-quit_text now (Ok None) h = absurd (false≢true h)
-quit_text now (Err refusal) h = absurd (false≢true h)
+quit_goes now said h = rw (quit_is said h) refl
+
+quit_text : {A : Type 0} (now : Situation A) (said : Result (Option Command) Refused) → is_quit said ≡ true → (answer now said None).text ≡ []
+unfolding answer
+quit_text now said h = rw (quit_is said h) refl
 
 -- and, with a `quit` after them, any lines that follow
-pub Told-quit : {A : Type 0} (first : Sitting A) (before : List (List ℕ)) (wants : List (Option ℕ)) (told : List ℕ) (now : Sitting A) (line : List ℕ) (rest : List (List ℕ)) → Told first before wants told now → is_quit (command_of line) ≡ true → IsAnswered first (before ++ line ∷ rest) told
+pub Told-quit : {A : Type 0} (first : Situation A) (before : List (List ℕ)) (wants : List (Option ℕ)) (told : List ℕ) (now : Situation A) (line : List ℕ) (rest : List (List ℕ)) → Told first before wants told now → is_quit (command_of line) ≡ true → IsAnswered first (before ++ line ∷ rest) told
 Told-quit first before wants told now line rest r quit = (
   wants ++ None ∷ [],
   r.lawful (line ∷ rest) (None ∷ []) (none_lawful now (command_of line), rw (quit_goes now (command_of line) quit) refl),
@@ -113,7 +164,7 @@ Told-quit first before wants told now line rest r quit = (
 )
 
 -- what is left of the text of a line, and of the answers to any lines that follow
-pub Told-front : {A : Type 0} (first : Sitting A) (before : List (List ℕ)) (wants : List (Option ℕ)) (told : List ℕ) (now : Sitting A) (line : List ℕ) (rest : List (List ℕ)) (want : Option ℕ) (front : List ℕ)
+pub Told-front : {A : Type 0} (first : Situation A) (before : List (List ℕ)) (wants : List (Option ℕ)) (told : List ℕ) (now : Situation A) (line : List ℕ) (rest : List (List ℕ)) (want : Option ℕ) (front : List ℕ)
     → Told first before wants told now → IsLawful now (command_of line) want → IsFrontOf front (answer now (command_of line) want).text
     → (all : List ℕ) × IsAnswered first (before ++ line ∷ rest) all × IsFrontOf (told ++ front) all
 Told-front first before wants told now line rest want front r lawful is_front =
@@ -127,17 +178,17 @@ Told-front first before wants told now line rest want front r lawful is_front =
       ),
     )
 
--- After the bytes `done`, which are whole lines, `told` was answered and the s is `now`.
-pub record Reached {A : Type 0} (first : Sitting A) (done told : List ℕ) (now : Sitting A) : Type 0 where
+-- After the bytes `done`, which are whole lines, `told` was answered and the session is `now`.
+pub record Reached {A : Type 0} (first : Situation A) (done told : List ℕ) (now : Situation A) : Type 0 where
   pub before : List (List ℕ)
   pub wants : List (Option ℕ)
   pub cut : Cut done before
   pub so_far : Told first before wants told now
 
-pub Reached-nil : {A : Type 0} (first : Sitting A) → Reached first [] [] first
+pub Reached-nil : {A : Type 0} (first : Situation A) → Reached first [] [] first
 Reached-nil first = record { before = []; wants = []; cut = Cut-nil; so_far = Told-nil first }
 
-pub Reached-line : {A : Type 0} (first : Sitting A) (done told : List ℕ) (now : Sitting A) (line : List ℕ) (want : Option ℕ) (text : List ℕ) (next : Sitting A)
+pub Reached-line : {A : Type 0} (first : Situation A) (done told : List ℕ) (now : Situation A) (line : List ℕ) (want : Option ℕ) (text : List ℕ) (next : Situation A)
     → Reached first done told now → IsLine line → is_quit (command_of line) ≡ false → IsLawful now (command_of line) want
     → text ≡ (answer now (command_of line) want).text → next ≡ (answer now (command_of line) want).left
     → Reached first (done ++ (line ++ 10 ∷ [])) (told ++ text) next
@@ -149,7 +200,7 @@ Reached-line first done told now line want text next r is_line no_quit lawful is
 }
 
 -- Where a loop over the lines stands: what it took of the script, and what it wrote.
-pub record Standing {A : Type 0} (first : Sitting A) (known rest : Option (List ℕ)) (w0 w1 : Option (List ℕ)) (now : Sitting A) (given : ℕ) : Type 0 where
+pub record Standing {A : Type 0} (first : Situation A) (known rest : Option (List ℕ)) (w0 w1 : Option (List ℕ)) (now : Situation A) (given : ℕ) : Type 0 where
   pub done : List ℕ
   pub told : List ℕ
   pub reached : Reached first done told now
@@ -158,7 +209,7 @@ pub record Standing {A : Type 0} (first : Sitting A) (known rest : Option (List 
   pub wrote : Appends w0 w1 told
 
 -- what `serve` promises
-abbrev pub Promise : {A T : Type 0} → Result T IoFault → Sitting A → Option (List ℕ) → Option (List ℕ) → Option (List ℕ) → Option (List ℕ) → Type 0
+abbrev pub Promise : {A T : Type 0} → Result T IoFault → Situation A → Option (List ℕ) → Option (List ℕ) → Option (List ℕ) → Option (List ℕ) → Type 0
 Promise r first known left w0 w1 = IfSome known (λ script. (text : List ℕ) × Appends w0 w1 text × IsServed r first script left text)
 
 consumed_all : (script done : List ℕ) (rest : Option (List ℕ)) → Consumes (Some script) rest done → IsAtEnd rest → script ≡ done
@@ -168,7 +219,7 @@ consumed_all script done (Some ys) p e = p ∙ ap (λ v. done ++ v) e ∙ append
 short_enough : (script : List ℕ) → length script ≤ 2 ^ 24 → IsTooLong script → ⊥
 short_enough script le t = omega (arith, t.0)
 
-pub Standing-start : {A : Type 0} (first : Sitting A) (known rest w : Option (List ℕ)) (given : ℕ) → rest ≡ known → given ≡ 0 → Standing first known rest w w first given
+pub Standing-start : {A : Type 0} (first : Situation A) (known rest w : Option (List ℕ)) (given : ℕ) → rest ≡ known → given ≡ 0 → Standing first known rest w w first given
 Standing-start first known rest w given e h = record {
   done = [];
   told = [];
@@ -178,7 +229,7 @@ Standing-start first known rest w given e h = record {
   wrote = Appends-nil w;
 }
 
-pub Standing-line : {A : Type 0} (first : Sitting A) (known rest rest' w0 w1 w2 : Option (List ℕ)) (now next : Sitting A) (given given' : ℕ) (line : List ℕ) (want : Option ℕ)
+pub Standing-line : {A : Type 0} (first : Situation A) (known rest rest' w0 w1 w2 : Option (List ℕ)) (now next : Situation A) (given given' : ℕ) (line : List ℕ) (want : Option ℕ)
     → Standing first known rest w0 w1 now given → IsLine line → Consumes rest rest' (line ++ 10 ∷ []) → given' ≡ given + (length line + 1)
     → is_quit (command_of line) ≡ false → IsLawful now (command_of line) want → Appends w1 w2 (answer now (command_of line) want).text
     → next ≡ (answer now (command_of line) want).left
@@ -196,7 +247,7 @@ Standing-line first known rest rest' w0 w1 w2 now next given given' line want s 
     }
 
 -- the end of the script
-pub Promise-end : {A T : Type 0} (v : T) (first : Sitting A) (known rest rest' left w0 w1 : Option (List ℕ)) (now : Sitting A) (given given' : ℕ)
+pub Promise-end : {A T : Type 0} (v : T) (first : Situation A) (known rest rest' left w0 w1 : Option (List ℕ)) (now : Situation A) (given given' : ℕ)
     → Standing first known rest w0 w1 now given → Consumes rest rest' [] → IsAtEnd rest' → given' ≡ given → given' ≤ 2 ^ 24
     → Promise (Ok v) first known left w0 w1
 Promise-end v first None rest rest' left w0 w1 now given given' s taken end same le = tt
@@ -213,7 +264,7 @@ Promise-end v first (Some script) rest rest' left w0 w1 now given given' s taken
     )
 
 -- a last line without byte 10
-pub Promise-last : {A T : Type 0} (v : T) (first : Sitting A) (known rest rest' left w0 w1 w2 : Option (List ℕ)) (now next : Sitting A) (given given' : ℕ) (line : List ℕ) (want : Option ℕ)
+pub Promise-last : {A T : Type 0} (v : T) (first : Situation A) (known rest rest' left w0 w1 w2 : Option (List ℕ)) (now next : Situation A) (given given' : ℕ) (line : List ℕ) (want : Option ℕ)
     → Standing first known rest w0 w1 now given → IsLine line → 0 < length line → Consumes rest rest' line → IsAtEnd rest' → given' ≡ given + length line → given' ≤ 2 ^ 24
     → is_quit (command_of line) ≡ false → IsLawful now (command_of line) want → Appends w1 w2 (answer now (command_of line) want).text
     → next ≡ (answer now (command_of line) want).left
@@ -235,7 +286,7 @@ Promise-last v first (Some script) rest rest' left w0 w1 w2 now next given given
     )
 
 -- a last line that quits
-pub Promise-last_quit : {A T : Type 0} (v : T) (first : Sitting A) (known rest rest' left w0 w1 : Option (List ℕ)) (now : Sitting A) (given given' : ℕ) (line : List ℕ)
+pub Promise-last_quit : {A T : Type 0} (v : T) (first : Situation A) (known rest rest' left w0 w1 : Option (List ℕ)) (now : Situation A) (given given' : ℕ) (line : List ℕ)
     → Standing first known rest w0 w1 now given → IsLine line → 0 < length line → Consumes rest rest' line → IsAtEnd rest' → given' ≡ given + length line → given' ≤ 2 ^ 24
     → is_quit (command_of line) ≡ true
     → Promise (Ok v) first known left w0 w1
@@ -257,7 +308,7 @@ prepend_none pending None e = refl
 prepend_none pending (Some xs) e = rw e refl
 
 -- a reading that failed
-pub Promise-read : {A : Type 0} (T : Type 0) (first : Sitting A) (known rest left w0 w1 : Option (List ℕ)) (pending : List ℕ) (now : Sitting A) (given : ℕ) (line : List ℕ)
+pub Promise-read : {A : Type 0} (T : Type 0) (first : Situation A) (known rest left w0 w1 : Option (List ℕ)) (pending : List ℕ) (now : Situation A) (given : ℕ) (line : List ℕ)
     → Standing first known rest w0 w1 now given → IsLine line → Consumes rest (prepend_known pending left) line → pending ≡ []
     → Promise {T = T} (Err Read) first known left w0 w1
 Promise-read T first None rest left w0 w1 pending now given line s is_line taken none = tt
@@ -291,7 +342,7 @@ take_over n xs ys le =
     ap (λ v. take v (xs ++ ys)) e ∙ take-append-add xs ys (n - length xs)
 
 -- a script that is too long
-pub Promise-too_long : {A : Type 0} (T : Type 0) (first : Sitting A) (known rest after left w0 w1 : Option (List ℕ)) (now : Sitting A) (given : ℕ) (line : List ℕ)
+pub Promise-too_long : {A : Type 0} (T : Type 0) (first : Situation A) (known rest after left w0 w1 : Option (List ℕ)) (now : Situation A) (given : ℕ) (line : List ℕ)
     → Standing first known rest w0 w1 now given → IsLine line → Consumes rest after line → HasMore after → given + length line ≡ 2 ^ 24
     → Promise {T = T} (Err TooLong) first known left w0 w1
 Promise-too_long T first None rest after left w0 w1 now given line s is_line taken more full = tt
@@ -314,7 +365,7 @@ quits_there : (before : List (List ℕ)) (line : List ℕ) (after : List (List �
 quits_there before line after e f = list_any-append _ before (line ∷ after) ∙ rw (e, f) refl
 
 -- a line that quits
-pub Promise-quit : {A T : Type 0} (v : T) (first : Sitting A) (known rest rest' left w0 w1 : Option (List ℕ)) (now : Sitting A) (given given' : ℕ) (line : List ℕ)
+pub Promise-quit : {A T : Type 0} (v : T) (first : Situation A) (known rest rest' left w0 w1 : Option (List ℕ)) (now : Situation A) (given given' : ℕ) (line : List ℕ)
     → Standing first known rest w0 w1 now given → IsLine line → Consumes rest rest' (line ++ 10 ∷ []) → given' ≡ given + (length line + 1) → given' ≤ 2 ^ 24
     → is_quit (command_of line) ≡ true
     → Promise (Ok v) first known left w0 w1
@@ -339,7 +390,7 @@ Promise-quit v first (Some script) rest rest' left w0 w1 now given given' line s
     )
 
 -- a writing that failed at a line
-pub Promise-write : {A : Type 0} (T : Type 0) (first : Sitting A) (known rest rest' left w0 w1 w2 : Option (List ℕ)) (now : Sitting A) (given : ℕ) (line : List ℕ) (want : Option ℕ)
+pub Promise-write : {A : Type 0} (T : Type 0) (first : Situation A) (known rest rest' left w0 w1 w2 : Option (List ℕ)) (now : Situation A) (given : ℕ) (line : List ℕ) (want : Option ℕ)
     → Standing first known rest w0 w1 now given → IsLine line → Consumes rest rest' (line ++ 10 ∷ []) → IsLawful now (command_of line) want
     → ((front : List ℕ) × IsFrontOf front (answer now (command_of line) want).text × Appends w1 w2 front)
     → Promise {T = T} (Err Write) first known left w0 w2
@@ -357,7 +408,7 @@ Promise-write T first (Some script) rest rest' left w0 w1 w2 now given line want
     )
 
 -- a writing that failed at a last line without byte 10
-pub Promise-write_last : {A : Type 0} (T : Type 0) (first : Sitting A) (known rest rest' left w0 w1 w2 : Option (List ℕ)) (now : Sitting A) (given : ℕ) (line : List ℕ) (want : Option ℕ)
+pub Promise-write_last : {A : Type 0} (T : Type 0) (first : Situation A) (known rest rest' left w0 w1 w2 : Option (List ℕ)) (now : Situation A) (given : ℕ) (line : List ℕ) (want : Option ℕ)
     → Standing first known rest w0 w1 now given → IsLine line → 0 < length line → Consumes rest rest' line → IsAtEnd rest' → IsLawful now (command_of line) want
     → ((front : List ℕ) × IsFrontOf front (answer now (command_of line) want).text × Appends w1 w2 front)
     → Promise {T = T} (Err Write) first known left w0 w2
@@ -373,7 +424,7 @@ Promise-write_last T first (Some script) rest rest' left w0 w1 w2 now given line
     )
 
 -- what is kept of a line says what it says
-pub line_said : {A E : Type 0} (r : Result Next E) (old new : Sitting A) (slice kept line : List ℕ) (before after : Option (List ℕ))
+pub line_said : {A E : Type 0} (r : Result Next E) (old new : Situation A) (slice kept line : List ℕ) (before after : Option (List ℕ))
     → slice ≡ kept → kept ≡ take 257 line → AnswersLine r old new (command_of slice) before after → AnswersLine r old new (command_of line) before after
 line_said r old new slice kept line before after e f h =
     subst (λ said. AnswersLine r old new said before after) (ap (λ v. command_of v) (e ∙ f) ∙ command_of-kept line) h

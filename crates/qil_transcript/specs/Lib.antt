@@ -1,11 +1,6 @@
--- What `debug` writes: moments and runs, texts, answers, loading, and whole transcripts.
-pub mod Moment
-pub mod Run
-pub mod Text
-pub mod Kept
-pub mod Session
-pub mod Serve
-pub mod Find
+-- What `debug` writes: loading, serving, and whole transcripts.
 pub mod Load
 pub mod LoadError
+pub mod Serve
 pub mod Debug
+pub mod Handed

@@ -5,9 +5,12 @@ use Rattle.qil_parser.specs.declared.error.ParseError.{ParseError}
 use Rattle.qil_parser.specs.declared.error.ParseError.TheVariants as parse
 use Rattle.qil_checker.specs.declared.checker.CheckError.{CheckError}
 use Rattle.qil_checker.specs.declared.checker.CheckError.TheVariants as check
-use Rattle.qil_plain.specs.declared.narrow.PlainError.{PlainError}
-use Rattle.qil_plain.specs.declared.narrow.PlainError.TheVariants as plain
-use Rattle.qil_transcript.specs.declared.load.Refusal.TheVariants as refusals
+use Rattle.qil_layout.specs.declared.error.LayoutError.{LayoutError}
+use Rattle.qil_layout.specs.declared.error.LayoutError.TheVariants as layout
+use Rattle.qil_machine.specs.declared.error.StartError.{StartError}
+use Rattle.qil_machine.specs.declared.error.StartError.TheVariants as start
+use Rattle.qil_meaning.specs.declared.start.StartFault.TheVariants as faults
+use Rattle.qil_transcript.specs.declared.refusal.Refusal.TheVariants as refusals
 use Rattle.qil_transcript.specs.declared.load.LoadError.{LoadError}
 use Rattle.qil_transcript.specs.declared.load.LoadError.TheVariants.{Refused, OutOfMemory}
 
@@ -23,6 +26,11 @@ abbrev pub of_check : CheckError → LoadError
 of_check (check.Refused rule line) = Refused (refusals.Rule rule line)
 of_check check.OutOfMemory = OutOfMemory
 
-abbrev pub of_plain : PlainError → LoadError
-of_plain (plain.NotRun line) = Refused (refusals.NotRun line)
-of_plain plain.OutOfMemory = OutOfMemory
+abbrev pub of_layout : LayoutError → LoadError
+of_layout (layout.Refused code line) = Refused (refusals.Layout code line)
+of_layout layout.OutOfMemory = OutOfMemory
+
+abbrev pub of_start : StartError → LoadError
+of_start start.NoEntry = Refused (refusals.Start faults.NoEntry)
+of_start start.ArgumentCount = Refused (refusals.Start faults.ArgumentCount)
+of_start start.OutOfMemory = OutOfMemory

@@ -1,13 +1,10 @@
 -- What `serve` has written when it returns.
-use Rattle.std.specs.Prelude.{◌≡◌, ℕ, ◌+◌, ◌<◌, ◌^◌, List, length, take, true, false, Option, Some, Result, Ok, Err}
+use Rattle.std.specs.Prelude.{◌≡◌, ℕ, ◌+◌, ◌<◌, ◌^◌, List, length, take, false, Option, Some, Result, Ok, Err}
 use Rattle.std.specs.Io.KnownBytes.{Consumes}
-use Rattle.qil_commands.specs.declared.command.Command.{Command}
-use Rattle.qil_commands.specs.declared.command.Refused.{Refused}
 use Rattle.qil_streams.specs.Device.{IsFrontOf}
 use Rattle.qil_streams.specs.Script.{lines_of, whole_lines_of}
-use Rattle.qil_transcript.specs.Session.{Sitting, IsAnswered, Answers, quits, is_quit}
-use Rattle.qil_transcript.specs.declared.session.Next.{Next}
-use Rattle.qil_transcript.specs.declared.session.Next.TheVariants.{Go, Quit}
+use Rattle.qil_session.specs.Situation.{Situation}
+use Rattle.qil_session.specs.Answers.{IsAnswered, quits}
 use Rattle.qil_transcript.specs.declared.serving.IoFault.{IoFault}
 use Rattle.qil_transcript.specs.declared.serving.IoFault.TheVariants.{Read, Write, TooLong}
 
@@ -16,7 +13,7 @@ abbrev pub IsTooLong : List ℕ → Type 0
 IsTooLong script = (2 ^ 24 < length script) × (quits (whole_lines_of (take (2 ^ 24) script)) ≡ false)
 
 -- What was written of the answers to a script, by what `serve` returns. `left` is what the source has left.
-abbrev pub IsServed : {A T : Type 0} → Result T IoFault → Sitting A → List ℕ → Option (List ℕ) → List ℕ → Type 0
+abbrev pub IsServed : {A T : Type 0} → Result T IoFault → Situation A → List ℕ → Option (List ℕ) → List ℕ → Type 0
 -- all answers
 IsServed (Ok x) s script left text = IsAnswered s (lines_of script) text × ¬ IsTooLong script
 -- a front of them
@@ -26,12 +23,6 @@ IsServed (Err Read) s script left text =
     (read : List ℕ) × Consumes (Some script) left read × IsAnswered s (whole_lines_of read) text × (quits (whole_lines_of read) ≡ false)
 -- those to the lines that end among the first 2^24 bytes
 IsServed (Err TooLong) s script left text = IsAnswered s (whole_lines_of (take (2 ^ 24) script)) text × IsTooLong script
-
--- One line was answered, or it was a `quit`.
-abbrev pub AnswersLine : {A E : Type 0} → Result Next E → Sitting A → Sitting A → Result (Option Command) Refused → Option (List ℕ) → Option (List ℕ) → Type 0
-AnswersLine {A} {E} (Ok Quit) old new said before after = (is_quit said ≡ true) × (after ≡ before)
-AnswersLine {A} {E} (Ok Go) old new said before after = (is_quit said ≡ false) × Answers {T = Next} {E = E} old new said (Ok Go) before after
-AnswersLine {A} {E} (Err e) old new said before after = (is_quit said ≡ false) × Answers {T = Next} {E = E} old new said (Err e) before after
 
 -- which device's faults rose, and by how much
 abbrev pub CountsServe : {T : Type 0} → Result T IoFault → ℕ → ℕ → ℕ → ℕ → Type 0

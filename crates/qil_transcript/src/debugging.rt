@@ -1,76 +1,110 @@
 //! `debug`: from the bytes of a program and a script to the bytes of the transcript.
 
-ghost use Rattle.std.specs.Prelude.{◌≡◌, ◌≢◌, ℕ, ◌-◌, ◌^◌, ◌<◌, ◌≤◌, ◌↔◌, List, Ok, Err, IfSome};
-ghost use Rattle.qil_plain_meaning.specs.State.{State};
-ghost use Rattle.qil_plain_meaning.specs.Start.{start_of};
-ghost use Rattle.qil_plain_meaning.specs.declared.start.StartFault.{StartFault};
-ghost use Rattle.qil_plain_meaning.specs.Timeline.{begun};
+ghost use Rattle.std.specs.Prelude.{◌≡◌, ◌≢◌, ℕ, ◌-◌, ◌^◌, ◌<◌, ◌≤◌, ◌↔◌, List, Some, None, Ok, Err, IfSome};
+ghost use Rattle.qil_checker.specs.Check.{Verdict};
+ghost use Rattle.qil_layout.specs.Layout.{fault_of};
+ghost use Rattle.qil_layout.specs.declared.error.LayoutCode.{LayoutCode};
+ghost use Rattle.qil_meaning.specs.State.{State};
+ghost use Rattle.qil_meaning.specs.Start.{start_of};
+ghost use Rattle.qil_meaning.specs.Timeline.{begun, position};
+ghost use Rattle.qil_meaning.specs.declared.start.StartFault.{StartFault};
+ghost use Rattle.qil_state.specs.State.{state_of};
 ghost use Rattle.qil_streams.specs.Device.{Counts, Puts};
-ghost use Rattle.qil_transcript.specs.Load.{Accepts, Refuses, IsSimple};
+ghost use Rattle.qil_session.specs.Kept.{situation};
+ghost use Rattle.qil_transcript.specs.Load.{Accepts, Checks, Refuses};
 ghost use Rattle.qil_transcript.specs.Serve.{TakesFew};
-ghost use Rattle.qil_transcript.specs.Session.{sitting};
-ghost use Rattle.qil_transcript.specs.Debug.{Begins, CountsDebug, IsNoSession, IsRefused, IsUntouched, Written, load_lines, refused_line};
-ghost use Rattle.qil_transcript.specs.declared.load.Loaded.{Loaded};
-ghost use Rattle.qil_transcript.specs.declared.load.Refusal.{Refusal};
+ghost use Rattle.qil_transcript.specs.Debug.{Begins, CountsDebug, IsNoSession, IsUntouched, Setup, Written, load_lines, opened};
+ghost use Rattle.qil_transcript.specs.Handed.{IsLoaded, IsRefused, setup_of};
+ghost use Rattle.qil_transcript.specs.declared.refusal.Refusal.{Refusal};
 
-use crate::load::{LoadError, Loaded, Refusal, load, start};
+use crate::load::{LoadError, check_text};
 use crate::outcome::Outcome;
-use crate::refusal::{put_loaded_line, put_refusal_line};
+use crate::refusal::{Refusal, put_loaded_line, put_refusal_line};
 use crate::serving::{IoFault, serve_lines};
-use crate::session::Session;
-use qil_checker::Form;
+use qil_checker::{Checked, Form};
+use qil_history::{Deltas, History, Ring};
+use qil_layout::layout;
+use qil_machine::Machine;
+use qil_numbering::{Code, number};
+use qil_session::Session;
 use qil_streams::{Outlet, Put, Sink, Source, Stopped};
 use std::alloc::Allocator;
 use std::hash::RandomState;
 
-/// Puts the line of a refusal, which ends the run of `debug`.
-fn refuse<P: Put>(out: &mut P, refusal: Refusal) -> Outcome
+/// What is run of a text, and how far.
+#[derive(Clone, Copy)]
+pub struct Request<'r> {
+    /// The name of the function that is run, without its sigil.
+    pub func: &'r [u8],
+    pub args: &'r [u64],
+    /// The most moves that one `continue` or `reverse` makes.
+    pub limit: u64,
+    /// The most moves that can be taken back, if there is a bound.
+    pub bound: Option<u64>,
+}
+
+/// What the load lines tell of a program.
+#[derive(Clone, Copy)]
+pub struct Loaded<'l> {
+    pub funcs: usize,
+    /// In bytes, from the first data object to the end of the last.
+    pub bytes: usize,
+    pub form: &'l Form<'l>,
+}
+
+/// Puts the line of a refusal, which ends the run of `debug`. Where memory was wanting nothing is put.
+fn refuse<P: Put>(out: &mut P, error: LoadError) -> Outcome
     requires { P.stops out.old < 2 ^ 64 - 1 }
-    ensures refused { IsRefused result (P.written out.old) (P.written out.new) (refused_line refusal) }
+    ensures refused { IsRefused result error (P.written out.old) (P.written out.new) }
     ensures counted { CountsDebug result 0 0 (P.stops out.old) (P.stops out.new) }
     ensures device { P.device out.new ≡ P.device out.old }
 {
-    match put_refusal_line(out, refusal) {
-        Ok(()) => Outcome::Refused,
-        Err(Stopped) => Outcome::WriteFault,
+    match error {
+        LoadError::Refused(refusal) => match put_refusal_line(out, refusal) {
+            Ok(()) => Outcome::Refused,
+            Err(Stopped) => Outcome::WriteFault,
+        },
+        LoadError::OutOfMemory => Outcome::Memory,
     }
 }
 
 /// Puts the load lines of a session.
-fn put_loaded<P: Put, A: Allocator + Copy>(
+fn put_loaded<'c, A: Allocator + Copy + 'c, H: History<A, Machine<'c, 'c, A>>, P: Put>(
+    session: &Session<A, H>,
+    loaded: &Loaded<'_>,
     out: &mut P,
-    session: &Session<'_, '_, A>,
-    form: &Form<'_>,
 ) -> Result<(), Stopped>
     requires { P.stops out.old < 2 ^ 64 - 1 }
-    ensures text { (start : State) → (sitting session.now).timeline ≡ begun start → Puts result (P.written out.old) (P.written out.new)
-        (load_lines session.now.program form.now start) }
+    ensures text { (verdict : Verdict A) → IsLoaded loaded.now verdict → Puts result (P.written out.old) (P.written out.new)
+        (load_lines verdict.program verdict.form (H.timeline session.now.history)) }
     ensures counted { Counts result (P.stops out.old) (P.stops out.new) }
     ensures device { P.device out.new ≡ P.device out.old }
 {
-    put_loaded_line(out, session.func_count(), form)?;
+    put_loaded_line(out, loaded.funcs, loaded.bytes, loaded.form)?;
     session.put_now(out)
 }
 
-/// Serves a script on a session, after its load lines.
-fn run<A: Allocator + Copy, S: Source, P: Put>(
-    mut session: Session<'_, '_, A>,
-    form: &Form<'_>,
+/// Puts the load lines of a session, and serves a script on it.
+fn run<'c, A: Allocator + Copy + 'c, H: History<A, Machine<'c, 'c, A>> + Drop, S: Source, P: Put>(
+    mut session: Session<A, H>,
+    loaded: &Loaded<'_>,
     source: &mut S,
     out: &mut P,
 ) -> Outcome
     requires reads { S.failures source.old < 2 ^ 64 - 1 }
     requires writes { P.stops out.old < 2 ^ 64 - 1 }
-    ensures written { (text entry args : List ℕ) (loaded : Loaded A) (start : State) → Begins text entry args loaded start
-        → form.now ≡ loaded.form → session.entry.program ≡ loaded.program → (sitting session.entry).timeline ≡ begun start
-        → Written A result text entry args (S.remaining source.old) (S.remaining source.new) (P.written out.old) (P.written out.new) }
+    requires before { position (H.timeline session.history) < 2 ^ 60 }
+    requires limit { session.limit ≤ 4294967295 }
+    ensures written { (s : Setup) (verdict : Verdict A) (start : State) → Begins s verdict start → IsLoaded loaded.now verdict
+        → situation H.program H.timeline session ≡ opened s verdict.program start
+        → Written A result s (S.remaining source.old) (S.remaining source.new) (P.written out.old) (P.written out.new) }
     ensures served { result ≢ Outcome.Refused }
     ensures untouched { IsUntouched result source.old source.new }
     ensures few { IfSome (S.remaining source.old) (λ script. TakesFew script (S.remaining source.new)) }
     ensures counted { CountsDebug result (S.failures source.old) (S.failures source.new) (P.stops out.old) (P.stops out.new) }
     ensures device { P.device out.new ≡ P.device out.old }
 {
-    match put_loaded(out, &session, form) {
+    match put_loaded(&session, loaded, out) {
         Ok(()) => {}
         Err(Stopped) => return Outcome::WriteFault,
     }
@@ -82,31 +116,133 @@ fn run<A: Allocator + Copy, S: Source, P: Put>(
     }
 }
 
-/// Starts a loaded program and serves a script on it.
-fn debug_loaded<A: Allocator + Copy, S: Source, P: Put>(
-    alloc: A,
-    loaded: &Loaded<'_, A>,
-    entry: &[u8],
-    args: &[u64],
-    source: &mut S,
-    out: &mut P,
-) -> Outcome
+/// Debugs over a history that has made no move.
+fn debug_history<
+    'c,
+    A: Allocator + Copy + 'c,
+    H: History<A, Machine<'c, 'c, A>> + Drop,
+    S: Source,
+    P: Put,
+>(alloc: A, history: H, loaded: &Loaded<'_>, limit: u64, source: &mut S, out: &mut P) -> Outcome
     requires reads { S.failures source.old < 2 ^ 64 - 1 }
     requires writes { P.stops out.old < 2 ^ 64 - 1 }
-    requires simple { IsSimple loaded.now.program }
-    ensures written { (text : List ℕ) → Accepts text loaded.now
-        → Written A result text entry.now args.now (S.remaining source.old) (S.remaining source.new) (P.written out.old) (P.written out.new) }
-    ensures only_started { (start : State) → start_of loaded.now.program entry.now args.now ≡ Ok start → result ≢ Outcome.Refused }
-    ensures only_refused { (fault : StartFault) → start_of loaded.now.program entry.now args.now ≡ Err fault → IsNoSession result }
+    requires before { position (H.timeline history) < 2 ^ 60 }
+    requires limit { limit ≤ 4294967295 }
+    ensures written { (s : Setup) (verdict : Verdict A) (start : State) → Begins s verdict start → IsLoaded loaded.now verdict → s.limit ≡ limit
+        → H.program history ≡ verdict.program → H.timeline history ≡ begun s.keeps start
+        → Written A result s (S.remaining source.old) (S.remaining source.new) (P.written out.old) (P.written out.new) }
+    ensures served { result ≢ Outcome.Refused }
     ensures untouched { IsUntouched result source.old source.new }
     ensures few { IfSome (S.remaining source.old) (λ script. TakesFew script (S.remaining source.new)) }
     ensures counted { CountsDebug result (S.failures source.old) (S.failures source.new) (P.stops out.old) (P.stops out.new) }
     ensures device { P.device out.new ≡ P.device out.old }
 {
-    match start(alloc, &loaded.program, entry, args) {
-        Ok(session) => run(session, &loaded.form, source, out),
-        Err(fault) => refuse(out, Refusal::Start(fault)),
+    match Session::new(alloc, history, limit) {
+        Ok(session) => run(session, loaded, source, out),
+        Err(_) => Outcome::Memory,
     }
+}
+
+/// Debugs from a machine at its start: over all its deltas, or over the newest where there is a bound.
+fn debug_machine<'c, A: Allocator + Copy + 'c, S: Source, P: Put>(
+    alloc: A,
+    machine: Machine<'c, 'c, A>,
+    loaded: &Loaded<'_>,
+    request: &Request<'_>,
+    source: &mut S,
+    out: &mut P,
+) -> Outcome
+    requires reads { S.failures source.old < 2 ^ 64 - 1 }
+    requires writes { P.stops out.old < 2 ^ 64 - 1 }
+    requires limit { request.now.limit ≤ 4294967295 }
+    requires bound { IfSome request.now.bound (λ n. (1 ≤ n) × (n ≤ 1000000)) }
+    ensures written { (text : List ℕ) (verdict : Verdict A) → Begins (setup_of text request.now) verdict (state_of machine.entry)
+        → IsLoaded loaded.now verdict → machine.entry.program ≡ verdict.program
+        → Written A result (setup_of text request.now) (S.remaining source.old) (S.remaining source.new) (P.written out.old) (P.written out.new) }
+    ensures served { result ≢ Outcome.Refused }
+    ensures untouched { IsUntouched result source.old source.new }
+    ensures few { IfSome (S.remaining source.old) (λ script. TakesFew script (S.remaining source.new)) }
+    ensures counted { CountsDebug result (S.failures source.old) (S.failures source.new) (P.stops out.old) (P.stops out.new) }
+    ensures device { P.device out.new ≡ P.device out.old }
+{
+    match request.bound {
+        None => {
+            let history = Deltas::new(alloc, machine);
+            debug_history(alloc, history, loaded, request.limit, source, out)
+        }
+        Some(bound) => match Ring::new(alloc, machine, bound) {
+            Ok(history) => debug_history(alloc, history, loaded, request.limit, source, out),
+            Err(_) => Outcome::Memory,
+        },
+    }
+}
+
+/// Debugs a program that is numbered.
+fn debug_code<'c, A: Allocator + Copy + 'c, S: Source, P: Put>(
+    alloc: A,
+    code: &'c Code<'c, 'c, A>,
+    loaded: &Loaded<'_>,
+    request: &Request<'_>,
+    source: &mut S,
+    out: &mut P,
+) -> Outcome
+    requires reads { S.failures source.old < 2 ^ 64 - 1 }
+    requires writes { P.stops out.old < 2 ^ 64 - 1 }
+    requires limit { request.now.limit ≤ 4294967295 }
+    requires bound { IfSome request.now.bound (λ n. (1 ≤ n) × (n ≤ 1000000)) }
+    ensures written { (text : List ℕ) (verdict : Verdict A) → Accepts text verdict → IsLoaded loaded.now verdict → code.entry.now ≡ verdict.program
+        → Written A result (setup_of text request.now) (S.remaining source.old) (S.remaining source.new) (P.written out.old) (P.written out.new) }
+    ensures only_started { (start : State) → start_of code.entry.now request.now.func.now request.now.args.now ≡ Ok start → result ≢ Outcome.Refused }
+    ensures only_refused { (fault : StartFault) → start_of code.entry.now request.now.func.now request.now.args.now ≡ Err fault → IsNoSession result }
+    ensures untouched { IsUntouched result source.old source.new }
+    ensures few { IfSome (S.remaining source.old) (λ script. TakesFew script (S.remaining source.new)) }
+    ensures counted { CountsDebug result (S.failures source.old) (S.failures source.new) (P.stops out.old) (P.stops out.new) }
+    ensures device { P.device out.new ≡ P.device out.old }
+{
+    match Machine::start(alloc, code, request.func, request.args) {
+        Ok(machine) => debug_machine(alloc, machine, loaded, request, source, out),
+        Err(error) => refuse(out, LoadError::from(error)),
+    }
+}
+
+/// Debugs a program that is checked.
+fn debug_checked<'a, A: Allocator + Copy, S: Source, P: Put>(
+    alloc: A,
+    keys: RandomState,
+    checked: &Checked<'a, A>,
+    request: &Request<'_>,
+    source: &mut S,
+    out: &mut P,
+) -> Outcome
+    requires reads { S.failures source.old < 2 ^ 64 - 1 }
+    requires writes { P.stops out.old < 2 ^ 64 - 1 }
+    requires limit { request.now.limit ≤ 4294967295 }
+    requires bound { IfSome request.now.bound (λ n. (1 ≤ n) × (n ≤ 1000000)) }
+    ensures written { (text : List ℕ) → Checks text checked.now
+        → Written A result (setup_of text request.now) (S.remaining source.old) (S.remaining source.new) (P.written out.old) (P.written out.new) }
+    ensures only_started { (start : State) → fault_of checked.now.program ≡ None
+        → start_of checked.now.program request.now.func.now request.now.args.now ≡ Ok start → result ≢ Outcome.Refused }
+    ensures only_refused { (fault : StartFault) → start_of checked.now.program request.now.func.now request.now.args.now ≡ Err fault → IsNoSession result }
+    ensures only_laid_out { (code : LayoutCode) (line : ℕ) → fault_of checked.now.program ≡ Some (code, line) → IsNoSession result }
+    ensures untouched { IsUntouched result source.old source.new }
+    ensures few { IfSome (S.remaining source.old) (λ script. TakesFew script (S.remaining source.new)) }
+    ensures counted { CountsDebug result (S.failures source.old) (S.failures source.new) (P.stops out.old) (P.stops out.new) }
+    ensures device { P.device out.new ≡ P.device out.old }
+{
+    let image = match layout(alloc, keys, checked) {
+        Ok(image) => image,
+        Err(error) => return refuse(out, LoadError::from(error)),
+    };
+    let code = match number(alloc, keys, checked, &image) {
+        Ok(code) => code,
+        Err(_) => return Outcome::Memory,
+    };
+    let loaded = Loaded {
+        funcs: checked.program().funcs.as_slice().len(),
+        bytes: image.bytes().len(),
+        form: checked.form(),
+    };
+    debug_code(alloc, &code, &loaded, request, source, out)
 }
 
 /// Loads a program and answers a script.
@@ -114,38 +250,39 @@ fn debug_into<A: Allocator + Copy, S: Source, P: Put>(
     alloc: A,
     keys: RandomState,
     text: &[u8],
-    entry: &[u8],
-    args: &[u64],
+    request: &Request<'_>,
     source: &mut S,
     out: &mut P,
 ) -> Outcome
     requires reads { S.failures source.old < 2 ^ 64 - 1 }
     requires writes { P.stops out.old < 2 ^ 64 - 1 }
-    ensures written { Written A result text.now entry.now args.now (S.remaining source.old) (S.remaining source.new) (P.written out.old) (P.written out.new) }
-    ensures only_begun { (loaded : Loaded A) (start : State) → Begins text.now entry.now args.now loaded start → result ≢ Outcome.Refused }
-    ensures only_refused { (refusal : Refusal) → Refuses A text.now entry.now args.now refusal → IsNoSession result }
+    requires limit { request.now.limit ≤ 4294967295 }
+    requires bound { IfSome request.now.bound (λ n. (1 ≤ n) × (n ≤ 1000000)) }
+    ensures written { Written A result (setup_of text.now request.now) (S.remaining source.old) (S.remaining source.new) (P.written out.old) (P.written out.new) }
+    ensures only_begun { (verdict : Verdict A) (start : State) → Begins (setup_of text.now request.now) verdict start → result ≢ Outcome.Refused }
+    ensures only_refused { (refusal : Refusal) → Refuses A text.now request.now.func.now request.now.args.now refusal → IsNoSession result }
     ensures untouched { IsUntouched result source.old source.new }
     ensures few { IfSome (S.remaining source.old) (λ script. TakesFew script (S.remaining source.new)) }
     ensures counted { CountsDebug result (S.failures source.old) (S.failures source.new) (P.stops out.old) (P.stops out.new) }
     ensures device { P.device out.new ≡ P.device out.old }
 {
-    match load(alloc, keys, text) {
-        Ok(loaded) => debug_loaded(alloc, &loaded, entry, args, source, out),
-        Err(LoadError::Refused(refusal)) => refuse(out, refusal),
-        Err(LoadError::OutOfMemory) => Outcome::Memory,
+    match check_text(alloc, keys, text) {
+        Ok(checked) => debug_checked(alloc, keys, &checked, request, source, out),
+        Err(error) => refuse(out, error),
     }
 }
 
 /// Debugs a program by a script: from the bytes of both to the bytes of the transcript.
 ///
 /// `keys` are those of the tables by name: a text's author must not know them, so that no names are picked that fall
-/// together. They change nothing that is written. `text` is a program in QBE IL, `entry` the name of the function that is run, without its sigil, and `args` are its
-/// arguments. `limit` is the most moves that one command may make where it has no count of its own, 4,294,967,295 at
-/// the most. The script is read from `source` line by line, and each answer is written to `sink` before the next
-/// line is looked at.
+/// together. They change nothing that is written. `text` is a program in QBE IL, `entry` the name of the function that is
+/// run, without its sigil, and `args` are its arguments. `limit` is the most moves that one `continue` or `reverse` makes,
+/// 4,294,967,295 at the most. Where `history` is a number, only so many of the latest moves can be taken back, 1 to
+/// 1,000,000. The script is read from `source` line by line, and each answer is written to `sink` before the next line is
+/// looked at.
 ///
-/// Loading takes memory: where it is wanting the answer is `Memory`, and neither device was touched. Where a `step`
-/// is refused memory, that is an answer of the transcript, and the session goes on.
+/// Loading takes memory: where it is wanting the answer is `Memory`, and neither device was touched. Where a command is
+/// refused memory, that is an answer of the transcript, and the session goes on.
 pub fn debug<A: Allocator + Copy, S: Source, W: Sink>(
     alloc: A,
     keys: RandomState,
@@ -153,20 +290,22 @@ pub fn debug<A: Allocator + Copy, S: Source, W: Sink>(
     entry: &[u8],
     args: &[u64],
     limit: u64,
+    history: Option<u64>,
     source: &mut S,
     sink: &mut W,
 ) -> Outcome
     requires reads { S.failures source.old < 2 ^ 64 - 1 }
     requires writes { W.failures sink.old < 2 ^ 64 - 1 }
     requires limit { limit ≤ 4294967295 }
+    requires history { IfSome history (λ n. (1 ≤ n) × (n ≤ 1000000)) }
 
     // Where the source tells its bytes, what was written is the transcript, up to what stopped it.
-    ensures written { Written A result text.now entry.now args.now (S.remaining source.old) (S.remaining source.new)
-        (W.contents sink.old) (W.contents sink.new) }
+    ensures written { Written A result (record { text = text.now; entry = entry.now; args = args.now; limit = limit; keeps = history })
+        (S.remaining source.old) (S.remaining source.new) (W.contents sink.old) (W.contents sink.new) }
 
     // An accepted text is not refused, and a refused one has no session.
-    ensures only_begun { (loaded : Loaded A) (start : State) → Begins text.now entry.now args.now loaded start
-        → result ≢ Outcome.Refused }
+    ensures only_begun { (verdict : Verdict A) (start : State)
+        → Begins (record { text = text.now; entry = entry.now; args = args.now; limit = limit; keeps = history }) verdict start → result ≢ Outcome.Refused }
     ensures only_refused { (refusal : Refusal) → Refuses A text.now entry.now args.now refusal → IsNoSession result }
 
     // Without a session the source is as it was; else at most 2^24 + 1 bytes are taken of it.
@@ -178,8 +317,14 @@ pub fn debug<A: Allocator + Copy, S: Source, W: Sink>(
     ensures write_fault { (result ≡ Outcome.WriteFault) ↔ (W.failures sink.old < W.failures sink.new) }
     ensures counted { CountsDebug result (S.failures source.old) (S.failures source.new) (W.failures sink.old) (W.failures sink.new) }
 {
+    let request = Request {
+        func: entry,
+        args,
+        limit,
+        bound: history,
+    };
     let mut out = Outlet { sink };
-    let outcome = debug_into(alloc, keys, text, entry, args, source, &mut out);
+    let outcome = debug_into(alloc, keys, text, &request, source, &mut out);
     let Outlet { sink: _ } = out;
     outcome
 }

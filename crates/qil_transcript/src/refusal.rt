@@ -1,14 +1,31 @@
-//! The load lines, and the line of a refusal.
+//! Why a program is refused, and the lines that loading writes.
 
 ghost use Rattle.std.specs.Prelude.{◌≡◌, ◌-◌, ◌^◌, ◌<◌};
 ghost use Rattle.qil_streams.specs.Device.{Counts, Puts};
 ghost use Rattle.qil_transcript.specs.Debug.{refused_at, refused_line, loaded_line};
 
-use crate::load::Refusal;
-use crate::text::put_pieces;
-use itoa::Buffer;
-use qil_checker::Form;
+use qil_answers::{Piece, put_pieces};
+use qil_checker::{Form, Rule};
+use qil_layout::LayoutCode;
+use qil_lexer::LexCode;
+use qil_meaning::StartFault;
+use qil_parser::ParseCode;
 use qil_streams::{Put, Stopped};
+
+/// Why a program is refused, in the order in which the reasons are looked for.
+#[derive(Clone, Copy, Debug, PartialEq, Eq)]
+pub enum Refusal {
+    /// The text has no tokens.
+    Text { code: LexCode, line: u32 },
+    /// The tokens are no program's.
+    Tokens { code: ParseCode, line: u32 },
+    /// The program breaks a rule.
+    Rule { rule: Rule, line: u32 },
+    /// The data can't be laid out.
+    Layout { code: LayoutCode, line: u32 },
+    /// The run does not start.
+    Start(StartFault),
+}
 
 fn put_refused_at<P: Put>(out: &mut P, code: &[u8], line: u32) -> Result<(), Stopped>
     requires { P.stops out.old < 2 ^ 64 - 1 }
@@ -16,15 +33,14 @@ fn put_refused_at<P: Put>(out: &mut P, code: &[u8], line: u32) -> Result<(), Sto
     ensures counted { Counts result (P.stops out.old) (P.stops out.new) }
     ensures device { P.device out.new ≡ P.device out.old }
 {
-    let mut digits = Buffer::new();
     put_pieces(
         out,
         &[
-            b"refused: ".as_slice(),
-            code,
-            b" line ".as_slice(),
-            digits.format(line).as_bytes(),
-            b"\n".as_slice(),
+            Piece::Bytes(b"refused: "),
+            Piece::Bytes(code),
+            Piece::Bytes(b" line "),
+            Piece::Number(u64::from(line)),
+            Piece::Bytes(b"\n"),
         ],
     )
 }
@@ -40,46 +56,53 @@ pub fn put_refusal_line<P: Put>(out: &mut P, refusal: Refusal) -> Result<(), Sto
         Refusal::Text { code, line } => put_refused_at(out, code.as_str().as_bytes(), line),
         Refusal::Tokens { code, line } => put_refused_at(out, code.as_str().as_bytes(), line),
         Refusal::Rule { rule, line } => put_refused_at(out, rule.as_str().as_bytes(), line),
-        Refusal::NotRun { line } => put_refused_at(out, b"P2", line),
+        Refusal::Layout { code, line } => put_refused_at(out, code.as_str().as_bytes(), line),
         Refusal::Start(fault) => put_pieces(
             out,
             &[
-                b"refused: ".as_slice(),
-                fault.as_str().as_bytes(),
-                b"\n".as_slice(),
+                Piece::Bytes(b"refused: "),
+                Piece::Bytes(fault.as_str().as_bytes()),
+                Piece::Bytes(b"\n"),
             ],
         ),
     }
 }
 
-/// Puts the line that counts what was loaded.
-pub fn put_loaded_line<P: Put>(out: &mut P, funcs: usize, form: &Form<'_>) -> Result<(), Stopped>
+/// Puts the line that counts what was loaded: functions, and bytes of data.
+pub fn put_loaded_line<P: Put>(
+    out: &mut P,
+    funcs: usize,
+    bytes: usize,
+    form: &Form<'_>,
+) -> Result<(), Stopped>
     requires { P.stops out.old < 2 ^ 64 - 1 }
-    ensures text { Puts result (P.written out.old) (P.written out.new) (loaded_line funcs form.now) }
+    ensures text { Puts result (P.written out.old) (P.written out.new) (loaded_line funcs bytes form.now) }
     ensures counted { Counts result (P.stops out.old) (P.stops out.new) }
     ensures device { P.device out.new ≡ P.device out.old }
 {
-    let mut digits = Buffer::new();
-    let count = digits.format(funcs as u64).as_bytes();
     match form {
         Form::Single => put_pieces(
             out,
             &[
-                b"loaded ".as_slice(),
-                count,
-                b" functions 0 data bytes ssa yes\n".as_slice(),
+                Piece::Bytes(b"loaded "),
+                Piece::Number(funcs as u64),
+                Piece::Bytes(b" functions "),
+                Piece::Number(bytes as u64),
+                Piece::Bytes(b" data bytes ssa yes\n"),
             ],
         ),
         Form::Multiple { func, temp } => put_pieces(
             out,
             &[
-                b"loaded ".as_slice(),
-                count,
-                b" functions 0 data bytes ssa no $".as_slice(),
-                func.bytes(),
-                b" %".as_slice(),
-                temp.bytes(),
-                b"\n".as_slice(),
+                Piece::Bytes(b"loaded "),
+                Piece::Number(funcs as u64),
+                Piece::Bytes(b" functions "),
+                Piece::Number(bytes as u64),
+                Piece::Bytes(b" data bytes ssa no $"),
+                Piece::Bytes(func.bytes()),
+                Piece::Bytes(b" %"),
+                Piece::Bytes(temp.bytes()),
+                Piece::Bytes(b"\n"),
             ],
         ),
     }

@@ -1,12 +1,15 @@
 //! A script is served: its lines are read and answered one after the other.
 
-ghost use Rattle.std.specs.Prelude.{◌≡◌, ℕ, ◌-◌, ◌^◌, ◌<◌, List, IfSome};
+ghost use Rattle.std.specs.Prelude.{◌≡◌, ℕ, ◌-◌, ◌^◌, ◌<◌, ◌≤◌, ◌↔◌, List, Err, IfSome};
 ghost use Rattle.std.specs.Io.KnownBytes.{Appends};
-ghost use Rattle.qil_transcript.specs.Session.{sitting};
+ghost use Rattle.qil_meaning.specs.Timeline.{position};
+ghost use Rattle.qil_session.specs.Kept.{situation};
 ghost use Rattle.qil_transcript.specs.Serve.{IsServed, CountsServe, TakesFew};
 
-use crate::session::{Next, Session, answer_line};
-use qil_streams::{LineEnd, LineReader, Put, Source};
+use qil_history::History;
+use qil_machine::Machine;
+use qil_session::{Next, Session, answer_line};
+use qil_streams::{LineEnd, LineReader, Outlet, Put, Sink, Source};
 use std::alloc::Allocator;
 
 /// Why a script was not answered to its end.
@@ -21,16 +24,20 @@ pub enum IoFault {
 }
 
 /// Answers the lines of a script in order, up to a `quit`. No read is made after the end or after a `quit`.
-pub fn serve_lines<A: Allocator + Copy, S: Source, P: Put>(
-    session: &mut Session<'_, '_, A>,
-    source: &mut S,
-    out: &mut P,
-) -> Result<(), IoFault>
+pub fn serve_lines<
+    'c,
+    A: Allocator + Copy + 'c,
+    H: History<A, Machine<'c, 'c, A>>,
+    S: Source,
+    P: Put,
+>(session: &mut Session<A, H>, source: &mut S, out: &mut P) -> Result<(), IoFault>
     requires reads { S.failures source.old < 2 ^ 64 - 1 }
     requires writes { P.stops out.old < 2 ^ 64 - 1 }
+    requires before { position (H.timeline session.old.history) < 2 ^ 60 }
+    requires limit { session.old.limit ≤ 4294967295 }
     ensures served { IfSome (S.remaining source.old) (λ script. (text : List ℕ)
         × Appends (P.written out.old) (P.written out.new) text
-        × IsServed result (sitting session.old) script (S.remaining source.new) text) }
+        × IsServed result (situation H.program H.timeline session.old) script (S.remaining source.new) text) }
     ensures few { IfSome (S.remaining source.old) (λ script. TakesFew script (S.remaining source.new)) }
     ensures counted { CountsServe result (S.failures source.old) (S.failures source.new) (P.stops out.old) (P.stops out.new) }
     ensures device { P.device out.new ≡ P.device out.old }
@@ -55,4 +62,34 @@ pub fn serve_lines<A: Allocator + Copy, S: Source, P: Put>(
             },
         }
     }
+}
+
+/// Answers the lines of a script in order, up to a `quit`: each answer is written before the next line is looked at. No read
+/// is made after the end or after a `quit`.
+///
+/// # Errors
+///
+/// `Read` and `Write` where the device failed, and `TooLong` where the script passes 2^24 bytes. The session is where the
+/// lines before moved it, and where a write failed its line moved it all the same.
+pub fn serve<'c, A: Allocator + Copy + 'c, H: History<A, Machine<'c, 'c, A>>, S: Source, W: Sink>(
+    session: &mut Session<A, H>,
+    source: &mut S,
+    sink: &mut W,
+) -> Result<(), IoFault>
+    requires reads { S.failures source.old < 2 ^ 64 - 1 }
+    requires writes { W.failures sink.old < 2 ^ 64 - 1 }
+    requires before { position (H.timeline session.old.history) < 2 ^ 60 }
+    requires limit { session.old.limit ≤ 4294967295 }
+    ensures served { IfSome (S.remaining source.old) (λ script. (text : List ℕ)
+        × Appends (W.contents sink.old) (W.contents sink.new) text
+        × IsServed result (situation H.program H.timeline session.old) script (S.remaining source.new) text) }
+    ensures few { IfSome (S.remaining source.old) (λ script. TakesFew script (S.remaining source.new)) }
+    ensures read_fault { (result ≡ Err IoFault.Read) ↔ (S.failures source.old < S.failures source.new) }
+    ensures write_fault { (result ≡ Err IoFault.Write) ↔ (W.failures sink.old < W.failures sink.new) }
+    ensures counted { CountsServe result (S.failures source.old) (S.failures source.new) (W.failures sink.old) (W.failures sink.new) }
+{
+    let mut out = Outlet { sink };
+    let served = serve_lines(session, source, &mut out);
+    let Outlet { sink: _ } = out;
+    served
 }

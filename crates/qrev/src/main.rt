@@ -1,12 +1,10 @@
 //! `qrev`: runs a program in QBE IL and steps through it, forward and back, by the commands on standard input.
 #![tactic(auto)]
 
-ghost use Rattle.std.specs.Prelude.{◌≡◌, IfOk, IfSome, take};
+ghost use Rattle.std.specs.Prelude.{◌≡◌, ◌≤◌, IfOk, IfSome, take};
 ghost use Rattle.qrev.specs.Status.{outcome_status};
 
 mod options;
-#[cfg(test)]
-mod tests;
 
 use options::{Failure, Options};
 use qil_streams::{FromReader, IntoWriter};
@@ -47,6 +45,16 @@ fn load<R: Files + Eprint>(rt: &R, alloc: Global, name: &str) -> Result<Vec<u8>,
     }
 }
 
+/// How many moves can be taken back, if there is a bound, within what a history may have. `clap` has refused every other number.
+fn bound(history: Option<u64>) -> Option<u64>
+    ensures { IfSome result (λ n. (1 ≤ n) × (n ≤ 1000000)) }
+{
+    match history {
+        Some(number) => Some(number.clamp(1, 1_000_000)),
+        None => None,
+    }
+}
+
 /// Runs the session: the script is standard input, the transcript standard output, where each line is written at once.
 fn run_session<R: Input + Print>(
     rt: &R,
@@ -66,7 +74,8 @@ fn run_session<R: Input + Print>(
         program,
         options.entry.as_bytes(),
         options.args.as_slice(),
-        options.limit as u64,
+        u64::from(options.limit),
+        bound(options.history),
         &mut source,
         &mut sink,
     ))

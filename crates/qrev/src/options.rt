@@ -45,8 +45,10 @@ pub struct Options<'a> {
     pub program: &'a str,
     /// The name of the function that runs first, with no sigil.
     pub entry: &'a str,
-    /// The most moves of one command.
+    /// The most moves of one `continue` or `reverse`.
     pub limit: u32,
+    /// The most moves that can be taken back, where not all can.
+    pub history: Option<u64>,
     /// The arguments of that function.
     pub args: Vec<u64>,
 }
@@ -93,16 +95,21 @@ fn make_command<'a>(alloc: Global) -> Result<Command<'a>, clap::Error> {
         .value_name("NAME")
         .default_value("main");
     let limit = Arg::new(alloc, "limit")
-        .help("The most moves of one command")
+        .help("The most moves of one continue or reverse")
         .long("limit")
         .value_name("N")
         .value_parser(value_parser!(u64).range(1..4_294_967_296))
         .default_value("1000000");
+    let history = Arg::new(alloc, "history")
+        .help("Only the last N moves can be taken back, 1 to 1000000; all where it isn't given")
+        .long("history")
+        .value_name("N")
+        .value_parser(value_parser!(u64).range(1..1_000_001));
     let command = Command::new(alloc, "qrev")
         .about("Runs a program in QBE IL forward and back, by the commands on standard input")
         .arg(program)?
         .arg(args)?;
-    Ok(command.arg(entry)?.arg(limit)?)
+    Ok(command.arg(entry)?.arg(limit)?.arg(history)?)
 }
 
 /// Prints why the words were not taken, or the help that they asked for.
@@ -149,6 +156,7 @@ pub fn read_options<'a>(alloc: Global, matches: &ArgMatches<'a>) -> Result<Optio
         program: matches.get_str("PROGRAM").unwrap_or(""),
         entry: matches.get_str("entry").unwrap_or("main"),
         limit: u32::try_from(limit).unwrap_or(u32::MAX),
+        history: matches.get_one::<u64>("history"),
         args,
     })
 }

@@ -2,7 +2,7 @@
 use Rattle.std.proofs.Common.{◌≡◌, ◌∙◌, sym, ap, subst, []}
 use Rattle.std.specs.Prelude.{All, map}
 use Rattle.qil_checker.specs.Rules.{WellFormed}
-use Rattle.qil_parser.specs.Trees.{HasBlocks}
+use Rattle.qil_tree.specs.Trees.{HasBlocks}
 use Rattle.qil_layout.proofs.FewFunctions.{few_functions}
 use Rattle.qil_names.specs.Numbers.{noted}
 use Rattle.qil_numbering.specs.Facts.{IsNumerable}

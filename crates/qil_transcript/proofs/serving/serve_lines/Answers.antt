@@ -1,8 +1,8 @@
 -- Answers to the goals of `serve_lines`.
-use Rattle.std.proofs.Common.{◌∙◌, refl, None, Ok, Err}
-use Rattle.qil_transcript.specs.declared.session.Next.TheVariants.{Go, Quit}
+use Rattle.std.proofs.Common.{◌∙◌, arith, refl, None, Ok, Err}
+use Rattle.qil_session.specs.declared.session.Next.TheVariants.{Go, Quit}
 use Rattle.qil_streams.proofs.ReaderLemmas.{Reads-append}
-use Rattle.qil_transcript.specs.Session.{sitting}
+use Rattle.qil_session.specs.Kept.{situation}
 use Rattle.qil_transcript.proofs.FewLemmas.{unread, Reads-start, few_read}
 use Rattle.qil_transcript.proofs.ServeLemmas.{Standing-start, Standing-line, Promise-end, Promise-last, Promise-last_quit, Promise-read, Promise-too_long, Promise-quit, Promise-write, Promise-write_last, line_said, prepend_none}
 use Rattle.qil_transcript.proofs.serving.serve_lines.Goals as goal
@@ -12,6 +12,8 @@ loop-end-init g c =
     record {
       standing = Standing-start _ _ _ _ _ (prepend_none _ _ c.new-reader.ensures.pending) c.new-reader.ensures.given;
       reads = Reads-start _ _ c.new-reader.ensures.pending c.new-reader.ensures.given;
+      near = omega (arith, c.new-reader.ensures.given);
+      limit = refl;
       source = refl;
       out = refl;
       device = refl;
@@ -42,6 +44,8 @@ loop-end-preserved g c =
     record {
       standing = Standing-line _ _ _ _ _ _ _ _ _ _ _ line said.1.want c.loop-end.invariant.standing is_line end.0 end.2 said.0 said.1.lawful said.1.text said.1.left;
       reads = Reads-append unread _ _ _ _ _ c.loop-end.invariant.reads c.in-Ok.ensures.reads;
+      near = omega (arith, end.2, c.answer_line.ensures.near, c.loop-end.invariant.near);
+      limit = c.answer_line.ensures.limit ∙ c.loop-end.invariant.limit;
       source = c.in-Ok.ensures.counted ∙ c.loop-end.invariant.source;
       out = c.in-Ok-Go.ensures.counted ∙ c.loop-end.invariant.out;
       device = c.answer_line.ensures.device ∙ c.loop-end.invariant.device;
@@ -51,7 +55,7 @@ pub returns-in-Ok-Quit-clause-served : goal.returns-in-Ok-Quit-clause-served
 returns-in-Ok-Quit-clause-served g c =
     let (line, is_line, takes) = c.in-Ok.ensures.line in
     let end = rw c.in-Newline.is at takes in
-    let said = line_said {E = Unit {0}} (Ok Quit) (sitting c.args.session.now) (sitting c.args.session.now) _ _ line _ _ c.as_slice.ensures end.1 (rw c.in-Ok-Quit.field-0-is at c.in-Ok-Quit.ensures.answered) in
+    let said = line_said {E = Unit {0}} (Ok Quit) (situation g.H.History.program g.H.History.timeline c.args.session.now) (situation g.H.History.program g.H.History.timeline c.args.session.now) _ _ line _ _ c.as_slice.ensures end.1 (rw c.in-Ok-Quit.field-0-is at c.in-Ok-Quit.ensures.answered) in
     rw said.1 (Promise-quit {T = Unit {0}} tt _ _ _ _ None _ _ _ _ _ line c.loop-end.invariant.standing is_line end.0 end.2 end.3 said.0)
 
 pub returns-in-Err-clause-served : goal.returns-in-Err-clause-served
@@ -72,7 +76,7 @@ pub returns-in-Ok-Quit-answer_line-clause-served : goal.returns-in-Ok-Quit-answe
 returns-in-Ok-Quit-answer_line-clause-served g c =
     let (line, is_line, takes) = c.in-Ok.ensures.line in
     let end = rw c.in-Last.is at takes in
-    let said = line_said {E = Unit {0}} (Ok Quit) (sitting c.args.session.now) (sitting c.args.session.now) _ _ line _ _ c.as_slice-in-Last.ensures end.1 (rw c.in-Ok-Quit-answer_line.field-0-is at c.in-Ok-Quit-answer_line.ensures.answered) in
+    let said = line_said {E = Unit {0}} (Ok Quit) (situation g.H.History.program g.H.History.timeline c.args.session.now) (situation g.H.History.program g.H.History.timeline c.args.session.now) _ _ line _ _ c.as_slice-in-Last.ensures end.1 (rw c.in-Ok-Quit-answer_line.field-0-is at c.in-Ok-Quit-answer_line.ensures.answered) in
     rw said.1 (Promise-last_quit {T = Unit {0}} tt _ _ _ _ None _ _ _ _ _ line c.loop-end.invariant.standing is_line end.2 end.0 end.3 end.4 end.5 said.0)
 
 pub returns-in-Err-answer_line-clause-served : goal.returns-in-Err-answer_line-clause-served

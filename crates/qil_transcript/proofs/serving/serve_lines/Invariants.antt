@@ -1,7 +1,8 @@
--- The whole lines so far were answered.
-use Rattle.std.proofs.Common.{◌≡◌, ◌-◌, ◌^◌, []}
+-- The whole lines so far were answered. Each is of a byte at least, and moves less than 2^32 moves.
+use Rattle.std.proofs.Common.{◌≡◌, ◌+◌, ◌-◌, ◌*◌, ◌≤◌, ◌^◌, []}
 use Rattle.qil_streams.specs.Reader.{rest_of, Reads}
-use Rattle.qil_transcript.specs.Session.{sitting}
+use Rattle.qil_meaning.specs.Timeline.{position}
+use Rattle.qil_session.specs.Kept.{situation}
 use Rattle.qil_transcript.proofs.ServeLemmas.{Standing}
 use Rattle.qil_transcript.proofs.serving.serve_lines.Given as goal
 
@@ -9,9 +10,12 @@ abbrev pub invariant-loop-end : goal.invariant-loop-end
 invariant-loop-end g l =
     let remaining = g.S.Source.remaining in
     let written = g.P.Put.written in
+    let seen = situation g.H.History.program g.H.History.timeline in
     record {
-      standing : Standing (sitting l.fn.session) (remaining l.fn.source) (rest_of l.reader.bytes (remaining l.source)) (written l.fn.out) (written l.out) (sitting l.session) l.reader.bytes.given;
+      standing : Standing (seen l.fn.session) (remaining l.fn.source) (rest_of l.reader.bytes (remaining l.source)) (written l.fn.out) (written l.out) (seen l.session) l.reader.bytes.given;
       reads : Reads (record { pending = []; given = 0 }) l.reader.bytes (remaining l.fn.source) (remaining l.source);
+      near : position (seen l.session).timeline ≤ position (seen l.fn.session).timeline + l.reader.bytes.given * 4294967296;
+      limit : l.session.limit ≡ l.fn.session.limit;
       source : g.S.Source.failures l.source ≡ g.S.Source.failures l.fn.source;
       out : g.P.Put.stops l.out ≡ g.P.Put.stops l.fn.out;
       device : g.P.Put.device l.out ≡ g.P.Put.device l.fn.out;

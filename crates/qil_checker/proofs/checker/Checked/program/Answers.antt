@@ -1,6 +1,6 @@
 -- What is kept of a checked program holds of what is seen of it.
 use Rattle.std.proofs.Common.{subst}
-use Rattle.qil_parser.specs.Trees.{HasBlocks}
+use Rattle.qil_tree.specs.Trees.{HasBlocks}
 use Rattle.qil_checker.specs.Check.{Verdict}
 use Rattle.qil_checker.specs.Rules.{WellFormed}
 use Rattle.qil_checker.proofs.checker.Checked.program.Goals as goal

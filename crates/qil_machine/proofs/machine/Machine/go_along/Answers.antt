@@ -1,3 +1,4 @@
+use Rattle.qil_machine.proofs.Weights.{entered_weighs}
 use Rattle.qil_machine.proofs.Jumps.{ready, go_steps, go_fails}
 use Rattle.qil_machine.proofs.machine.Machine.go_along.Goals as goal
 
@@ -20,3 +21,7 @@ returns-in-Err-clause-fault g c =
 pub returns-clause-does : goal.returns-clause-does
 returns-clause-does g c =
     go_steps _ c.args.self.now _ c.args.block.now c.args.edge.now c.args.index c.self.view_is c.self.invariant c.requires.running c.requires.here c.requires.edge c.in-Ok.ensures.entered c.in-Ok.ensures.after
+
+pub returns-clause-weighs : goal.returns-clause-weighs
+returns-clause-weighs g c =
+    entered_weighs c.args.self.now _ c.args.block.now c.args.edge.now c.args.index _ c.requires.here c.requires.edge c.in-Ok.ensures.entered c.in-Ok.ensures.after c.in-Ok.ensures.weighs

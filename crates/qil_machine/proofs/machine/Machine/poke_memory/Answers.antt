@@ -1,4 +1,5 @@
-use Rattle.std.proofs.Common.{refl}
+use Rattle.qil_machine.proofs.KindsWeigh.{poked_weigh}
+use Rattle.std.proofs.Common.{refl, arith}
 use Rattle.qil_machine.proofs.Poking.{poked_made, poked_state, poked_dead}
 use Rattle.qil_machine.proofs.machine.Machine.poke_memory.Goals as goal
 
@@ -10,3 +11,6 @@ returns-clause-poke g c = poked_state _ c.args.self.now c.args.address c.args.wi
 
 pub returns-in-Err-clause-dead : goal.returns-in-Err-clause-dead
 returns-in-Err-clause-dead g c = (refl, poked_dead _ c.args.self.now c.args.address c.args.width c.args.number c.in-Err.field-0 c.self.view_is c.in-Err.ensures.dead)
+
+pub returns-clause-cost : goal.returns-clause-cost
+returns-clause-cost g c = let said = poked_weigh _ c.args.address c.args.width _ c.poked_bytes.ensures in omega (arith, said)

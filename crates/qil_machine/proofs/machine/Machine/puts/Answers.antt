@@ -1,3 +1,5 @@
+use Rattle.std.proofs.Common.{ap}
+use Rattle.qil_machine.proofs.Weights.{called_gives}
 use Rattle.std.proofs.Common.{refl, Some}
 use Rattle.qil_tree.specs.declared.ops.AbiType.TheVariants as types
 use Rattle.qil_layout.specs.declared.callee.Callee.TheVariants.{Puts}
@@ -20,3 +22,6 @@ pub returns-in-Err-clause-fault : goal.returns-in-Err-clause-fault
 returns-in-Err-clause-fault g c =
     built_in_fails _ c.args.self.now c.args.to c.args.args.now c.slots-slots.result.now Puts types.L (Some types.W) c.in-Err.fault c.self.view_is
     (slots_are _ c.innermost.result.now _ c.innermost.ensures c.slots-slots.ensures.value) (refl, refl) c.in-Err.ensures
+
+pub returns-in-Ok-put_text-clause-weighs : goal.returns-in-Ok-put_text-clause-weighs
+returns-in-Ok-put_text-clause-weighs g c = called_gives c.args.to _ _ c.args.self.now.frames _ _ (ap (λ w. w.frames) c.in-Ok-put_text.ensures.after.3) c.in-Ok-put_text.ensures.weighs

@@ -1,3 +1,4 @@
+use Rattle.qil_machine.proofs.Weights.{perform_costs, leave_costs}
 use Rattle.std.proofs.Common.{sym, subst, ◌≡◌, Ok, OnOk, IfErr}
 use Rattle.qil_state.specs.State.{state_of, head_names}
 use Rattle.qil_machine.specs.Results.{Explains}
@@ -28,3 +29,13 @@ returns-in-None-clause-does g c =
 pub returns-in-None-clause-fault : goal.returns-in-None-clause-fault
 returns-in-None-clause-fault g c =
     subst (λ o. IfErr c.leave.result (Explains (head_names c.args.self.now.program c.args.self.now.frames) o)) (sym (jump_found c.args.self.now c.here-index.result.0.now c.here-index.result.1 c.here-index.ensures (rw c.as_slice.ensures at c.in-None.ensures))) c.leave.ensures.fault
+
+pub returns-in-Some-clause-weighs : goal.returns-in-Some-clause-weighs
+returns-in-Some-clause-weighs g c =
+    perform_costs _ c.args.self.now c.perform.new.self c.here-index.result.0.now c.in-Some.inst.now c.here-index.result.1 c.perform.result c.self.view_is c.self.invariant c.here-index.ensures (rw c.as_slice.ensures at c.in-Some.ensures)
+    c.perform.ensures.does c.perform.ensures.weighs
+
+pub returns-in-None-clause-weighs : goal.returns-in-None-clause-weighs
+returns-in-None-clause-weighs g c =
+    leave_costs _ c.args.self.now c.leave.new.self c.here-index.result.0.now c.here-index.result.1 c.leave.result c.self.view_is c.self.invariant c.here-index.ensures (rw c.as_slice.ensures at c.in-None.ensures)
+    c.leave.ensures.does c.leave.ensures.weighs

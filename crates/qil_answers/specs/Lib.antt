@@ -1,0 +1,6 @@
+-- What is shown of a run: the texts of pieces, places and values, and what each command that shows something tells.
+pub mod Texts
+pub mod Shown
+pub mod Listing
+pub mod Slots
+pub mod Frames

@@ -1,0 +1,161 @@
+//! Bytes: of memory in hexadecimal digits, of the output in quotes.
+
+ghost use Rattle.std.specs.Prelude.{◌≡◌, ◌+◌, ◌-◌, ◌^◌, ◌<◌};
+ghost use Rattle.std.specs.List.{flat_map};
+ghost use Rattle.qil_streams.specs.Device.{Counts, Puts};
+ghost use Rattle.qil_memory.specs.Live.{live};
+ghost use Rattle.qil_state.specs.State.{state_of};
+ghost use Rattle.qil_answers.specs.Texts.{hex_digit, byte_text, quoted_byte};
+ghost use Rattle.qil_answers.specs.Shown.{spaced_byte, memory_shown, output_shown};
+
+use crate::piece::{Piece, put_pieces};
+use qil_machine::Machine;
+use qil_streams::{Put, Stopped};
+use std::alloc::Allocator;
+
+/// A hexadecimal digit.
+fn hex_digit(digit: u8) -> u8
+    requires { digit < 16 }
+    ensures { result ≡ hex_digit digit }
+{
+    if digit < 10 {
+        b'0' + digit
+    } else {
+        b'a' - 10 + digit
+    }
+}
+
+/// Puts a byte of memory: two digits, or `--` where it is dead.
+fn put_byte<P: Put>(out: &mut P, byte: Option<u8>) -> Result<(), Stopped>
+    requires { P.stops out.old < 2 ^ 64 - 1 }
+    ensures text { Puts result (P.written out.old) (P.written out.new) (byte_text byte) }
+    ensures counted { Counts result (P.stops out.old) (P.stops out.new) }
+    ensures device { P.device out.new ≡ P.device out.old }
+{
+    match byte {
+        None => out.put(b"--"),
+        Some(byte) => out.put(&[hex_digit(byte / 16), hex_digit(byte % 16)]),
+    }
+}
+
+/// The byte so far behind an address, if it is live. Behind the last address there is none.
+fn byte_behind<A: Allocator + Copy>(
+    machine: &Machine<'_, '_, A>,
+    address: u64,
+    offset: u64,
+) -> Option<u8>
+    ensures { result ≡ live machine.now.memory (address + offset) }
+{
+    let _top = machine.top();
+    match address.checked_add(offset) {
+        Some(at) => machine.byte(at),
+        None => None,
+    }
+}
+
+/// Puts a space and a byte of memory.
+fn put_next_byte<P: Put>(out: &mut P, byte: Option<u8>) -> Result<(), Stopped>
+    requires { P.stops out.old < 2 ^ 64 - 1 }
+    ensures text { Puts result (P.written out.old) (P.written out.new) (spaced_byte byte) }
+    ensures counted { Counts result (P.stops out.old) (P.stops out.new) }
+    ensures device { P.device out.new ≡ P.device out.old }
+{
+    out.put(b" ")?;
+    put_byte(out, byte)
+}
+
+/// Puts bytes of memory in a line, a space between one and the next.
+///
+/// # Errors
+///
+/// `Stopped` where `out` stopped. Then a front of the line was put.
+pub fn put_memory<P: Put, A: Allocator + Copy>(
+    out: &mut P,
+    machine: &Machine<'_, '_, A>,
+    address: u64,
+    count: u32,
+) -> Result<(), Stopped>
+    requires { P.stops out.old < 2 ^ 64 - 1 }
+    ensures text { Puts result (P.written out.old) (P.written out.new) (memory_shown (state_of machine.now) address count) }
+    ensures counted { Counts result (P.stops out.old) (P.stops out.new) }
+    ensures device { P.device out.new ≡ P.device out.old }
+{
+    if count == 0 {
+        return out.put(b"\n");
+    }
+    put_byte(out, machine.byte(address))?;
+    for offset in 1..u64::from(count) {
+        put_next_byte(out, byte_behind(machine, address, offset))?;
+    }
+    out.put(b"\n")
+}
+
+/// Puts a byte as it stands in quotes.
+fn put_quoted<P: Put>(out: &mut P, byte: u8) -> Result<(), Stopped>
+    requires { P.stops out.old < 2 ^ 64 - 1 }
+    ensures text { Puts result (P.written out.old) (P.written out.new) (quoted_byte byte) }
+    ensures counted { Counts result (P.stops out.old) (P.stops out.new) }
+    ensures device { P.device out.new ≡ P.device out.old }
+{
+    if byte == b'"' || byte == b'\\' {
+        return out.put(&[b'\\', byte]);
+    }
+    if byte > 31 && byte < 127 {
+        return out.put(&[byte]);
+    }
+    out.put(&[
+        b'\\',
+        b'0' + byte / 64,
+        b'0' + byte / 8 % 8,
+        b'0' + byte % 8,
+    ])
+}
+
+/// Puts bytes as they stand in quotes.
+fn put_all_quoted<P: Put>(out: &mut P, bytes: &[u8]) -> Result<(), Stopped>
+    requires { P.stops out.old < 2 ^ 64 - 1 }
+    ensures text { Puts result (P.written out.old) (P.written out.new) (flat_map quoted_byte bytes.now) }
+    ensures counted { Counts result (P.stops out.old) (P.stops out.new) }
+    ensures device { P.device out.new ≡ P.device out.old }
+{
+    for byte in bytes {
+        put_quoted(out, *byte)?;
+    }
+    Ok(())
+}
+
+/// Puts how many bytes these are, and which, in quotes.
+fn put_counted<P: Put>(out: &mut P, bytes: &[u8]) -> Result<(), Stopped>
+    requires { P.stops out.old < 2 ^ 64 - 1 }
+    ensures text { Puts result (P.written out.old) (P.written out.new) (output_shown bytes.now) }
+    ensures counted { Counts result (P.stops out.old) (P.stops out.new) }
+    ensures device { P.device out.new ≡ P.device out.old }
+{
+    put_pieces(
+        out,
+        &[
+            Piece::Bytes(b"out "),
+            Piece::Number(bytes.len() as u64),
+            Piece::Bytes(b" \""),
+        ],
+    )?;
+    put_all_quoted(out, bytes)?;
+    out.put(b"\"\n")
+}
+
+/// Puts how many bytes were written, and which, in quotes.
+///
+/// # Errors
+///
+/// `Stopped` where `out` stopped. Then a front of the line was put.
+pub fn put_output<P: Put, A: Allocator + Copy>(
+    out: &mut P,
+    machine: &Machine<'_, '_, A>,
+) -> Result<(), Stopped>
+    requires { P.stops out.old < 2 ^ 64 - 1 }
+    ensures text { Puts result (P.written out.old) (P.written out.new) (output_shown (state_of machine.now).output) }
+    ensures counted { Counts result (P.stops out.old) (P.stops out.new) }
+    ensures device { P.device out.new ≡ P.device out.old }
+{
+    put_counted(out, machine.output())
+}

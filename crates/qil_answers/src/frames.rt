@@ -1,0 +1,74 @@
+//! The frames of a run, a line each.
+
+ghost use Rattle.std.specs.Prelude.{◌≡◌, ◌-◌, ◌^◌, ◌<◌, List, Some, length, slice_get};
+ghost use Rattle.qil_streams.specs.Device.{Counts, Puts};
+ghost use Rattle.qil_frames.specs.Frames.{SlotFrame};
+ghost use Rattle.qil_state.specs.State.{state_of, frame_state};
+ghost use Rattle.qil_answers.specs.Texts.{frame_line};
+ghost use Rattle.qil_answers.specs.Shown.{frames_shown};
+
+use crate::names::{func_name, innermost, label_name};
+use crate::piece::{Piece, put_pieces};
+use qil_frames::Frame;
+use qil_machine::Machine;
+use qil_numbering::Code;
+use qil_streams::{Put, Stopped, put_line};
+use std::alloc::Allocator;
+
+/// Puts the place of a frame.
+fn put_frame<'c, 'a, P: Put, A: Allocator + Copy>(
+    out: &mut P,
+    code: &'c Code<'c, 'a, A>,
+    frame: &Frame<A>,
+) -> Result<(), Stopped>
+    requires { P.stops out.old < 2 ^ 64 - 1 }
+    ensures text { (callers : List SlotFrame) → Puts result (P.written out.old) (P.written out.new) (frame_line (frame_state code.now callers frame.now)) }
+    ensures counted { Counts result (P.stops out.old) (P.stops out.new) }
+    ensures device { P.device out.new ≡ P.device out.old }
+{
+    put_pieces(
+        out,
+        &[
+            Piece::Bytes(b"$"),
+            Piece::Bytes(func_name(code, frame.func())),
+            Piece::Bytes(b" @"),
+            Piece::Bytes(label_name(code, frame.func(), frame.block())),
+            Piece::Bytes(b" "),
+            Piece::Number(u64::from(frame.index())),
+            Piece::Bytes(b"\n"),
+        ],
+    )
+}
+
+/// A frame, counted from the innermost one.
+fn frame_at<'m, A: Allocator + Copy>(machine: &'m Machine<'_, '_, A>, inner: usize) -> &'m Frame<A>
+    requires { inner < length machine.now.frames }
+    ensures { slice_get machine.now.frames inner ≡ Some result.now }
+{
+    let frames = machine.frames();
+    &frames[frames.len() - 1 - inner]
+}
+
+/// Puts the place of each frame, the innermost first.
+///
+/// # Errors
+///
+/// `Stopped` where `out` stopped. Then a front of the text was put.
+pub fn put_frames<P: Put, A: Allocator + Copy>(
+    out: &mut P,
+    machine: &Machine<'_, '_, A>,
+) -> Result<(), Stopped>
+    requires { P.stops out.old < 2 ^ 64 - 1 }
+    ensures text { Puts result (P.written out.old) (P.written out.new) (frames_shown (state_of machine.now).frames) }
+    ensures counted { Counts result (P.stops out.old) (P.stops out.new) }
+    ensures device { P.device out.new ≡ P.device out.old }
+{
+    let Some(_) = innermost(machine) else {
+        return put_line(out, b"none");
+    };
+    let code = machine.code();
+    for inner in 0..machine.frames().len() {
+        put_frame(out, code, frame_at(machine, inner))?;
+    }
+    Ok(())
+}

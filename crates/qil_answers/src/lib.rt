@@ -1,0 +1,20 @@
+//! What is shown of a run: the line of its place, its temporaries, frames, memory and output, and the block that it is in.
+//!
+//! Each function puts the text that `specs/` says for the state that a machine stands for. Nothing here takes memory.
+#![tactic(auto)]
+
+mod bytes;
+mod frames;
+mod listing;
+mod names;
+mod piece;
+mod place;
+mod temps;
+
+pub use bytes::{put_memory, put_output};
+pub use frames::put_frames;
+pub use listing::put_block;
+pub use names::{func_name, label_name, temp_name};
+pub use piece::{Piece, put_pieces};
+pub use place::put_place;
+pub use temps::{put_printed, put_temps};

@@ -1,0 +1,196 @@
+//! The block that the innermost frame is in: its phis, its instructions and its jump, in canonical texts.
+
+ghost use Rattle.std.specs.Prelude.{◌≡◌, ◌-◌, ◌^◌, ◌<◌};
+ghost use Rattle.std.specs.List.{flat_map};
+ghost use Rattle.qil_streams.specs.Device.{Counts, Puts};
+ghost use Rattle.qil_texts.specs.Canonical.{inst_text as inst_words, jump_text as jump_words};
+ghost use Rattle.qil_numbering.specs.Numbered.{func_at, block_at};
+ghost use Rattle.qil_state.specs.State.{state_of, func_name, label_in};
+ghost use Rattle.qil_answers.specs.Listing.{phi_row, row, row_front, inst_rows, all_rows, rows_in, block_head, block_shown};
+
+use crate::names::{func_name, innermost, label_name};
+use crate::piece::{Piece, put_pieces};
+use qil_frames::Frame;
+use qil_machine::Machine;
+use qil_numbering::Code;
+use qil_streams::{Put, Stopped, put_line};
+use qil_texts::{inst_text, jump_text, phi_text};
+use qil_tree::{Inst, Jump, Phi};
+use std::alloc::Allocator;
+
+/// Puts a phi.
+fn put_phi<P: Put, A: Allocator>(out: &mut P, phi: &Phi<'_, A>) -> Result<(), Stopped>
+    requires { P.stops out.old < 2 ^ 64 - 1 }
+    ensures text { Puts result (P.written out.old) (P.written out.new) (phi_row phi.now) }
+    ensures counted { Counts result (P.stops out.old) (P.stops out.new) }
+    ensures device { P.device out.new ≡ P.device out.old }
+{
+    out.put(b"  - ")?;
+    phi_text(phi, out)?;
+    out.put(b"\n")
+}
+
+/// Puts the front of a row: its index, and whether the frame stands there.
+fn put_front<P: Put>(out: &mut P, at: u32, index: u64) -> Result<(), Stopped>
+    requires { P.stops out.old < 2 ^ 64 - 1 }
+    ensures text { Puts result (P.written out.old) (P.written out.new) (row_front at index) }
+    ensures counted { Counts result (P.stops out.old) (P.stops out.new) }
+    ensures device { P.device out.new ≡ P.device out.old }
+{
+    let mark = if index == u64::from(at) {
+        b"> ".as_slice()
+    } else {
+        b"  ".as_slice()
+    };
+    put_pieces(
+        out,
+        &[Piece::Bytes(mark), Piece::Number(index), Piece::Bytes(b" ")],
+    )
+}
+
+/// Puts an instruction.
+fn put_inst<P: Put, A: Allocator>(
+    out: &mut P,
+    at: u32,
+    index: u64,
+    inst: &Inst<'_, A>,
+) -> Result<(), Stopped>
+    requires { P.stops out.old < 2 ^ 64 - 1 }
+    ensures text { Puts result (P.written out.old) (P.written out.new) (row at index (inst_words inst.now)) }
+    ensures counted { Counts result (P.stops out.old) (P.stops out.new) }
+    ensures device { P.device out.new ≡ P.device out.old }
+{
+    put_front(out, at, index)?;
+    inst_text(inst, out)?;
+    out.put(b"\n")
+}
+
+/// Puts a jump.
+fn put_jump<P: Put>(out: &mut P, at: u32, index: u64, jump: &Jump<'_>) -> Result<(), Stopped>
+    requires { P.stops out.old < 2 ^ 64 - 1 }
+    ensures text { Puts result (P.written out.old) (P.written out.new) (row at index (jump_words jump.now)) }
+    ensures counted { Counts result (P.stops out.old) (P.stops out.new) }
+    ensures device { P.device out.new ≡ P.device out.old }
+{
+    put_front(out, at, index)?;
+    jump_text(jump, out)?;
+    out.put(b"\n")
+}
+
+/// Puts phis.
+fn put_phis<P: Put, A: Allocator>(out: &mut P, phis: &[Phi<'_, A>]) -> Result<(), Stopped>
+    requires { P.stops out.old < 2 ^ 64 - 1 }
+    ensures text { Puts result (P.written out.old) (P.written out.new) (flat_map phi_row phis.now) }
+    ensures counted { Counts result (P.stops out.old) (P.stops out.new) }
+    ensures device { P.device out.new ≡ P.device out.old }
+{
+    for phi in phis {
+        put_phi(out, phi)?;
+    }
+    Ok(())
+}
+
+/// Puts instructions.
+fn put_insts<P: Put, A: Allocator>(
+    out: &mut P,
+    at: u32,
+    insts: &[Inst<'_, A>],
+) -> Result<(), Stopped>
+    requires { P.stops out.old < 2 ^ 64 - 1 }
+    ensures text { Puts result (P.written out.old) (P.written out.new) (inst_rows at 0 insts.now) }
+    ensures counted { Counts result (P.stops out.old) (P.stops out.new) }
+    ensures device { P.device out.new ≡ P.device out.old }
+{
+    for index in 0..insts.len() {
+        put_inst(out, at, index as u64, &insts[index])?;
+    }
+    Ok(())
+}
+
+/// Puts the rows of a block.
+fn put_rows<P: Put, A: Allocator>(
+    out: &mut P,
+    at: u32,
+    phis: &[Phi<'_, A>],
+    insts: &[Inst<'_, A>],
+    jump: &Jump<'_>,
+) -> Result<(), Stopped>
+    requires { P.stops out.old < 2 ^ 64 - 1 }
+    ensures text { Puts result (P.written out.old) (P.written out.new) (all_rows at phis.now insts.now jump.now) }
+    ensures counted { Counts result (P.stops out.old) (P.stops out.new) }
+    ensures device { P.device out.new ≡ P.device out.old }
+{
+    put_phis(out, phis)?;
+    put_insts(out, at, insts)?;
+    put_jump(out, at, insts.len() as u64, jump)
+}
+
+/// Puts the line that says in which block a frame is.
+fn put_head<'c, 'a, P: Put, A: Allocator + Copy>(
+    out: &mut P,
+    code: &'c Code<'c, 'a, A>,
+    frame: &Frame<A>,
+) -> Result<(), Stopped>
+    requires { P.stops out.old < 2 ^ 64 - 1 }
+    ensures text { Puts result (P.written out.old) (P.written out.new) (block_head (func_name (func_at code.now frame.now.func)) (label_in (block_at code.now frame.now.func frame.now.block))) }
+    ensures counted { Counts result (P.stops out.old) (P.stops out.new) }
+    ensures device { P.device out.new ≡ P.device out.old }
+{
+    put_pieces(
+        out,
+        &[
+            Piece::Bytes(b"$"),
+            Piece::Bytes(func_name(code, frame.func())),
+            Piece::Bytes(b" @"),
+            Piece::Bytes(label_name(code, frame.func(), frame.block())),
+            Piece::Bytes(b"\n"),
+        ],
+    )
+}
+
+/// Puts the rows of the block that a frame is in.
+fn put_block_of<'c, 'a, P: Put, A: Allocator + Copy>(
+    out: &mut P,
+    code: &'c Code<'c, 'a, A>,
+    frame: &Frame<A>,
+) -> Result<(), Stopped>
+    requires { P.stops out.old < 2 ^ 64 - 1 }
+    ensures text { Puts result (P.written out.old) (P.written out.new) (rows_in frame.now.index (block_at code.now frame.now.func frame.now.block)) }
+    ensures counted { Counts result (P.stops out.old) (P.stops out.new) }
+    ensures device { P.device out.new ≡ P.device out.old }
+{
+    match code.source(frame.func(), frame.block()) {
+        Some(block) => put_rows(
+            out,
+            frame.index(),
+            block.phis.as_slice(),
+            block.insts.as_slice(),
+            &block.jump,
+        ),
+        None => Ok(()),
+    }
+}
+
+/// Puts the block that the innermost frame is in, with its place marked; or that there is no frame.
+///
+/// # Errors
+///
+/// `Stopped` where `out` stopped. Then a front of the text was put.
+pub fn put_block<P: Put, A: Allocator + Copy>(
+    out: &mut P,
+    machine: &Machine<'_, '_, A>,
+) -> Result<(), Stopped>
+    requires { P.stops out.old < 2 ^ 64 - 1 }
+    ensures text { Puts result (P.written out.old) (P.written out.new) (block_shown machine.now.program (state_of machine.now).frames) }
+    ensures counted { Counts result (P.stops out.old) (P.stops out.new) }
+    ensures device { P.device out.new ≡ P.device out.old }
+{
+    let Some(frame) = innermost(machine) else {
+        return put_line(out, b"no: no frame");
+    };
+    let code = machine.code();
+    // Its clauses say that names find the block.
+    let _known = code.func(frame.func());
+    put_head(out, code, frame)?;
+    put_block_of(out, code, frame)
+}

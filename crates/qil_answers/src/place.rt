@@ -1,0 +1,145 @@
+//! The line of a place: how many moves were made, and where the run stands or how it ended.
+
+ghost use Rattle.std.specs.Prelude.{◌≡◌, ℕ, List, ◌-◌, ◌^◌, ◌<◌};
+ghost use Rattle.qil_streams.specs.Device.{Counts, Puts};
+ghost use Rattle.qil_meaning.specs.State.{running};
+ghost use Rattle.qil_state.specs.State.{state_of, head_names};
+ghost use Rattle.qil_state.specs.Faults.{fault_of};
+ghost use Rattle.qil_answers.specs.Texts.{piece_text, fault_words, fault_detail, standing_line, state_line};
+
+use crate::names::{func_name, innermost, label_name, temp_name};
+use crate::piece::{Piece, put_pieces};
+use qil_machine::Machine;
+use qil_ops::DivFault;
+use qil_state::{Fault, Status};
+use qil_streams::{Put, Stopped};
+use std::alloc::Allocator;
+
+/// What a fault is called, up to what it tells.
+fn fault_words(fault: Fault) -> &'static [u8]
+    ensures { (names : List (List ℕ)) → result.now ≡ fault_words (fault_of names fault) }
+{
+    match fault {
+        Fault::Division(DivFault::Zero) => b"division by zero",
+        Fault::Division(DivFault::Overflow) => b"division overflow",
+        Fault::DeadAddress(_) => b"dead address ",
+        Fault::Unset(_) => b"unset temporary %",
+        Fault::OverlappingBlit => b"overlapping blit",
+        Fault::StackFull => b"stack full",
+        Fault::CallsTooDeep => b"calls too deep",
+        Fault::NoFunction(_) => b"no function at ",
+        Fault::CallShape => b"call shape",
+        Fault::OutputFull => b"output full",
+        Fault::Halted => b"halted",
+    }
+}
+
+/// The address or the temporary that a fault tells.
+fn fault_detail<'c, 'a, A: Allocator + Copy>(
+    machine: &Machine<'c, 'a, A>,
+    fault: Fault,
+) -> Piece<'c>
+    ensures { piece_text result ≡ fault_detail (fault_of (head_names machine.now.program machine.now.frames) fault) }
+{
+    match fault {
+        Fault::DeadAddress(address) | Fault::NoFunction(address) => Piece::Number(address),
+        Fault::Unset(slot) => match innermost(machine) {
+            Some(frame) => Piece::Bytes(temp_name(machine.code(), frame.func(), slot)),
+            None => Piece::Bytes(b""),
+        },
+        _ => Piece::Bytes(b""),
+    }
+}
+
+/// Puts the line of the place of a run that goes on.
+fn put_standing<P: Put, A: Allocator + Copy>(
+    out: &mut P,
+    position: u64,
+    machine: &Machine<'_, '_, A>,
+) -> Result<(), Stopped>
+    requires { P.stops out.old < 2 ^ 64 - 1 }
+    ensures text { Puts result (P.written out.old) (P.written out.new) (standing_line position (state_of machine.now).frames) }
+    ensures counted { Counts result (P.stops out.old) (P.stops out.new) }
+    ensures device { P.device out.new ≡ P.device out.old }
+{
+    let Some(frame) = innermost(machine) else {
+        return put_pieces(
+            out,
+            &[
+                Piece::Bytes(b"#"),
+                Piece::Number(position),
+                Piece::Bytes(b"\n"),
+            ],
+        );
+    };
+    let code = machine.code();
+    put_pieces(
+        out,
+        &[
+            Piece::Bytes(b"#"),
+            Piece::Number(position),
+            Piece::Bytes(b" $"),
+            Piece::Bytes(func_name(code, frame.func())),
+            Piece::Bytes(b" @"),
+            Piece::Bytes(label_name(code, frame.func(), frame.block())),
+            Piece::Bytes(b" "),
+            Piece::Number(u64::from(frame.index())),
+            Piece::Bytes(b"\n"),
+        ],
+    )
+}
+
+/// Puts the line of the place of a run after so many moves.
+///
+/// # Errors
+///
+/// `Stopped` where `out` stopped. Then a front of the line was put.
+pub fn put_place<P: Put, A: Allocator + Copy>(
+    out: &mut P,
+    position: u64,
+    machine: &Machine<'_, '_, A>,
+) -> Result<(), Stopped>
+    requires { P.stops out.old < 2 ^ 64 - 1 }
+    ensures text { Puts result (P.written out.old) (P.written out.new) (state_line position (state_of machine.now).frames (state_of machine.now).status) }
+    ensures counted { Counts result (P.stops out.old) (P.stops out.new) }
+    ensures device { P.device out.new ≡ P.device out.old }
+{
+    let front = Piece::Bytes(b"#");
+    let position_piece = Piece::Number(position);
+    let end = Piece::Bytes(b"\n");
+    match machine.status() {
+        Status::Running => put_standing(out, position, machine),
+        Status::Done(None) => put_pieces(out, &[front, position_piece, Piece::Bytes(b" done\n")]),
+        Status::Done(Some(value)) => put_pieces(
+            out,
+            &[
+                front,
+                position_piece,
+                Piece::Bytes(b" done "),
+                Piece::Number(value),
+                end,
+            ],
+        ),
+        Status::Exited(word) => put_pieces(
+            out,
+            &[
+                front,
+                position_piece,
+                Piece::Bytes(b" exit "),
+                Piece::Number(word),
+                end,
+            ],
+        ),
+        Status::Faulted(fault) => put_pieces(
+            out,
+            &[
+                front,
+                position_piece,
+                Piece::Bytes(b" fault "),
+                Piece::Bytes(fault_words(fault)),
+                fault_detail(machine, fault),
+                end,
+            ],
+        ),
+    }
+}

@@ -1,0 +1,120 @@
+//! Temporaries of the innermost frame: one, or all.
+
+ghost use Rattle.std.specs.Prelude.{◌≡◌, ℕ, List, Option, ◌-◌, ◌^◌, ◌<◌, length, map, zip};
+ghost use Rattle.std.specs.List.{flat_map};
+ghost use Rattle.qil_streams.specs.Device.{Counts, Puts};
+ghost use Rattle.qil_numbering.specs.Numbered.{names_of};
+ghost use Rattle.qil_state.specs.State.{state_of};
+ghost use Rattle.qil_answers.specs.Texts.{value_line};
+ghost use Rattle.qil_answers.specs.Shown.{printed, temps_shown};
+ghost use Rattle.qil_answers.specs.Slots.{slot_lines};
+
+use crate::names::{innermost, temp_name};
+use crate::piece::{Piece, put_pieces};
+use qil_frames::Frame;
+use qil_machine::Machine;
+use qil_numbering::{Code, Slot};
+use qil_streams::{Put, Stopped, put_line};
+use std::alloc::Allocator;
+
+/// Puts the line that says what a temporary holds.
+fn put_value<P: Put>(out: &mut P, name: &[u8], value: Option<u64>) -> Result<(), Stopped>
+    requires { P.stops out.old < 2 ^ 64 - 1 }
+    ensures text { Puts result (P.written out.old) (P.written out.new) (value_line name.now value) }
+    ensures counted { Counts result (P.stops out.old) (P.stops out.new) }
+    ensures device { P.device out.new ≡ P.device out.old }
+{
+    match value {
+        Some(value) => put_pieces(
+            out,
+            &[
+                Piece::Bytes(b"%"),
+                Piece::Bytes(name),
+                Piece::Bytes(b" = "),
+                Piece::Number(value),
+                Piece::Bytes(b"\n"),
+            ],
+        ),
+        None => put_pieces(
+            out,
+            &[
+                Piece::Bytes(b"%"),
+                Piece::Bytes(name),
+                Piece::Bytes(b" unset\n"),
+            ],
+        ),
+    }
+}
+
+/// Puts what a temporary of the innermost frame holds, whose name is without its sigil; or why there is nothing to
+/// tell.
+///
+/// # Errors
+///
+/// `Stopped` where `out` stopped. Then a front of the text was put.
+pub fn put_printed<P: Put, A: Allocator + Copy>(
+    out: &mut P,
+    machine: &Machine<'_, '_, A>,
+    name: &[u8],
+) -> Result<(), Stopped>
+    requires { P.stops out.old < 2 ^ 64 - 1 }
+    ensures text { Puts result (P.written out.old) (P.written out.new) (printed machine.now.program (state_of machine.now).frames name.now) }
+    ensures counted { Counts result (P.stops out.old) (P.stops out.new) }
+    ensures device { P.device out.new ≡ P.device out.old }
+{
+    let Some(frame) = innermost(machine) else {
+        return put_line(out, b"no: no frame");
+    };
+    match machine.code().slot_of(frame.func(), name) {
+        Some(slot) => put_value(out, name, machine.value(slot)),
+        None => put_line(out, b"no: unknown temporary"),
+    }
+}
+
+/// Puts a line for each slot of a frame.
+fn put_slots<'c, 'a, P: Put, A: Allocator + Copy>(
+    out: &mut P,
+    code: &'c Code<'c, 'a, A>,
+    frame: &Frame<A>,
+) -> Result<(), Stopped>
+    requires stops { P.stops out.old < 2 ^ 64 - 1 }
+    requires slots { length (names_of code.now frame.now.func) ≡ length frame.now.slots }
+    ensures text { Puts result (P.written out.old) (P.written out.new) (slot_lines (names_of code.now frame.now.func) frame.now.slots) }
+    ensures counted { Counts result (P.stops out.old) (P.stops out.new) }
+    ensures device { P.device out.new ≡ P.device out.old }
+{
+    let slots = frame.slots();
+    for index in 0..slots.len() {
+        let slot = Slot {
+            index: index as u16,
+        };
+        put_value(out, temp_name(code, frame.func(), slot), slots[index])?;
+    }
+    Ok(())
+}
+
+/// Puts what all temporaries of the innermost frame hold, in the order in which its function's text first names them.
+///
+/// # Errors
+///
+/// `Stopped` where `out` stopped. Then a front of the text was put.
+pub fn put_temps<P: Put, A: Allocator + Copy>(
+    out: &mut P,
+    machine: &Machine<'_, '_, A>,
+) -> Result<(), Stopped>
+    requires { P.stops out.old < 2 ^ 64 - 1 }
+    ensures text { Puts result (P.written out.old) (P.written out.new) (temps_shown machine.now.program (state_of machine.now).frames) }
+    ensures counted { Counts result (P.stops out.old) (P.stops out.new) }
+    ensures device { P.device out.new ≡ P.device out.old }
+{
+    let Some(frame) = innermost(machine) else {
+        return put_line(out, b"no: no frame");
+    };
+    let code = machine.code();
+    // Its clauses say that names find the function.
+    let _known = code.func(frame.func());
+    if code.slot_count(frame.func()) == 0 {
+        return put_line(out, b"none");
+    }
+    put_slots(out, code, frame)
+}

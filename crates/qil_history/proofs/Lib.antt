@@ -1,0 +1,5 @@
+-- The lemmas.
+pub mod KeptLemmas
+pub mod RingLemmas
+pub mod PokeLemmas
+pub mod WeightLemmas

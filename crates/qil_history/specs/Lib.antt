@@ -1,0 +1,4 @@
+-- The definitions.
+pub mod Kept
+pub mod Pokes
+pub mod Weights

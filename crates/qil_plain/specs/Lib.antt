@@ -1,3 +1,0 @@
--- The definitions.
-pub mod Plain
-pub mod Answer

@@ -1,0 +1,6 @@
+-- The lemmas of this crate.
+pub mod Walks
+pub mod MoveAnswers
+pub mod PokeAnswers
+pub mod StopAnswers
+pub mod ShownAnswers

@@ -1,0 +1,142 @@
+-- The answers to `set` and `poke`, by what was put and where the timeline was left.
+use Rattle.std.proofs.Common.{◌≡◌, refl, sym, ap, ◌∙◌, subst, ℕ, ◌+◌, ◌<◌, ◌^◌, List, [], ◌∷◌, ◌++◌, Option, Some, None, Result, Ok, Err, arith}
+use Rattle.std.specs.Prelude.{◌↔◌, codes, IsOk}
+use Rattle.qil_tree.specs.declared.ops.Class.{Class}
+use Rattle.qil_tree.specs.declared.ops.Width.{Width}
+use Rattle.qil_tree.specs.declared.tree.Program.{Program}
+use Rattle.qil_layout.specs.Layout.{width_bytes}
+use Rattle.qil_commands.specs.declared.command.Address.{Address}
+use Rattle.qil_commands.specs.declared.command.Command.TheVariants.{Set, Poke}
+use Rattle.qil_streams.specs.Device.{Puts}
+use Rattle.qil_streams.specs.Text.{line}
+use Rattle.qil_meaning.specs.State.{Name, Frame, State}
+use Rattle.qil_meaning.specs.Timeline.{Timeline, position, to, poked}
+use Rattle.qil_meaning.specs.Poke.{PokeFault, no_frame, dead_bytes, unknown_temporary, poke_in, poke_frames, poke_temp, poke_memory, remembered, temp_class}
+use Rattle.qil_meaning.specs.Step.{func_named}
+use Rattle.qil_meaning.proofs.KeptLemmas.{position-to}
+use Rattle.qil_meaning.specs.declared.reason.Reason.TheVariants.{Memory}
+use Rattle.qil_machine.specs.declared.error.PokeError.{PokeError}
+use Rattle.qil_machine.specs.declared.error.PokeError.TheVariants.{NoFrame, UnknownTemporary, DeadAddress, OutOfMemory}
+use Rattle.qil_memory.specs.declared.fault.Dead.{Dead}
+use Rattle.qil_memory.specs.Live.{Live}
+use Rattle.qil_memory.specs.Calls.{stored}
+use Rattle.qil_answers.specs.Texts.{place_line}
+use Rattle.qil_stops.specs.Listed.{Listed}
+use Rattle.qil_session.specs.Situation.{sits, address_said}
+use Rattle.qil_session.specs.Texts.{reason_line}
+use Rattle.qil_session.specs.Answers.{Answers, answer, IsLawful, poke_answer, poke_refusal}
+
+-- ---- what comes of a poke
+
+-- the text and the session that is left are those of a poke with this outcome
+record IsPoke {A T E : Type 0} (p : Program A) (t u : Timeline) (stops : Listed) (limit : ℕ) (outcome : Result State PokeFault) (r : Result T E) (a b : Option (List ℕ)) : Type 0 where
+  text : Puts r a b (poke_answer (sits p t stops limit) outcome).text
+  left : sits p u stops limit ≡ (poke_answer (sits p t stops limit) outcome).left
+
+poke_moves : {A T E : Type 0} (p : Program A) (t u : Timeline) (stops : Listed) (limit : ℕ) (outcome : Result State PokeFault) (r : Result T E) (a b : Option (List ℕ)) →
+    poked t outcome ≡ Ok u → Puts r a b (place_line u) → IsPoke p t u stops limit outcome r a b
+poke_moves {A} p t u stops limit (Ok s) r a b e text =
+    let same : to s t ≡ u = cc in
+    record { text = subst (λ (v : Timeline). Puts r a b (place_line v)) (sym same) text; left = ap (λ (v : Timeline). sits p v stops limit) (sym same) }
+poke_moves p t u stops limit (Err why) r a b e text = absurd cc
+
+poke_refused : {A T E : Type 0} (p : Program A) (t u : Timeline) (stops : Listed) (limit : ℕ) (outcome : Result State PokeFault) (why : PokeFault) (r : Result T E) (a b : Option (List ℕ)) →
+    outcome ≡ Err why → u ≡ t → Puts r a b (poke_refusal why) → IsPoke p t u stops limit outcome r a b
+poke_refused p t u stops limit (Ok s) why r a b e same text = absurd cc
+poke_refused p t u stops limit (Err other) why r a b e same text =
+    let here : other ≡ why = cc in
+    record { text = subst (λ (x : PokeFault). Puts r a b (poke_refusal x)) (sym here) text; left = ap (λ (v : Timeline). sits p v stops limit) same }
+
+poked_position : (t u : Timeline) (outcome : Result State PokeFault) → poked t outcome ≡ Ok u → position u ≡ position t + 1
+poked_position t u (Ok s) e = let same : to s t ≡ u = cc in sym (ap position same) ∙ position-to t s
+poked_position t u (Err why) e = absurd cc
+
+pub poked_near : (t u : Timeline) (outcome : Result State PokeFault) → poked t outcome ≡ Ok u → position u < position t + 2 ^ 32
+poked_near t u outcome e = let one : position u ≡ position t + 1 = poked_position t u outcome e in omega (arith, one)
+
+-- ---- memory is wanting only for a poke that isn't refused
+
+in_plain : (s : State) (f : Frame) (fs : List Frame) (x : Name) (v : ℕ) (class : Option Class) → poke_in s f fs x v class ≡ Err dead_bytes → ⊥
+in_plain s f fs x v None e = cc
+in_plain s f fs x v (Some class) e = cc
+
+frames_plain : {A : Type 0} (p : Program A) (s : State) (fs : List Frame) (x : Name) (v : ℕ) → poke_frames p s fs x v ≡ Err dead_bytes → ⊥
+frames_plain p s [] x v e = cc
+frames_plain p s (f ∷ fs) x v e = in_plain s f fs x v (temp_class (func_named p.funcs f.func) x) e
+
+temp_by : (outcome : Result State PokeFault) (r : Result (Unit {0}) PokeError) → r ≡ Err OutOfMemory
+    → (r ≡ Err NoFrame) ↔ (outcome ≡ Err no_frame) → (r ≡ Err UnknownTemporary) ↔ (outcome ≡ Err unknown_temporary) → (outcome ≡ Err dead_bytes → ⊥) → IsOk outcome
+temp_by (Ok s) r e frame unknown plain = refl
+temp_by (Err no_frame) r e frame unknown plain = let other = frame.1 refl in absurd cc
+temp_by (Err unknown_temporary) r e frame unknown plain = let other = unknown.1 refl in absurd cc
+temp_by (Err dead_bytes) r e frame unknown plain = absurd (plain refl)
+
+memory_by : (s : State) (q : Result Live Dead) (r : Result (Unit {0}) PokeError) → r ≡ Err OutOfMemory → (r ≡ Err DeadAddress) ↔ (remembered s q ≡ Err dead_bytes) → IsOk (remembered s q)
+memory_by s (Ok m) r e dead = refl
+memory_by s (Err why) r e dead = let other = dead.1 refl in absurd cc
+
+-- ---- `set %x N`
+
+pub answers_set : {A T E : Type 0} (p : Program A) (t u : Timeline) (stops : Listed) (limit : ℕ) (x : Name) (v : ℕ) (r : Result T E) (a b : Option (List ℕ)) →
+    poked t (poke_temp p t.now x v) ≡ Ok u → Puts r a b (place_line u) → Answers (sits p t stops limit) (sits p u stops limit) (Ok (Some (Set x v))) r a b
+unfolding answer IsLawful
+answers_set p t u stops limit x v r a b moved text =
+    let made = poke_moves p t u stops limit (poke_temp p t.now x v) r a b moved text in
+    record { want = None; lawful = tt; text = made.text; left = made.left }
+
+pub answers_set_refused : {A T E : Type 0} (p : Program A) (t u : Timeline) (stops : Listed) (limit : ℕ) (x : Name) (v : ℕ) (why : PokeFault) (r : Result T E) (a b : Option (List ℕ)) →
+    poke_temp p t.now x v ≡ Err why → u ≡ t → Puts r a b (poke_refusal why) → Answers (sits p t stops limit) (sits p u stops limit) (Ok (Some (Set x v))) r a b
+unfolding answer IsLawful
+answers_set_refused p t u stops limit x v why r a b refused same text =
+    let made = poke_refused p t u stops limit (poke_temp p t.now x v) why r a b refused same text in
+    record { want = None; lawful = tt; text = made.text; left = made.left }
+
+pub answers_set_wants : {A T E : Type 0} (p : Program A) (t u : Timeline) (stops : Listed) (limit : ℕ) (x : Name) (v : ℕ) (told : Result (Unit {0}) PokeError) (r : Result T E) (a b : Option (List ℕ)) →
+    told ≡ Err OutOfMemory → (told ≡ Err NoFrame) ↔ (poke_temp p t.now x v ≡ Err no_frame) → (told ≡ Err UnknownTemporary) ↔ (poke_temp p t.now x v ≡ Err unknown_temporary) →
+    u ≡ t → Puts r a b (reason_line Memory ++ place_line u) → Answers (sits p t stops limit) (sits p u stops limit) (Ok (Some (Set x v))) r a b
+unfolding answer IsLawful
+answers_set_wants p t u stops limit x v told r a b is frame unknown same text = record {
+  want = Some 0;
+  lawful = (refl, temp_by (poke_temp p t.now x v) told is frame unknown (frames_plain p t.now t.now.frames x v));
+  text = subst (λ (w : Timeline). Puts r a b (reason_line Memory ++ place_line w)) same text;
+  left = ap (λ (w : Timeline). sits p w stops limit) same;
+}
+
+-- ---- `poke W ADDR N`
+
+pub answers_nowhere : {A T E : Type 0} (p : Program A) (t : Timeline) (stops : Listed) (limit : ℕ) (w : Width) (at : Address) (v : ℕ) (r : Result T E) (a b : Option (List ℕ)) →
+    address_said p at ≡ None → Puts r a b (line (codes "no: unknown place")) → Answers (sits p t stops limit) (sits p t stops limit) (Ok (Some (Poke w at v))) r a b
+unfolding answer IsLawful
+answers_nowhere p t stops limit w at v r a b is text = record { want = None; lawful = tt; text = rw is text; left = rw is refl }
+
+pub answers_poke : {A T E : Type 0} (p : Program A) (t u : Timeline) (stops : Listed) (limit : ℕ) (w : Width) (at : Address) (v start n : ℕ) (r : Result T E) (a b : Option (List ℕ)) →
+    address_said p at ≡ Some start → n ≡ width_bytes w →
+    poked t (poke_memory t.now start n v) ≡ Ok u → Puts r a b (place_line u) → Answers (sits p t stops limit) (sits p u stops limit) (Ok (Some (Poke w at v))) r a b
+unfolding answer IsLawful
+answers_poke p t u stops limit w at v start n r a b is wide moved text =
+    let there = subst (λ i. poked t (poke_memory t.now start i v) ≡ Ok u) wide moved in
+    let made = poke_moves p t u stops limit (poke_memory t.now start (width_bytes w) v) r a b there text in
+    record { want = None; lawful = tt; text = rw is made.text; left = rw is made.left }
+
+pub answers_poke_dead : {A T E : Type 0} (p : Program A) (t u : Timeline) (stops : Listed) (limit : ℕ) (w : Width) (at : Address) (v start n : ℕ) (r : Result T E) (a b : Option (List ℕ)) →
+    address_said p at ≡ Some start → n ≡ width_bytes w →
+    poke_memory t.now start n v ≡ Err dead_bytes → u ≡ t → Puts r a b (line (codes "no: dead address")) → Answers (sits p t stops limit) (sits p u stops limit) (Ok (Some (Poke w at v))) r a b
+unfolding answer IsLawful
+answers_poke_dead p t u stops limit w at v start n r a b is wide refused same text =
+    let there = subst (λ i. poke_memory t.now start i v ≡ Err dead_bytes) wide refused in
+    let made = poke_refused p t u stops limit (poke_memory t.now start (width_bytes w) v) dead_bytes r a b there same text in
+    record { want = None; lawful = tt; text = rw is made.text; left = rw is made.left }
+
+pub answers_poke_wants : {A T E : Type 0} (p : Program A) (t u : Timeline) (stops : Listed) (limit : ℕ) (w : Width) (at : Address) (v start n : ℕ) (told : Result (Unit {0}) PokeError) (r : Result T E) (a b : Option (List ℕ)) →
+    address_said p at ≡ Some start → n ≡ width_bytes w →
+    told ≡ Err OutOfMemory → (told ≡ Err DeadAddress) ↔ (poke_memory t.now start n v ≡ Err dead_bytes) → u ≡ t → Puts r a b (reason_line Memory ++ place_line u) →
+    Answers (sits p t stops limit) (sits p u stops limit) (Ok (Some (Poke w at v))) r a b
+unfolding answer IsLawful
+answers_poke_wants p t u stops limit w at v start n told r a b is wide wants dead same text =
+    let there = subst (λ i. (told ≡ Err DeadAddress) ↔ (poke_memory t.now start i v ≡ Err dead_bytes)) wide dead in
+    record {
+      want = Some 0;
+      lawful = (refl, start, is, memory_by t.now (stored t.now.memory start (width_bytes w) v) told wants there);
+      text = subst (λ (w : Timeline). Puts r a b (reason_line Memory ++ place_line w)) same text;
+      left = ap (λ (w : Timeline). sits p w stops limit) same;
+    }

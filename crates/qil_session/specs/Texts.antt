@@ -1,0 +1,58 @@
+-- The texts of stops, reasons and refusals.
+use Rattle.std.specs.Prelude.{ℕ, ◌==◌, cond, List, [], ◌∷◌, codes, decimal, Option, Some, None}
+use Rattle.qil_tree.specs.declared.tree.Program.{Program}
+use Rattle.qil_commands.specs.declared.command.Refused.{Refused}
+use Rattle.qil_commands.specs.declared.command.Refused.TheVariants.{LineTooLong, UnknownCommand, MissingWord, BadWord, ExtraWord}
+use Rattle.qil_meaning.specs.declared.reason.Reason.{Reason}
+use Rattle.qil_meaning.specs.declared.reason.Reason.TheVariants as reasons
+use Rattle.qil_numbering.specs.Numbered.{func_at, block_at, names_of}
+use Rattle.qil_numbering.specs.Slots.{name_at}
+use Rattle.qil_state.specs.State.{func_name, label_in}
+use Rattle.qil_stops.specs.declared.stop.Watched.TheVariants as watches
+use Rattle.qil_stops.specs.declared.stop.StopKind.{StopKind}
+use Rattle.qil_stops.specs.declared.stop.StopKind.TheVariants as kinds
+use Rattle.qil_stops.specs.declared.stop.Stop.{Stop}
+use Rattle.qil_answers.specs.Texts.{text_of}
+
+abbrev pub refusal_text : Refused → List ℕ
+refusal_text LineTooLong = codes "no: line too long"
+refusal_text UnknownCommand = codes "no: unknown command"
+refusal_text MissingWord = codes "no: missing word"
+refusal_text BadWord = codes "no: bad word"
+refusal_text ExtraWord = codes "no: extra word"
+
+-- ---- reasons
+
+-- `stop: REASON`
+abbrev pub reason_line : Reason → List ℕ
+reason_line reasons.End = codes "stop: end\n"
+reason_line reasons.Start = codes "stop: start\n"
+reason_line reasons.Oldest = codes "stop: oldest\n"
+reason_line (reasons.Watch n) = text_of (codes "stop: watch " ∷ decimal n ∷ codes "\n" ∷ [])
+reason_line (reasons.Break n) = text_of (codes "stop: break " ∷ decimal n ∷ codes "\n" ∷ [])
+reason_line reasons.Limit = codes "stop: limit\n"
+reason_line reasons.Memory = codes "stop: memory\n"
+
+abbrev pub reason_told : Option Reason → List ℕ
+reason_told None = []
+reason_told (Some reason) = reason_line reason
+
+-- ---- stops
+
+-- the letter of a width in bytes
+abbrev pub width_letter : ℕ → List ℕ
+width_letter n = cond (n == 1) (codes "b") (cond (n == 2) (codes "h") (cond (n == 4) (codes "w") (codes "l")))
+
+abbrev pub stop_line : {A : Type 0} → Program A → ℕ → StopKind → List ℕ
+stop_line p n (kinds.Break place) =
+    text_of (codes "break " ∷ decimal n ∷ codes " $" ∷ func_name (func_at p place.func.index) ∷ codes " @" ∷ label_in (block_at p place.func.index place.block.index)
+    ∷ codes " " ∷ decimal place.index ∷ codes "\n" ∷ [])
+stop_line p n (kinds.Watch (watches.Bytes a width)) = text_of (codes "watch " ∷ decimal n ∷ codes " " ∷ width_letter width ∷ codes " " ∷ decimal a ∷ codes "\n" ∷ [])
+stop_line p n (kinds.Watch (watches.Temp func slot)) =
+    text_of (codes "watch " ∷ decimal n ∷ codes " $" ∷ func_name (func_at p func.index) ∷ codes " %" ∷ name_at (names_of p func.index) slot.index ∷ codes "\n" ∷ [])
+
+abbrev pub listed_line : {A : Type 0} → Program A → Stop → List ℕ
+listed_line p stop = stop_line p stop.number stop.kind
+
+abbrev pub deleted_line : ℕ → List ℕ
+deleted_line n = text_of (codes "deleted " ∷ decimal n ∷ codes "\n" ∷ [])

@@ -1,0 +1,40 @@
+//! The answer to a line of a script.
+
+ghost use Rattle.std.specs.Prelude.{◌≡◌, ◌+◌, ◌-◌, ◌^◌, ◌<◌, ◌≤◌};
+ghost use Rattle.qil_commands.specs.Command.{command_of};
+ghost use Rattle.qil_meaning.specs.Timeline.{position};
+ghost use Rattle.qil_streams.specs.Device.{Counts};
+ghost use Rattle.qil_session.specs.Answers.{AnswersLine};
+ghost use Rattle.qil_session.specs.Kept.{situation};
+
+use crate::session::{Next, Session};
+use qil_commands::{Command, read_command};
+use qil_history::History;
+use qil_machine::Machine;
+use qil_streams::{Put, Stopped};
+use std::alloc::Allocator;
+
+/// Answers a line, of which the front is kept: a `quit` is no more than told.
+pub fn answer_line<'c, A: Allocator + Copy + 'c, H: History<A, Machine<'c, 'c, A>>, P: Put>(
+    session: &mut Session<A, H>,
+    kept: &[u8],
+    out: &mut P,
+) -> Result<Next, Stopped>
+    requires stops { P.stops out.old < 2 ^ 64 - 1 }
+    requires before { position (H.timeline session.old.history) < 2 ^ 61 }
+    requires limit { session.old.limit ≤ 4294967295 }
+    ensures near { position (H.timeline session.new.history) < position (H.timeline session.old.history) + 2 ^ 32 }
+    ensures limit { session.new.limit ≡ session.old.limit }
+    ensures answered { AnswersLine result (situation H.program H.timeline session.old) (situation H.program H.timeline session.new) (command_of kept.now) (P.written out.old) (P.written out.new) }
+    ensures counted { Counts result (P.stops out.old) (P.stops out.new) }
+    ensures device { P.device out.new ≡ P.device out.old }
+{
+    let said = read_command(kept);
+    if matches!(said, Ok(Some(Command::Quit))) {
+        return Ok(Next::Quit);
+    }
+    match session.answer(said, out) {
+        Ok(()) => Ok(Next::Go),
+        Err(Stopped) => Err(Stopped),
+    }
+}

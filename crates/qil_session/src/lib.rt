@@ -1,0 +1,17 @@
+//! A session: a history, stops, and how many moves a run makes at most; and its answer to each line of a script.
+//!
+//! `specs/Answers.antt` says what each command is answered, and what it does to the timeline and to the stops.
+#![tactic(auto)]
+
+mod answer;
+mod moves;
+mod poking;
+mod session;
+mod showing;
+mod stopping;
+mod texts;
+mod walk;
+mod words;
+
+pub use answer::answer_line;
+pub use session::{Next, Session};

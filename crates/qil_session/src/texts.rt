@@ -1,0 +1,148 @@
+//! The lines of reasons, stops and refusals.
+
+ghost use Rattle.std.specs.Prelude.{◌≡◌, ◌-◌, ◌^◌, ◌<◌};
+ghost use Rattle.qil_streams.specs.Device.{Counts, Puts};
+ghost use Rattle.qil_streams.specs.Text.{line};
+ghost use Rattle.qil_session.specs.Texts.{reason_line, refusal_text, width_letter, stop_line, deleted_line};
+
+use qil_answers::{Piece, func_name, label_name, put_pieces, temp_name};
+use qil_commands::Refused;
+use qil_meaning::Reason;
+use qil_numbering::Code;
+use qil_stops::{StopKind, Watched};
+use qil_streams::{Put, Stopped, put_line};
+use std::alloc::Allocator;
+
+/// Puts why a run stopped.
+pub fn put_reason<P: Put>(out: &mut P, reason: Reason) -> Result<(), Stopped>
+    requires { P.stops out.old < 2 ^ 64 - 1 }
+    ensures text { Puts result (P.written out.old) (P.written out.new) (reason_line reason) }
+    ensures counted { Counts result (P.stops out.old) (P.stops out.new) }
+    ensures device { P.device out.new ≡ P.device out.old }
+{
+    match reason {
+        Reason::End => out.put(b"stop: end\n"),
+        Reason::Start => out.put(b"stop: start\n"),
+        Reason::Oldest => out.put(b"stop: oldest\n"),
+        Reason::Watch(number) => put_pieces(
+            out,
+            &[
+                Piece::Bytes(b"stop: watch "),
+                Piece::Number(number),
+                Piece::Bytes(b"\n"),
+            ],
+        ),
+        Reason::Break(number) => put_pieces(
+            out,
+            &[
+                Piece::Bytes(b"stop: break "),
+                Piece::Number(number),
+                Piece::Bytes(b"\n"),
+            ],
+        ),
+        Reason::Limit => out.put(b"stop: limit\n"),
+        Reason::Memory => out.put(b"stop: memory\n"),
+    }
+}
+
+/// Puts why a line spells no command.
+pub fn put_refusal<P: Put>(out: &mut P, refused: Refused) -> Result<(), Stopped>
+    requires { P.stops out.old < 2 ^ 64 - 1 }
+    ensures text { Puts result (P.written out.old) (P.written out.new) (line (refusal_text refused)) }
+    ensures counted { Counts result (P.stops out.old) (P.stops out.new) }
+    ensures device { P.device out.new ≡ P.device out.old }
+{
+    match refused {
+        Refused::LineTooLong => put_line(out, b"no: line too long"),
+        Refused::UnknownCommand => put_line(out, b"no: unknown command"),
+        Refused::MissingWord => put_line(out, b"no: missing word"),
+        Refused::BadWord => put_line(out, b"no: bad word"),
+        Refused::ExtraWord => put_line(out, b"no: extra word"),
+    }
+}
+
+/// The letter of a width in bytes.
+fn width_letter(width: u64) -> &'static [u8]
+    ensures { result.now ≡ width_letter width }
+{
+    if width == 1 {
+        b"b"
+    } else if width == 2 {
+        b"h"
+    } else if width == 4 {
+        b"w"
+    } else {
+        b"l"
+    }
+}
+
+/// Puts the line of a stop: its number, and what it looks for.
+pub fn put_stop<'c, 'a, P: Put, A: Allocator + Copy>(
+    out: &mut P,
+    code: &'c Code<'c, 'a, A>,
+    number: u64,
+    kind: StopKind,
+) -> Result<(), Stopped>
+    requires { P.stops out.old < 2 ^ 64 - 1 }
+    ensures text { Puts result (P.written out.old) (P.written out.new) (stop_line code.now number kind) }
+    ensures counted { Counts result (P.stops out.old) (P.stops out.new) }
+    ensures device { P.device out.new ≡ P.device out.old }
+{
+    match kind {
+        StopKind::Break(place) => put_pieces(
+            out,
+            &[
+                Piece::Bytes(b"break "),
+                Piece::Number(number),
+                Piece::Bytes(b" $"),
+                Piece::Bytes(func_name(code, place.func)),
+                Piece::Bytes(b" @"),
+                Piece::Bytes(label_name(code, place.func, place.block)),
+                Piece::Bytes(b" "),
+                Piece::Number(place.index),
+                Piece::Bytes(b"\n"),
+            ],
+        ),
+        StopKind::Watch(Watched::Bytes { address, width }) => put_pieces(
+            out,
+            &[
+                Piece::Bytes(b"watch "),
+                Piece::Number(number),
+                Piece::Bytes(b" "),
+                Piece::Bytes(width_letter(width)),
+                Piece::Bytes(b" "),
+                Piece::Number(address),
+                Piece::Bytes(b"\n"),
+            ],
+        ),
+        StopKind::Watch(Watched::Temp { func, slot }) => put_pieces(
+            out,
+            &[
+                Piece::Bytes(b"watch "),
+                Piece::Number(number),
+                Piece::Bytes(b" $"),
+                Piece::Bytes(func_name(code, func)),
+                Piece::Bytes(b" %"),
+                Piece::Bytes(temp_name(code, func, slot)),
+                Piece::Bytes(b"\n"),
+            ],
+        ),
+    }
+}
+
+/// Puts that a stop was deleted.
+pub fn put_deleted<P: Put>(out: &mut P, number: u64) -> Result<(), Stopped>
+    requires { P.stops out.old < 2 ^ 64 - 1 }
+    ensures text { Puts result (P.written out.old) (P.written out.new) (deleted_line number) }
+    ensures counted { Counts result (P.stops out.old) (P.stops out.new) }
+    ensures device { P.device out.new ≡ P.device out.old }
+{
+    put_pieces(
+        out,
+        &[
+            Piece::Bytes(b"deleted "),
+            Piece::Number(number),
+            Piece::Bytes(b"\n"),
+        ],
+    )
+}

@@ -1,0 +1,6 @@
+-- The lemmas of this crate.
+pub mod Kept
+pub mod Naming
+pub mod Telling
+pub mod OnWay
+pub mod BackWay

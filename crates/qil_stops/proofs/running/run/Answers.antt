@@ -1,0 +1,27 @@
+-- With no stops and with some.
+use Rattle.std.proofs.Common.{◌≡◌, subst, List, length}
+use Rattle.qil_meaning.specs.Stops.{Numbered}
+use Rattle.qil_meaning.specs.Runs.{RunsOn}
+use Rattle.qil_stops.proofs.Naming.{named-none, no_length}
+use Rattle.qil_stops.proofs.OnWay.{on-near, on-over_already, on-at_once}
+use Rattle.qil_stops.proofs.running.run.Goals as goal
+
+pub returns-then-is_empty-clause-run : goal.returns-then-is_empty-clause-run
+returns-then-is_empty-clause-run g c =
+    let empty = c.is_empty.ensures in
+    let test = c.if-is_empty.true in
+    let none : length c.args.stops.now.kept ≡ 0 = no_length c.list-list.result.now c.args.stops.now.kept c.is_empty.result c.list-list.ensures.stops empty test in
+    subst (λ (stops : List Numbered). RunsOn (g.H.History.program c.args.history.now) stops c.args.limit (g.H.History.timeline c.args.history.now) c.run_freely.result.0 c.run_freely.result.1 (g.H.History.timeline c.run_freely.new.history))
+    (named-none (g.H.History.program c.args.history.now) c.args.stops.now.kept none) c.run_freely.ensures.run
+
+pub returns-then-is_empty-clause-near : goal.returns-then-is_empty-clause-near
+returns-then-is_empty-clause-near g c = on-near _ _ c.args.limit _ _ _ _ c.run_freely.ensures.run
+
+pub returns-then-is_empty-clause-end : goal.returns-then-is_empty-clause-end
+returns-then-is_empty-clause-end g c = (λ r. on-over_already _ _ c.args.limit _ _ _ _ c.run_freely.ensures.run r.0 r.1, λ over. on-at_once _ _ c.args.limit _ _ _ _ c.run_freely.ensures.run over)
+
+pub returns-else-is_empty-clause-near : goal.returns-else-is_empty-clause-near
+returns-else-is_empty-clause-near g c = on-near _ _ c.args.limit _ _ _ _ c.run_watching.ensures.run
+
+pub returns-else-is_empty-clause-end : goal.returns-else-is_empty-clause-end
+returns-else-is_empty-clause-end g c = (λ r. on-over_already _ _ c.args.limit _ _ _ _ c.run_watching.ensures.run r.0 r.1, λ over. on-at_once _ _ c.args.limit _ _ _ _ c.run_watching.ensures.run over)

@@ -1,0 +1,13 @@
+//! Breakpoints and watches, and runs forward and back to the first place where there is a reason to stop.
+//!
+//! `specs/Named.antt` says what a stop stands for in a program, by names; to what a run comes is the meaning's to say.
+#![tactic(auto)]
+
+mod found;
+mod running;
+mod stop;
+mod stops;
+
+pub use running::{run, run_back};
+pub use stop::{Place, Stop, StopKind, Watched};
+pub use stops::{StopError, Stops};
