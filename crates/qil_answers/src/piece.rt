@@ -8,7 +8,7 @@ ghost use Rattle.qil_answers.specs.Texts.{piece_text};
 use qil_streams::{Put, Stopped, put_number};
 
 /// A part of a line: bytes as they are, or a number in decimal digits.
-#[derive(Clone, Copy, Debug)]
+#[derive(Clone, Copy)]
 pub enum Piece<'p> {
     Bytes(&'p [u8]),
     Number(u64),

@@ -38,7 +38,7 @@ impl From<AllocError> for CheckError {
 }
 
 /// A program that is well-formed.
-#[derive(Debug, Drop)]
+#[derive(Drop)]
 pub struct Checked<'a, A: Allocator> {
     program: Program<'a, A>,
     form: Form<'a>,

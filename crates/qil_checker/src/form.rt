@@ -3,7 +3,7 @@
 use qil_tree::Name;
 
 /// Whether each temporary of a program has one definition.
-#[derive(Debug, Drop)]
+#[derive(Drop)]
 pub enum Form<'a> {
     Single,
     /// The first function of the text in which a temporary has several, and of its temporaries the one whose second

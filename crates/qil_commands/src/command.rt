@@ -7,7 +7,7 @@ use std::fmt;
 use std::marker::Model;
 
 /// A name without its sigil: a part of the line.
-#[derive(Debug, Drop)]
+#[derive(Drop)]
 pub struct Name<'a> {
     bytes: &'a [u8],
 }
@@ -59,7 +59,7 @@ pub enum Verb {
 }
 
 /// What a watch looks at, as the word behind `watch` says.
-#[derive(Debug, Drop)]
+#[derive(Drop)]
 pub enum Looked<'a> {
     Bytes(Width),
     /// A temporary of the function of this name.
@@ -67,7 +67,7 @@ pub enum Looked<'a> {
 }
 
 /// An address in a command.
-#[derive(Debug, Drop)]
+#[derive(Drop)]
 pub enum Address<'a> {
     Number(u64),
     /// So many bytes behind the address of a global, modulo 2^64.
@@ -75,14 +75,14 @@ pub enum Address<'a> {
 }
 
 /// A place in a function: a block, and an index of its instructions. Behind the last one stands the jump.
-#[derive(Debug, Drop)]
+#[derive(Drop)]
 pub struct BreakPlace<'a> {
     pub label: Name<'a>,
     pub index: u64,
 }
 
 /// What a line asks of a session.
-#[derive(Debug, Drop)]
+#[derive(Drop)]
 pub enum Command<'a> {
     /// Move forward up to this many times, 1 to 4,294,967,295.
     Step(u32),

@@ -14,7 +14,7 @@ use qil_numbering::{BlockId, PhiMove, Receiver, Slot};
 use std::alloc::{AllocError, Allocator};
 use std::marker::Model;
 
-#[derive(Debug, Drop)]
+#[derive(Drop)]
 struct Body<A: Allocator> {
     slots: Vec<Option<u64>, A>,
     func: u16,
@@ -25,7 +25,7 @@ struct Body<A: Allocator> {
 }
 
 /// A call that is not over, behind one pointer.
-#[derive(Debug, Drop)]
+#[derive(Drop)]
 pub struct Frame<A: Allocator> {
     body: Box<Body<A>, A>,
 }

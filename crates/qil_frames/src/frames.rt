@@ -14,7 +14,7 @@ use std::marker::Model;
 const MOST_FRAMES: usize = 1_000;
 
 /// The calls that are not over, with room for all that there may be. Specifications see the innermost first.
-#[derive(Debug, Drop)]
+#[derive(Drop)]
 pub struct Frames<A: Allocator> {
     stack: Vec<Frame<A>, A>,
 }

@@ -26,7 +26,7 @@ pub enum PhiFault {
 }
 
 /// What the slots held that phis wrote, in the order of the text. Only many take memory.
-#[derive(Debug, Drop)]
+#[derive(Drop)]
 pub enum KeptSlots<A: Allocator> {
     None,
     /// Whether the slot was set, the slot, and the value if it was.
@@ -65,7 +65,7 @@ impl<A: Allocator> KeptSlots<A> {
 
 /// What entering a block keeps: the place that was left, and what the slots held that were written. Specifications see
 /// the slots as a list.
-#[derive(Debug, Drop)]
+#[derive(Drop)]
 pub struct PhiSaved<A: Allocator> {
     pub(crate) block: u16,
     pub(crate) index: u32,

@@ -17,7 +17,7 @@ use std::hash::RandomState;
 use std::marker::Model;
 
 /// Where the names of a program lie, and the bytes of its data.
-#[derive(Debug, Drop)]
+#[derive(Drop)]
 pub struct Image<'c, 'a, A: Allocator> {
     program: &'c Program<'a, A>,
     names: Table<'a, A>,

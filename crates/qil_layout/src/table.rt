@@ -10,7 +10,7 @@ use std::alloc::{AllocError, Allocator};
 use std::hash::RandomState;
 
 /// From each name that was noted to its address.
-#[derive(Debug, Drop)]
+#[derive(Drop)]
 pub struct Table<'a, A: Allocator> {
     addresses: IndexMap<&'a [u8], u64, RandomState, A>,
 }

@@ -13,7 +13,7 @@ use std::alloc::Allocator;
 use std::marker::Model;
 
 /// What an allocation on the stack keeps.
-#[derive(Debug, Drop)]
+#[derive(Drop)]
 pub struct Grown<A: Allocator> {
     pub index: u32,
     pub slot: Slot,
@@ -22,14 +22,14 @@ pub struct Grown<A: Allocator> {
 }
 
 /// What a copy of bytes keeps.
-#[derive(Debug, Drop)]
+#[derive(Drop)]
 pub struct Copied<A: Allocator> {
     pub index: u32,
     pub saved: Saved<A>,
 }
 
 /// The kinds of moves. A flag says whether a slot was set; then the number is what it held.
-#[derive(Debug, Drop)]
+#[derive(Drop)]
 pub enum Kind<A: Allocator> {
     /// Flag, slot, index, old value.
     Assigned(bool, Slot, u32, u64),
@@ -60,7 +60,7 @@ pub enum Kind<A: Allocator> {
 }
 
 /// What a move of a machine keeps. `Machine::undo` puts it back. Specifications see one record for all kinds.
-#[derive(Debug, Drop)]
+#[derive(Drop)]
 pub struct Delta<A: Allocator> {
     pub(crate) kind: Kind<A>,
 }

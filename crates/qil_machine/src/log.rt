@@ -16,7 +16,7 @@ pub trait Keeps<T> {
 }
 
 /// Room for one.
-#[derive(Debug, Drop)]
+#[derive(Drop)]
 pub struct One<T> {
     pub item: Option<T>,
 }

@@ -29,7 +29,7 @@ const STACK_END: u64 = STACK_BASE + CAPACITY;
 /// The bytes of the data from `DATA_BASE` on, all bytes of the stack from `STACK_BASE` on, and the stack's top, the first
 /// dead address of the stack. Specifications see these three as they are; `live` makes of them the map from each live
 /// address to its byte.
-#[derive(Debug, Drop)]
+#[derive(Drop)]
 pub struct Memory<A: Allocator> {
     data_bytes: Vec<u8, A>,
     stack_bytes: Vec<u8, A>,

@@ -54,7 +54,7 @@ pub struct NumberedArgument {
 }
 
 /// An instruction.
-#[derive(Debug, Drop)]
+#[derive(Drop)]
 pub enum NumberedInst<A: Allocator> {
     Assign(Class, Slot, NumberedExpr),
     /// The slot is set to the address of that many new bytes of the stack.
@@ -75,14 +75,14 @@ pub struct PhiMove {
 }
 
 /// Where a jump goes, and what the phis of that block do for the block that is left, in the order of the text.
-#[derive(Debug, Drop)]
+#[derive(Drop)]
 pub struct Edge<A: Allocator> {
     pub to: BlockId,
     pub moves: Items<PhiMove, A>,
 }
 
 /// A jump.
-#[derive(Debug, Drop)]
+#[derive(Drop)]
 pub enum NumberedJump<A: Allocator> {
     Jmp(Edge<A>),
     /// Along the first edge unless the low 32 bits of the operand are zero, else along the second.
@@ -92,14 +92,14 @@ pub enum NumberedJump<A: Allocator> {
 }
 
 /// A block.
-#[derive(Debug, Drop)]
+#[derive(Drop)]
 pub struct NumberedBlock<A: Allocator> {
     pub insts: Items<NumberedInst<A>, A>,
     pub jump: NumberedJump<A>,
 }
 
 /// A function.
-#[derive(Debug, Drop)]
+#[derive(Drop)]
 pub struct NumberedFunc<A: Allocator> {
     /// The class of each slot.
     pub classes: Items<Class, A>,

@@ -14,7 +14,7 @@ use qil_lexer::{Token, TokenKind, number_value};
 use qil_tree::{AbiType, Class, Name, Operand};
 
 /// The tokens that are left.
-#[derive(Debug, Drop)]
+#[derive(Drop)]
 pub struct Cursor<'t, 'a> {
     pub rest: &'t [Token<'a>],
     ghost numbers: { ∥ HasNumbers rest.now ∥₁ },

@@ -8,7 +8,7 @@ use qil_lexer::{Token, TokenKind};
 use qil_tree::{AllocOp, BinaryOp, Class, CompareOp, Extension, LoadOp, Name, UnaryOp, Width};
 
 /// What a token is to the grammar: its kind, or for a word which word.
-#[derive(Clone, Copy, Debug)]
+#[derive(Clone, Copy)]
 pub enum Mark {
     Global,
     Temp,

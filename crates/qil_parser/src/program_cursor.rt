@@ -16,14 +16,14 @@ use std::alloc::Allocator;
 use std::marker::Model;
 
 /// A definition.
-#[derive(Debug, Drop)]
+#[derive(Drop)]
 pub enum Defined<'a, A: Allocator> {
     Data(Data<'a, A>),
     Func(Func<'a, A>),
 }
 
 /// The definitions of a program, as far as it was read.
-#[derive(Debug, Drop)]
+#[derive(Drop)]
 pub struct Parts<'a, A: Allocator> {
     datas: Vec<Data<'a, A>, A>,
     funcs: Vec<Func<'a, A>, A>,

@@ -7,7 +7,7 @@ use qil_lexer::Token;
 use std::alloc::{AllocError, AllocFailed};
 
 /// Why reading stopped.
-#[derive(Debug, Drop)]
+#[derive(Drop)]
 pub enum Stop<'t, 'a> {
     Memory,
     /// The token that fits nothing is the first of these; whether a block without a jump came before it.

@@ -30,7 +30,7 @@ pub enum StopError {
 }
 
 /// Up to 64 stops, by rising number, and how many numbers were given. A number is given once.
-#[derive(Debug, Drop)]
+#[derive(Drop)]
 pub struct Stops<A: Allocator> {
     given: u64,
     kept: Vec<Stop, A>,

@@ -7,7 +7,7 @@ use std::alloc::Allocator;
 use std::marker::Model;
 
 /// A name without its sigil: a slice of the text. Specifications see its bytes.
-#[derive(Debug, Drop)]
+#[derive(Drop)]
 pub struct Name<'a> {
     bytes: &'a [u8],
 }
@@ -35,7 +35,7 @@ impl<'a> Name<'a> {
 }
 
 /// Items in the order of the text. Specifications see the list of them.
-#[derive(Debug, Drop)]
+#[derive(Drop)]
 pub struct Items<T, A: Allocator> {
     items: Vec<T, A>,
 }
@@ -63,7 +63,7 @@ impl<T, A: Allocator> Items<T, A> {
 }
 
 /// What an instruction or a jump reads (QBE IL, Constants and Vals).
-#[derive(Debug, Drop)]
+#[derive(Drop)]
 pub enum Operand<'a> {
     /// A constant, as its 64 bits in two's complement.
     Number(u64),
@@ -72,14 +72,14 @@ pub enum Operand<'a> {
 }
 
 /// The temporary that an instruction or a phi sets, with the class that is written there.
-#[derive(Debug, Drop)]
+#[derive(Drop)]
 pub struct Target<'a> {
     pub name: Name<'a>,
     pub class: Class,
 }
 
 /// What a target is set to.
-#[derive(Debug, Drop)]
+#[derive(Drop)]
 pub enum Expr<'a> {
     Unary(UnaryOp, Operand<'a>),
     Binary(BinaryOp, Operand<'a>, Operand<'a>),
@@ -91,28 +91,28 @@ pub enum Expr<'a> {
 }
 
 /// The temporary that takes what a call gives, with the type that is written there.
-#[derive(Debug, Drop)]
+#[derive(Drop)]
 pub struct CallResult<'a> {
     pub name: Name<'a>,
     pub abi_type: AbiType,
 }
 
 /// An argument of a call, with the type that is written there.
-#[derive(Debug, Drop)]
+#[derive(Drop)]
 pub struct Argument<'a> {
     pub abi_type: AbiType,
     pub value: Operand<'a>,
 }
 
 /// An instruction, on the line of its first token.
-#[derive(Debug, Drop)]
+#[derive(Drop)]
 pub struct Inst<'a, A: Allocator> {
     pub line: u32,
     pub kind: InstKind<'a, A>,
 }
 
 /// What an instruction does.
-#[derive(Debug, Drop)]
+#[derive(Drop)]
 pub enum InstKind<'a, A: Allocator> {
     Assign(Target<'a>, Expr<'a>),
     /// The target is set to the address of that many new bytes of the stack.
@@ -125,14 +125,14 @@ pub enum InstKind<'a, A: Allocator> {
 }
 
 /// The value that a phi takes where control comes from the block of that label.
-#[derive(Debug, Drop)]
+#[derive(Drop)]
 pub struct PhiSource<'a> {
     pub label: Name<'a>,
     pub value: Operand<'a>,
 }
 
 /// A phi, on the line of its first token (QBE IL, Phi).
-#[derive(Debug, Drop)]
+#[derive(Drop)]
 pub struct Phi<'a, A: Allocator> {
     pub line: u32,
     pub target: Target<'a>,
@@ -141,14 +141,14 @@ pub struct Phi<'a, A: Allocator> {
 }
 
 /// A jump, on the line of its first token; one that the text leaves out, on the line of the next block's label.
-#[derive(Debug, Drop)]
+#[derive(Drop)]
 pub struct Jump<'a> {
     pub line: u32,
     pub kind: JumpKind<'a>,
 }
 
 /// Where control goes (QBE IL, Jumps).
-#[derive(Debug, Drop)]
+#[derive(Drop)]
 pub enum JumpKind<'a> {
     Jmp(Name<'a>),
     /// To the first label unless the low 32 bits of the operand are zero, else to the second.
@@ -158,7 +158,7 @@ pub enum JumpKind<'a> {
 }
 
 /// A block, on the line of its label.
-#[derive(Debug, Drop)]
+#[derive(Drop)]
 pub struct Block<'a, A: Allocator> {
     pub label: Name<'a>,
     pub line: u32,
@@ -168,14 +168,14 @@ pub struct Block<'a, A: Allocator> {
 }
 
 /// A parameter of a function.
-#[derive(Debug, Drop)]
+#[derive(Drop)]
 pub struct Param<'a> {
     pub abi_type: AbiType,
     pub name: Name<'a>,
 }
 
 /// A function, on the line of its name, where its parameters stand too.
-#[derive(Debug, Drop)]
+#[derive(Drop)]
 pub struct Func<'a, A: Allocator> {
     /// The type of what it returns, if it returns a value.
     pub returns: Option<AbiType>,
@@ -187,7 +187,7 @@ pub struct Func<'a, A: Allocator> {
 }
 
 /// An item of a field of data.
-#[derive(Debug, Drop)]
+#[derive(Drop)]
 pub enum Item<'a, A: Allocator> {
     /// A constant, as its 64 bits in two's complement.
     Number(u64),
@@ -198,7 +198,7 @@ pub enum Item<'a, A: Allocator> {
 }
 
 /// A field of data.
-#[derive(Debug, Drop)]
+#[derive(Drop)]
 pub enum Field<'a, A: Allocator> {
     /// One or more items; a number or an address has that width.
     Values(Width, Items<Item<'a, A>, A>),
@@ -207,7 +207,7 @@ pub enum Field<'a, A: Allocator> {
 }
 
 /// A data object, on the line of its name (QBE IL, Data).
-#[derive(Debug, Drop)]
+#[derive(Drop)]
 pub struct Data<'a, A: Allocator> {
     pub name: Name<'a>,
     pub line: u32,
@@ -224,7 +224,7 @@ pub enum Definition {
 }
 
 /// A program.
-#[derive(Debug, Drop)]
+#[derive(Drop)]
 pub struct Program<'a, A: Allocator> {
     /// In the order of the text.
     pub datas: Items<Data<'a, A>, A>,
