@@ -19,6 +19,7 @@
 ;;; Code:
 
 (require 'comint)
+(require 'subr-x)
 
 (defgroup qrev nil "The debugger qrev." :group 'tools)
 
