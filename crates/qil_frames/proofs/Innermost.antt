@@ -21,6 +21,11 @@ on_last xs (f ∷ fs) g n old w e h en eo ew =
     let new : w ≡ g f = ew ∙ ap g was in
     ap reverse same ∙ reverse_push (reverse fs) w ∙ ap (λ l. w ∷ l) (reverse-reverse fs) ∙ ap (λ u. u ∷ fs) new
 
+-- what is done to the innermost frame in one go is what is done to it one after the other
+pub twice_on_innermost : (g h : SlotFrame → SlotFrame) (fs : List SlotFrame) → on_innermost (λ f. g (h f)) fs ≡ on_innermost g (on_innermost h fs)
+twice_on_innermost g h [] = refl
+twice_on_innermost g h (f ∷ fs) = refl
+
 pub has_frame : (fs : List SlotFrame) (s : Slot) → HasSlot fs s → HasFrame fs
 has_frame [] s h = h
 has_frame (f ∷ fs) s h = tt

@@ -203,6 +203,21 @@ impl<A: Allocator> Frame<A> {
         old
     }
 
+    /// Sets a slot, stands at an index, and gives what stood in the slot.
+    #[inline(always)]
+    pub fn assign(&mut self, slot: Slot, value: Option<u64>, index: u32) -> Option<u64>
+        requires { slot.index < length self.old.slots }
+        ensures old { result ≡ get_or self.old.slots slot.index None }
+        ensures new { self.new ≡ at_index index (with_slot slot value self.old) }
+    {
+        let body = self.body.as_mut();
+        let place = &mut body.slots[usize::from(slot.index)];
+        let old = *place;
+        *place = value;
+        body.index = index;
+        old
+    }
+
     #[inline(always)]
     pub fn set_index(&mut self, index: u32)
         ensures { self.new ≡ at_index index self.old }

@@ -121,6 +121,19 @@ impl<A: Allocator> Frames<A> {
         frame.set(slot, value)
     }
 
+    /// Sets a slot, stands at an index, and gives what stood in the slot. As `set` and `set_index`, with the frame looked up
+    /// once.
+    #[inline(always)]
+    pub fn assign(&mut self, slot: Slot, value: Option<u64>, index: u32) -> Option<u64>
+        requires { HasSlot self.old slot }
+        ensures old { result ≡ held self.old slot }
+        ensures new { self.new ≡ on_innermost (at_index index) (on_innermost (with_slot slot value) self.old) }
+    {
+        let last = self.stack.len() - 1;
+        let frame = &mut self.stack[last];
+        frame.assign(slot, value, index)
+    }
+
     #[inline(always)]
     pub fn set_index(&mut self, index: u32)
         requires { HasFrame self.old }

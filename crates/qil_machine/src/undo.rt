@@ -64,8 +64,7 @@ impl<'c, 'a, A: Allocator + Copy> Machine<'c, 'a, A> {
         requires { Fits (slots_move (at index) (one slot value)) self.old }
         ensures { self.new ≡ undone (slots_move (at index) (one slot value)) self.old }
     {
-        let _ = self.frames.set(slot, value);
-        self.frames.set_index(index);
+        let _ = self.frames.assign(slot, value, index);
         self.status = Status::Running;
     }
 
