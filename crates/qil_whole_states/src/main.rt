@@ -7,13 +7,13 @@
 #![tactic(auto)]
 
 use anyhow::bail;
-use qil_checker::check;
+use qil_checker::{Checked, check};
 use qil_history::Snapshots;
 use qil_layout::layout;
 use qil_lexer::tokens;
 use qil_machine::Machine;
 use qil_numbering::{Code, number};
-use qil_parser::parse;
+use qil_parser::{Program, parse};
 use qil_transcript::{FromReader, IntoWriter, Session, serve};
 use std::alloc::Global;
 use std::hash::RandomState;
@@ -58,28 +58,45 @@ fn answer<'c, R: Print>(
     Ok(true)
 }
 
-/// Loads the program, and answers the script; false where the program can't start.
-fn load_and_answer<R: Print>(
-    rt: &R,
+/// What is to be answered, and where.
+#[derive(Clone, Copy)]
+struct Task<'t, R> {
+    rt: &'t R,
     alloc: Global,
     keys: RandomState,
-    text: &[u8],
-    script: &[u8],
+    script: &'t [u8],
+}
+
+/// Lays a program out, numbers it and answers the script; false where the program can't start.
+fn answer_checked<R: Print>(
+    task: &Task<'_, R>,
+    checked: &Checked<'_, Global>,
 ) -> anyhow::Result<bool> {
-    let Ok(found) = tokens(alloc, text) else {
+    let Ok(image) = layout(task.alloc, task.keys, checked) else {
         return Ok(false);
     };
-    let Ok(program) = parse(alloc, &found) else {
+    let code = number(task.alloc, task.keys, checked, &image)?;
+    answer(task.rt, task.alloc, &code, task.script)
+}
+
+fn answer_program<R: Print>(
+    task: &Task<'_, R>,
+    program: Program<'_, Global>,
+) -> anyhow::Result<bool> {
+    match check(task.alloc, task.keys, program) {
+        Ok(checked) => answer_checked(task, &checked),
+        Err(_) => Ok(false),
+    }
+}
+
+fn answer_text<R: Print>(task: &Task<'_, R>, text: &[u8]) -> anyhow::Result<bool> {
+    let Ok(found) = tokens(task.alloc, text) else {
         return Ok(false);
     };
-    let Ok(checked) = check(alloc, keys, program) else {
-        return Ok(false);
-    };
-    let Ok(image) = layout(alloc, keys, &checked) else {
-        return Ok(false);
-    };
-    let code = number(alloc, keys, &checked, &image)?;
-    answer(rt, alloc, &code, script)
+    match parse(task.alloc, &found) {
+        Ok(program) => answer_program(task, program),
+        Err(_) => Ok(false),
+    }
 }
 
 fn main(rt: HostRuntime) -> anyhow::Result<ExitCode> {
@@ -90,8 +107,13 @@ fn main(rt: HostRuntime) -> anyhow::Result<ExitCode> {
         bail!("the text is shorter than that");
     }
     let (text, script) = input.split_at(length);
-    let keys = RandomState::new(&rt)?;
-    if !load_and_answer(&rt, rt.alloc(), keys, text, script)? {
+    let task = Task {
+        rt: &rt,
+        alloc: rt.alloc(),
+        keys: RandomState::new(&rt)?,
+        script,
+    };
+    if !answer_text(&task, text)? {
         println!(rt; "refused")?;
     }
     Ok(ExitCode::SUCCESS)
