@@ -1,4 +1,4 @@
-//! `qil_run [MOVES]`: runs the function `main` of the text on standard input, without arguments, on a machine alone, for
+//! `qil_run [MOVES]`: runs the function `main` of the text on standard input, without arguments and without a session, for
 //! at most so many moves, 1,000,000 where the command line has no number; and then goes back to the start.
 //!
 //! Standard output has `refused` for a text that isn't accepted or has no such function. Else it has the position where
@@ -10,15 +10,16 @@
 mod report;
 mod run;
 
-use qil_checker::check;
+use qil_checker::{Checked, check};
+use qil_history::{Deltas, History};
 use qil_layout::layout;
 use qil_lexer::tokens;
 use qil_machine::{Machine, StartError};
 use qil_memory::STACK_BASE;
 use qil_numbering::{Code, number};
-use qil_parser::parse;
+use qil_parser::{Program, parse};
 use report::report;
-use run::{Run, back, forward};
+use run::{back, forward};
 use std::alloc::Global;
 use std::hash::RandomState;
 use std::io::{self, Read};
@@ -36,11 +37,11 @@ enum Answer {
     /// It ran, and going back came to the start.
     Back,
     /// Going back ended at this position, or at 0 with a machine that doesn't stand at the start.
-    Differs(usize),
+    Differs(u64),
 }
 
 /// How many moves the command line asks for.
-fn moves<R: Env + AllocGlobal>(rt: &R) -> anyhow::Result<usize> {
+fn moves<R: Env + AllocGlobal>(rt: &R) -> anyhow::Result<u32> {
     for word in std::env::args(rt)? {
         if let Ok(number) = word.parse() {
             return Ok(number);
@@ -64,67 +65,89 @@ fn is_at_start(machine: &Machine<'_, '_, Global>) -> bool {
     }
 }
 
-/// Runs a program to its end, and back.
-fn run_timed<'c, 'a, R: Clock + Print + Eprint>(
-    rt: &R,
+/// What a text is run with.
+#[derive(Clone, Copy)]
+struct Task<'t, R> {
+    rt: &'t R,
     alloc: Global,
-    code: &'c Code<'c, 'a, Global>,
-    limit: usize,
+    keys: RandomState,
+    limit: u32,
+}
+
+/// Runs to the end, and back.
+fn run_timed<R: Clock + Print + Eprint>(
+    rt: &R,
+    limit: u32,
+    run: &mut Deltas<'_, '_, Global>,
 ) -> anyhow::Result<Answer> {
-    let machine = match Machine::start(alloc, code, b"main", &[]) {
-        Ok(machine) => machine,
-        Err(StartError::OutOfMemory) => return Err(StartError::OutOfMemory.into()),
-        Err(_) => return Ok(Answer::Refused),
-    };
-    let mut run = Run {
-        machine,
-        deltas: Vec::new(alloc),
-    };
     let start = Instant::now(rt)?;
-    forward(&mut run, limit)?;
+    forward(run, limit)?;
     let forward_time = start.elapsed(rt)?.as_nanos();
-    let position = run.deltas.len();
-    report(rt, &run.machine, position)?;
+    let position = run.position();
+    report(rt, run.machine(), position)?;
     let start = Instant::now(rt)?;
-    let left = back(&mut run);
+    let left = back(run);
     let back_time = start.elapsed(rt)?.as_nanos();
     eprintln!(rt; "moves {position} forward {forward_time} back {back_time}")?;
-    if left == 0 && is_at_start(&run.machine) {
+    if left == 0 && is_at_start(run.machine()) {
         return Ok(Answer::Back);
     }
     Ok(Answer::Differs(left))
 }
 
-/// Loads a text, and runs it.
-fn load_and_run<R: Clock + Print + Eprint>(
-    rt: &R,
-    alloc: Global,
-    keys: RandomState,
-    text: &[u8],
-    limit: usize,
+fn run_code<R: Clock + Print + Eprint>(
+    task: &Task<'_, R>,
+    code: &Code<'_, '_, Global>,
 ) -> anyhow::Result<Answer> {
-    let Ok(found) = tokens(alloc, text) else {
+    match Machine::start(task.alloc, code, b"main", &[]) {
+        Ok(machine) => run_timed(task.rt, task.limit, &mut Deltas::new(task.alloc, machine)),
+        Err(StartError::OutOfMemory) => Err(StartError::OutOfMemory.into()),
+        Err(_) => Ok(Answer::Refused),
+    }
+}
+
+fn run_checked<R: Clock + Print + Eprint>(
+    task: &Task<'_, R>,
+    checked: &Checked<'_, Global>,
+) -> anyhow::Result<Answer> {
+    let Ok(image) = layout(task.alloc, task.keys, checked) else {
         return Ok(Answer::Refused)
     };
-    let Ok(program) = parse(alloc, &found) else {
+    let code = number(task.alloc, task.keys, checked, &image)?;
+    run_code(task, &code)
+}
+
+fn run_program<R: Clock + Print + Eprint>(
+    task: &Task<'_, R>,
+    program: Program<'_, Global>,
+) -> anyhow::Result<Answer> {
+    match check(task.alloc, task.keys, program) {
+        Ok(checked) => run_checked(task, &checked),
+        Err(_) => Ok(Answer::Refused),
+    }
+}
+
+fn run_text<R: Clock + Print + Eprint>(task: &Task<'_, R>, text: &[u8]) -> anyhow::Result<Answer> {
+    let Ok(found) = tokens(task.alloc, text) else {
         return Ok(Answer::Refused)
     };
-    let Ok(checked) = check(alloc, keys, program) else {
-        return Ok(Answer::Refused)
-    };
-    let Ok(image) = layout(alloc, keys, &checked) else {
-        return Ok(Answer::Refused)
-    };
-    let code = number(alloc, keys, &checked, &image)?;
-    run_timed(rt, alloc, &code, limit)
+    match parse(task.alloc, &found) {
+        Ok(program) => run_program(task, program),
+        Err(_) => Ok(Answer::Refused),
+    }
 }
 
 fn main(rt: HostRuntime) -> anyhow::Result<ExitCode> {
     let limit = moves(&rt)?;
     let mut text = Vec::new(rt.alloc());
     rt.reader().take(LIMIT).read_to_end(&mut text)?;
-    let keys = RandomState::new(&rt)?;
-    match load_and_run(&rt, rt.alloc(), keys, text.as_slice(), limit)? {
+    let task = Task {
+        rt: &rt,
+        alloc: rt.alloc(),
+        keys: RandomState::new(&rt)?,
+        limit,
+    };
+    match run_text(&task, text.as_slice())? {
         Answer::Refused => println!(rt; "refused")?,
         Answer::Back => println!(rt; "back")?,
         Answer::Differs(position) => {

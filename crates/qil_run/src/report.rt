@@ -10,7 +10,7 @@ use std::alloc::Global;
 pub fn report<R: Print>(
     rt: &R,
     machine: &Machine<'_, '_, Global>,
-    position: usize,
+    position: u64,
 ) -> anyhow::Result<()> {
     match machine.status() {
         Status::Running => println!(rt; "#{position}")?,
@@ -27,7 +27,7 @@ pub fn report<R: Print>(
 fn report_fault<R: Print>(
     rt: &R,
     machine: &Machine<'_, '_, Global>,
-    position: usize,
+    position: u64,
     fault: Fault,
 ) -> anyhow::Result<()> {
     match fault {
@@ -50,7 +50,7 @@ fn report_fault<R: Print>(
 fn report_unset<R: Print>(
     rt: &R,
     machine: &Machine<'_, '_, Global>,
-    position: usize,
+    position: u64,
     slot: Slot,
 ) -> anyhow::Result<()> {
     let frames = machine.frames();

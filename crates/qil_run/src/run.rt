@@ -1,20 +1,15 @@
-//! A run forward, and back by what its moves kept.
+//! A run forward, and back by what its moves kept, over a history as `qrev` has it.
 
-use qil_machine::{Delta, Machine, MoveError};
+ghost use Rattle.std.specs.Prelude.{◌^◌, ◌<◌};
+
+use qil_history::{Deltas, History};
+use qil_machine::MoveError;
 use std::alloc::Global;
 
-/// A machine, and what its moves kept.
-#[derive(Drop)]
-pub struct Run<'c, 'a> {
-    pub machine: Machine<'c, 'a, Global>,
-    pub deltas: Vec<Delta<Global>, Global>,
-}
-
-/// Makes at most so many moves, up to the end of the run.
-pub fn forward(run: &mut Run<'_, '_>, limit: usize) -> anyhow::Result<()> {
-    for _ in 0..limit {
-        run.deltas.reserve(1)?;
-        match run.machine.advance_into(&mut run.deltas) {
+/// Makes moves up to a position, or to the end of the run.
+pub fn forward(run: &mut Deltas<'_, '_, Global>, limit: u32) -> anyhow::Result<()> {
+    while run.position() < u64::from(limit) {
+        match run.forward() {
             Ok(()) => {}
             Err(MoveError::AtEnd) => return Ok(()),
             Err(error) => return Err(error.into()),
@@ -23,16 +18,12 @@ pub fn forward(run: &mut Run<'_, '_>, limit: usize) -> anyhow::Result<()> {
     Ok(())
 }
 
-/// Goes back to the start, or up to a move that doesn't fit: how many are left.
-pub fn back(run: &mut Run<'_, '_>) -> usize {
-    for left in (0..run.deltas.len()).rev() {
-        let Some(delta) = run.deltas.pop() else {
-            return 0;
-        };
-        if !delta.fits(&run.machine) {
-            return left + 1;
+/// Takes moves back, up to the start: how many are left.
+pub fn back(run: &mut Deltas<'_, '_, Global>) -> u64 {
+    for _ in 0..run.position() {
+        if run.back().is_err() {
+            break;
         }
-        run.machine.undo(delta);
     }
-    0
+    run.position()
 }
