@@ -17,6 +17,7 @@ outcome_status outcome.Memory = 3
 -- where no session was run
 abbrev pub failure_status : Failure → ℕ
 failure_status failure.Helped = 0
+failure_status failure.Unhelped = 2
 failure_status failure.Unreadable = 2
 failure_status failure.NoKeys = 2
 failure_status failure.OutOfMemory = 3

@@ -14,6 +14,8 @@ use std::rt::Env;
 pub enum Failure {
     /// Help was asked for and printed.
     Helped,
+    /// Help was asked for, and standard output failed.
+    Unhelped,
     /// The command line is bad, and why was printed.
     Usage,
     /// The program's file could not be read.
@@ -31,7 +33,7 @@ impl Failure {
     {
         match self {
             Failure::Helped => 0,
-            Failure::Unreadable | Failure::NoKeys => 2,
+            Failure::Unhelped | Failure::Unreadable | Failure::NoKeys => 2,
             Failure::OutOfMemory => 3,
             Failure::Usage => 64,
         }
@@ -117,11 +119,13 @@ fn tell<R: Print + Eprint>(rt: &R, error: &clap::Error) -> Failure {
     if error.kind() == ErrorKind::OutOfMemory {
         return Failure::OutOfMemory;
     }
-    let _ = error.print(rt);
+    let printed = error.print(rt).is_ok();
     if error.use_stderr() {
         Failure::Usage
-    } else {
+    } else if printed {
         Failure::Helped
+    } else {
+        Failure::Unhelped
     }
 }
 
