@@ -10,10 +10,10 @@ mod reader;
 mod tests;
 
 use qil_checker::{Checked, check};
-use qil_layout::{Image, layout};
+use qil_layout::layout;
 use qil_lexer::tokens;
 use qil_numbering::{Code, number};
-use qil_parser::parse;
+use qil_parser::{Program, parse};
 use reader::Reader;
 use std::alloc::Global;
 use std::hash::RandomState;
@@ -47,41 +47,66 @@ fn compare<'r>(checked: &'r Checked<'_, Global>, code: &'r Code<'_, '_, Global>)
     Answer::Same
 }
 
-/// Numbers a checked program, and tells of the times.
-fn number_timed<R: Clock + Eprint>(
-    rt: &R,
+/// What a text is read back with.
+#[derive(Clone, Copy)]
+struct Task<'t, R> {
+    rt: &'t R,
     alloc: Global,
     keys: RandomState,
-    text: &[u8],
+}
+
+/// Lays a checked program out, numbers it, and tells of the times: `check_time` has the microseconds of the check.
+fn number_timed<R: Clock + Eprint>(
+    task: &Task<'_, R>,
+    checked: &Checked<'_, Global>,
+    check_time: u128,
 ) -> anyhow::Result<Answer> {
-    let Ok(found) = tokens(alloc, text) else {
-        return Ok(Answer::Refused)
-    };
-    let Ok(program) = parse(alloc, &found) else {
-        return Ok(Answer::Refused)
-    };
+    let rt = task.rt;
     let start = Instant::now(rt)?;
-    let Ok(checked) = check(alloc, keys, program) else {
-        return Ok(Answer::Refused)
-    };
-    let check_time = start.elapsed(rt)?.as_micros();
-    let start = Instant::now(rt)?;
-    let Ok(image) = layout(alloc, keys, &checked) else {
+    let Ok(image) = layout(task.alloc, task.keys, checked) else {
         return Ok(Answer::Refused)
     };
     let layout_time = start.elapsed(rt)?.as_micros();
     let start = Instant::now(rt)?;
-    let code = number(alloc, keys, &checked, &image)?;
+    let code = number(task.alloc, task.keys, checked, &image)?;
     let number_time = start.elapsed(rt)?.as_micros();
     eprintln!(rt; "check {check_time} layout {layout_time} number {number_time}")?;
-    Ok(compare(&checked, &code))
+    Ok(compare(checked, &code))
+}
+
+fn check_timed<R: Clock + Eprint>(
+    task: &Task<'_, R>,
+    program: Program<'_, Global>,
+) -> anyhow::Result<Answer> {
+    let start = Instant::now(task.rt)?;
+    match check(task.alloc, task.keys, program) {
+        Ok(checked) => {
+            let check_time = start.elapsed(task.rt)?.as_micros();
+            number_timed(task, &checked, check_time)
+        }
+        Err(_) => Ok(Answer::Refused),
+    }
+}
+
+fn read_back<R: Clock + Eprint>(task: &Task<'_, R>, text: &[u8]) -> anyhow::Result<Answer> {
+    let Ok(found) = tokens(task.alloc, text) else {
+        return Ok(Answer::Refused)
+    };
+    match parse(task.alloc, &found) {
+        Ok(program) => check_timed(task, program),
+        Err(_) => Ok(Answer::Refused),
+    }
 }
 
 fn main(rt: HostRuntime) -> anyhow::Result<ExitCode> {
     let mut text = Vec::new(rt.alloc());
     rt.reader().take(LIMIT).read_to_end(&mut text)?;
-    let keys = RandomState::new(&rt)?;
-    match number_timed(&rt, rt.alloc(), keys, text.as_slice())? {
+    let task = Task {
+        rt: &rt,
+        alloc: rt.alloc(),
+        keys: RandomState::new(&rt)?,
+    };
+    match read_back(&task, text.as_slice())? {
         Answer::Refused => println!(rt; "refused")?,
         Answer::Same => println!(rt; "same")?,
         Answer::Differs(line) => {
