@@ -20,6 +20,7 @@ use std::alloc::Allocator;
 
 impl<'c, 'a, A: Allocator + Copy> Machine<'c, 'a, A> {
     /// Puts back what a move kept. `Delta::fits` is the test of its condition.
+    #[inline(always)]
     pub fn undo(&mut self, delta: Delta<A>)
         requires { Fits delta self.old }
         ensures { self.new ≡ undone delta self.old }
