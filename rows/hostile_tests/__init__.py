@@ -1,0 +1,11 @@
+"""Hostile use of the built program, from outside; rows/hostile runs these.
+
+    running.py     runs the program, and compares what it did
+    programs.py    random programs
+    scripts.py     random scripts
+    texts.py       texts: of one byte, cut, changed, long
+    long_texts.py  texts at each limit, and long in two ways at once
+    sessions.py    scripts: long ones, and random ones against the model of rows/reference
+    devices.py     standard input and output that are slow, closed or fail
+    memory.py      each allocation refused in turn
+"""

@@ -1,0 +1,61 @@
+"""Runs the program, and compares what it did with what it must do."""
+import itertools
+import pathlib
+import subprocess
+import tempfile
+from typing import NamedTuple
+
+TOP = pathlib.Path(__file__).resolve().parent.parent.parent
+BUILT = TOP / "crates" / "qrev" / "out" / "qrev"
+
+
+class Case(NamedTuple):
+    """A test: `function(running, *arguments)` gives what is wrong, or None."""
+
+    name: str
+    function: object
+    arguments: tuple = ()
+
+
+class Running(NamedTuple):
+    program: str
+    seconds: float
+
+    def run(self, text, script=b"", words=(), **given):
+        """What the program writes to standard output and error for a text, and its exit status; None without an end."""
+        with tempfile.NamedTemporaryFile(prefix="hostile-", suffix=".ssa") as file:
+            file.write(text)
+            file.flush()
+            try:
+                run = subprocess.run([self.program, file.name, *words], input=script, capture_output=True,
+                                     timeout=self.seconds, **given)
+            except subprocess.TimeoutExpired:
+                return None
+        return run.stdout, run.stderr, run.returncode
+
+    def fault(self, text, script, words, transcript, status):
+        """What the program does otherwise than it must, or None. Nothing may come on standard error."""
+        run = self.run(text, script, words)
+        if run is None:
+            return f"no end after {self.seconds} seconds"
+        return difference(transcript, run[0]) or (
+            f"status {run[2]} in place of {status}" if run[2] != status else
+            f"standard error: {quoted(run[1])}" if run[1] else None)
+
+
+def quoted(line):
+    if line is None:
+        return "the end"
+    text = repr(line)[1:]
+    return text if len(text) < 100 else text[:96] + " .."
+
+
+def difference(wanted, given):
+    """The first line where two transcripts differ, or None."""
+    if wanted == given:
+        return None
+    pairs = itertools.zip_longest(wanted.split(b"\n"), given.split(b"\n"))
+    for number, (want, give) in enumerate(pairs, 1):
+        if want != give:
+            return f"line {number}: {quoted(give)} in place of {quoted(want)}"
+    return None

@@ -1,0 +1,210 @@
+"""The program that tokens spell, or the fault of tokens that spell none.
+
+The grammar can be read from the left with one token ahead, and whatever was read so far can be ended to a program. So
+the first token that can't be read is the one that is refused.
+"""
+from .tokens import Refused
+from .tree import ONE, STORES, TWO, TYPES, Block, Data, Func, Inst, Jump, Operand, Phi, Program
+
+LEFT_OUT = set(("type env thread vastart vaarg dbgfile dbgloc cast s d loads loadd stores stored exts truncd "
+                "stosi stoui dtosi dtoui swtof uwtof sltof ultof").split())
+LEFT_OUT |= {f"c{relation}{letter}" for relation in "eq ne le lt ge gt o uo".split() for letter in "sd"}
+
+
+def is_left_out(token):
+    """Whether a token belongs to a part of QBE's language that this one leaves out."""
+    return token.kind in ("aggregate", "dots") or token.kind == "word" and (
+        token.text in LEFT_OUT or token.text.startswith(("s_", "d_")))
+
+
+class Reader:
+    def __init__(self, tokens):
+        self.tokens, self.at, self.drops_newlines = tokens, 0, False
+
+    def next(self):
+        while self.drops_newlines and self.at < len(self.tokens) and self.tokens[self.at].kind == "newline":
+            self.at += 1
+        return self.tokens[self.at] if self.at < len(self.tokens) else None
+
+    def refuse(self, lacks_jump=False):
+        token = self.next()
+        if token is None:
+            raise Refused("P3", self.tokens[-1].line)
+        if lacks_jump and token.text == "}":
+            raise Refused("P4", token.line)
+        raise Refused("P2" if is_left_out(token) else "P1", token.line)
+
+    def has(self, kind, *texts):
+        """Whether the next token is of that kind, and one of the texts if there are any."""
+        token = self.next()
+        return token is not None and token.kind == kind and (not texts or token.text in texts)
+
+    def take(self, kind, *texts):
+        if not self.has(kind, *texts):
+            self.refuse()
+        self.at += 1
+        return self.tokens[self.at - 1]
+
+    def may(self, kind, *texts):
+        return self.take(kind, *texts) if self.has(kind, *texts) else None
+
+    def unsigned(self):
+        if self.has("number") and self.next().text.startswith("-"):
+            self.refuse()
+        return self.take("number").value
+
+    def value(self):
+        for kind in ("number", "global", "temp"):
+            token = self.may(kind)
+            if token:
+                return Operand(kind, token.value, token.line)
+        self.refuse()
+
+    def has_value(self):
+        return self.has("number") or self.has("global") or self.has("temp")
+
+    def program(self):
+        order = []
+        self.may("newline")
+        while self.next() is not None:
+            order.append(self.definition())
+            self.may("newline")
+        return Program(order)
+
+    def definition(self):
+        while self.has("word", "export", "section"):
+            if self.take("word").text == "section":
+                self.take("string")
+                self.may("string")
+            self.may("newline")
+        if self.has("word", "data"):
+            return self.data()
+        if self.has("word", "function"):
+            return self.func()
+        self.refuse()
+
+    def data(self):
+        self.take("word", "data")
+        self.drops_newlines = True
+        name = self.take("global")
+        self.take("symbol", "=")
+        align = self.unsigned() if self.may("word", "align") else None
+        self.take("symbol", "{")
+        fields = []
+        while self.has("word", "b", "h", "w", "l", "z"):
+            fields.append(self.field())
+            if not self.may("symbol", ","):
+                break
+        self.take("symbol", "}")
+        self.drops_newlines = False
+        return Data(name.line, name.value, align, fields)
+
+    def field(self):
+        letter = self.take("word").text
+        if letter == "z":
+            return letter, self.unsigned()
+        items = [self.item(letter)]
+        while self.has("number") or letter == "b" and self.has("string") or letter == "l" and self.has("global"):
+            items.append(self.item(letter))
+        return letter, items
+
+    def item(self, letter):
+        if letter == "b" and self.has("string"):
+            return self.take("string").value
+        if letter == "l" and self.has("global"):
+            name = self.take("global").value
+            return name, self.unsigned() if self.may("symbol", "+") else 0
+        return self.take("number").value
+
+    def func(self):
+        self.take("word", "function")
+        type_ = self.may("word", *TYPES)
+        name = self.take("global")
+        self.take("symbol", "(")
+        params = []
+        while self.has("word", *TYPES):
+            params.append((self.take("word").text, self.take("temp").value))
+            if not self.may("symbol", ","):
+                break
+        self.take("symbol", ")")
+        self.may("newline")
+        self.take("symbol", "{")
+        self.may("newline")
+        func = Func(name.line, name.value, type_ and type_.text, params)
+        while True:
+            func.blocks.append(self.block())
+            if func.blocks[-1].jump and self.may("symbol", "}"):
+                break
+            if not self.has("label"):
+                self.refuse(lacks_jump=func.blocks[-1].jump is None)
+        for block, after in zip(func.blocks, func.blocks[1:]):
+            if block.jump is None:
+                block.jump = Jump(after.line, "jmp", [after.label], is_written=False)
+        return func
+
+    def block(self):
+        label = self.take("label")
+        self.take("newline")
+        block = Block(label.line, label.value)
+        while block.jump is None:
+            if self.has("temp") or self.has("word", "blit", "call", *STORES):
+                part = self.phi_or_inst(may_be_phi=not block.insts)
+                (block.phis if isinstance(part, Phi) else block.insts).append(part)
+            elif self.has("word", "jmp", "jnz", "ret", "hlt"):
+                block.jump = self.jump()
+            else:
+                return block
+            self.take("newline")
+        return block
+
+    def phi_or_inst(self, may_be_phi):
+        line = self.next().line
+        target = type_ = None
+        if self.has("temp"):
+            target = self.take("temp").value
+            self.take("symbol", "=")
+            type_ = self.take("word", *TYPES).text
+            words = ("call",)
+            if type_ in ("w", "l"):
+                words += ONE + TWO + (("phi",) if may_be_phi else ())
+            op = self.take("word", *words).text
+        else:
+            op = self.take("word").text
+        if op == "phi":
+            sources = [(self.take("label").value, self.value())]
+            while self.may("symbol", ","):
+                sources.append((self.take("label").value, self.value()))
+            return Phi(line, target, type_, sources)
+        inst = Inst(line, op, target, type_, [self.value()])
+        if op == "call":
+            self.take("symbol", "(")
+            while self.has("word", *TYPES):
+                inst.arguments.append((self.take("word").text, self.value()))
+                if not self.may("symbol", ","):
+                    break
+            self.take("symbol", ")")
+        elif op not in ONE:
+            self.take("symbol", ",")
+            inst.operands.append(self.value())
+            if op == "blit":
+                self.take("symbol", ",")
+                inst.count = self.unsigned()
+        return inst
+
+    def jump(self):
+        token = self.take("word")
+        jump = Jump(token.line, token.text)
+        if jump.kind == "jmp":
+            jump.labels.append(self.take("label").value)
+        elif jump.kind == "jnz":
+            jump.value = self.value()
+            for _ in range(2):
+                self.take("symbol", ",")
+                jump.labels.append(self.take("label").value)
+        elif jump.kind == "ret" and self.has_value():
+            jump.value = self.value()
+        return jump
+
+
+def parse(tokens):
+    return Reader(tokens).program()

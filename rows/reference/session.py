@@ -1,0 +1,373 @@
+"""A session: commands, stops and answers over a list of whole states."""
+import re
+
+from .grammar import parse
+from .machine import Machine, low
+from .rules import check, form
+from .tokens import Refused, cut
+
+GREATEST_SCRIPT = 2**24
+GREATEST_LINE = 256
+MOST_STOPS = 64
+WIDTHS = {"b": 1, "h": 2, "w": 4, "l": 8}
+NAME = "[A-Za-z0-9._$]+"
+NUMBER = re.compile("[0-9]+")
+VALUE = re.compile("-?[0-9]+")
+ADDRESS = re.compile(rf"\$({NAME})(?:\+([0-9]+))?")
+
+
+class BadWord(Exception):
+    pass
+
+
+class No(Exception):
+    """A refused line, by what stands behind `no: `."""
+
+
+def number(least, greatest):
+    def shape(word):
+        if not NUMBER.fullmatch(word) or not least <= int(word) <= greatest:
+            raise BadWord
+        return int(word)
+    return shape
+
+
+def value(word):
+    if not VALUE.fullmatch(word) or not -2**63 <= int(word) < 2**64:
+        raise BadWord
+    return int(word) % 2**64
+
+
+def address(word):
+    """A number, or a name and what is added."""
+    if NUMBER.fullmatch(word):
+        return None, WORD(word)
+    found = ADDRESS.fullmatch(word)
+    if not found:
+        raise BadWord
+    return found[1], WORD(found[2]) if found[2] else 0
+
+
+def name_after(sigil):
+    def shape(word):
+        if not re.fullmatch(re.escape(sigil) + NAME, word):
+            raise BadWord
+        return word[1:]
+    return shape
+
+
+def width(word):
+    if word not in WIDTHS:
+        raise BadWord
+    return word
+
+
+def watched(word):
+    return ("bytes", word) if word in WIDTHS else ("temp", GLOBAL(word))
+
+
+WORD = number(0, 2**64 - 1)
+COUNT = number(1, 2**32 - 1)
+GLOBAL, TEMP, LABEL = name_after("$"), name_after("%"), name_after("@")
+
+# The shapes of the words of each command, and how many of them it needs. The second word of `watch` hangs on the first.
+COMMANDS = {
+    "step": ([COUNT], 0), "back": ([COUNT], 0), "continue": ([], 0), "reverse": ([], 0),
+    "break": ([GLOBAL, LABEL, WORD], 1), "watch": ([watched, None], 2), "delete": ([WORD], 1), "stops": ([], 0),
+    "set": ([TEMP, value], 2), "poke": ([width, address, value], 3), "print": ([TEMP], 1), "temps": ([], 0),
+    "mem": ([address, number(1, 256)], 2), "where": ([], 0), "list": ([], 0), "out": ([], 0), "quit": ([], 0),
+}
+
+
+def read_command(line):
+    """The command of a line and its words' values, or nothing; else the line is refused."""
+    if len(line) > GREATEST_LINE:
+        raise No("line too long")
+    words = [word for word in re.split("[ \t\r]+", line) if word]
+    if not words:
+        return None
+    if words[0] not in COMMANDS:
+        raise No("unknown command")
+    shapes, needed = COMMANDS[words[0]]
+    values = []
+    for place, shape in enumerate(shapes):
+        if place + 1 >= len(words):
+            if place < needed:
+                raise No("missing word")
+            break
+        if shape is None:
+            shape = address if values[0][0] == "bytes" else TEMP
+        try:
+            values.append(shape(words[place + 1]))
+        except BadWord:
+            raise No("bad word") from None
+    if len(words) - 1 > len(shapes):
+        raise No("extra word")
+    return words[0], values
+
+
+class Session:
+    """The states that are kept, the position of the first of them, and the stops by number."""
+
+    def __init__(self, machine, state, limit=1_000_000, history=None):
+        self.machine, self.limit, self.history = machine, limit, history
+        self.states, self.oldest = [state], 0
+        self.stops, self.last_stop = {}, 0
+        self.is_ended = False
+
+    @property
+    def now(self):
+        return self.states[-1]
+
+    @property
+    def position(self):
+        return self.oldest + len(self.states) - 1
+
+    def add(self, state):
+        self.states.append(state)
+        if self.history is not None and len(self.states) > self.history + 1:
+            del self.states[0]
+            self.oldest += 1
+
+    def place(self):
+        state, kind = self.now, self.now.status[0]
+        if kind == "running":
+            return f"#{self.position} {self.frame_text(state.frames[-1])}\n"
+        if kind == "done":
+            value = "" if state.status[1] is None else f" {state.status[1]}"
+            return f"#{self.position} done{value}\n"
+        return f"#{self.position} {kind} {state.status[1]}\n"
+
+    def frame_text(self, frame):
+        func = self.machine.funcs[frame.func]
+        return f"${func.name} @{func.blocks[frame.block].label} {frame.index}"
+
+    def answer(self, line):
+        """The answer to a line of a script, without its newline."""
+        try:
+            command = read_command(line)
+            if command is None:
+                return ""
+            return getattr(self, command[0] + "_")(*command[1])
+        except No as no:
+            return f"no: {no}\n"
+
+    # Moves.
+
+    def step_(self, count=1):
+        if self.now.is_over:
+            raise No("at end")
+        while count > 0 and not self.now.is_over:
+            self.add(self.machine.step(self.now))
+            count -= 1
+        return self.place()
+
+    def no_way_back(self):
+        if len(self.states) == 1:
+            raise No("at start" if self.oldest == 0 else "history ends")
+
+    def back_(self, count=1):
+        self.no_way_back()
+        del self.states[max(1, len(self.states) - count):]
+        return self.place()
+
+    def continue_(self):
+        if self.now.is_over:
+            raise No("at end")
+        made = 0
+        while True:
+            before = self.now
+            self.add(self.machine.step(before))
+            made += 1
+            reason = "end" if self.now.is_over else self.watch_or_break(before, self.now)
+            if reason is None and made == self.limit:
+                reason = "limit"
+            if reason:
+                return f"stop: {reason}\n{self.place()}"
+
+    def reverse_(self):
+        self.no_way_back()
+        made = 0
+        while True:
+            after = self.states.pop()
+            made += 1
+            reason = self.watch_or_break(after, self.now)
+            if reason is None and len(self.states) == 1:
+                reason = "start" if self.oldest == 0 else "oldest"
+            if reason is None and made == self.limit:
+                reason = "limit"
+            if reason:
+                return f"stop: {reason}\n{self.place()}"
+
+    def watch_or_break(self, left, reached):
+        """The watch that reads otherwise in two neighbouring states, else the breakpoint that holds in the second."""
+        for number, stop in sorted(self.stops.items()):
+            if stop[0] == "watch" and self.reading(stop, left) != self.reading(stop, reached):
+                return f"watch {number}"
+        for number, stop in sorted(self.stops.items()):
+            if stop[0] == "break" and not reached.is_over and stop[1:] == reached.frames[-1][:3]:
+                return f"break {number}"
+        return None
+
+    def reading(self, stop, state):
+        if stop[1] == "bytes":
+            return state.read(stop[3], WIDTHS[stop[2]])
+        for frame in reversed(state.frames):
+            if frame.func == stop[2]:
+                return frame.temps.get(stop[3])
+        return None
+
+    # Stops.
+
+    def func_named(self, name):
+        for number, func in enumerate(self.machine.funcs):
+            if func.name == name:
+                return number
+        raise No("unknown place")
+
+    def add_stop(self, stop):
+        if len(self.stops) == MOST_STOPS:
+            raise No("too many stops")
+        self.last_stop += 1
+        self.stops[self.last_stop] = stop
+        return self.stop_text(self.last_stop)
+
+    def stop_text(self, number):
+        stop = self.stops[number]
+        funcs = self.machine.funcs
+        if stop[0] == "break":
+            func = funcs[stop[1]]
+            return f"break {number} ${func.name} @{func.blocks[stop[2]].label} {stop[3]}\n"
+        if stop[1] == "bytes":
+            return f"watch {number} {stop[2]} {stop[3]}\n"
+        return f"watch {number} ${funcs[stop[2]].name} %{stop[3]}\n"
+
+    def break_(self, func, label=None, index=0):
+        number = self.func_named(func)
+        code = self.machine.funcs[number]
+        block = 0 if label is None else code.block_of(label)
+        if block is None or index > len(code.blocks[block].insts):
+            raise No("unknown place")
+        return self.add_stop(("break", number, block, index))
+
+    def watch_(self, what, where):
+        if what[0] == "bytes":
+            return self.add_stop(("watch", "bytes", what[1], self.address_of(where)))
+        number = self.func_named(what[1])
+        if where not in self.machine.funcs[number].temps():
+            raise No("unknown place")
+        return self.add_stop(("watch", "temp", number, where))
+
+    def delete_(self, number):
+        if number not in self.stops:
+            raise No("no such stop")
+        del self.stops[number]
+        return f"deleted {number}\n"
+
+    def stops_(self):
+        return "".join(self.stop_text(number) for number in sorted(self.stops)) or "none\n"
+
+    # Pokes.
+
+    def address_of(self, where):
+        name, offset = where
+        if name is None:
+            return offset
+        if name not in self.machine.addresses:
+            raise No("unknown place")
+        return (self.machine.addresses[name] + offset) % 2**64
+
+    def inner(self):
+        if not self.now.frames:
+            raise No("no frame")
+        return self.now.frames[-1]
+
+    def known(self, temp):
+        if temp not in self.machine.funcs[self.inner().func].temps():
+            raise No("unknown temporary")
+
+    def set_(self, temp, value):
+        self.known(temp)
+        self.add(self.machine.with_result(self.now, temp, value))
+        return self.place()
+
+    def poke_(self, letter, where, value):
+        at, count = self.address_of(where), WIDTHS[letter]
+        if self.now.read(at, count) is None:
+            raise No("dead address")
+        self.add(self.now.written(at, low(8 * count, value).to_bytes(count, "little")))
+        return self.place()
+
+    # What only looks.
+
+    def temp_text(self, temp):
+        temps = self.inner().temps
+        return f"%{temp} = {temps[temp]}\n" if temp in temps else f"%{temp} unset\n"
+
+    def print_(self, temp):
+        self.known(temp)
+        return self.temp_text(temp)
+
+    def temps_(self):
+        func = self.machine.funcs[self.inner().func]
+        return "".join(self.temp_text(temp) for temp in func.temps()) or "none\n"
+
+    def mem_(self, where, count):
+        at = self.address_of(where)
+        bytes_ = [self.now.read(at + n, 1) for n in range(count)]
+        return " ".join("--" if byte is None else byte.hex() for byte in bytes_) + "\n"
+
+    def where_(self):
+        return "".join(self.frame_text(frame) + "\n" for frame in reversed(self.now.frames)) or "none\n"
+
+    def list_(self):
+        frame = self.inner()
+        func = self.machine.funcs[frame.func]
+        block = func.blocks[frame.block]
+        lines = [f"${func.name} @{block.label}"] + [f"  - {phi.text()}" for phi in block.phis]
+        for index, part in enumerate(block.insts + [block.jump]):
+            lines.append(f"{'>' if index == frame.index else ' '} {index} {part.text()}")
+        return "\n".join(lines) + "\n"
+
+    def out_(self):
+        def shown(byte):
+            if byte in b'"\\':
+                return "\\" + chr(byte)
+            return chr(byte) if 32 <= byte <= 126 else f"\\{byte:03o}"
+        return f'out {len(self.now.output)} "{"".join(map(shown, self.now.output))}"\n'
+
+    def quit_(self):
+        self.is_ended = True
+        return ""
+
+
+def load(text, entry="main", args=(), limit=1_000_000, history=None):
+    """The load lines of a program, and its session; refuses where there is none."""
+    program = parse(cut(text))
+    check(program)
+    machine = Machine(program)
+    session = Session(machine, machine.start(entry, list(args)), limit, history)
+    again = form(program)
+    single = "ssa yes" if again is None else f"ssa no ${again[0]} %{again[1]}"
+    loaded = f"loaded {len(machine.funcs)} functions {len(machine.data)} data bytes {single}\n"
+    return loaded + session.place(), session
+
+
+def lines_of(script):
+    """The lines of a script that are read; an empty one behind the last newline is none."""
+    lines = script.decode("latin-1").split("\n")
+    return lines if lines[-1] else lines[:-1]
+
+
+def transcript(text, script=b"", **options):
+    """What the program writes for a text and a script of lawful length, and its exit status."""
+    try:
+        written, session = load(text, **options)
+    except Refused as refused:
+        return refused.answer().encode("latin-1"), 1
+    answers = [written]
+    for line in lines_of(script):
+        answers.append(session.answer(line))
+        if session.is_ended:
+            break
+    return "".join(answers).encode("latin-1"), 0
