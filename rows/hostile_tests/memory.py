@@ -86,6 +86,8 @@ set %q 9
 step 5
 """
 LOOP = b"function $main() {\n@start\n\tjmp @l\n@l\n\tjmp @l\n}\n"
+# A text of 200 kB, with as many temporaries as lines.
+LONG = b"function $main() {\n@start\n" + b"".join(b"\t%%x%d =w add %d, 1\n" % (n, n) for n in range(9_000)) + b"\tret\n}\n"
 
 
 def made_library(folder):
@@ -263,6 +265,7 @@ def cases():
                (LOOP, b"continue\nback\ncontinue\nreverse\nstep 5\n", None, 1000, ("continue", "continue+")))
     yield Case("a loop that keeps 3 moves wants memory only while loading", session_refused,
                (LOOP, b"continue\nback\ncontinue\nreverse\nstep 5\n", 3, 1000, ()))
+    yield Case("a text of 200 kB, each allocation refused", session_refused, (LONG, b"back\n", None, 1000, ()))
     yield Case("a step that wants memory at its first move", session_refused,
                (LOOP, b"back\nstep 9\nout\nback 9\nstep 9\n", None, 1000, ("step",)))
     yield Case("pokes, each allocation refused", session_refused,
