@@ -1,7 +1,5 @@
-//! Tests of `qil_numbering` and `qil_state`: the code of a text, and values by number. There is nothing else here.
+//! Tests of `qil_numbering`: the code of a text, part by part. There is nothing else here.
 #![tactic(auto)]
 
 #[cfg(test)]
 mod code;
-#[cfg(test)]
-mod values;

@@ -1,7 +1,6 @@
 //! Sinks that stop, a session for which there is no memory, and runs that may make no move.
 
-use crate::playing::{Kind, Script, checked, collector, said, started};
-use crate::rows::SUM;
+use crate::playing::{Kind, SUM, Script, checked, collector, said, started};
 use qil_history::{Deltas, History};
 use qil_layout::layout;
 use qil_machine::Machine;

@@ -1,11 +1,10 @@
-//! Tests of sessions: scripts with the transcript that each has, over each kind of history, with memory and without.
+//! Tests of sessions that only a caller can make: memory refused in turn over each kind of history, a sink that stops, a
+//! history that is handed back. What scripts are answered is asked of the built program.
 #![tactic(auto)]
 
 #[cfg(test)]
 mod edges;
 #[cfg(test)]
 mod playing;
-#[cfg(test)]
-mod rows;
 #[cfg(test)]
 mod wants;

@@ -1,4 +1,4 @@
-//! What a session says to a script: a sink that collects, and sessions over each kind of history.
+//! What a session says to a script: programs, a sink that collects, and sessions over each kind of history.
 
 ghost use Rattle.std.specs.Prelude.{◌≡◌, ◌+◌, ◌-◌, ◌^◌, ◌<◌, ◌≤◌, length};
 ghost use Rattle.qil_meaning.specs.Timeline.{position};
@@ -22,6 +22,16 @@ const FAR: u64 = 1_000_000;
 
 /// More lines than any of these scripts has.
 const MANY: usize = 1_000;
+
+/// A sum in a temporary.
+pub const SUM: &[u8] = b"function w $main() {\n@start\n\t%x =w add 2, 3\n\tret %x\n}\n";
+
+/// A word of the data in a temporary.
+pub const LOAD: &[u8] =
+    b"data $d = { w 5 }\nfunction w $main() {\n@start\n\t%x =w loadw $d\n\tret %x\n}\n";
+
+/// A loop without an end.
+pub const LOOP: &[u8] = b"function $main() {\n@start\n\tjmp @l\n@l\n\tjmp @l\n}\n";
 
 /// A sink that collects so many bytes at most.
 #[derive(Drop)]

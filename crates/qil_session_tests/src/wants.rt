@@ -1,7 +1,6 @@
 //! Want of memory: each allocation of some lines refused in turn, over each kind of history.
 
-use crate::playing::{Hearing, Kind, Script, said};
-use crate::rows::{LOAD, LOOP, SUM};
+use crate::playing::{Hearing, Kind, LOAD, LOOP, SUM, Script, said};
 use refusing::Refusing;
 use std::alloc::Global;
 use std::hash::RandomState;
