@@ -1,4 +1,4 @@
-//! Phis that read what others write, what is kept of them, what each call changes, and what its undoing puts back.
+//! What is kept of phis, what the undoing of each call puts back, what fits, and memory refused.
 
 ghost use Rattle.std.specs.Prelude.{IsTrue};
 ghost use Rattle.qil_numbering.specs.Ranges.{MoveInRange, IsShort};
@@ -7,8 +7,8 @@ ghost use Rattle.qil_frames.specs.Enter.{HasMoves};
 
 use qil_frames::{Frame, Frames, KeptSlots, PhiFault, PhiSaved, SavedSlot};
 use qil_layout::FuncId;
-use qil_numbering::{BlockId, PhiMove, Receiver, Slot, Source};
-use qil_tree::{AbiType, Class};
+use qil_numbering::{BlockId, PhiMove, Slot, Source};
+use qil_tree::Class;
 use refusing::{Refusing, refuse_each};
 use std::alloc::{AllocError, Allocator, Global};
 use std::mem::size_of;
@@ -143,142 +143,6 @@ fn go_back<A: Allocator>(rt: &impl Abort, frames: &mut Frames<A>, kept: PhiSaved
     frames.undo_enter(kept);
 }
 
-/// These phis make these values, at the start of the block, and going back gives what was.
-fn expect_entered(
-    rt: &impl Abort,
-    frames: &mut Frames<Global>,
-    alloc: Global,
-    moves: &[PhiMove],
-    wanted: [Option<u64>; 4],
-) -> Result<(), Fail> {
-    let before = frames.try_clone()?;
-    let kept = enter(rt, alloc, frames, moves)?;
-    assert_eq!(rt; values(frames), wanted.as_slice());
-    assert_eq!(rt; place(frames), Some((ENTERED, 0)));
-    assert!(rt; !frames.same(&before));
-    go_back(rt, frames, kept);
-    assert_eq!(rt; place(frames), Some(LEFT));
-    assert!(rt; frames.same(&before));
-    Ok(())
-}
-
-/// `%a = phi .. %b` and `%b = phi .. %a`, and a turn of three.
-#[test]
-fn phis_are_read_first(rt: HostRuntime) -> Result<(), Fail> {
-    let alloc = rt.alloc();
-    let mut frames = frames_with(alloc, [Some(1), Some(2), Some(3), None])?;
-    expect_entered(
-        &rt,
-        &mut frames,
-        alloc,
-        &[copied(0, 1), copied(1, 0)],
-        [Some(2), Some(1), Some(3), None],
-    )?;
-    expect_entered(
-        &rt,
-        &mut frames,
-        alloc,
-        &[copied(0, 1), copied(1, 2), copied(2, 0)],
-        [Some(2), Some(3), Some(1), None],
-    )?;
-    expect_entered(
-        &rt,
-        &mut frames,
-        alloc,
-        &[copied(3, 0)],
-        [Some(1), Some(2), Some(3), Some(1)],
-    )?;
-    expect_entered(
-        &rt,
-        &mut frames,
-        alloc,
-        &[],
-        [Some(1), Some(2), Some(3), None],
-    )?;
-    Ok(())
-}
-
-/// Of phis for one slot the last stays; going back, what stood before the first.
-#[test]
-fn phis_for_one_slot(rt: HostRuntime) -> Result<(), Fail> {
-    let alloc = rt.alloc();
-    let mut frames = frames_with(alloc, [Some(7), Some(2), None, None])?;
-    expect_entered(
-        &rt,
-        &mut frames,
-        alloc,
-        &[constant(0, 10), copied(0, 1)],
-        [Some(2), Some(2), None, None],
-    )?;
-    expect_entered(
-        &rt,
-        &mut frames,
-        alloc,
-        &[constant(2, 10), constant(2, 11)],
-        [Some(7), Some(2), Some(11), None],
-    )?;
-    expect_entered(
-        &rt,
-        &mut frames,
-        alloc,
-        &[constant(0, 10), constant(1, 11), constant(0, 12)],
-        [Some(12), Some(11), None, None],
-    )?;
-    Ok(())
-}
-
-/// A word takes the low 32 bits of a constant and of a slot, a long word all 64.
-#[test]
-fn values_are_cut(rt: HostRuntime) -> Result<(), Fail> {
-    let alloc = rt.alloc();
-    let mut frames = frames_with(alloc, [Some(u64::MAX), None, None, None])?;
-    let word = |target, source| PhiMove {
-        class: Class::W,
-        target: slot(target),
-        source,
-    };
-    expect_entered(
-        &rt,
-        &mut frames,
-        alloc,
-        &[
-            word(1, Source::Constant(0x5_8000_0001)),
-            word(2, Source::Slot(slot(0))),
-            copied(3, 0),
-        ],
-        [
-            Some(u64::MAX),
-            Some(0x8000_0001),
-            Some(0xffff_ffff),
-            Some(u64::MAX),
-        ],
-    )?;
-    Ok(())
-}
-
-/// The first phi in the text that reads an unset slot says which, and nothing is changed.
-#[test]
-fn unset_slots(rt: HostRuntime) -> Result<(), Fail> {
-    let alloc = rt.alloc();
-    let mut frames = frames_with(alloc, [Some(1), Some(2), None, None])?;
-    let before = frames.try_clone()?;
-    let one = enter(&rt, alloc, &mut frames, &[copied(0, 3)]);
-    assert_eq!(rt; one.err(), Some(PhiFault::Unset(slot(3))));
-    let second_of_two = enter(&rt, alloc, &mut frames, &[copied(0, 1), copied(1, 2)]);
-    assert_eq!(rt; second_of_two.err(), Some(PhiFault::Unset(slot(2))));
-    let both_of_two = enter(&rt, alloc, &mut frames, &[copied(2, 3), copied(3, 2)]);
-    assert_eq!(rt; both_of_two.err(), Some(PhiFault::Unset(slot(3))));
-    let last_two_of_three = enter(
-        &rt,
-        alloc,
-        &mut frames,
-        &[copied(2, 0), copied(1, 3), copied(0, 2)],
-    );
-    assert_eq!(rt; last_two_of_three.err(), Some(PhiFault::Unset(slot(3))));
-    assert!(rt; frames.same(&before));
-    Ok(())
-}
-
 fn one_of(slots: KeptSlots<Global>) -> Option<(bool, Slot, u64)> {
     match slots {
         KeptSlots::One(was_set, slot, value) => Some((was_set, slot, value)),
@@ -374,64 +238,6 @@ fn undone_in_turn(rt: HostRuntime) -> Result<(), Fail> {
     assert!(rt; frames.same(&entered));
     go_back(&rt, &mut frames, kept);
     assert!(rt; frames.same(&start));
-    Ok(())
-}
-
-/// A frame that is pushed is the innermost, at its start, with its slots unset; the same one is popped.
-#[test]
-fn pushed_and_popped(rt: HostRuntime) -> Result<(), Fail> {
-    let alloc = rt.alloc();
-    let receiver = Receiver {
-        slot: slot(3),
-        abi_type: AbiType::Sb,
-    };
-    let mut frames = frames_with(alloc, [Some(1), Some(2), None, None])?;
-    let before = frames.try_clone()?;
-    assert!(rt; frames.depth() == 1);
-    frames.push(Frame::new(alloc, FuncId { index: 1 }, 2, 16_777_224, Some(receiver))?);
-    assert_eq!(rt; frames.depth(), 2);
-    assert_eq!(rt; values(&frames), [None, None].as_slice());
-    assert_eq!(rt; place(&frames), Some((BlockId { index: 0 }, 0)));
-    assert!(rt; !frames.same(&before));
-    match frames.pop() {
-        Some(popped) => {
-            assert_eq!(rt; popped.func(), FuncId { index: 1 });
-            assert_eq!(rt; popped.floor(), 16_777_224);
-            assert_eq!(rt; popped.result(), Some(receiver));
-        }
-        None => assert!(rt; false, "two frames"),
-    }
-    assert!(rt; frames.same(&before));
-    assert!(rt; frames.pop().is_some());
-    assert!(rt; frames.pop().is_none());
-    Ok(())
-}
-
-/// Each field of a frame counts.
-#[test]
-fn frames_that_differ(rt: HostRuntime) -> Result<(), Fail> {
-    let alloc = rt.alloc();
-    let receiver = Receiver {
-        slot: slot(0),
-        abi_type: AbiType::W,
-    };
-    let mut frame = Frame::new(alloc, FuncId { index: 1 }, 1, 16, Some(receiver))?;
-    let other_func = Frame::new(alloc, FuncId { index: 2 }, 1, 16, Some(receiver))?;
-    let more_slots = Frame::new(alloc, FuncId { index: 1 }, 2, 16, Some(receiver))?;
-    let other_floor = Frame::new(alloc, FuncId { index: 1 }, 1, 17, Some(receiver))?;
-    let no_result = Frame::new(alloc, FuncId { index: 1 }, 1, 16, None)?;
-    let same = Frame::new(alloc, FuncId { index: 1 }, 1, 16, Some(receiver))?;
-    assert!(rt; frame.same(&same));
-    assert!(rt; !frame.same(&other_func) && !frame.same(&more_slots));
-    assert!(rt; !frame.same(&other_floor) && !frame.same(&no_result));
-    frame.set_index(1);
-    assert!(rt; !frame.same(&same));
-    frame.set_place(BlockId { index: 1 }, 0);
-    assert!(rt; !frame.same(&same));
-    frame.set_place(BlockId { index: 0 }, 0);
-    assert!(rt; frame.same(&same));
-    fill(&mut frame, slot(0), Some(0));
-    assert!(rt; !frame.same(&same));
     Ok(())
 }
 

@@ -8,7 +8,7 @@ use qil_lexer::tokens;
 use qil_memory::{AllocFault, BlitFault, DATA_BASE, Dead, KeptBytes, Memory, STACK_BASE, Saved};
 use qil_parser::parse;
 use refusing::{Refusing, refuse_each};
-use std::alloc::{AllocError, Allocator, Global};
+use std::alloc::{Allocator, Global};
 use std::hash::RandomState;
 use std::mem::size_of;
 use std::process::Abort;
@@ -137,22 +137,6 @@ fn live_edges(rt: HostRuntime) -> Result<(), Fail> {
     Ok(())
 }
 
-/// A store takes the low bytes of its number, the least significant first.
-#[test]
-fn low_bytes(rt: HostRuntime) -> Result<(), Fail> {
-    let mut memory = sample(rt.alloc(), RandomState::new(&rt)?)?;
-    let _ = memory.store(65_536, 1, 511)?;
-    assert_eq!(rt; memory.load(65_536, 2), Ok(0x02ff));
-    let _ = memory.store(65_538, 2, 0xabcd_1234)?;
-    assert_eq!(rt; memory.load(65_536, 8), Ok(0x0807_0605_1234_02ff));
-    let _ = memory.store(65_540, 4, 0x0102_0304_dead_beef)?;
-    assert_eq!(rt; memory.load(65_536, 8), Ok(0xdead_beef_1234_02ff));
-    let _ = memory.store(16_777_232, 8, u64::MAX - 1)?;
-    assert_eq!(rt; memory.load(16_777_232, 8), Ok(0xffff_ffff_ffff_fffe));
-    assert_eq!(rt; memory.load(16_777_231, 1), Ok(16));
-    Ok(())
-}
-
 /// The fault of a blit, and the bytes where its target would be.
 fn blitted<A: Allocator + Copy>(
     memory: &mut Memory<A>,
@@ -161,52 +145,6 @@ fn blitted<A: Allocator + Copy>(
     n: u64,
 ) -> Option<BlitFault> {
     memory.blit(source, target, n).err()
-}
-
-#[test]
-fn blit_faults(rt: HostRuntime) -> Result<(), Fail> {
-    let mut memory = sample(rt.alloc(), RandomState::new(&rt)?)?;
-    let before = memory.try_clone()?;
-    for (source, target, n, want) in [
-        (0, u64::MAX, 0, None),
-        (65_537, 65_536, 0, None),
-        (65_544, 65_544, 16, None),
-        (0, u64::MAX, 1, Some(BlitFault::Source(0))),
-        (65_535, 65_536, 2, Some(BlitFault::Source(65_535))),
-        (65_536, 65_536, u64::MAX, Some(BlitFault::Source(65_536))),
-        (65_552, 0, 9, Some(BlitFault::Source(65_552))),
-        (65_552, 16_777_233, 8, Some(BlitFault::Target(16_777_233))),
-        (65_536, u64::MAX, 3, Some(BlitFault::Target(u64::MAX))),
-        (65_536, 65_540, 8, Some(BlitFault::Overlap)),
-        (65_543, 65_536, 8, Some(BlitFault::Overlap)),
-        (16_777_216, 16_777_217, 23, Some(BlitFault::Overlap)),
-    ] {
-        assert_eq!(rt;
-            blitted(&mut memory, source, target, n),
-            want,
-            "{source} {target} {n}"
-        );
-    }
-    assert!(rt; memory.same(&before));
-    assert_eq!(rt; blitted(&mut memory, 65_544, 65_536, 8), None);
-    assert!(rt; !memory.same(&before));
-    Ok(())
-}
-
-/// Bytes go from each interval to each.
-#[test]
-fn blit_copies(rt: HostRuntime) -> Result<(), Fail> {
-    let mut memory = sample(rt.alloc(), RandomState::new(&rt)?)?;
-    let _ = memory.blit(65_536, 65_547, 11)?;
-    assert_eq!(rt; memory.load(65_546, 8), Ok(0x0706_0504_0302_010b));
-    assert_eq!(rt; memory.load(65_552, 8), Ok(0x1817_0b0a_0908_0706));
-    let _ = memory.blit(65_536, 16_777_224, 3)?;
-    assert_eq!(rt; memory.load(16_777_223, 8), Ok(0x0f0e_0d0c_0302_0108));
-    let _ = memory.blit(16_777_232, 16_777_216, 2)?;
-    assert_eq!(rt; memory.load(16_777_216, 4), Ok(0x0403_1211));
-    let _ = memory.blit(16_777_239, 65_536, 1)?;
-    assert_eq!(rt; memory.load(65_536, 2), Ok(0x0218));
-    Ok(())
 }
 
 /// What an allocation answers: the address, or the fault.
@@ -219,34 +157,6 @@ fn allocated<A: Allocator + Copy>(
 {
     let (address, _) = memory.alloc(align, n)?;
     Ok(address)
-}
-
-#[test]
-fn room_on_the_stack(rt: HostRuntime) -> Result<(), Fail> {
-    let mut memory = memory_of(rt.alloc(), RandomState::new(&rt)?, b"data $d = { }\n")?;
-    assert_eq!(rt; allocated(&mut memory, 4, 1), Ok(16_777_216));
-    assert_eq!(rt; memory.top(), 16_777_217);
-    assert_eq!(rt; allocated(&mut memory, 8, u64::MAX), Err(AllocFault::Full));
-    assert_eq!(rt;
-        allocated(&mut memory, 16, 1_048_561),
-        Err(AllocFault::Full)
-    );
-    assert_eq!(rt; memory.top(), 16_777_217);
-    assert_eq!(rt; allocated(&mut memory, 8, 0), Ok(16_777_224));
-    assert_eq!(rt; memory.top(), 16_777_224);
-    assert_eq!(rt; memory.load(16_777_217, 4), Ok(0));
-    assert_eq!(rt; allocated(&mut memory, 16, 1_048_560), Ok(16_777_232));
-    assert_eq!(rt; memory.top(), 17_825_792);
-    assert_eq!(rt; memory.load(17_825_784, 8), Ok(0));
-    assert_eq!(rt;
-        memory.load(17_825_785, 8),
-        Err(Dead {
-            address: 17_825_785
-        })
-    );
-    assert_eq!(rt; allocated(&mut memory, 4, 0), Ok(17_825_792));
-    assert_eq!(rt; allocated(&mut memory, 4, 1), Err(AllocFault::Full));
-    Ok(())
 }
 
 /// Each undoing gives the memory from before its call, dead bytes included: calls of each kind, one over the other, and
@@ -284,49 +194,6 @@ fn undone_in_turn(rt: HostRuntime) -> Result<(), Fail> {
     memory.undo(stored);
     assert!(rt; memory.same(&start));
     assert_eq!(rt; memory.load(16_777_232, 8), Ok(0x1817_1615_1413_1211));
-    Ok(())
-}
-
-/// The number that stood comes back from an exchange, and goes back to where it stood; a refused one changes nothing.
-#[test]
-fn exchanged_and_put_back(rt: HostRuntime) -> Result<(), Fail> {
-    let mut memory = sample(rt.alloc(), RandomState::new(&rt)?)?;
-    let before = memory.try_clone()?;
-    match memory.exchange(65_540, 4, 0xffff_ffff_aabb_ccdd) {
-        Ok(old) => {
-            assert_eq!(rt; old, 0x0807_0605);
-            assert_eq!(rt; memory.load(65_540, 4), Ok(0xaabb_ccdd));
-            assert_eq!(rt; memory.load(65_544, 1), Ok(9));
-            memory.put_back(65_540, 4, old);
-        }
-        Err(_) => return Err("live bytes".into()),
-    }
-    assert!(rt; memory.same(&before));
-    assert_eq!(rt;
-        memory.exchange(TOP - 7, 8, 0),
-        Err(Dead { address: TOP - 7 })
-    );
-    assert!(rt; memory.same(&before));
-    Ok(())
-}
-
-/// Bytes above a lower top are dead, and live again under the old one.
-#[test]
-fn top_lowered_and_raised(rt: HostRuntime) -> Result<(), Fail> {
-    let mut memory = sample(rt.alloc(), RandomState::new(&rt)?)?;
-    let before = memory.try_clone()?;
-    memory.set_top(STACK_BASE + 8);
-    assert_eq!(rt; memory.top(), 16_777_224);
-    assert_eq!(rt; memory.load(STACK_BASE, 8), Ok(0x0807_0605_0403_0201));
-    assert_eq!(rt;
-        memory.load(16_777_224, 1),
-        Err(Dead {
-            address: 16_777_224
-        })
-    );
-    assert!(rt; memory.has_bytes(TOP, 8) && !memory.has_bytes(DATA_END - 7, 8));
-    memory.set_top(TOP);
-    assert!(rt; memory.same(&before));
     Ok(())
 }
 
