@@ -40,7 +40,7 @@ def against_model(running, seed, lines=LINES):
 
 
 def unbounded(text, arguments, script, limit):
-    """The transcript and the status without a bound of the history, and the greatest position; 1 where there is none."""
+    """The transcript and the status without a bound of the history, and the greatest position, or 1."""
     try:
         written, session = reference.load(text, args=arguments, limit=limit)
     except reference.Refused as refused:
