@@ -94,7 +94,9 @@ def made_library(folder):
     """The library that refuses, compiled into a folder; or nothing, where there is no compiler."""
     made = os.path.join(folder, "refusing.so")
     for compiler in compilers():
-        line = [compiler, "-shared", "-fPIC", "-O1", "-fno-builtin", "-o", made, str(HERE.parent / "refusing.c")]
+        # What the library takes of the C library is there in the program that it is preloaded to.
+        line = [*compiler, "-shared", "-fPIC", "-O1", "-fno-builtin", "-nostdlib", "-o", made,
+                str(HERE.parent / "refusing.c")]
         if subprocess.run(line, stderr=subprocess.DEVNULL).returncode == 0:
             return made
     return None
@@ -103,12 +105,12 @@ def made_library(folder):
 def compilers():
     """The system's C compiler, else that of the toolchain."""
     if shutil.which("cc"):
-        yield "cc"
+        yield ["cc"]
     if shutil.which("rt"):
         guide = subprocess.run(["rt", "doc"], stdout=subprocess.PIPE, stdin=subprocess.DEVNULL).stdout.decode().strip()
         clang = pathlib.Path(guide).parent / "toolchain" / "bin" / "clang"
         if clang.is_file():
-            yield str(clang)
+            yield [str(clang), "-fuse-ld=lld"]
 
 
 class Run:

@@ -208,7 +208,8 @@ class Writer:
             return None, [labels[place + 1]]
         if not others or kind in ("ret", "none"):
             bare = it.type is None or self.often(8)
-            return "ret" if bare else f"ret {self.value(class_of(it.type))}", []
+            exit_ = f"call $exit(w {self.value('w')})\n\t" if self.often(12) else ""
+            return exit_ + ("ret" if bare else f"ret {self.value(class_of(it.type))}"), []
         if kind == "hlt":
             return "hlt", []
         if kind == "jmp":

@@ -5,7 +5,7 @@ import reference
 from reference.session import lines_of
 
 from .programs import random_program
-from .running import Case, difference
+from .running import Case
 from .scripts import random_script
 
 SEEDS = 600
@@ -39,31 +39,31 @@ def against_model(running, seed, lines=LINES):
     return running.fault(text, script, words_of(arguments, **options), wanted, status)
 
 
-def moves_of(text, arguments, script, limit):
-    """The greatest position that a session comes to; 1 where there is none."""
+def unbounded(text, arguments, script, limit):
+    """The transcript and the status without a bound of the history, and the greatest position, or 1."""
     try:
-        _, session = reference.load(text, args=arguments, limit=limit)
-    except reference.Refused:
-        return 1
-    greatest = 1
+        written, session = reference.load(text, args=arguments, limit=limit)
+    except reference.Refused as refused:
+        return refused.answer().encode("latin-1"), 1, 1
+    answers, greatest = [written], 1
     for line in lines_of(script):
-        session.answer(line)
+        answers.append(session.answer(line))
         if session.is_ended:
             break
         greatest = max(greatest, session.position)
-    return greatest
+    return "".join(answers).encode("latin-1"), 0, greatest
 
 
 def bound_not_met(running, seed, lines=LINES):
     """With a bound of as many moves as a session makes, it is that without a bound."""
     text, arguments, script, options = seeded(seed, lines)
     limit = options["limit"]
-    bound = moves_of(text, arguments, script, limit)
-    free = running.run(text, script, words_of(arguments, limit, None))
-    bounded = running.run(text, script, words_of(arguments, limit, bound))
-    if free is None or bounded is None:
-        return f"no end after {running.seconds} seconds"
-    return difference(free[0], bounded[0]) or (None if free == bounded else f"{bounded[1:]} in place of {free[1:]}")
+    wanted, status, moves = unbounded(text, arguments, script, limit)
+    for bound in (None, moves):
+        fault = running.fault(text, script, words_of(arguments, limit, bound), wanted, status)
+        if fault:
+            return f"with {'no bound' if bound is None else f'a bound of {bound}'}: {fault}"
+    return None
 
 
 FIRST = b"function w $main() {\n@start\n\t%x =w add 2, 3\n\tret %x\n}\n"
