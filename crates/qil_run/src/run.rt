@@ -6,9 +6,12 @@ use qil_history::{Deltas, History};
 use qil_machine::MoveError;
 use std::alloc::Global;
 
-/// Makes moves up to a position, or to the end of the run.
+/// Makes at most so many moves, up to the end of the run, and none behind that position.
 pub fn forward(run: &mut Deltas<'_, '_, Global>, limit: u32) -> anyhow::Result<()> {
-    while run.position() < u64::from(limit) {
+    for _ in 0..limit {
+        if run.position() >= u64::from(limit) {
+            return Ok(());
+        }
         match run.forward() {
             Ok(()) => {}
             Err(MoveError::AtEnd) => return Ok(()),
