@@ -5,6 +5,8 @@
 //! microseconds that it took to check the text, to lay it out and to number it.
 #![tactic(auto)]
 
+ghost use Rattle.qil_tree.specs.Trees.{HasBlocks};
+
 mod reader;
 #[cfg(test)]
 mod tests;
@@ -77,7 +79,10 @@ fn number_timed<R: Clock + Eprint>(
 fn check_timed<R: Clock + Eprint>(
     task: &Task<'_, R>,
     program: Program<'_, Global>,
-) -> anyhow::Result<Answer> {
+) -> anyhow::Result<Answer>
+    // As `parse` gives it.
+    requires { HasBlocks program }
+{
     let start = Instant::now(task.rt)?;
     match check(task.alloc, task.keys, program) {
         Ok(checked) => {

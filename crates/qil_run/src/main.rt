@@ -7,6 +7,8 @@
 //! forward and back took.
 #![tactic(auto)]
 
+ghost use Rattle.qil_tree.specs.Trees.{HasBlocks};
+
 mod report;
 mod run;
 
@@ -120,7 +122,10 @@ fn run_checked<R: Clock + Print + Eprint>(
 fn run_program<R: Clock + Print + Eprint>(
     task: &Task<'_, R>,
     program: Program<'_, Global>,
-) -> anyhow::Result<Answer> {
+) -> anyhow::Result<Answer>
+    // As `parse` gives it.
+    requires { HasBlocks program }
+{
     match check(task.alloc, task.keys, program) {
         Ok(checked) => run_checked(task, &checked),
         Err(_) => Ok(Answer::Refused),

@@ -6,6 +6,8 @@
 //! the memory of a state: it is for sessions of few moves.
 #![tactic(auto)]
 
+ghost use Rattle.qil_tree.specs.Trees.{HasBlocks};
+
 use anyhow::bail;
 use qil_checker::{Checked, check};
 use qil_history::Snapshots;
@@ -82,7 +84,10 @@ fn answer_checked<R: Print>(
 fn answer_program<R: Print>(
     task: &Task<'_, R>,
     program: Program<'_, Global>,
-) -> anyhow::Result<bool> {
+) -> anyhow::Result<bool>
+    // As `parse` gives it.
+    requires { HasBlocks program }
+{
     match check(task.alloc, task.keys, program) {
         Ok(checked) => answer_checked(task, &checked),
         Err(_) => Ok(false),
