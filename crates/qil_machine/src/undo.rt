@@ -43,8 +43,8 @@ impl<'c, 'a, A: Allocator + Copy> Machine<'c, 'a, A> {
             Kind::Returned(set, top, value, frame) => {
                 self.undo_returned(frame, top, value_of(set, value));
             }
-            Kind::Grew(grown) => self.undo_grew(Box::into_inner(grown)),
-            Kind::Copied(copied) => self.undo_copied(Box::into_inner(copied)),
+            Kind::Grew(grown) => self.undo_boxed_grew(grown),
+            Kind::Copied(copied) => self.undo_boxed_copied(copied),
             Kind::Wrote(index, count) => self.undo_wrote(index, count),
             Kind::WroteTo(set, slot, index, count, value) => {
                 self.undo_wrote_to(slot, value_of(set, value), index, count);
@@ -115,7 +115,16 @@ impl<'c, 'a, A: Allocator + Copy> Machine<'c, 'a, A> {
         self.status = Status::Running;
     }
 
+    /// The rare kinds are taken out of their boxes in calls of their own, so that the way of the others has no room for them.
     #[inline(never)]
+    fn undo_boxed_grew(&mut self, grown: Box<Grown<A>, A>)
+        requires { Fits (grown_move grown.value.index grown.value.slot grown.value.value grown.value.saved) self.old }
+        ensures { self.new ≡ undone (grown_move grown.value.index grown.value.slot grown.value.value grown.value.saved) self.old }
+    {
+        self.undo_grew(Box::into_inner(grown));
+    }
+
+    #[inline(always)]
     fn undo_grew(&mut self, grown: Grown<A>)
         requires { Fits (grown_move grown.index grown.slot grown.value grown.saved) self.old }
         ensures { self.new ≡ undone (grown_move grown.index grown.slot grown.value grown.saved) self.old }
@@ -134,6 +143,14 @@ impl<'c, 'a, A: Allocator + Copy> Machine<'c, 'a, A> {
     }
 
     #[inline(never)]
+    fn undo_boxed_copied(&mut self, copied: Box<Copied<A>, A>)
+        requires { Fits (copied_move copied.value.index copied.value.saved) self.old }
+        ensures { self.new ≡ undone (copied_move copied.value.index copied.value.saved) self.old }
+    {
+        self.undo_copied(Box::into_inner(copied));
+    }
+
+    #[inline(always)]
     fn undo_copied(&mut self, copied: Copied<A>)
         requires { Fits (copied_move copied.index copied.saved) self.old }
         ensures { self.new ≡ undone (copied_move copied.index copied.saved) self.old }
