@@ -10,7 +10,7 @@ ghost use Rattle.qil_answers.specs.Shown.{spaced_byte, memory_shown, output_show
 
 use crate::piece::{Piece, put_pieces};
 use qil_machine::Machine;
-use qil_streams::{Put, Stopped};
+use qil_streams::{Put, PutError};
 use std::alloc::Allocator;
 
 /// A hexadecimal digit.
@@ -26,7 +26,7 @@ fn hex_digit(digit: u8) -> u8
 }
 
 /// Puts a byte of memory: two digits, or `--` where it is dead.
-fn put_byte<P: Put>(out: &mut P, byte: Option<u8>) -> Result<(), Stopped>
+fn put_byte<P: Put>(out: &mut P, byte: Option<u8>) -> Result<(), PutError>
     requires { P.stops out.old < 2 ^ 64 - 1 }
     ensures text { Puts result (P.written out.old) (P.written out.new) (byte_text byte) }
     ensures counted { Counts result (P.stops out.old) (P.stops out.new) }
@@ -54,7 +54,7 @@ fn byte_behind<A: Allocator + Copy>(
 }
 
 /// Puts a space and a byte of memory.
-fn put_next_byte<P: Put>(out: &mut P, byte: Option<u8>) -> Result<(), Stopped>
+fn put_next_byte<P: Put>(out: &mut P, byte: Option<u8>) -> Result<(), PutError>
     requires { P.stops out.old < 2 ^ 64 - 1 }
     ensures text { Puts result (P.written out.old) (P.written out.new) (spaced_byte byte) }
     ensures counted { Counts result (P.stops out.old) (P.stops out.new) }
@@ -68,13 +68,13 @@ fn put_next_byte<P: Put>(out: &mut P, byte: Option<u8>) -> Result<(), Stopped>
 ///
 /// # Errors
 ///
-/// `Stopped` where `out` stopped. Then a front of the line was put.
+/// `PutError` where `out` stopped. Then a front of the line was put.
 pub fn put_memory<P: Put, A: Allocator + Copy>(
     out: &mut P,
     machine: &Machine<'_, '_, A>,
     address: u64,
     count: u32,
-) -> Result<(), Stopped>
+) -> Result<(), PutError>
     requires { P.stops out.old < 2 ^ 64 - 1 }
     ensures text { Puts result (P.written out.old) (P.written out.new) (memory_shown (state_of machine.now) address count) }
     ensures counted { Counts result (P.stops out.old) (P.stops out.new) }
@@ -91,7 +91,7 @@ pub fn put_memory<P: Put, A: Allocator + Copy>(
 }
 
 /// Puts a byte as it stands in quotes.
-fn put_quoted<P: Put>(out: &mut P, byte: u8) -> Result<(), Stopped>
+fn put_quoted<P: Put>(out: &mut P, byte: u8) -> Result<(), PutError>
     requires { P.stops out.old < 2 ^ 64 - 1 }
     ensures text { Puts result (P.written out.old) (P.written out.new) (quoted_byte byte) }
     ensures counted { Counts result (P.stops out.old) (P.stops out.new) }
@@ -112,7 +112,7 @@ fn put_quoted<P: Put>(out: &mut P, byte: u8) -> Result<(), Stopped>
 }
 
 /// Puts bytes as they stand in quotes.
-fn put_all_quoted<P: Put>(out: &mut P, bytes: &[u8]) -> Result<(), Stopped>
+fn put_all_quoted<P: Put>(out: &mut P, bytes: &[u8]) -> Result<(), PutError>
     requires { P.stops out.old < 2 ^ 64 - 1 }
     ensures text { Puts result (P.written out.old) (P.written out.new) (flat_map quoted_byte bytes.now) }
     ensures counted { Counts result (P.stops out.old) (P.stops out.new) }
@@ -125,7 +125,7 @@ fn put_all_quoted<P: Put>(out: &mut P, bytes: &[u8]) -> Result<(), Stopped>
 }
 
 /// Puts how many bytes these are, and which, in quotes.
-fn put_counted<P: Put>(out: &mut P, bytes: &[u8]) -> Result<(), Stopped>
+fn put_counted<P: Put>(out: &mut P, bytes: &[u8]) -> Result<(), PutError>
     requires { P.stops out.old < 2 ^ 64 - 1 }
     ensures text { Puts result (P.written out.old) (P.written out.new) (output_shown bytes.now) }
     ensures counted { Counts result (P.stops out.old) (P.stops out.new) }
@@ -147,11 +147,11 @@ fn put_counted<P: Put>(out: &mut P, bytes: &[u8]) -> Result<(), Stopped>
 ///
 /// # Errors
 ///
-/// `Stopped` where `out` stopped. Then a front of the line was put.
+/// `PutError` where `out` stopped. Then a front of the line was put.
 pub fn put_output<P: Put, A: Allocator + Copy>(
     out: &mut P,
     machine: &Machine<'_, '_, A>,
-) -> Result<(), Stopped>
+) -> Result<(), PutError>
     requires { P.stops out.old < 2 ^ 64 - 1 }
     ensures text { Puts result (P.written out.old) (P.written out.new) (output_shown (state_of machine.now).output) }
     ensures counted { Counts result (P.stops out.old) (P.stops out.new) }

@@ -12,7 +12,7 @@ use crate::piece::{Piece, put_pieces};
 use qil_frames::Frame;
 use qil_machine::Machine;
 use qil_numbering::Code;
-use qil_streams::{Put, Stopped, put_line};
+use qil_streams::{Put, PutError, put_line};
 use std::alloc::Allocator;
 
 /// Puts the place of a frame.
@@ -20,7 +20,7 @@ fn put_frame<'c, 'a, P: Put, A: Allocator + Copy>(
     out: &mut P,
     code: &'c Code<'c, 'a, A>,
     frame: &Frame<A>,
-) -> Result<(), Stopped>
+) -> Result<(), PutError>
     requires { P.stops out.old < 2 ^ 64 - 1 }
     ensures text { (callers : List SlotFrame) → Puts result (P.written out.old) (P.written out.new) (frame_line (frame_state code.now callers frame.now)) }
     ensures counted { Counts result (P.stops out.old) (P.stops out.new) }
@@ -53,11 +53,11 @@ fn frame_at<'m, A: Allocator + Copy>(machine: &'m Machine<'_, '_, A>, inner: usi
 ///
 /// # Errors
 ///
-/// `Stopped` where `out` stopped. Then a front of the text was put.
+/// `PutError` where `out` stopped. Then a front of the text was put.
 pub fn put_frames<P: Put, A: Allocator + Copy>(
     out: &mut P,
     machine: &Machine<'_, '_, A>,
-) -> Result<(), Stopped>
+) -> Result<(), PutError>
     requires { P.stops out.old < 2 ^ 64 - 1 }
     ensures text { Puts result (P.written out.old) (P.written out.new) (frames_shown (state_of machine.now).frames) }
     ensures counted { Counts result (P.stops out.old) (P.stops out.new) }

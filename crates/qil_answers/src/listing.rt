@@ -13,13 +13,13 @@ use crate::piece::{Piece, put_pieces};
 use qil_frames::Frame;
 use qil_machine::Machine;
 use qil_numbering::Code;
-use qil_streams::{Put, Stopped, put_line};
+use qil_streams::{Put, PutError, put_line};
 use qil_texts::{inst_text, jump_text, phi_text};
 use qil_tree::{Inst, Jump, Phi};
 use std::alloc::Allocator;
 
 /// Puts a phi.
-fn put_phi<P: Put, A: Allocator>(out: &mut P, phi: &Phi<'_, A>) -> Result<(), Stopped>
+fn put_phi<P: Put, A: Allocator>(out: &mut P, phi: &Phi<'_, A>) -> Result<(), PutError>
     requires { P.stops out.old < 2 ^ 64 - 1 }
     ensures text { Puts result (P.written out.old) (P.written out.new) (phi_row phi.now) }
     ensures counted { Counts result (P.stops out.old) (P.stops out.new) }
@@ -31,7 +31,7 @@ fn put_phi<P: Put, A: Allocator>(out: &mut P, phi: &Phi<'_, A>) -> Result<(), St
 }
 
 /// Puts the front of a row: its index, and whether the frame stands there.
-fn put_front<P: Put>(out: &mut P, at: u32, index: u64) -> Result<(), Stopped>
+fn put_front<P: Put>(out: &mut P, at: u32, index: u64) -> Result<(), PutError>
     requires { P.stops out.old < 2 ^ 64 - 1 }
     ensures text { Puts result (P.written out.old) (P.written out.new) (row_front at index) }
     ensures counted { Counts result (P.stops out.old) (P.stops out.new) }
@@ -54,7 +54,7 @@ fn put_inst<P: Put, A: Allocator>(
     at: u32,
     index: u64,
     inst: &Inst<'_, A>,
-) -> Result<(), Stopped>
+) -> Result<(), PutError>
     requires { P.stops out.old < 2 ^ 64 - 1 }
     ensures text { Puts result (P.written out.old) (P.written out.new) (row at index (inst_words inst.now)) }
     ensures counted { Counts result (P.stops out.old) (P.stops out.new) }
@@ -66,7 +66,7 @@ fn put_inst<P: Put, A: Allocator>(
 }
 
 /// Puts a jump.
-fn put_jump<P: Put>(out: &mut P, at: u32, index: u64, jump: &Jump<'_>) -> Result<(), Stopped>
+fn put_jump<P: Put>(out: &mut P, at: u32, index: u64, jump: &Jump<'_>) -> Result<(), PutError>
     requires { P.stops out.old < 2 ^ 64 - 1 }
     ensures text { Puts result (P.written out.old) (P.written out.new) (row at index (jump_words jump.now)) }
     ensures counted { Counts result (P.stops out.old) (P.stops out.new) }
@@ -78,7 +78,7 @@ fn put_jump<P: Put>(out: &mut P, at: u32, index: u64, jump: &Jump<'_>) -> Result
 }
 
 /// Puts phis.
-fn put_phis<P: Put, A: Allocator>(out: &mut P, phis: &[Phi<'_, A>]) -> Result<(), Stopped>
+fn put_phis<P: Put, A: Allocator>(out: &mut P, phis: &[Phi<'_, A>]) -> Result<(), PutError>
     requires { P.stops out.old < 2 ^ 64 - 1 }
     ensures text { Puts result (P.written out.old) (P.written out.new) (flat_map phi_row phis.now) }
     ensures counted { Counts result (P.stops out.old) (P.stops out.new) }
@@ -95,7 +95,7 @@ fn put_insts<P: Put, A: Allocator>(
     out: &mut P,
     at: u32,
     insts: &[Inst<'_, A>],
-) -> Result<(), Stopped>
+) -> Result<(), PutError>
     requires { P.stops out.old < 2 ^ 64 - 1 }
     ensures text { Puts result (P.written out.old) (P.written out.new) (inst_rows at 0 insts.now) }
     ensures counted { Counts result (P.stops out.old) (P.stops out.new) }
@@ -114,7 +114,7 @@ fn put_rows<P: Put, A: Allocator>(
     phis: &[Phi<'_, A>],
     insts: &[Inst<'_, A>],
     jump: &Jump<'_>,
-) -> Result<(), Stopped>
+) -> Result<(), PutError>
     requires { P.stops out.old < 2 ^ 64 - 1 }
     ensures text { Puts result (P.written out.old) (P.written out.new) (all_rows at phis.now insts.now jump.now) }
     ensures counted { Counts result (P.stops out.old) (P.stops out.new) }
@@ -130,7 +130,7 @@ fn put_head<'c, 'a, P: Put, A: Allocator + Copy>(
     out: &mut P,
     code: &'c Code<'c, 'a, A>,
     frame: &Frame<A>,
-) -> Result<(), Stopped>
+) -> Result<(), PutError>
     requires { P.stops out.old < 2 ^ 64 - 1 }
     ensures text { Puts result (P.written out.old) (P.written out.new) (block_head (func_name (func_at code.now frame.now.func)) (label_in (block_at code.now frame.now.func frame.now.block))) }
     ensures counted { Counts result (P.stops out.old) (P.stops out.new) }
@@ -153,7 +153,7 @@ fn put_block_of<'c, 'a, P: Put, A: Allocator + Copy>(
     out: &mut P,
     code: &'c Code<'c, 'a, A>,
     frame: &Frame<A>,
-) -> Result<(), Stopped>
+) -> Result<(), PutError>
     requires { P.stops out.old < 2 ^ 64 - 1 }
     ensures text { Puts result (P.written out.old) (P.written out.new) (rows_in frame.now.index (block_at code.now frame.now.func frame.now.block)) }
     ensures counted { Counts result (P.stops out.old) (P.stops out.new) }
@@ -175,11 +175,11 @@ fn put_block_of<'c, 'a, P: Put, A: Allocator + Copy>(
 ///
 /// # Errors
 ///
-/// `Stopped` where `out` stopped. Then a front of the text was put.
+/// `PutError` where `out` stopped. Then a front of the text was put.
 pub fn put_block<P: Put, A: Allocator + Copy>(
     out: &mut P,
     machine: &Machine<'_, '_, A>,
-) -> Result<(), Stopped>
+) -> Result<(), PutError>
     requires { P.stops out.old < 2 ^ 64 - 1 }
     ensures text { Puts result (P.written out.old) (P.written out.new) (block_shown machine.now.program (state_of machine.now).frames) }
     ensures counted { Counts result (P.stops out.old) (P.stops out.new) }

@@ -5,7 +5,7 @@ ghost use Rattle.std.specs.List.{flat_map};
 ghost use Rattle.qil_streams.specs.Device.{Counts, Puts};
 ghost use Rattle.qil_answers.specs.Texts.{piece_text};
 
-use qil_streams::{Put, Stopped, put_number};
+use qil_streams::{Put, PutError, put_number};
 
 /// A part of a line: bytes as they are, or a number in decimal digits.
 #[derive(Clone, Copy)]
@@ -15,7 +15,7 @@ pub enum Piece<'p> {
 }
 
 /// Puts one piece.
-fn put_piece<P: Put>(out: &mut P, piece: Piece<'_>) -> Result<(), Stopped>
+fn put_piece<P: Put>(out: &mut P, piece: Piece<'_>) -> Result<(), PutError>
     requires { P.stops out.old < 2 ^ 64 - 1 }
     ensures text { Puts result (P.written out.old) (P.written out.new) (piece_text piece.entry) }
     ensures counted { Counts result (P.stops out.old) (P.stops out.new) }
@@ -31,8 +31,8 @@ fn put_piece<P: Put>(out: &mut P, piece: Piece<'_>) -> Result<(), Stopped>
 ///
 /// # Errors
 ///
-/// `Stopped` where `out` stopped. Then a front of the text was put.
-pub fn put_pieces<P: Put>(out: &mut P, pieces: &[Piece<'_>]) -> Result<(), Stopped>
+/// `PutError` where `out` stopped. Then a front of the text was put.
+pub fn put_pieces<P: Put>(out: &mut P, pieces: &[Piece<'_>]) -> Result<(), PutError>
     requires { P.stops out.old < 2 ^ 64 - 1 }
     ensures text { Puts result (P.written out.old) (P.written out.new) (flat_map piece_text pieces.now) }
     ensures counted { Counts result (P.stops out.old) (P.stops out.new) }

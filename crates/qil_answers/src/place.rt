@@ -12,7 +12,7 @@ use crate::piece::{Piece, put_pieces};
 use qil_machine::Machine;
 use qil_ops::DivFault;
 use qil_state::{Fault, Status};
-use qil_streams::{Put, Stopped};
+use qil_streams::{Put, PutError};
 use std::alloc::Allocator;
 
 /// What a fault is called, up to what it tells.
@@ -56,7 +56,7 @@ fn put_standing<P: Put, A: Allocator + Copy>(
     out: &mut P,
     position: u64,
     machine: &Machine<'_, '_, A>,
-) -> Result<(), Stopped>
+) -> Result<(), PutError>
     requires { P.stops out.old < 2 ^ 64 - 1 }
     ensures text { Puts result (P.written out.old) (P.written out.new) (standing_line position (state_of machine.now).frames) }
     ensures counted { Counts result (P.stops out.old) (P.stops out.new) }
@@ -93,12 +93,12 @@ fn put_standing<P: Put, A: Allocator + Copy>(
 ///
 /// # Errors
 ///
-/// `Stopped` where `out` stopped. Then a front of the line was put.
+/// `PutError` where `out` stopped. Then a front of the line was put.
 pub fn put_place<P: Put, A: Allocator + Copy>(
     out: &mut P,
     position: u64,
     machine: &Machine<'_, '_, A>,
-) -> Result<(), Stopped>
+) -> Result<(), PutError>
     requires { P.stops out.old < 2 ^ 64 - 1 }
     ensures text { Puts result (P.written out.old) (P.written out.new) (state_line position (state_of machine.now).frames (state_of machine.now).status) }
     ensures counted { Counts result (P.stops out.old) (P.stops out.new) }

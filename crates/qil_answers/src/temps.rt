@@ -14,11 +14,11 @@ use crate::piece::{Piece, put_pieces};
 use qil_frames::Frame;
 use qil_machine::Machine;
 use qil_numbering::{Code, Slot};
-use qil_streams::{Put, Stopped, put_line};
+use qil_streams::{Put, PutError, put_line};
 use std::alloc::Allocator;
 
 /// Puts the line that says what a temporary holds.
-fn put_value<P: Put>(out: &mut P, name: &[u8], value: Option<u64>) -> Result<(), Stopped>
+fn put_value<P: Put>(out: &mut P, name: &[u8], value: Option<u64>) -> Result<(), PutError>
     requires { P.stops out.old < 2 ^ 64 - 1 }
     ensures text { Puts result (P.written out.old) (P.written out.new) (value_line name.now value) }
     ensures counted { Counts result (P.stops out.old) (P.stops out.new) }
@@ -51,12 +51,12 @@ fn put_value<P: Put>(out: &mut P, name: &[u8], value: Option<u64>) -> Result<(),
 ///
 /// # Errors
 ///
-/// `Stopped` where `out` stopped. Then a front of the text was put.
+/// `PutError` where `out` stopped. Then a front of the text was put.
 pub fn put_printed<P: Put, A: Allocator + Copy>(
     out: &mut P,
     machine: &Machine<'_, '_, A>,
     name: &[u8],
-) -> Result<(), Stopped>
+) -> Result<(), PutError>
     requires { P.stops out.old < 2 ^ 64 - 1 }
     ensures text { Puts result (P.written out.old) (P.written out.new) (printed machine.now.program (state_of machine.now).frames name.now) }
     ensures counted { Counts result (P.stops out.old) (P.stops out.new) }
@@ -76,7 +76,7 @@ fn put_slots<'c, 'a, P: Put, A: Allocator + Copy>(
     out: &mut P,
     code: &'c Code<'c, 'a, A>,
     frame: &Frame<A>,
-) -> Result<(), Stopped>
+) -> Result<(), PutError>
     requires stops { P.stops out.old < 2 ^ 64 - 1 }
     requires slots { length (names_of code.now frame.now.func) ≡ length frame.now.slots }
     ensures text { Puts result (P.written out.old) (P.written out.new) (slot_lines (names_of code.now frame.now.func) frame.now.slots) }
@@ -97,11 +97,11 @@ fn put_slots<'c, 'a, P: Put, A: Allocator + Copy>(
 ///
 /// # Errors
 ///
-/// `Stopped` where `out` stopped. Then a front of the text was put.
+/// `PutError` where `out` stopped. Then a front of the text was put.
 pub fn put_temps<P: Put, A: Allocator + Copy>(
     out: &mut P,
     machine: &Machine<'_, '_, A>,
-) -> Result<(), Stopped>
+) -> Result<(), PutError>
     requires { P.stops out.old < 2 ^ 64 - 1 }
     ensures text { Puts result (P.written out.old) (P.written out.new) (temps_shown machine.now.program (state_of machine.now).frames) }
     ensures counted { Counts result (P.stops out.old) (P.stops out.new) }

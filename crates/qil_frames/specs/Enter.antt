@@ -2,7 +2,7 @@
 use Rattle.std.specs.Prelude.{◌≡◌, ℕ, ◌<◌, List, [], ◌∷◌, length, Option, Some, None, get_or, slice_set, Result, Ok, Err, IsOk}
 use Rattle.std.specs.List.{All}
 use Rattle.qil_tree.specs.declared.ops.Class.{Class}
-use Rattle.qil_ops.specs.Values.{width, Low}
+use Rattle.qil_ops.specs.Values.{width, low_bits}
 use Rattle.qil_numbering.specs.declared.numbered.Slot.{Slot}
 use Rattle.qil_numbering.specs.declared.numbered.Source.{Source}
 use Rattle.qil_numbering.specs.declared.numbered.Source.TheVariants as sources
@@ -16,12 +16,12 @@ use Rattle.qil_frames.specs.Frames.{SlotFrame, at_place}
 -- ---- what is read
 
 abbrev pub known : Class → Slot → Option ℕ → Result ℕ Slot
-known c s (Some v) = Ok (Low (width c) v)
+known c s (Some v) = Ok (low_bits (width c) v)
 known c s None = Err s
 
 -- an operand in a class: the low bits of the constant or of what the slot holds; or the slot, where it is unset
 abbrev pub value_in : List (Option ℕ) → Class → Source → Result ℕ Slot
-value_in vs c (sources.Constant n) = Ok (Low (width c) n)
+value_in vs c (sources.Constant n) = Ok (low_bits (width c) n)
 value_in vs c (sources.Slot s) = known c s (get_or vs s.index None)
 
 abbrev pub write_to : Slot → ℕ → SavedSlot

@@ -2,7 +2,7 @@
 
 ghost use Rattle.std.specs.Prelude.{◌≡◌};
 
-use qil_texts::{Put, Stopped, inst_text};
+use qil_texts::{Put, PutError, inst_text};
 use qil_tree::{AbiType, Argument, CallResult, Inst, InstKind, Items, Name, Operand};
 use std::alloc::{AllocFailed, Global};
 use std::test::*;
@@ -36,7 +36,7 @@ impl<'a> Put for Wanting<'a> {
 
     ghost device = { λ _. 0 };
 
-    fn put(&mut self, bytes: &[u8]) -> Result<(), Stopped> {
+    fn put(&mut self, bytes: &[u8]) -> Result<(), PutError> {
         let whole = bytes.len() <= self.room;
         let count = if whole { bytes.len() } else { self.room };
         self.room -= count;
@@ -48,7 +48,7 @@ impl<'a> Put for Wanting<'a> {
             return Ok(());
         }
         self.stops += 1;
-        Err(Stopped)
+        Err(PutError)
     }
 }
 
@@ -97,7 +97,7 @@ fn stops_anywhere(rt: HostRuntime) -> Result<(), Fail> {
     assert!(rt; is_inst(&inst, text));
     for room in 0..text.len() {
         let mut sink = sink_for(text, room);
-        assert_eq!(rt; inst_text(&inst, &mut sink), Err(Stopped));
+        assert_eq!(rt; inst_text(&inst, &mut sink), Err(PutError));
         assert!(rt; sink.lacks(text.len() - room));
     }
     Ok(())

@@ -13,7 +13,7 @@ use Rattle.qil_tree.specs.declared.tree.InstKind.TheVariants as insts
 use Rattle.qil_tree.specs.declared.tree.Program.{Program}
 use Rattle.qil_checker.specs.Operands.{expr_reads, stored_class}
 use Rattle.qil_layout.specs.Layout.{width_bytes, rounded, zeros}
-use Rattle.qil_ops.specs.Values.{width, Low}
+use Rattle.qil_ops.specs.Values.{width, low_bits}
 use Rattle.qil_memory.specs.Buffers.{Buffers, stack_end}
 use Rattle.qil_memory.specs.Live.{live, laid}
 use Rattle.qil_memory.specs.Calls.{stored, blitted}
@@ -49,9 +49,9 @@ assigns p s f fs to e o is =
 
 pub assign_does : {A : Type 0} (p : Program A) (f : SlotFrame) (fs : List SlotFrame) (m : Buffers) (out : List ℕ) (st : Status) (to : Target) (e : Expr) (s k v : ℕ)
     → evaluated p (live m) (temps_of (names_of p f.func) f.slots) to.class e ≡ Ok v → f.index ≡ k
-    → temps_of (names_of p f.func) (set f.slots s (Some (Low (width to.class) v))) ≡ with_temp (temps_of (names_of p f.func) f.slots) to.name (Some (Low (width to.class) v))
+    → temps_of (names_of p f.func) (set f.slots s (Some (low_bits (width to.class) v))) ≡ with_temp (temps_of (names_of p f.func) f.slots) to.name (Some (low_bits (width to.class) v))
     → performed p (state_of (whole p (f ∷ fs) m out st)) (frames_state p (f ∷ fs)) (insts.Assign to e)
-    ≡ Ok (state_of (whole p (record f { index = k + 1; slots = set f.slots s (Some (Low (width to.class) v)) } ∷ fs) m out st))
+    ≡ Ok (state_of (whole p (record f { index = k + 1; slots = set f.slots s (Some (low_bits (width to.class) v)) } ∷ fs) m out st))
 assign_does {A} p f fs m out st to e s k v is at sets_it =
     let S : State = state_of (whole p (f ∷ fs) m out st) in
     let F : meaning.Frame = frame_state p fs f in
@@ -99,9 +99,9 @@ blit_faults p s f fs a b n from to why ea eb bytes = rw (ea, eb, bytes) refl
 pub grow_does : {A : Type 0} (p : Program A) (f : SlotFrame) (fs : List SlotFrame) (m w : Buffers) (out : List ℕ) (st : Status) (to : Target) (op : AllocOp) (a : Operand) (s k n at : ℕ)
     → val p (temps_of (names_of p f.func) f.slots) classes.L a ≡ Ok n → f.index ≡ k → at ≡ rounded (alignment op) m.top → at + n ≤ stack_end
     → live w ≡ laid (live m) m.top (zeros (w.top - m.top)) → w.top ≡ at + n
-    → temps_of (names_of p f.func) (set f.slots s (Some (Low (width to.class) at))) ≡ with_temp (temps_of (names_of p f.func) f.slots) to.name (Some (Low (width to.class) at))
+    → temps_of (names_of p f.func) (set f.slots s (Some (low_bits (width to.class) at))) ≡ with_temp (temps_of (names_of p f.func) f.slots) to.name (Some (low_bits (width to.class) at))
     → performed p (state_of (whole p (f ∷ fs) m out st)) (frames_state p (f ∷ fs)) (insts.Alloc to op a)
-    ≡ Ok (state_of (whole p (record f { index = k + 1; slots = set f.slots s (Some (Low (width to.class) at)) } ∷ fs) w out st))
+    ≡ Ok (state_of (whole p (record f { index = k + 1; slots = set f.slots s (Some (low_bits (width to.class) at)) } ∷ fs) w out st))
 grow_does {A} p f fs m w out st to op a s k n at ea ek eat room bytes top sets_it =
     let S : State = state_of (whole p (f ∷ fs) m out st) in
     let F : meaning.Frame = frame_state p fs f in

@@ -5,7 +5,7 @@ use Rattle.std.proofs.lemmas.Option.{slice_get-get_or, slice_get_past}
 use Rattle.qil_tree.specs.declared.ops.Class.{Class}
 use Rattle.qil_tree.specs.declared.tree.Func.{Func}
 use Rattle.qil_tree.specs.declared.tree.Program.{Program}
-use Rattle.qil_ops.specs.Values.{width, Low}
+use Rattle.qil_ops.specs.Values.{width, low_bits}
 use Rattle.qil_memory.specs.Buffers.{Buffers}
 use Rattle.qil_meaning.specs.State as meaning
 use Rattle.qil_meaning.specs.State.{Name, State}
@@ -61,12 +61,12 @@ slot_poked {A} m now s v t same ok names has gives =
 
 -- the machine with a value in a slot, which is cut to the class of its temporary
 pub slot_set : {A : Type 0} (m now : Whole A) (fs : List SlotFrame) (s : Slot) (c : Class) (v w : ℕ) → m ≡ now → IsMachine m → IsOfClass now s c → names_by_slot now.program (state_of now).frames ≡ head_names now.program now.frames
-    → w ≡ Low (width c) v → fs ≡ on_innermost (with_slot s (Some w)) m.frames → poke_slot now.program (state_of now) s v ≡ Ok (state_of (whole m.program fs m.memory m.output m.status))
+    → w ≡ low_bits (width c) v → fs ≡ on_innermost (with_slot s (Some w)) m.frames → poke_slot now.program (state_of now) s v ≡ Ok (state_of (whole m.program fs m.memory m.output m.status))
 slot_set {A} m now fs s c v w same ok class names ew ef =
-    let cut : Whole A = record now { frames = on_innermost (with_slot s (Some (Low (width c) v))) now.frames } in
+    let cut : Whole A = record now { frames = on_innermost (with_slot s (Some (low_bits (width c) v))) now.frames } in
     let after : cut ≡ whole m.program fs m.memory m.output m.status =
     sym (ap (λ gs. whole m.program gs m.memory m.output m.status) (ef ∙ ap (λ n. on_innermost (with_slot s (Some n)) m.frames) ew)
-    ∙ ap (λ (x : Whole A). whole x.program (on_innermost (with_slot s (Some (Low (width c) v))) x.frames) x.memory x.output x.status) same) in
+    ∙ ap (λ (x : Whole A). whole x.program (on_innermost (with_slot s (Some (low_bits (width c) v))) x.frames) x.memory x.output x.status) same) in
     slot_poked m now s v (state_of cut) same ok names class.slot (λ x e. class.poke x v e) ∙ ap (λ (x : Whole A). Ok (state_of x)) after
 
 -- ---- refusals

@@ -6,7 +6,7 @@ use Rattle.std.proofs.lemmas.Option.{slice_get_within, slice_get_cases}
 use Rattle.qil_tree.specs.declared.ops.Class.{Class}
 use Rattle.qil_tree.specs.declared.tree.Func.{Func}
 use Rattle.qil_tree.specs.declared.tree.Program.{Program}
-use Rattle.qil_ops.specs.Values.{width, Low}
+use Rattle.qil_ops.specs.Values.{width, low_bits}
 use Rattle.qil_memory.specs.Buffers.{Buffers}
 use Rattle.qil_meaning.specs.State as meaning
 use Rattle.qil_meaning.specs.State.{Name, State}
@@ -75,13 +75,13 @@ within_code p i s c e = let there = class_in_code p i s c e in there.within
 -- the state with a value in a slot is the one with that value for its temporary
 poked_at : {A : Type 0} (p : Program A) (f : SlotFrame) (fs : List SlotFrame) (m : Buffers) (out : List ℕ) (st : Status) (s : Slot) (c : Class) (func : Func A) (x : Name) (v : ℕ) → FrameFits p f → Finds p
     → s.index < length f.slots → func_at p f.func ≡ Some func → slice_get (names_of p f.func) s.index ≡ Some x → temp_class (func_at p f.func) x ≡ Some c
-    → poke_temp p (state_of (whole p (f ∷ fs) m out st)) x v ≡ Ok (state_of (whole p (record f { slots = set f.slots s.index (Some (Low (width c) v)) } ∷ fs) m out st))
+    → poke_temp p (state_of (whole p (f ∷ fs) m out st)) x v ≡ Ok (state_of (whole p (record f { slots = set f.slots s.index (Some (low_bits (width c) v)) } ∷ fs) m out st))
 poked_at {A} p f fs m out st s c func x v fits finds has ef ex ec =
     let S : State = state_of (whole p (f ∷ fs) m out st) in
     let F : meaning.Frame = frame_state p fs f in
     let FS : List meaning.Frame = frames_state p fs in
     let ns : List Name = names_of p f.func in
-    let w : Option ℕ = Some (Low (width c) v) in
+    let w : Option ℕ = Some (low_bits (width c) v) in
     let name : F.func ≡ func.name = ap (λ (o : Option (Func A)). func_name o) ef in
     let class : temp_class (func_named p.funcs F.func) x ≡ Some c =
     ap (λ y. temp_class (func_named p.funcs y) x) name ∙ ap (λ (o : Option (Func A)). temp_class o x) (finds.func f.func func ef ∙ sym ef) ∙ ec in
@@ -145,7 +145,7 @@ is_unknown {A} m now fr q i s same first at program none =
 
 -- ---- the move
 
-pub temp_made : {A : Type 0} (m now new : Whole A) (d : Move) (fs : List SlotFrame) (s : Slot) (c : Class) (v w : ℕ) (old : Option ℕ) → m ≡ now → IsMachine m → IsOfClass now s c → w ≡ Low (width c) v
+pub temp_made : {A : Type 0} (m now new : Whole A) (d : Move) (fs : List SlotFrame) (s : Slot) (c : Class) (v w : ℕ) (old : Option ℕ) → m ≡ now → IsMachine m → IsOfClass now s c → w ≡ low_bits (width c) v
     → fs ≡ on_innermost (with_slot s (Some w)) m.frames → old ≡ held m.frames s → d ≡ poked_slot_move s old → new ≡ whole m.program fs m.memory m.output m.status → Made d now new
 temp_made {A} m now new d fs s c v w old same ok class ew ef eo ed en =
     let has : HasSlot m.frames s = subst (λ (x : Whole A). HasSlot x.frames s) (sym same) class.slot in

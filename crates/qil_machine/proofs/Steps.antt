@@ -8,7 +8,7 @@ use Rattle.qil_tree.specs.declared.ops.AllocOp.{AllocOp}
 use Rattle.qil_tree.specs.declared.tree.Program.{Program}
 use Rattle.qil_checker.specs.Operands.{stored_class}
 use Rattle.qil_layout.specs.Layout.{width_bytes, rounded, zeros}
-use Rattle.qil_ops.specs.Values.{width, Low}
+use Rattle.qil_ops.specs.Values.{width, low_bits}
 use Rattle.qil_memory.specs.Buffers.{Buffers, stack_end}
 use Rattle.qil_memory.specs.Live.{live, laid}
 use Rattle.qil_memory.specs.Calls.{stored, blitted}
@@ -61,15 +61,15 @@ slots_are (f ∷ fs) fr vs at e = e ∙ ap (λ (g : SlotFrame). g.slots) (sym (s
 
 assign_at : {A : Type 0} (p : Program A) (fs : List SlotFrame) (m : Buffers) (out : List ℕ) (st : Status) (vs : List (Option ℕ)) (c : Class) (s : Slot) (e : NumberedExpr) (k v : ℕ) → FramesFit p fs → AreOf fs vs
     → EvaluatedIn A m vs c e (Ok v) → HasInst p fs (insts.Assign c s e) → IsNext p fs k
-    → performed_whole (whole p fs m out st) (insts.Assign c s e) ≡ Ok (state_of (whole p (on_innermost (at_index (k + 1)) (on_innermost (with_slot s (Some (Low (width c) v))) fs)) m out st))
+    → performed_whole (whole p fs m out st) (insts.Assign c s e) ≡ Ok (state_of (whole p (on_innermost (at_index (k + 1)) (on_innermost (with_slot s (Some (low_bits (width c) v))) fs)) m out st))
 assign_at p [] m out st vs c s e k v fits of ev h n = absurd h
 assign_at {A} p (f ∷ fs) m out st vs c s e k v fits of ev h n =
     let ns : List Name = names_of p f.func in
     let are : AreSlots ns f.slots = are_slots p f fits.0 in
     let here : EvaluatedIn A m f.slots c e (Ok v) = subst (λ us. EvaluatedIn A m us c e (Ok v)) of ev in
-    assign_does p f fs m out st (named_target ns s c) (named_expr ns e) s.index k v (sym (here p ns are)) n.0 (slot_written ns f.slots s.index (Some (Low (width c) v)) are h.0)
+    assign_does p f fs m out st (named_target ns s c) (named_expr ns e) s.index k v (sym (here p ns are)) n.0 (slot_written ns f.slots s.index (Some (low_bits (width c) v)) are h.0)
 
-pub assign_steps : {A : Type 0} (m now new : Whole A) (vs : List (Option ℕ)) (c : Class) (s : Slot) (e : NumberedExpr) (k v w : ℕ) → m ≡ now → IsMachine m → AreOf m.frames vs → EvaluatedIn A m.memory vs c e (Ok v) → w ≡ Low (width c) v
+pub assign_steps : {A : Type 0} (m now new : Whole A) (vs : List (Option ℕ)) (c : Class) (s : Slot) (e : NumberedExpr) (k v w : ℕ) → m ≡ now → IsMachine m → AreOf m.frames vs → EvaluatedIn A m.memory vs c e (Ok v) → w ≡ low_bits (width c) v
     → HasInst now.program now.frames (insts.Assign c s e) → IsNext now.program now.frames k → new ≡ record now { frames = on_innermost (at_index (k + 1)) (on_innermost (with_slot s (Some w)) now.frames) }
     → performed_whole now (insts.Assign c s e) ≡ Ok (state_of new)
 assign_steps {A} m now new vs c s e k v w same ok of ev ew h n en =
@@ -208,23 +208,23 @@ blit_fails {A} m now vs a b n from to e same ok of ra rb why =
 grow_at : {A : Type 0} (p : Program A) (fs : List SlotFrame) (m w : Buffers) (out : List ℕ) (st : Status) (vs : List (Option ℕ)) (c : Class) (s : Slot) (op : AllocOp) (a : Source) (k n : ℕ) → FramesFit p fs → AreOf fs vs
     → ReadIn A vs classes.L a (Ok n) → HasInst p fs (insts.Alloc c s op a) → IsNext p fs k → rounded (alignment op) m.top + n ≤ stack_end
     → live w ≡ laid (live m) m.top (zeros (w.top - m.top)) → w.top ≡ rounded (alignment op) m.top + n
-    → performed_whole (whole p fs m out st) (insts.Alloc c s op a) ≡ Ok (state_of (whole p (on_innermost (at_index (k + 1)) (on_innermost (with_slot s (Some (Low (width c) (rounded (alignment op) m.top)))) fs)) w out st))
+    → performed_whole (whole p fs m out st) (insts.Alloc c s op a) ≡ Ok (state_of (whole p (on_innermost (at_index (k + 1)) (on_innermost (with_slot s (Some (low_bits (width c) (rounded (alignment op) m.top)))) fs)) w out st))
 grow_at p [] m w out st vs c s op a k n fits of ra h nx room bytes top = absurd of
 grow_at {A} p (f ∷ fs) m w out st vs c s op a k n fits of ra h nx room bytes top =
     let ns : List Name = names_of p f.func in
     let are : AreSlots ns f.slots = are_slots p f fits.0 in
     grow_does p f fs m w out st (named_target ns s c) op (named_source ns a) s.index k n (rounded (alignment op) m.top) (read_here p f vs classes.L a (Ok n) are of ra) nx.0 refl room bytes top
-    (slot_written ns f.slots s.index (Some (Low (width c) (rounded (alignment op) m.top))) are h.0)
+    (slot_written ns f.slots s.index (Some (low_bits (width c) (rounded (alignment op) m.top))) are h.0)
 
 pub grow_steps : {A : Type 0} (m now new : Whole A) (vs : List (Option ℕ)) (c : Class) (s : Slot) (op : AllocOp) (a : Source) (align k n : ℕ) → m ≡ now → IsMachine m → AreOf m.frames vs → ReadIn A vs classes.L a (Ok n) → align ≡ alignment op
     → HasInst now.program now.frames (insts.Alloc c s op a) → IsNext now.program now.frames k → rounded align now.memory.top + n ≤ stack_end
     → live new.memory ≡ laid (live now.memory) now.memory.top (zeros (new.memory.top - now.memory.top)) → new.memory.top ≡ rounded align now.memory.top + n
-    → new ≡ record now { frames = on_innermost (at_index (k + 1)) (on_innermost (with_slot s (Some (Low (width c) (rounded align now.memory.top)))) now.frames); memory = new.memory }
+    → new ≡ record now { frames = on_innermost (at_index (k + 1)) (on_innermost (with_slot s (Some (low_bits (width c) (rounded align now.memory.top)))) now.frames); memory = new.memory }
     → performed_whole now (insts.Alloc c s op a) ≡ Ok (state_of new)
 grow_steps {A} m now new vs c s op a align k n same ok of ra ea h nx room bytes top en =
     let Goal : ℕ → Whole A → Type 0 = λ al x. HasInst x.program x.frames (insts.Alloc c s op a) → IsNext x.program x.frames k → rounded al x.memory.top + n ≤ stack_end
     → live new.memory ≡ laid (live x.memory) x.memory.top (zeros (new.memory.top - x.memory.top)) → new.memory.top ≡ rounded al x.memory.top + n
-    → new ≡ record x { frames = on_innermost (at_index (k + 1)) (on_innermost (with_slot s (Some (Low (width c) (rounded al x.memory.top)))) x.frames); memory = new.memory }
+    → new ≡ record x { frames = on_innermost (at_index (k + 1)) (on_innermost (with_slot s (Some (low_bits (width c) (rounded al x.memory.top)))) x.frames); memory = new.memory }
     → performed_whole x (insts.Alloc c s op a) ≡ Ok (state_of new) in
     subst (Goal align) same (subst (λ al. Goal al m) (sym ea)
     (λ h nx room bytes top en. grow_at m.program m.frames m.memory new.memory m.output m.status vs c s op a k n ok.frames of ra h nx room bytes top ∙ ap (λ (y : Whole A). Ok (state_of y)) (sym en))) h nx room bytes top en

@@ -7,7 +7,7 @@ use Rattle.qil_tree.specs.declared.ops.AbiType.TheVariants as types
 use Rattle.qil_tree.specs.declared.tree.CallResult.{CallResult}
 use Rattle.qil_tree.specs.declared.tree.Program.{Program}
 use Rattle.qil_layout.specs.declared.callee.Callee.TheVariants.{PutChar, Puts}
-use Rattle.qil_ops.specs.Values.{Low}
+use Rattle.qil_ops.specs.Values.{low_bits}
 use Rattle.qil_memory.specs.Buffers.{Buffers}
 use Rattle.qil_memory.specs.Live.{Live, live}
 use Rattle.qil_meaning.specs.State as meaning
@@ -108,7 +108,7 @@ explained_at p (f ∷ fs) m out st to o bytes v e h is =
 
 -- ---- a byte
 
-char_at : {A : Type 0} (p : Program A) (fs : List SlotFrame) (m : Buffers) (out : List ℕ) (st : Status) (to : Option Receiver) (args : List NumberedArgument) (vs : List (Option ℕ)) (a v b : ℕ) → AreOf fs vs → TakesOne vs types.W (Some types.W) to args (Ok v) → b ≡ Low 8 v
+char_at : {A : Type 0} (p : Program A) (fs : List SlotFrame) (m : Buffers) (out : List ℕ) (st : Status) (to : Option Receiver) (args : List NumberedArgument) (vs : List (Option ℕ)) (a v b : ℕ) → AreOf fs vs → TakesOne vs types.W (Some types.W) to args (Ok v) → b ≡ low_bits 8 v
     → IsWrite (whole p fs m out st) to (called_whole (whole p fs m out st) to args a (Some PutChar)) (b ∷ []) b fs
 char_at p [] m out st to args vs a v b of one eb = absurd of
 char_at {A} p (f ∷ fs) m out st to args vs a v b of one eb =
@@ -118,7 +118,7 @@ char_at {A} p (f ∷ fs) m out st to args vs a v b of one eb =
     ap (λ (o : Outcome (List ℕ)). o >>= λ ws. putchar S (frame_state p fs f) (frames_state p fs) R (first ws)) (sym (here (names_of p f.func)))
     ∙ ap (λ x. writes S (frame_state p fs f) (frames_state p fs) R (x ∷ []) x) (sym eb)
 
-pub char_does : {A : Type 0} (m now new : Whole A) (to : Option Receiver) (args : List NumberedArgument) (vs : List (Option ℕ)) (k v b : ℕ) → m ≡ now → IsMachine m → AreOf m.frames vs → TakesOne vs types.W (Some types.W) to args (Ok v) → b ≡ Low 8 v
+pub char_does : {A : Type 0} (m now new : Whole A) (to : Option Receiver) (args : List NumberedArgument) (vs : List (Option ℕ)) (k v b : ℕ) → m ≡ now → IsMachine m → AreOf m.frames vs → TakesOne vs types.W (Some types.W) to args (Ok v) → b ≡ low_bits 8 v
     → ReceiverFits now.frames to → IsNext now.program now.frames k → length now.output + 1 ≤ 2 ^ 20
     → new ≡ record now { frames = on_innermost (at_index (k + 1)) (gives to (Some b) now.frames); output = now.output ++ b ∷ [] } → (a : ℕ) → called_whole now to args a (Some PutChar) ≡ Ok (state_of new)
 char_does {A} m now new to args vs k v b same ok of one eb h n room en a =
@@ -127,7 +127,7 @@ char_does {A} m now new to args vs k v b same ok of one eb h n room en a =
     (λ h n room en. written_at m.program m.frames m.memory m.output m.status to (called_whole m to args a (Some PutChar)) (b ∷ []) k b ok.frames h n room (char_at m.program m.frames m.memory m.output m.status to args vs a v b of one eb)
     ∙ ap (λ (y : Whole A). Ok (state_of y)) (sym en)) h n room en
 
-pub char_explains : {A : Type 0} (m now : Whole A) (to : Option Receiver) (args : List NumberedArgument) (vs : List (Option ℕ)) (v b : ℕ) (e : StepError) → m ≡ now → AreOf m.frames vs → TakesOne vs types.W (Some types.W) to args (Ok v) → b ≡ Low 8 v
+pub char_explains : {A : Type 0} (m now : Whole A) (to : Option Receiver) (args : List NumberedArgument) (vs : List (Option ℕ)) (v b : ℕ) (e : StepError) → m ≡ now → AreOf m.frames vs → TakesOne vs types.W (Some types.W) to args (Ok v) → b ≡ low_bits 8 v
     → WriteExplains e (length now.output + 1) → (a : ℕ) → Explains (head_names now.program now.frames) (called_whole now to args a (Some PutChar)) e
 char_explains {A} m now to args vs v b e same of one eb h a =
     subst (λ (x : Whole A). WriteExplains e (length x.output + 1) → Explains (head_names x.program x.frames) (called_whole x to args a (Some PutChar)) e) same

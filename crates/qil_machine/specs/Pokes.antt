@@ -2,7 +2,7 @@
 use Rattle.std.specs.Prelude.{◌≡◌, ◌≤◌, ℕ, List, [], ◌∷◌, length, Option, Some, None, Result, Ok, Err, slice_get}
 use Rattle.qil_tree.specs.declared.ops.Class.{Class}
 use Rattle.qil_tree.specs.declared.tree.Program.{Program}
-use Rattle.qil_ops.specs.Values.{width, Low}
+use Rattle.qil_ops.specs.Values.{width, low_bits}
 use Rattle.qil_meaning.specs.State.{Name, Frame, State}
 use Rattle.qil_meaning.specs.Step.{func_named}
 use Rattle.qil_meaning.specs.Poke.{PokeFault, poke_temp, no_frame, unknown_temporary}
@@ -17,7 +17,7 @@ use Rattle.qil_machine.specs.declared.error.PokeError.TheVariants as errors
 pub record IsOfClass {A : Type 0} (w : Whole A) (s : Slot) (c : Class) : Type 0 where
   pub slot : HasSlot w.frames s
   pub poke : (x : Name) (v : ℕ) → slice_get (head_names w.program w.frames) s.index ≡ Some x
-      → poke_temp w.program (state_of w) x v ≡ Ok (state_of (record w { frames = on_innermost (with_slot s (Some (Low (width c) v))) w.frames }))
+      → poke_temp w.program (state_of w) x v ≡ Ok (state_of (record w { frames = on_innermost (with_slot s (Some (low_bits (width c) v))) w.frames }))
 
 -- no frame is left, or the innermost function has no temporary with that slot
 abbrev pub Refuses : {A : Type 0} → Whole A → Slot → PokeError → Type 0

@@ -4,7 +4,7 @@ use Rattle.std.specs.Str.{bytes_eq}
 use Rattle.std.proofs.lemmas.Slice.Eq.{bytes_eq-Decides}
 use Rattle.qil_tree.specs.declared.ops.Class.{Class}
 use Rattle.qil_tree.specs.declared.tree.Program.{Program}
-use Rattle.qil_ops.specs.Values.{width, Low}
+use Rattle.qil_ops.specs.Values.{width, low_bits}
 use Rattle.qil_meaning.specs.State.{Name, Frame}
 use Rattle.qil_meaning.specs.Temps.{by_name, overlay}
 use Rattle.qil_meaning.specs.Laws.{Swapped}
@@ -18,7 +18,7 @@ turned x y e = grind (arith, e, bytes_eq-Decides x y, bytes_eq-Decides y x)
 pub swaps : {A : Type 0} (p : Program A) (f : Frame) (c : Class) (a b : Name) (x y : ℕ) → bytes_eq a b ≡ false → f.temps a ≡ Some x → f.temps b ≡ Some y → Swapped p f c a b x y
 unfolding by_name overlay
 swaps p f c a b x y apart first second = record {
-  after = record f { temps = overlay (by_name ((a, Low (width c) y) ∷ ((b, Low (width c) x) ∷ []))) f.temps };
+  after = record f { temps = overlay (by_name ((a, low_bits (width c) y) ∷ ((b, low_bits (width c) x) ∷ []))) f.temps };
   merged = rw second (rw first refl);
   first = rw (same_name a) (rw (turned a b apart) refl);
   second = rw (same_name b) refl;

@@ -11,7 +11,7 @@ use Rattle.qil_tree.specs.Types.{class_of}
 use Rattle.qil_layout.specs.declared.callee.Callee.{Callee}
 use Rattle.qil_layout.specs.declared.callee.Callee.TheVariants.{Defined, PutChar, Puts, Exit}
 use Rattle.qil_layout.specs.Callee.{callee_at}
-use Rattle.qil_ops.specs.Values.{width, Low}
+use Rattle.qil_ops.specs.Values.{width, low_bits}
 use Rattle.qil_memory.specs.Buffers.{stack_end}
 use Rattle.qil_memory.specs.Live.{Live}
 use Rattle.qil_meaning.specs.State.{Name, Frame, State, dead_address, calls_too_deep, no_function, call_shape, output_full, exited}
@@ -35,7 +35,7 @@ begun func vs floor to =
 
 -- a returned value as the type at the call has it, cut to the class of its temporary
 abbrev pub taken : AbiType → ℕ → ℕ
-taken t v = Low (width (class_of t)) (fit t v)
+taken t v = low_bits (width (class_of t)) (fit t v)
 
 -- the frame after a call gave a value or none: where a result is named, it has that value or is unset
 abbrev pub takes : Frame → Option CallResult → Option ℕ → Frame
@@ -121,7 +121,7 @@ abbrev pub shape_of_putchar : Shape
 shape_of_putchar = record { params = types.W ∷ []; returns = Some types.W }
 
 abbrev pub putchar : State → Frame → List Frame → Option CallResult → ℕ → Outcome State
-putchar s f fs to v = writes s f fs to (Low 8 v ∷ []) (Low 8 v)
+putchar s f fs to v = writes s f fs to (low_bits 8 v ∷ []) (low_bits 8 v)
 
 abbrev pub shape_of_puts : Shape
 shape_of_puts = record { params = types.L ∷ []; returns = Some types.W }

@@ -3,7 +3,7 @@ use Rattle.std.specs.Prelude.{◌≡◌, ◌⊎◌, ℕ, zero, suc, ◌+◌, Lis
 use Rattle.qil_tree.specs.declared.ops.Class.{Class}
 use Rattle.qil_tree.specs.declared.tree.Operand.TheVariants as operands
 use Rattle.qil_tree.specs.declared.tree.Program.{Program}
-use Rattle.qil_ops.specs.Values.{width, Low}
+use Rattle.qil_ops.specs.Values.{width, low_bits}
 use Rattle.qil_memory.specs.Live.{Live}
 use Rattle.qil_meaning.specs.State.{Name, Frame, Fault, Status, faulted, State}
 use Rattle.qil_meaning.specs.Step.{PhiMove, merges}
@@ -37,5 +37,5 @@ swap c a b =
 pub record Swapped {A : Type 0} (p : Program A) (f : Frame) (c : Class) (a b : Name) (x y : ℕ) : Type 0 where
   pub after : Frame
   pub merged : merges p f (swap c a b) ≡ Ok after
-  pub first : after.temps a ≡ Some (Low (width c) y)
-  pub second : after.temps b ≡ Some (Low (width c) x)
+  pub first : after.temps a ≡ Some (low_bits (width c) y)
+  pub second : after.temps b ≡ Some (low_bits (width c) x)

@@ -21,7 +21,7 @@ use Rattle.qil_tree.specs.declared.tree.Program.{Program}
 use Rattle.qil_checker.specs.Operands.{Read, as_class, inst_reads}
 use Rattle.qil_checker.specs.Mentions.{returned_class}
 use Rattle.qil_layout.specs.Layout.{width_bytes, rounded, zeros}
-use Rattle.qil_ops.specs.Values.{width, Low}
+use Rattle.qil_ops.specs.Values.{width, low_bits}
 use Rattle.qil_memory.specs.declared.fault.BlitFault.{BlitFault}
 use Rattle.qil_memory.specs.declared.fault.BlitFault.TheVariants.{Source, Target as Onto}
 use Rattle.qil_memory.specs.Buffers.{stack_end}
@@ -44,7 +44,7 @@ block_labelled blocks x = find (λ b. bytes_eq b.label x) blocks
 
 -- the frame with a value for a temporary, cut to its class
 abbrev pub sets : Frame → Target → ℕ → Frame
-sets f to v = record f { temps = with_temp f.temps to.name (Some (Low (width to.class) v)) }
+sets f to v = record f { temps = with_temp f.temps to.name (Some (low_bits (width to.class) v)) }
 
 abbrev pub alignment : AllocOp → ℕ
 alignment allocs.Four = 4

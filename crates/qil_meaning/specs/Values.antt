@@ -14,7 +14,7 @@ use Rattle.qil_tree.specs.declared.tree.Program.{Program}
 use Rattle.qil_checker.specs.Operands.{Read}
 use Rattle.qil_layout.specs.Layout.{address_of}
 use Rattle.qil_ops.specs.declared.division.DivFault.{DivFault}
-use Rattle.qil_ops.specs.Values.{width, Low}
+use Rattle.qil_ops.specs.Values.{width, low_bits}
 use Rattle.qil_ops.specs.Operations.{unary_of, binary_of, holds, extended}
 use Rattle.qil_memory.specs.declared.fault.Dead.{Dead}
 use Rattle.qil_memory.specs.Live.{Live}
@@ -44,12 +44,12 @@ if_live (Err dead) = Err (dead_address dead.address)
 
 -- a part of a word is the low bits, extended to the word
 abbrev pub fit : AbiType → ℕ → ℕ
-fit types.W v = Low 32 v
-fit types.L v = Low 64 v
-fit types.Sb v = Low 32 (extended extensions.Sb v)
-fit types.Ub v = Low 32 (extended extensions.Ub v)
-fit types.Sh v = Low 32 (extended extensions.Sh v)
-fit types.Uh v = Low 32 (extended extensions.Uh v)
+fit types.W v = low_bits 32 v
+fit types.L v = low_bits 64 v
+fit types.Sb v = low_bits 32 (extended extensions.Sb v)
+fit types.Ub v = low_bits 32 (extended extensions.Ub v)
+fit types.Sh v = low_bits 32 (extended extensions.Sh v)
+fit types.Uh v = low_bits 32 (extended extensions.Uh v)
 
 -- each value as the type beside it has it
 abbrev pub fit_all : List AbiType → List ℕ → List ℕ
@@ -58,13 +58,13 @@ fit_all ts vs = map (λ one. fit one.0 one.1) (zip ts vs)
 -- ---- operands
 
 abbrev pub known : Class → Name → Option ℕ → Outcome ℕ
-known c x (Some v) = Ok (Low (width c) v)
+known c x (Some v) = Ok (low_bits (width c) v)
 known c x None = Err (unset_temporary x)
 
 -- an operand in a class: the low bits of the constant, of the global's address, or of the temporary's value
 abbrev pub val : {A : Type 0} → Program A → Temps → Class → Operand → Outcome ℕ
-val p temps c (operands.Number n) = Ok (Low (width c) n)
-val p temps c (operands.Global g) = Ok (Low (width c) (unwrap_or (address_of p g) 0))
+val p temps c (operands.Number n) = Ok (low_bits (width c) n)
+val p temps c (operands.Global g) = Ok (low_bits (width c) (unwrap_or (address_of p g) 0))
 val p temps c (operands.Temp x) = known c x (temps x)
 
 -- operands, read from the left

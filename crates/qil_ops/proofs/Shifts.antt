@@ -7,7 +7,7 @@ use Rattle.std.proofs.lemmas.Bool.{cases_lt, lt-ltb, le-ltb}
 use Rattle.std.proofs.lemmas.Int.{ints}
 use Rattle.std.specs.Prelude.{unsigned_abs}
 use Rattle.std.specs.Int.{bit_at, int_div_euclid, int_rem_euclid}
-use Rattle.qil_ops.specs.Values.{Cut}
+use Rattle.qil_ops.specs.Values.{as_bits}
 use Rattle.qil_ops.specs.Operations.{shifted_left, shifted_right, sign_shifted_right}
 
 -- the low n bits are those of the number
@@ -76,7 +76,7 @@ top_bit n l some high low =
     let one : l / 2 ^ (n - 1) ≡ 1 = (let j : l ≡ 1 * 2 ^ (n - 1) + (l - 2 ^ (n - 1)) = omega arith in ap (λ x. x / 2 ^ (n - 1)) j) ∙ div-mul-add 1 (2 ^ (n - 1)) (l - 2 ^ (n - 1)) (omega arith) in
     ap (λ x. x % 2) one
 
-sar_negative : (n a k i : ℕ) → i < n → k < n → 2 ^ (n - 1) ≤ a % 2 ^ n → bit_at (Cut n (int_div_euclid (pos (a % 2 ^ n) -ℤ pos (2 ^ n)) (pos (2 ^ k)))) i ≡ (if nat_lt (i + k) n then bit_at a (i + k) else bit_at a (n - 1))
+sar_negative : (n a k i : ℕ) → i < n → k < n → 2 ^ (n - 1) ≤ a % 2 ^ n → bit_at (as_bits n (int_div_euclid (pos (a % 2 ^ n) -ℤ pos (2 ^ n)) (pos (2 ^ k)))) i ≡ (if nat_lt (i + k) n then bit_at a (i + k) else bit_at a (n - 1))
 sar_negative n a k i h k_lt high =
     let l : ℕ = a % 2 ^ n in
     let l_lt : l < 2 ^ n = mod-lt a (pow_pos n) in
@@ -87,7 +87,7 @@ sar_negative n a k i h k_lt high =
     (λ (u : n ≤ i + k). ones_above n k (l / 2 ^ k) i k_lt few h u ∙ sym (top_bit n l (omega arith) high l_lt) ∙ bit_at_low a n (n - 1) (omega arith) ∙ rw (le-ltb (i + k) n u) refl)
     (cases_lt (i + k) n)
 
-sar_positive : (n a k i : ℕ) → i < n → a % 2 ^ n < 2 ^ (n - 1) → bit_at (Cut n (int_div_euclid (pos (a % 2 ^ n)) (pos (2 ^ k)))) i ≡ (if nat_lt (i + k) n then bit_at a (i + k) else bit_at a (n - 1))
+sar_positive : (n a k i : ℕ) → i < n → a % 2 ^ n < 2 ^ (n - 1) → bit_at (as_bits n (int_div_euclid (pos (a % 2 ^ n)) (pos (2 ^ k)))) i ≡ (if nat_lt (i + k) n then bit_at a (i + k) else bit_at a (n - 1))
 sar_positive n a k i h low =
     let l_lt : a % 2 ^ n < 2 ^ n = mod-lt a (pow_pos n) in
     let q_le : a % 2 ^ n / 2 ^ k ≤ a % 2 ^ n = div-le_self (a % 2 ^ n) (2 ^ k) in

@@ -5,7 +5,7 @@ use Rattle.std.proofs.lemmas.Nat.{pow_pos}
 use Rattle.std.proofs.lemmas.Int.{ints, quot-rem, rem_below}
 use Rattle.std.specs.Prelude.{int_div, int_rem, unsigned_abs}
 use Rattle.std.specs.Int.{int_rem_euclid}
-use Rattle.qil_ops.specs.Values.{Low, Signed, Cut}
+use Rattle.qil_ops.specs.Values.{low_bits, as_signed, as_bits}
 use Rattle.qil_ops.specs.Division.{IsTruncated}
 
 magnitude : (b : ℤ) → b ≢ pos 0 → 0 < unsigned_abs b
@@ -39,5 +39,5 @@ same_again m h l false e below =
     let small : (m - (l + 1)) % m ≡ m - (l + 1) = mod-eq_of_lt (omega arith) in
     rw (shown, small) (omega arith)
 
-pub bits_again : (n v : ℕ) → Cut n (Signed n v) ≡ Low n v
+pub bits_again : (n v : ℕ) → as_bits n (as_signed n v) ≡ low_bits n v
 bits_again n v = same_again (2 ^ n) (2 ^ (n - 1)) (v % 2 ^ n) (nat_lt (v % 2 ^ n) (2 ^ (n - 1))) refl (mod-lt v (pow_pos n))

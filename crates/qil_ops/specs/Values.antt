@@ -10,13 +10,13 @@ width classes.W = 32
 width classes.L = 64
 
 -- the low n bits
-abbrev pub Low : ℕ → ℕ → ℕ
-Low n v = v % 2 ^ n
+abbrev pub low_bits : ℕ → ℕ → ℕ
+low_bits n v = v % 2 ^ n
 
 -- the low n bits in two's complement
-abbrev pub Signed : ℕ → ℕ → ℤ
-Signed n v = if nat_lt (Low n v) (2 ^ (n - 1)) then pos (Low n v) else (pos (Low n v) -ℤ pos (2 ^ n))
+abbrev pub as_signed : ℕ → ℕ → ℤ
+as_signed n v = if nat_lt (low_bits n v) (2 ^ (n - 1)) then pos (low_bits n v) else (pos (low_bits n v) -ℤ pos (2 ^ n))
 
 -- a whole number modulo 2 ^ n, as n bits
-abbrev pub Cut : ℕ → ℤ → ℕ
-Cut n z = unsigned_abs (int_rem_euclid z (pos (2 ^ n)))
+abbrev pub as_bits : ℕ → ℤ → ℕ
+as_bits n z = unsigned_abs (int_rem_euclid z (pos (2 ^ n)))

@@ -1,13 +1,13 @@
 //! The bits of a class: as a number without sign, as a number in two's complement, and as an amount to shift by.
 
 ghost use Rattle.std.specs.Prelude.{◌≡◌, ◌<◌, ◌%◌, ◌^◌};
-ghost use Rattle.qil_ops.specs.Values.{width, Low, Signed, Cut};
+ghost use Rattle.qil_ops.specs.Values.{width, low_bits, as_signed, as_bits};
 
 use qil_tree::Class;
 
 /// The low bits that a value of the class keeps.
 pub fn low(class: Class, v: u64) -> u64
-    ensures value { result ≡ Low (width class) v }
+    ensures value { result ≡ low_bits (width class) v }
     ensures fits { result < 2 ^ width class }
 {
     match class {
@@ -18,7 +18,7 @@ pub fn low(class: Class, v: u64) -> u64
 
 /// The low bits in two's complement.
 pub fn signed(class: Class, v: u64) -> i64
-    ensures { result ≡ Signed (width class) v }
+    ensures { result ≡ as_signed (width class) v }
 {
     match class {
         Class::W => i64::from(((v % (1 << 32)) as u32).cast_signed()),
@@ -28,7 +28,7 @@ pub fn signed(class: Class, v: u64) -> i64
 
 /// A whole number in the bits of a class.
 pub fn cut(class: Class, v: i64) -> u64
-    ensures value { result ≡ Cut (width class) v }
+    ensures value { result ≡ as_bits (width class) v }
     ensures fits { result < 2 ^ width class }
 {
     low(class, v.cast_unsigned())

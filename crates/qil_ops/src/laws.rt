@@ -2,7 +2,7 @@
 
 ghost use Rattle.std.specs.Prelude.{◌≡◌, ◌≢◌, ℕ, ◌+◌, ◌%◌, ◌-◌, ◌^◌, ◌≤◌, min, max, ℤ, pos, ◌-ℤ◌, ◌≤ℤ◌, ◌<ℤ◌, int_div, int_rem, bit_and, bit_or, bit_xor, ◌<◌, nat_lt, if◌then◌else◌};
 ghost use Rattle.std.specs.Int.{bit_at};
-ghost use Rattle.qil_ops.specs.Values.{Low, Signed, Cut};
+ghost use Rattle.qil_ops.specs.Values.{low_bits, as_signed, as_bits};
 ghost use Rattle.qil_ops.specs.Division.{IsTruncated};
 ghost use Rattle.qil_ops.specs.Operations.{shifted_left, shifted_right, sign_shifted_right};
 
@@ -13,9 +13,9 @@ pub fn quotient_truncates()
 
 /// Two's complement: the signed value of n bits lies from -2^(n-1) to 2^(n-1) - 1, and has these n bits.
 pub fn signed_value()
-    ensures bits { (n v : ℕ) → 1 ≤ n → Cut n (Signed n v) ≡ Low n v }
-    ensures low { (n v : ℕ) → 1 ≤ n → (pos 0 -ℤ pos (2 ^ (n - 1))) ≤ℤ Signed n v }
-    ensures high { (n v : ℕ) → 1 ≤ n → Signed n v <ℤ pos (2 ^ (n - 1)) }
+    ensures bits { (n v : ℕ) → 1 ≤ n → as_bits n (as_signed n v) ≡ low_bits n v }
+    ensures low { (n v : ℕ) → 1 ≤ n → (pos 0 -ℤ pos (2 ^ (n - 1))) ≤ℤ as_signed n v }
+    ensures high { (n v : ℕ) → 1 ≤ n → as_signed n v <ℤ pos (2 ^ (n - 1)) }
 {}
 
 /// `and`, `or` and `xor` go bit by bit.

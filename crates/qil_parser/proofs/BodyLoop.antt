@@ -8,8 +8,8 @@ use Rattle.qil_tree.specs.declared.ops.Class.{Class}
 use Rattle.qil_tree.specs.declared.tree.PhiSource.{PhiSource}
 use Rattle.qil_tree.specs.declared.tree.Phi.{Phi}
 use Rattle.qil_tree.specs.declared.tree.Inst.{Inst}
-use Rattle.qil_parser.specs.declared.stop.Stop.{Stop}
-use Rattle.qil_parser.specs.declared.stop.Stop.TheVariants as stops
+use Rattle.qil_parser.specs.declared.cursor_error.CursorError.{CursorError}
+use Rattle.qil_parser.specs.declared.cursor_error.CursorError.TheVariants as ends
 use Rattle.qil_parser.specs.Token.{Tok, seen, index}
 use Rattle.qil_parser.specs.Functions.{target_of, phi_of}
 use Rattle.qil_parser.specs.Outcome.{Fails}
@@ -100,9 +100,9 @@ module _ {A : Type 0} where
       go (got is us) = ap (λ (l : List (Phi A)). got (l, i ∷ is) us) (append-nil front)
       go (failed e us) = refl
 
-  pub insts_end : (e : Stop) (front : List (Phi A)) (o : Read Tok (List (Inst A))) (total : Read Tok (Lines A)) → total ≡ with_insts front o → Fails e o → Fails e total
-  insts_end stops.Memory front o total h f = tt
-  insts_end (stops.Refused k at) front o total h f = h ∙ ap (with_insts front) f
+  pub insts_end : (e : CursorError) (front : List (Phi A)) (o : Read Tok (List (Inst A))) (total : Read Tok (Lines A)) → total ≡ with_insts front o → Fails e o → Fails e total
+  insts_end ends.Memory front o total h f = tt
+  insts_end (ends.Refused k at) front o total h f = h ∙ ap (with_insts front) f
 
   module _ (front : List (Phi A)) (ts : List Tok) (total : Read Tok (Lines A)) (so_far : with_phis front (body ts) ≡ total) where
     module _ (temp : starts index (the marks.Temp) ts ≡ true) where
@@ -135,13 +135,13 @@ module _ {A : Type 0} where
               let three : after_class body vs ≡ consed phi_more ss (body rest) = rw (h, g) refl in
               sym (ap (with_phis front) (at_class ∙ ap (λ (o : Read Tok (Class → ℕ × List ℕ → Lines A)). consed with_dest to (consed in_class class o)) three) ∙ regroup front to class ss (body rest)) ∙ so_far
 
-          pub phi_ends : (e : Stop) → starts index (the marks.Phi) vs ≡ true → Fails e (source_lines vs) → Fails e total
-          phi_ends stops.Memory h g = tt
-          phi_ends (stops.Refused k at) h g = phi_fails k (seen at.now) h g
+          pub phi_ends : (e : CursorError) → starts index (the marks.Phi) vs ≡ true → Fails e (source_lines vs) → Fails e total
+          phi_ends ends.Memory h g = tt
+          phi_ends (ends.Refused k at) h g = phi_fails k (seen at.now) h g
 
-      pub dest_ends : (e : Stop) → Fails e (dest ts) → Fails e total
-      dest_ends stops.Memory f = tt
-      dest_ends (stops.Refused k at) f = dest_fails k (seen at.now) f
+      pub dest_ends : (e : CursorError) → Fails e (dest ts) → Fails e total
+      dest_ends ends.Memory f = tt
+      dest_ends (ends.Refused k at) f = dest_fails k (seen at.now) f
 
     pub plain_last : starts index (the marks.Temp) ts ≡ false → total ≡ with_insts front (plain_lines ts)
     plain_last h =

@@ -11,7 +11,7 @@ use Rattle.qil_parser.specs.Token.{Tok, tok, seen}
 use Rattle.qil_parser.specs.Programs.{Spells}
 use Rattle.qil_parser.specs.DataParsing.{program}
 use Rattle.qil_parser.specs.Fault.{Names, TokenFault, last_line}
-use Rattle.qil_parser.specs.Outcome.{IsAnswered, IsFault, IsProgram, IsRefusal}
+use Rattle.qil_parser.specs.Outcome.{TellsError, IsFault, IsProgram, IsRefusedAt}
 use Rattle.qil_parser.proofs.Whole.{whole, stops_after, stops_at, named_by}
 use Rattle.qil_parser.proofs.Unique.{one_fault}
 
@@ -28,7 +28,7 @@ failure A k us = failed k us
 same_mark : {A : Type 0} (o : Read Tok (Program A)) (k : Bool) (rest us : List Tok) → o ≡ failed k rest → o ≡ failed true us → k ≡ true
 same_mark {A} o k rest us e f = let both : failure A k rest ≡ failure A true us = sym e ∙ f in cc
 
-pub fault_after : {A : Type 0} (ts : List Token) (p : Program A) (rest : List Token) (r : ParseError) → program (seen ts) ≡ got p (seen rest) → 1 ≤ length rest → IsAnswered (seen ts) false (seen rest) r → IsFault A (seen ts) r
+pub fault_after : {A : Type 0} (ts : List Token) (p : Program A) (rest : List Token) (r : ParseError) → program (seen ts) ≡ got p (seen rest) → 1 ≤ length rest → TellsError (seen ts) false (seen rest) r → IsFault A (seen ts) r
 fault_after ts p [] r e le named = absurd (omega arith)
 fault_after {A} ts p (t ∷ rest) (errors.Refused code line) e le named =
     let s = stops_after (seen ts) p _ (seen rest) e in
@@ -36,7 +36,7 @@ fault_after {A} ts p (t ∷ rest) (errors.Refused code line) e le named =
     record { front = s.0; rest = seen (t ∷ rest); stops = s.1; named = (subst (Names A s.0 (tok t)) (sym named.0) n, named.1) }
 fault_after ts p (t ∷ rest) errors.OutOfMemory e le named = tt
 
-pub fault_at : {A : Type 0} (ts : List Token) (k : Bool) (rest : List Token) (r : ParseError) → program {A = A} (seen ts) ≡ failed k (seen rest) → IsAnswered (seen ts) k (seen rest) r → IsFault A (seen ts) r
+pub fault_at : {A : Type 0} (ts : List Token) (k : Bool) (rest : List Token) (r : ParseError) → program {A = A} (seen ts) ≡ failed k (seen rest) → TellsError (seen ts) k (seen rest) r → IsFault A (seen ts) r
 fault_at {A} ts k [] (errors.Refused code line) e named =
     let s = stops_at {A = A} (seen ts) k [] e in
     record { front = s.0; rest = []; stops = s.1; named = named }
@@ -52,10 +52,10 @@ pub no_program : {A : Type 0} (ts : List Tok) (r : ParseError) → IsFault A ts 
 no_program ts (errors.Refused code line) f p s = absurd (f.stops.refused p s)
 no_program ts errors.OutOfMemory f p s = tt
 
-pub no_fault : {A : Type 0} (ts : List Tok) (p : Program A) → Spells ts p → (code : ParseCode) (line : ℕ) → TokenFault A ts code line → IsRefusal code line (Ok p)
+pub no_fault : {A : Type 0} (ts : List Tok) (p : Program A) → Spells ts p → (code : ParseCode) (line : ℕ) → TokenFault A ts code line → IsRefusedAt code line (Ok p)
 no_fault ts p s code line f = f.stops.refused p s
 
-pub that_fault : {A : Type 0} (ts : List Tok) (r : ParseError) → IsFault A ts r → (code : ParseCode) (line : ℕ) → TokenFault A ts code line → IsRefusal {A = A} code line (Err r)
+pub that_fault : {A : Type 0} (ts : List Tok) (r : ParseError) → IsFault A ts r → (code : ParseCode) (line : ℕ) → TokenFault A ts code line → IsRefusedAt {A = A} code line (Err r)
 that_fault ts (errors.Refused c l) g code line f = one_fault ts c code l line g f
 that_fault ts errors.OutOfMemory g code line f = tt
 

@@ -7,8 +7,8 @@ use Rattle.qil_parser.specs.declared.error.ParseCode.{ParseCode}
 use Rattle.qil_parser.specs.declared.error.ParseCode.TheVariants as codes
 use Rattle.qil_parser.specs.declared.error.ParseError.{ParseError}
 use Rattle.qil_parser.specs.declared.error.ParseError.TheVariants as errors
-use Rattle.qil_parser.specs.declared.stop.Stop.{Stop}
-use Rattle.qil_parser.specs.declared.stop.Stop.TheVariants as stops
+use Rattle.qil_parser.specs.declared.cursor_error.CursorError.{CursorError}
+use Rattle.qil_parser.specs.declared.cursor_error.CursorError.TheVariants as ends
 use Rattle.qil_tree.specs.declared.tree.Program.{Program}
 use Rattle.qil_parser.specs.Words.{left_out}
 use Rattle.qil_parser.specs.declared.program_cursor.Defined.{Defined}
@@ -30,20 +30,20 @@ IsProgram p (Err (errors.Refused code line)) = ⊥
 IsProgram p (Err errors.OutOfMemory) = Unit {0}
 
 -- unless memory ran out, just this refusal
-abbrev pub IsRefusal : {A : Type 0} → ParseCode → ℕ → Result (Program A) ParseError → Type 0
-IsRefusal code line (Ok q) = ⊥
-IsRefusal code line (Err (errors.Refused c l)) = (c ≡ code) × (l ≡ line)
-IsRefusal code line (Err errors.OutOfMemory) = Unit {0}
+abbrev pub IsRefusedAt : {A : Type 0} → ParseCode → ℕ → Result (Program A) ParseError → Type 0
+IsRefusedAt code line (Ok q) = ⊥
+IsRefusedAt code line (Err (errors.Refused c l)) = (c ≡ code) × (l ≡ line)
+IsRefusedAt code line (Err errors.OutOfMemory) = Unit {0}
 
 -- ---- what stands below it
 
 -- unless memory ran out, reading fails there
-abbrev pub Fails : {A : Type 0} → Stop → Read Tok A → Type 0
-Fails stops.Memory read = Unit {0}
-Fails (stops.Refused marked at) read = read ≡ failed marked (seen at.now)
+abbrev pub Fails : {A : Type 0} → CursorError → Read Tok A → Type 0
+Fails ends.Memory read = Unit {0}
+Fails (ends.Refused marked at) read = read ≡ failed marked (seen at.now)
 
 -- unless memory ran out, reading gives what was returned, and these tokens are left
-abbrev pub Gives : {X A : Type 0} → (X → A) → List Tok → Result X Stop → Read Tok A → Type 0
+abbrev pub Gives : {X A : Type 0} → (X → A) → List Tok → Result X CursorError → Read Tok A → Type 0
 Gives value rest (Ok x) read = read ≡ got (value x) rest
 Gives value rest (Err e) read = Fails e read
 
@@ -55,20 +55,20 @@ closes _ = false
 abbrev pub code_of : Bool → TokenKind → List ℕ → ParseCode
 code_of marked kind text = if marked && closes kind then codes.P4 else (if left_out kind text then codes.P2 else codes.P1)
 
-abbrev pub Answered : List Tok → Bool → List Tok → ParseCode → ℕ → Type 0
-Answered ts marked [] code line = (code ≡ codes.P3) × (line ≡ last_line ts)
-Answered ts marked (t ∷ after) code line = (code ≡ code_of marked t.kind t.text) × (line ≡ t.line)
+abbrev pub TellsAt : List Tok → Bool → List Tok → ParseCode → ℕ → Type 0
+TellsAt ts marked [] code line = (code ≡ codes.P3) × (line ≡ last_line ts)
+TellsAt ts marked (t ∷ after) code line = (code ≡ code_of marked t.kind t.text) × (line ≡ t.line)
 
-abbrev pub IsAnswered : List Tok → Bool → List Tok → ParseError → Type 0
-IsAnswered ts marked rest (errors.Refused code line) = Answered ts marked rest code line
-IsAnswered ts marked rest errors.OutOfMemory = ⊥
+abbrev pub TellsError : List Tok → Bool → List Tok → ParseError → Type 0
+TellsError ts marked rest (errors.Refused code line) = TellsAt ts marked rest code line
+TellsError ts marked rest errors.OutOfMemory = ⊥
 
 -- one program after another's definitions
 abbrev pub extended : {A : Type 0} → Program A → Program A → Program A
 extended p q = record { datas = p.datas ++ q.datas; funcs = p.funcs ++ q.funcs; order = p.order ++ q.order }
 
 -- unless memory ran out, the definition stands behind the others
-abbrev pub Adds : {A : Type 0} → Program A → Defined A → Program A → Result (Unit {0}) Stop → Type 0
+abbrev pub Adds : {A : Type 0} → Program A → Defined A → Program A → Result (Unit {0}) CursorError → Type 0
 Adds before def after (Ok x) = after ≡ extended before (program_of (def ∷ []))
-Adds before def after (Err stops.Memory) = Unit {0}
-Adds before def after (Err (stops.Refused marked at)) = ⊥
+Adds before def after (Err ends.Memory) = Unit {0}
+Adds before def after (Err (ends.Refused marked at)) = ⊥

@@ -9,7 +9,7 @@ ghost use Rattle.qil_parser.specs.Outcome.{Gives};
 ghost use Rattle.qil_parser.specs.declared.mark.Mark.TheVariants.{Comma as comma};
 
 use crate::mark::{Mark, token_mark, token_name};
-use crate::stop::Stop;
+use crate::cursor_error::CursorError;
 use qil_lexer::{Token, TokenKind, number_value};
 use qil_tree::{AbiType, Class, Name, Operand};
 
@@ -65,7 +65,7 @@ impl<'t, 'a> Cursor<'t, 'a> {
         }
     }
 
-    pub fn word(&mut self, wanted: Mark) -> Result<(), Stop<'t, 'a>>
+    pub fn word(&mut self, wanted: Mark) -> Result<(), CursorError<'t, 'a>>
         ensures { Gives (λ x. tt) (seen self.new.rest.now) result (parsing.word wanted (seen self.old.rest.now)) }
     {
         match self.rest {
@@ -73,11 +73,11 @@ impl<'t, 'a> Cursor<'t, 'a> {
                 self.skip();
                 Ok(())
             }
-            _ => Err(Stop::Refused(false, self.rest)),
+            _ => Err(CursorError::Refused(false, self.rest)),
         }
     }
 
-    pub fn word_line(&mut self, wanted: Mark) -> Result<u32, Stop<'t, 'a>>
+    pub fn word_line(&mut self, wanted: Mark) -> Result<u32, CursorError<'t, 'a>>
         ensures { Gives (λ x. x) (seen self.new.rest.now) result (parsing.word_line wanted (seen self.old.rest.now)) }
     {
         match self.rest {
@@ -85,11 +85,11 @@ impl<'t, 'a> Cursor<'t, 'a> {
                 self.skip();
                 Ok(first.line)
             }
-            _ => Err(Stop::Refused(false, self.rest)),
+            _ => Err(CursorError::Refused(false, self.rest)),
         }
     }
 
-    pub fn temp_name(&mut self) -> Result<(u32, Name<'a>), Stop<'t, 'a>>
+    pub fn temp_name(&mut self) -> Result<(u32, Name<'a>), CursorError<'t, 'a>>
         ensures { Gives (λ x. (x.0, x.1)) (seen self.new.rest.now) result (parsing.temp_name (seen self.old.rest.now)) }
     {
         match self.rest {
@@ -97,11 +97,11 @@ impl<'t, 'a> Cursor<'t, 'a> {
                 self.skip();
                 Ok((first.line, token_name(first)))
             }
-            _ => Err(Stop::Refused(false, self.rest)),
+            _ => Err(CursorError::Refused(false, self.rest)),
         }
     }
 
-    pub fn label_name(&mut self) -> Result<(u32, Name<'a>), Stop<'t, 'a>>
+    pub fn label_name(&mut self) -> Result<(u32, Name<'a>), CursorError<'t, 'a>>
         ensures { Gives (λ x. (x.0, x.1)) (seen self.new.rest.now) result (parsing.label_name (seen self.old.rest.now)) }
     {
         match self.rest {
@@ -109,11 +109,11 @@ impl<'t, 'a> Cursor<'t, 'a> {
                 self.skip();
                 Ok((first.line, token_name(first)))
             }
-            _ => Err(Stop::Refused(false, self.rest)),
+            _ => Err(CursorError::Refused(false, self.rest)),
         }
     }
 
-    pub fn global_name(&mut self) -> Result<(u32, Name<'a>), Stop<'t, 'a>>
+    pub fn global_name(&mut self) -> Result<(u32, Name<'a>), CursorError<'t, 'a>>
         ensures { Gives (λ x. (x.0, x.1)) (seen self.new.rest.now) result (parsing.global_name (seen self.old.rest.now)) }
     {
         match self.rest {
@@ -121,24 +121,24 @@ impl<'t, 'a> Cursor<'t, 'a> {
                 self.skip();
                 Ok((first.line, token_name(first)))
             }
-            _ => Err(Stop::Refused(false, self.rest)),
+            _ => Err(CursorError::Refused(false, self.rest)),
         }
     }
 
-    pub fn class(&mut self) -> Result<Class, Stop<'t, 'a>>
+    pub fn class(&mut self) -> Result<Class, CursorError<'t, 'a>>
         ensures { Gives (λ x. x) (seen self.new.rest.now) result (parsing.class_word (seen self.old.rest.now)) }
     {
         let class = match self.next() {
             Mark::W => Class::W,
             Mark::L => Class::L,
-            _ => return Err(Stop::Refused(false, self.rest)),
+            _ => return Err(CursorError::Refused(false, self.rest)),
         };
         self.skip();
         Ok(class)
     }
 
     /// One of the types that are parts of a word.
-    pub fn sub_word(&mut self) -> Result<AbiType, Stop<'t, 'a>>
+    pub fn sub_word(&mut self) -> Result<AbiType, CursorError<'t, 'a>>
         ensures { Gives (λ x. x) (seen self.new.rest.now) result (parsing.sub_word (seen self.old.rest.now)) }
     {
         let abi_type = match self.next() {
@@ -146,14 +146,14 @@ impl<'t, 'a> Cursor<'t, 'a> {
             Mark::Ub => AbiType::Ub,
             Mark::Sh => AbiType::Sh,
             Mark::Uh => AbiType::Uh,
-            _ => return Err(Stop::Refused(false, self.rest)),
+            _ => return Err(CursorError::Refused(false, self.rest)),
         };
         self.skip();
         Ok(abi_type)
     }
 
     #[tactic(auto, unfolding(crate::specs::Parsing::type_word))]
-    pub fn abi_type(&mut self) -> Result<AbiType, Stop<'t, 'a>>
+    pub fn abi_type(&mut self) -> Result<AbiType, CursorError<'t, 'a>>
         ensures { Gives (λ x. x) (seen self.new.rest.now) result (parsing.type_word (seen self.old.rest.now)) }
     {
         if self.starts_class() {
@@ -163,7 +163,7 @@ impl<'t, 'a> Cursor<'t, 'a> {
         self.sub_word()
     }
 
-    pub fn perhaps_type(&mut self) -> Result<Option<AbiType>, Stop<'t, 'a>>
+    pub fn perhaps_type(&mut self) -> Result<Option<AbiType>, CursorError<'t, 'a>>
         ensures { Gives (λ x. x) (seen self.new.rest.now) result (parsing.perhaps parsing.types parsing.type_word (seen self.old.rest.now)) }
     {
         if self.starts_type() {
@@ -173,7 +173,7 @@ impl<'t, 'a> Cursor<'t, 'a> {
     }
 
     #[tactic(auto, using(crate::proofs::Numbers::first_shape, crate::proofs::Numbers::first_range))]
-    pub fn val(&mut self) -> Result<Operand<'a>, Stop<'t, 'a>>
+    pub fn val(&mut self) -> Result<Operand<'a>, CursorError<'t, 'a>>
         ensures { Gives (λ x. x) (seen self.new.rest.now) result (parsing.val (seen self.old.rest.now)) }
     {
         match self.rest {
@@ -191,13 +191,13 @@ impl<'t, 'a> Cursor<'t, 'a> {
                     self.skip();
                     Ok(Operand::Temp(token_name(first)))
                 }
-                _ => Err(Stop::Refused(false, self.rest)),
+                _ => Err(CursorError::Refused(false, self.rest)),
             },
-            [] => Err(Stop::Refused(false, self.rest)),
+            [] => Err(CursorError::Refused(false, self.rest)),
         }
     }
 
-    pub fn perhaps_val(&mut self) -> Result<Option<Operand<'a>>, Stop<'t, 'a>>
+    pub fn perhaps_val(&mut self) -> Result<Option<Operand<'a>>, CursorError<'t, 'a>>
         ensures { Gives (λ x. x) (seen self.new.rest.now) result (parsing.perhaps parsing.values parsing.val (seen self.old.rest.now)) }
     {
         match self.next() {
@@ -208,7 +208,7 @@ impl<'t, 'a> Cursor<'t, 'a> {
 
     /// A number without sign.
     #[tactic(auto, using(crate::proofs::Numbers::first_shape, crate::proofs::Numbers::first_range))]
-    pub fn count(&mut self) -> Result<u64, Stop<'t, 'a>>
+    pub fn count(&mut self) -> Result<u64, CursorError<'t, 'a>>
         ensures { Gives (λ x. x) (seen self.new.rest.now) result (parsing.count (seen self.old.rest.now)) }
     {
         match self.rest {
@@ -217,12 +217,12 @@ impl<'t, 'a> Cursor<'t, 'a> {
                 self.skip();
                 Ok(value)
             }
-            _ => Err(Stop::Refused(false, self.rest)),
+            _ => Err(CursorError::Refused(false, self.rest)),
         }
     }
 
     #[tactic(auto, unfolding(crate::specs::Parsing::two))]
-    pub fn two(&mut self) -> Result<(Operand<'a>, Operand<'a>), Stop<'t, 'a>>
+    pub fn two(&mut self) -> Result<(Operand<'a>, Operand<'a>), CursorError<'t, 'a>>
         ensures { Gives (λ x. (x.0, x.1)) (seen self.new.rest.now) result (parsing.two (seen self.old.rest.now)) }
     {
         let left = self.val()?;
@@ -232,7 +232,7 @@ impl<'t, 'a> Cursor<'t, 'a> {
     }
 
     /// The comma behind an item of a list: another item may come after it, or none.
-    pub fn separator(&mut self) -> Result<(), Stop<'t, 'a>>
+    pub fn separator(&mut self) -> Result<(), CursorError<'t, 'a>>
         ensures { Gives (λ x. tt) (seen self.new.rest.now) result (parsing.word comma (seen self.old.rest.now)) }
     {
         let comma = Mark::Comma;
@@ -240,7 +240,7 @@ impl<'t, 'a> Cursor<'t, 'a> {
     }
 
     #[tactic(auto, unfolding(crate::specs::Parsing::line))]
-    pub fn line(&mut self) -> Result<(), Stop<'t, 'a>>
+    pub fn line(&mut self) -> Result<(), CursorError<'t, 'a>>
         ensures { Gives (λ x. tt) (seen self.new.rest.now) result (parsing.line (seen self.old.rest.now)) }
     {
         if self.starts_with(Mark::Newline) {

@@ -11,7 +11,7 @@ ghost use Rattle.qil_parser.specs.Outcome.{Gives};
 
 use crate::cursor::Cursor;
 use crate::mark::Mark;
-use crate::stop::Stop;
+use crate::cursor_error::CursorError;
 use qil_lexer::{TokenKind, number_value, string_bytes};
 use qil_tree::{Data, Field, Item, Items, Name, Width};
 use std::alloc::Allocator;
@@ -26,7 +26,7 @@ impl<'t, 'a> Cursor<'t, 'a> {
         }
     }
 
-    fn loose_word(&mut self, wanted: Mark) -> Result<(), Stop<'t, 'a>>
+    fn loose_word(&mut self, wanted: Mark) -> Result<(), CursorError<'t, 'a>>
         ensures { Gives (λ x. tt) (seen self.new.rest.now) result (reading.loose (parsing.word wanted) (seen self.old.rest.now)) }
     {
         self.word(wanted)?;
@@ -34,7 +34,7 @@ impl<'t, 'a> Cursor<'t, 'a> {
         Ok(())
     }
 
-    fn loose_name(&mut self) -> Result<(u32, Name<'a>), Stop<'t, 'a>>
+    fn loose_name(&mut self) -> Result<(u32, Name<'a>), CursorError<'t, 'a>>
         ensures { Gives (λ x. (x.0, x.1)) (seen self.new.rest.now) result (reading.loose parsing.global_name (seen self.old.rest.now)) }
     {
         let name = self.global_name()?;
@@ -44,7 +44,7 @@ impl<'t, 'a> Cursor<'t, 'a> {
 
     /// A constant, as its 64 bits.
     #[tactic(auto, using(crate::proofs::Numbers::first_shape, crate::proofs::Numbers::first_range))]
-    fn constant(&mut self) -> Result<u64, Stop<'t, 'a>>
+    fn constant(&mut self) -> Result<u64, CursorError<'t, 'a>>
         ensures { Gives (λ x. x) (seen self.new.rest.now) result (reading.constant (seen self.old.rest.now)) }
     {
         match self.rest {
@@ -53,11 +53,11 @@ impl<'t, 'a> Cursor<'t, 'a> {
                 self.skip();
                 Ok(value)
             }
-            _ => Err(Stop::Refused(false, self.rest)),
+            _ => Err(CursorError::Refused(false, self.rest)),
         }
     }
 
-    fn loose_count(&mut self) -> Result<u64, Stop<'t, 'a>>
+    fn loose_count(&mut self) -> Result<u64, CursorError<'t, 'a>>
         ensures { Gives (λ x. x) (seen self.new.rest.now) result (reading.loose parsing.count (seen self.old.rest.now)) }
     {
         let value = self.count()?;
@@ -67,7 +67,7 @@ impl<'t, 'a> Cursor<'t, 'a> {
 
     /// A string, as the bytes that it stands for.
     #[tactic(auto, using(crate::proofs::Strings::first_string, crate::proofs::Strings::string_is))]
-    fn text<A: Allocator + Copy>(&mut self, alloc: A) -> Result<Items<u8, A>, Stop<'t, 'a>>
+    fn text<A: Allocator + Copy>(&mut self, alloc: A) -> Result<Items<u8, A>, CursorError<'t, 'a>>
         ensures { Gives (λ x. x) (seen self.new.rest.now) result (reading.text (seen self.old.rest.now)) }
     {
         match self.rest {
@@ -76,12 +76,12 @@ impl<'t, 'a> Cursor<'t, 'a> {
                 self.skip();
                 Ok(Items::new(bytes))
             }
-            _ => Err(Stop::Refused(false, self.rest)),
+            _ => Err(CursorError::Refused(false, self.rest)),
         }
     }
 
     #[tactic(auto, unfolding(crate::specs::DataParsing::number_item))]
-    fn number_item<A: Allocator + Copy>(&mut self) -> Result<Item<'a, A>, Stop<'t, 'a>>
+    fn number_item<A: Allocator + Copy>(&mut self) -> Result<Item<'a, A>, CursorError<'t, 'a>>
         ensures { Gives (λ x. x) (seen self.new.rest.now) result (reading.number_item (seen self.old.rest.now)) }
     {
         let value = self.constant()?;
@@ -90,7 +90,7 @@ impl<'t, 'a> Cursor<'t, 'a> {
     }
 
     #[tactic(auto, unfolding(crate::specs::DataParsing::text_item))]
-    fn text_item<A: Allocator + Copy>(&mut self, alloc: A) -> Result<Item<'a, A>, Stop<'t, 'a>>
+    fn text_item<A: Allocator + Copy>(&mut self, alloc: A) -> Result<Item<'a, A>, CursorError<'t, 'a>>
         ensures { Gives (λ x. x) (seen self.new.rest.now) result (reading.text_item (seen self.old.rest.now)) }
     {
         let bytes = self.text(alloc)?;
@@ -100,7 +100,7 @@ impl<'t, 'a> Cursor<'t, 'a> {
 
     /// What is added to an address, 0 where nothing is.
     #[tactic(auto, unfolding(crate::specs::DataParsing::offset))]
-    fn offset(&mut self) -> Result<u64, Stop<'t, 'a>>
+    fn offset(&mut self) -> Result<u64, CursorError<'t, 'a>>
         ensures { Gives (λ x. x) (seen self.new.rest.now) result (reading.offset (seen self.old.rest.now)) }
     {
         if !self.starts_with(Mark::Plus) {
@@ -111,7 +111,7 @@ impl<'t, 'a> Cursor<'t, 'a> {
     }
 
     #[tactic(auto, unfolding(crate::specs::DataParsing::address_item))]
-    fn address_item<A: Allocator + Copy>(&mut self) -> Result<Item<'a, A>, Stop<'t, 'a>>
+    fn address_item<A: Allocator + Copy>(&mut self) -> Result<Item<'a, A>, CursorError<'t, 'a>>
         ensures { Gives (λ x. x) (seen self.new.rest.now) result (reading.address_item (seen self.old.rest.now)) }
     {
         let (_, name) = self.loose_name()?;
@@ -135,7 +135,7 @@ impl<'t, 'a> Cursor<'t, 'a> {
         &mut self,
         alloc: A,
         width: Width,
-    ) -> Result<Item<'a, A>, Stop<'t, 'a>>
+    ) -> Result<Item<'a, A>, CursorError<'t, 'a>>
         ensures { Gives (λ x. x) (seen self.new.rest.now) result (reading.item width (seen self.old.rest.now)) }
     {
         if self.starts_with(Mark::Number) {
@@ -154,7 +154,7 @@ impl<'t, 'a> Cursor<'t, 'a> {
         width: Width,
         first: Item<'a, A>,
         alloc: A,
-    ) -> Result<Items<Item<'a, A>, A>, Stop<'t, 'a>>
+    ) -> Result<Items<Item<'a, A>, A>, CursorError<'t, 'a>>
         ensures { Gives (λ x. x) (seen self.new.rest.now) result (joined (first.entry ∷ []) (reading.items_of width (seen self.old.rest.now))) }
     {
         let mut items = Vec::new(alloc);
@@ -173,7 +173,7 @@ impl<'t, 'a> Cursor<'t, 'a> {
         alloc: A,
         width: Width,
         word: Mark,
-    ) -> Result<Field<'a, A>, Stop<'t, 'a>>
+    ) -> Result<Field<'a, A>, CursorError<'t, 'a>>
         requires { word ≡ width_mark width }
         ensures { Gives (λ x. x) (seen self.new.rest.now) result (reading.values width (seen self.old.rest.now)) }
     {
@@ -184,7 +184,7 @@ impl<'t, 'a> Cursor<'t, 'a> {
     }
 
     #[tactic(auto, unfolding(crate::specs::DataParsing::zeros))]
-    fn zeros<A: Allocator + Copy>(&mut self) -> Result<Field<'a, A>, Stop<'t, 'a>>
+    fn zeros<A: Allocator + Copy>(&mut self) -> Result<Field<'a, A>, CursorError<'t, 'a>>
         ensures { Gives (λ x. x) (seen self.new.rest.now) result (reading.zeros (seen self.old.rest.now)) }
     {
         self.loose_word(Mark::Z)?;
@@ -199,7 +199,7 @@ impl<'t, 'a> Cursor<'t, 'a> {
     }
 
     #[tactic(auto, unfolding(crate::specs::DataParsing::field))]
-    fn field<A: Allocator + Copy>(&mut self, alloc: A) -> Result<Field<'a, A>, Stop<'t, 'a>>
+    fn field<A: Allocator + Copy>(&mut self, alloc: A) -> Result<Field<'a, A>, CursorError<'t, 'a>>
         ensures { Gives (λ x. x) (seen self.new.rest.now) result (reading.field (seen self.old.rest.now)) }
     {
         match self.next() {
@@ -215,7 +215,7 @@ impl<'t, 'a> Cursor<'t, 'a> {
     fn fields<A: Allocator + Copy>(
         &mut self,
         alloc: A,
-    ) -> Result<Items<Field<'a, A>, A>, Stop<'t, 'a>>
+    ) -> Result<Items<Field<'a, A>, A>, CursorError<'t, 'a>>
         ensures { Gives (λ x. x) (seen self.new.rest.now) result (reading.fields_of (seen self.old.rest.now)) }
     {
         let mut items = Vec::new(alloc);
@@ -231,7 +231,7 @@ impl<'t, 'a> Cursor<'t, 'a> {
     }
 
     #[tactic(auto, unfolding(crate::specs::DataParsing::alignment))]
-    fn alignment(&mut self) -> Result<Option<u64>, Stop<'t, 'a>>
+    fn alignment(&mut self) -> Result<Option<u64>, CursorError<'t, 'a>>
         ensures { Gives (λ x. x) (seen self.new.rest.now) result (reading.alignment (seen self.old.rest.now)) }
     {
         if !self.starts_with(Mark::Align) {
@@ -246,7 +246,7 @@ impl<'t, 'a> Cursor<'t, 'a> {
     fn inside_data<A: Allocator + Copy>(
         &mut self,
         alloc: A,
-    ) -> Result<(Option<u64>, Items<Field<'a, A>, A>), Stop<'t, 'a>>
+    ) -> Result<(Option<u64>, Items<Field<'a, A>, A>), CursorError<'t, 'a>>
         ensures { Gives (λ x. (x.0, x.1)) (seen self.new.rest.now) result (reading.inside_data (seen self.old.rest.now)) }
     {
         let align = self.alignment()?;
@@ -260,7 +260,7 @@ impl<'t, 'a> Cursor<'t, 'a> {
     pub fn data_definition<A: Allocator + Copy>(
         &mut self,
         alloc: A,
-    ) -> Result<Data<'a, A>, Stop<'t, 'a>>
+    ) -> Result<Data<'a, A>, CursorError<'t, 'a>>
         ensures { Gives (λ x. x) (seen self.new.rest.now) result (reading.data_definition (seen self.old.rest.now)) }
     {
         self.loose_word(Mark::Data)?;

@@ -10,7 +10,7 @@ ghost use Rattle.qil_parser.specs.declared.mark.Mark.TheVariants.{Newline as new
 
 use crate::cursor::Cursor;
 use crate::mark::{Mark, token_name};
-use crate::stop::Stop;
+use crate::cursor_error::CursorError;
 use qil_tree::{
     AbiType, Block, Class, Func, Inst, Items, Jump, JumpKind, Name, Param, Phi, PhiSource, Target,
 };
@@ -39,7 +39,7 @@ impl<'t, 'a> Cursor<'t, 'a> {
     }
 
     #[tactic(auto, unfolding(crate::specs::FunctionParsing::source))]
-    fn source(&mut self) -> Result<PhiSource<'a>, Stop<'t, 'a>>
+    fn source(&mut self) -> Result<PhiSource<'a>, CursorError<'t, 'a>>
         ensures { Gives (λ x. x) (seen self.new.rest.now) result (functions.source (seen self.old.rest.now)) }
     {
         let (_, label) = self.label_name()?;
@@ -47,7 +47,7 @@ impl<'t, 'a> Cursor<'t, 'a> {
         Ok(PhiSource { label, value })
     }
 
-    fn next_source(&mut self) -> Result<PhiSource<'a>, Stop<'t, 'a>>
+    fn next_source(&mut self) -> Result<PhiSource<'a>, CursorError<'t, 'a>>
         ensures { Gives (λ x. x) (seen self.new.rest.now) result (parsing.after comma functions.source (seen self.old.rest.now)) }
     {
         self.word(Mark::Comma)?;
@@ -57,7 +57,7 @@ impl<'t, 'a> Cursor<'t, 'a> {
     fn more_sources<A: Allocator + Copy>(
         &mut self,
         mut items: Vec<PhiSource<'a>, A>,
-    ) -> Result<Items<PhiSource<'a>, A>, Stop<'t, 'a>>
+    ) -> Result<Items<PhiSource<'a>, A>, CursorError<'t, 'a>>
         ensures { Gives (λ x. x) (seen self.new.rest.now) result (joined items.entry.items (functions.more_sources (seen self.old.rest.now))) }
     {
         'each: while self.starts_with(Mark::Comma) {
@@ -72,7 +72,7 @@ impl<'t, 'a> Cursor<'t, 'a> {
     fn sources_line<A: Allocator + Copy>(
         &mut self,
         alloc: A,
-    ) -> Result<Items<PhiSource<'a>, A>, Stop<'t, 'a>>
+    ) -> Result<Items<PhiSource<'a>, A>, CursorError<'t, 'a>>
         ensures { Gives (λ x. x) (seen self.new.rest.now) result (parsing.before functions.sources newline (seen self.old.rest.now)) }
     {
         self.word(Mark::Phi)?;
@@ -88,7 +88,7 @@ impl<'t, 'a> Cursor<'t, 'a> {
         &mut self,
         mut items: Vec<Inst<'a, A>, A>,
         alloc: A,
-    ) -> Result<Items<Inst<'a, A>, A>, Stop<'t, 'a>>
+    ) -> Result<Items<Inst<'a, A>, A>, CursorError<'t, 'a>>
         ensures { Gives (λ x. x) (seen self.new.rest.now) result (joined items.entry.items (functions.lines (seen self.old.rest.now))) }
     {
         'each: while self.starts_inst() {
@@ -106,7 +106,7 @@ impl<'t, 'a> Cursor<'t, 'a> {
         name: Name<'a>,
         class: Class,
         alloc: A,
-    ) -> Result<Items<Inst<'a, A>, A>, Stop<'t, 'a>>
+    ) -> Result<Items<Inst<'a, A>, A>, CursorError<'t, 'a>>
         ensures { Gives (λ x. x) (seen self.new.rest.now) result (functions.class_lines (line, name.entry) class (seen self.old.rest.now)) }
     {
         let first = self.of_class(line, name, class, alloc)?;
@@ -123,7 +123,7 @@ impl<'t, 'a> Cursor<'t, 'a> {
         line: u32,
         name: Name<'a>,
         alloc: A,
-    ) -> Result<Items<Inst<'a, A>, A>, Stop<'t, 'a>>
+    ) -> Result<Items<Inst<'a, A>, A>, CursorError<'t, 'a>>
         ensures { Gives (λ x. x) (seen self.new.rest.now) result (functions.sub_lines (line, name.entry) (seen self.old.rest.now)) }
     {
         let first = self.of_sub(line, name, alloc)?;
@@ -138,7 +138,7 @@ impl<'t, 'a> Cursor<'t, 'a> {
     fn plain_lines<A: Allocator + Copy>(
         &mut self,
         alloc: A,
-    ) -> Result<Items<Inst<'a, A>, A>, Stop<'t, 'a>>
+    ) -> Result<Items<Inst<'a, A>, A>, CursorError<'t, 'a>>
         ensures { Gives (λ x. x) (seen self.new.rest.now) result (functions.plain_lines (seen self.old.rest.now)) }
     {
         let mut items = Vec::new(alloc);
@@ -155,7 +155,7 @@ impl<'t, 'a> Cursor<'t, 'a> {
     fn body<A: Allocator + Copy>(
         &mut self,
         alloc: A,
-    ) -> Result<(Items<Phi<'a, A>, A>, Items<Inst<'a, A>, A>), Stop<'t, 'a>>
+    ) -> Result<(Items<Phi<'a, A>, A>, Items<Inst<'a, A>, A>), CursorError<'t, 'a>>
         ensures { Gives (λ x. (x.0, x.1)) (seen self.new.rest.now) result (functions.body (seen self.old.rest.now)) }
     {
         let mut phis = Vec::new(alloc);
@@ -191,7 +191,7 @@ impl<'t, 'a> Cursor<'t, 'a> {
             (u32, Name<'a>),
             (Items<Phi<'a, A>, A>, Items<Inst<'a, A>, A>),
         ),
-        Stop<'t, 'a>,
+        CursorError<'t, 'a>,
     >
         ensures { Gives (λ x. ((x.0.0, x.0.1), (x.1.0, x.1.1))) (seen self.new.rest.now) result (functions.head (seen self.old.rest.now)) }
     {
@@ -202,7 +202,7 @@ impl<'t, 'a> Cursor<'t, 'a> {
     }
 
     #[tactic(auto, unfolding(crate::specs::FunctionParsing::jnz))]
-    fn jnz(&mut self) -> Result<Jump<'a>, Stop<'t, 'a>>
+    fn jnz(&mut self) -> Result<Jump<'a>, CursorError<'t, 'a>>
         ensures { Gives (λ x. x) (seen self.new.rest.now) result (functions.jnz (seen self.old.rest.now)) }
     {
         let line = self.word_line(Mark::Jnz)?;
@@ -218,7 +218,7 @@ impl<'t, 'a> Cursor<'t, 'a> {
     }
 
     #[tactic(auto, unfolding(crate::specs::FunctionParsing::jump))]
-    fn jump(&mut self) -> Result<Jump<'a>, Stop<'t, 'a>>
+    fn jump(&mut self) -> Result<Jump<'a>, CursorError<'t, 'a>>
         ensures { Gives (λ x. x) (seen self.new.rest.now) result (functions.jump (seen self.old.rest.now)) }
     {
         match self.next() {
@@ -249,7 +249,7 @@ impl<'t, 'a> Cursor<'t, 'a> {
         }
     }
 
-    fn jump_line(&mut self) -> Result<Jump<'a>, Stop<'t, 'a>>
+    fn jump_line(&mut self) -> Result<Jump<'a>, CursorError<'t, 'a>>
         ensures { Gives (λ x. x) (seen self.new.rest.now) result (functions.jump_line (seen self.old.rest.now)) }
     {
         let jump = self.jump()?;
@@ -259,7 +259,7 @@ impl<'t, 'a> Cursor<'t, 'a> {
 
     /// How a block ends: by a jump, or before the label of the next one.
     #[tactic(auto, unfolding(crate::specs::FunctionParsing::ending))]
-    fn ending(&mut self) -> Result<Jump<'a>, Stop<'t, 'a>>
+    fn ending(&mut self) -> Result<Jump<'a>, CursorError<'t, 'a>>
         ensures { Gives (λ x. x) (seen self.new.rest.now) result (functions.ending (seen self.old.rest.now)) }
     {
         if self.starts_jump() {
@@ -270,12 +270,12 @@ impl<'t, 'a> Cursor<'t, 'a> {
                 line: first.line,
                 kind: JumpKind::Jmp(token_name(first)),
             }),
-            _ => Err(Stop::Refused(true, self.rest)),
+            _ => Err(CursorError::Refused(true, self.rest)),
         }
     }
 
     #[tactic(auto, unfolding(crate::specs::FunctionParsing::block))]
-    fn block<A: Allocator + Copy>(&mut self, alloc: A) -> Result<Block<'a, A>, Stop<'t, 'a>>
+    fn block<A: Allocator + Copy>(&mut self, alloc: A) -> Result<Block<'a, A>, CursorError<'t, 'a>>
         ensures { Gives (λ x. x) (seen self.new.rest.now) result (functions.block (seen self.old.rest.now)) }
     {
         let ((line, label), (phis, insts)) = self.head(alloc)?;
@@ -293,7 +293,7 @@ impl<'t, 'a> Cursor<'t, 'a> {
         &mut self,
         mut items: Vec<Block<'a, A>, A>,
         alloc: A,
-    ) -> Result<Items<Block<'a, A>, A>, Stop<'t, 'a>>
+    ) -> Result<Items<Block<'a, A>, A>, CursorError<'t, 'a>>
         ensures { Gives (λ x. x) (seen self.new.rest.now) result (joined items.entry.items (functions.more_blocks (seen self.old.rest.now))) }
     {
         'each: while self.starts_with(Mark::Label) {
@@ -307,7 +307,7 @@ impl<'t, 'a> Cursor<'t, 'a> {
     fn blocks<A: Allocator + Copy>(
         &mut self,
         alloc: A,
-    ) -> Result<Items<Block<'a, A>, A>, Stop<'t, 'a>>
+    ) -> Result<Items<Block<'a, A>, A>, CursorError<'t, 'a>>
         ensures { Gives (λ x. x) (seen self.new.rest.now) result (functions.blocks (seen self.old.rest.now)) }
     {
         let first = self.block(alloc)?;
@@ -317,7 +317,7 @@ impl<'t, 'a> Cursor<'t, 'a> {
     }
 
     #[tactic(auto, unfolding(crate::specs::FunctionParsing::param))]
-    fn param(&mut self) -> Result<Param<'a>, Stop<'t, 'a>>
+    fn param(&mut self) -> Result<Param<'a>, CursorError<'t, 'a>>
         ensures { Gives (λ x. x) (seen self.new.rest.now) result (functions.param (seen self.old.rest.now)) }
     {
         let abi_type = self.abi_type()?;
@@ -326,7 +326,7 @@ impl<'t, 'a> Cursor<'t, 'a> {
     }
 
     /// Parameters with commas between them, and perhaps one at the end.
-    fn params<A: Allocator + Copy>(&mut self, alloc: A) -> Result<Items<Param<'a>, A>, Stop<'t, 'a>>
+    fn params<A: Allocator + Copy>(&mut self, alloc: A) -> Result<Items<Param<'a>, A>, CursorError<'t, 'a>>
         ensures { Gives (λ x. x) (seen self.new.rest.now) result (functions.params (seen self.old.rest.now)) }
     {
         let mut items = Vec::new(alloc);
@@ -345,7 +345,7 @@ impl<'t, 'a> Cursor<'t, 'a> {
     fn all_params<A: Allocator + Copy>(
         &mut self,
         alloc: A,
-    ) -> Result<Items<Param<'a>, A>, Stop<'t, 'a>>
+    ) -> Result<Items<Param<'a>, A>, CursorError<'t, 'a>>
         ensures { Gives (λ x. x) (seen self.new.rest.now) result (functions.all_params (seen self.old.rest.now)) }
     {
         self.word(Mark::OpenParen)?;
@@ -355,7 +355,7 @@ impl<'t, 'a> Cursor<'t, 'a> {
     }
 
     #[tactic(auto, unfolding(crate::specs::FunctionParsing::opening))]
-    fn opening(&mut self) -> Result<(), Stop<'t, 'a>>
+    fn opening(&mut self) -> Result<(), CursorError<'t, 'a>>
         ensures { Gives (λ x. tt) (seen self.new.rest.now) result (functions.opening (seen self.old.rest.now)) }
     {
         self.line()?;
@@ -368,7 +368,7 @@ impl<'t, 'a> Cursor<'t, 'a> {
     fn top<A: Allocator + Copy>(
         &mut self,
         alloc: A,
-    ) -> Result<(Option<AbiType>, ((u32, Name<'a>), Items<Param<'a>, A>)), Stop<'t, 'a>>
+    ) -> Result<(Option<AbiType>, ((u32, Name<'a>), Items<Param<'a>, A>)), CursorError<'t, 'a>>
         ensures { Gives (λ x. (x.0, ((x.1.0.0, x.1.0.1), x.1.1))) (seen self.new.rest.now) result (functions.top (seen self.old.rest.now)) }
     {
         self.word(Mark::Function)?;
@@ -380,7 +380,7 @@ impl<'t, 'a> Cursor<'t, 'a> {
     }
 
     #[tactic(auto, unfolding(crate::specs::FunctionParsing::func))]
-    pub fn func<A: Allocator + Copy>(&mut self, alloc: A) -> Result<Func<'a, A>, Stop<'t, 'a>>
+    pub fn func<A: Allocator + Copy>(&mut self, alloc: A) -> Result<Func<'a, A>, CursorError<'t, 'a>>
         ensures { Gives (λ x. x) (seen self.new.rest.now) result (functions.func (seen self.old.rest.now)) }
     {
         let (returns, ((line, name), params)) = self.top(alloc)?;

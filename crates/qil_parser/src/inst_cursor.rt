@@ -10,7 +10,7 @@ ghost use Rattle.qil_parser.specs.declared.mark.Mark.TheVariants.{Newline as new
 
 use crate::cursor::Cursor;
 use crate::mark::Mark;
-use crate::stop::Stop;
+use crate::cursor_error::CursorError;
 use qil_tree::{
     AbiType, AllocOp, Argument, BinaryOp, CallResult, Class, CompareOp, Expr, Extension, Inst,
     InstKind, Items, LoadOp, Name, Operand, Target, UnaryOp, Width,
@@ -18,7 +18,7 @@ use qil_tree::{
 use std::alloc::Allocator;
 
 impl<'t, 'a> Cursor<'t, 'a> {
-    fn unary_word(&mut self) -> Result<UnaryOp, Stop<'t, 'a>>
+    fn unary_word(&mut self) -> Result<UnaryOp, CursorError<'t, 'a>>
         ensures { Gives (λ x. x) (seen self.new.rest.now) result (functions.unary_word (seen self.old.rest.now)) }
     {
         match self.next() {
@@ -26,11 +26,11 @@ impl<'t, 'a> Cursor<'t, 'a> {
                 self.skip();
                 Ok(op)
             }
-            _ => Err(Stop::Refused(false, self.rest)),
+            _ => Err(CursorError::Refused(false, self.rest)),
         }
     }
 
-    fn binary_word(&mut self) -> Result<BinaryOp, Stop<'t, 'a>>
+    fn binary_word(&mut self) -> Result<BinaryOp, CursorError<'t, 'a>>
         ensures { Gives (λ x. x) (seen self.new.rest.now) result (functions.binary_word (seen self.old.rest.now)) }
     {
         match self.next() {
@@ -38,12 +38,12 @@ impl<'t, 'a> Cursor<'t, 'a> {
                 self.skip();
                 Ok(op)
             }
-            _ => Err(Stop::Refused(false, self.rest)),
+            _ => Err(CursorError::Refused(false, self.rest)),
         }
     }
 
     /// A comparison and the class of its operands.
-    fn compare_word(&mut self) -> Result<(CompareOp, Class), Stop<'t, 'a>>
+    fn compare_word(&mut self) -> Result<(CompareOp, Class), CursorError<'t, 'a>>
         ensures { Gives (λ x. (x.0, x.1)) (seen self.new.rest.now) result (functions.compare_word (seen self.old.rest.now)) }
     {
         match self.next() {
@@ -51,11 +51,11 @@ impl<'t, 'a> Cursor<'t, 'a> {
                 self.skip();
                 Ok((op, class))
             }
-            _ => Err(Stop::Refused(false, self.rest)),
+            _ => Err(CursorError::Refused(false, self.rest)),
         }
     }
 
-    fn extend_word(&mut self) -> Result<Extension, Stop<'t, 'a>>
+    fn extend_word(&mut self) -> Result<Extension, CursorError<'t, 'a>>
         ensures { Gives (λ x. x) (seen self.new.rest.now) result (functions.extend_word (seen self.old.rest.now)) }
     {
         match self.next() {
@@ -63,11 +63,11 @@ impl<'t, 'a> Cursor<'t, 'a> {
                 self.skip();
                 Ok(op)
             }
-            _ => Err(Stop::Refused(false, self.rest)),
+            _ => Err(CursorError::Refused(false, self.rest)),
         }
     }
 
-    fn load_word(&mut self) -> Result<LoadOp, Stop<'t, 'a>>
+    fn load_word(&mut self) -> Result<LoadOp, CursorError<'t, 'a>>
         ensures { Gives (λ x. x) (seen self.new.rest.now) result (functions.load_word (seen self.old.rest.now)) }
     {
         match self.next() {
@@ -75,11 +75,11 @@ impl<'t, 'a> Cursor<'t, 'a> {
                 self.skip();
                 Ok(op)
             }
-            _ => Err(Stop::Refused(false, self.rest)),
+            _ => Err(CursorError::Refused(false, self.rest)),
         }
     }
 
-    fn alloc_word(&mut self) -> Result<AllocOp, Stop<'t, 'a>>
+    fn alloc_word(&mut self) -> Result<AllocOp, CursorError<'t, 'a>>
         ensures { Gives (λ x. x) (seen self.new.rest.now) result (functions.alloc_word (seen self.old.rest.now)) }
     {
         match self.next() {
@@ -87,12 +87,12 @@ impl<'t, 'a> Cursor<'t, 'a> {
                 self.skip();
                 Ok(op)
             }
-            _ => Err(Stop::Refused(false, self.rest)),
+            _ => Err(CursorError::Refused(false, self.rest)),
         }
     }
 
     /// How wide a store is, and the line of its word.
-    fn store_word(&mut self) -> Result<(u32, Width), Stop<'t, 'a>>
+    fn store_word(&mut self) -> Result<(u32, Width), CursorError<'t, 'a>>
         ensures { Gives (λ x. (x.0, x.1)) (seen self.new.rest.now) result (functions.store_word (seen self.old.rest.now)) }
     {
         match (self.next(), self.rest) {
@@ -100,13 +100,13 @@ impl<'t, 'a> Cursor<'t, 'a> {
                 self.skip();
                 Ok((first.line, width))
             }
-            _ => Err(Stop::Refused(false, self.rest)),
+            _ => Err(CursorError::Refused(false, self.rest)),
         }
     }
 
     /// A temporary and `=`, with the line of the temporary.
     #[tactic(auto, unfolding(crate::specs::FunctionParsing::dest))]
-    pub fn dest(&mut self) -> Result<(u32, Name<'a>), Stop<'t, 'a>>
+    pub fn dest(&mut self) -> Result<(u32, Name<'a>), CursorError<'t, 'a>>
         ensures { Gives (λ x. (x.0, x.1)) (seen self.new.rest.now) result (functions.dest (seen self.old.rest.now)) }
     {
         let (line, name) = self.temp_name()?;
@@ -115,7 +115,7 @@ impl<'t, 'a> Cursor<'t, 'a> {
     }
 
     #[tactic(auto, unfolding(crate::specs::FunctionParsing::extend_or_load))]
-    fn extend_or_load(&mut self) -> Result<Expr<'a>, Stop<'t, 'a>>
+    fn extend_or_load(&mut self) -> Result<Expr<'a>, CursorError<'t, 'a>>
         ensures { Gives (λ x. x) (seen self.new.rest.now) result (functions.extend_or_load (seen self.old.rest.now)) }
     {
         match self.next() {
@@ -133,7 +133,7 @@ impl<'t, 'a> Cursor<'t, 'a> {
     }
 
     #[tactic(auto, unfolding(crate::specs::FunctionParsing::expr))]
-    fn expr(&mut self) -> Result<Expr<'a>, Stop<'t, 'a>>
+    fn expr(&mut self) -> Result<Expr<'a>, CursorError<'t, 'a>>
         ensures { Gives (λ x. x) (seen self.new.rest.now) result (functions.expr (seen self.old.rest.now)) }
     {
         match self.next() {
@@ -157,7 +157,7 @@ impl<'t, 'a> Cursor<'t, 'a> {
     }
 
     #[tactic(auto, unfolding(crate::specs::FunctionParsing::argument))]
-    fn argument(&mut self) -> Result<Argument<'a>, Stop<'t, 'a>>
+    fn argument(&mut self) -> Result<Argument<'a>, CursorError<'t, 'a>>
         ensures { Gives (λ x. x) (seen self.new.rest.now) result (functions.argument (seen self.old.rest.now)) }
     {
         let abi_type = self.abi_type()?;
@@ -169,7 +169,7 @@ impl<'t, 'a> Cursor<'t, 'a> {
     fn arguments<A: Allocator + Copy>(
         &mut self,
         alloc: A,
-    ) -> Result<Items<Argument<'a>, A>, Stop<'t, 'a>>
+    ) -> Result<Items<Argument<'a>, A>, CursorError<'t, 'a>>
         ensures { Gives (λ x. x) (seen self.new.rest.now) result (functions.arguments (seen self.old.rest.now)) }
     {
         let mut items = Vec::new(alloc);
@@ -189,7 +189,7 @@ impl<'t, 'a> Cursor<'t, 'a> {
     fn callee<A: Allocator + Copy>(
         &mut self,
         alloc: A,
-    ) -> Result<(Operand<'a>, Items<Argument<'a>, A>), Stop<'t, 'a>>
+    ) -> Result<(Operand<'a>, Items<Argument<'a>, A>), CursorError<'t, 'a>>
         ensures { Gives (λ x. (x.0, x.1)) (seen self.new.rest.now) result (functions.callee (seen self.old.rest.now)) }
     {
         let callee = self.val()?;
@@ -203,7 +203,7 @@ impl<'t, 'a> Cursor<'t, 'a> {
     fn called<A: Allocator + Copy>(
         &mut self,
         alloc: A,
-    ) -> Result<(Operand<'a>, Items<Argument<'a>, A>), Stop<'t, 'a>>
+    ) -> Result<(Operand<'a>, Items<Argument<'a>, A>), CursorError<'t, 'a>>
         ensures { Gives (λ x. (x.0, x.1)) (seen self.new.rest.now) result (functions.called (seen self.old.rest.now)) }
     {
         self.word(Mark::Call)?;
@@ -213,7 +213,7 @@ impl<'t, 'a> Cursor<'t, 'a> {
 
     /// An instruction without a destination.
     #[tactic(auto, unfolding(crate::specs::FunctionParsing::plain))]
-    pub fn plain<A: Allocator + Copy>(&mut self, alloc: A) -> Result<Inst<'a, A>, Stop<'t, 'a>>
+    pub fn plain<A: Allocator + Copy>(&mut self, alloc: A) -> Result<Inst<'a, A>, CursorError<'t, 'a>>
         ensures { Gives (λ x. x) (seen self.new.rest.now) result (functions.plain (seen self.old.rest.now)) }
     {
         match self.next() {
@@ -254,7 +254,7 @@ impl<'t, 'a> Cursor<'t, 'a> {
         name: Name<'a>,
         class: Class,
         alloc: A,
-    ) -> Result<Inst<'a, A>, Stop<'t, 'a>>
+    ) -> Result<Inst<'a, A>, CursorError<'t, 'a>>
         ensures { Gives (λ x. x) (seen self.new.rest.now) result (image (λ f. f class (line, name.entry)) functions.of_class (seen self.old.rest.now)) }
     {
         match self.next() {
@@ -295,7 +295,7 @@ impl<'t, 'a> Cursor<'t, 'a> {
         line: u32,
         name: Name<'a>,
         alloc: A,
-    ) -> Result<Inst<'a, A>, Stop<'t, 'a>>
+    ) -> Result<Inst<'a, A>, CursorError<'t, 'a>>
         ensures { Gives (λ x. x) (seen self.new.rest.now) result (image (λ f. f (line, name.entry)) functions.of_sub (seen self.old.rest.now)) }
     {
         let abi_type = self.sub_word()?;
@@ -312,7 +312,7 @@ impl<'t, 'a> Cursor<'t, 'a> {
         line: u32,
         name: Name<'a>,
         alloc: A,
-    ) -> Result<Inst<'a, A>, Stop<'t, 'a>>
+    ) -> Result<Inst<'a, A>, CursorError<'t, 'a>>
         ensures { Gives (λ x. x) (seen self.new.rest.now) result (image (λ f. f (line, name.entry)) functions.of_dest (seen self.old.rest.now)) }
     {
         if self.starts_class() {
@@ -323,7 +323,7 @@ impl<'t, 'a> Cursor<'t, 'a> {
     }
 
     #[tactic(auto, unfolding(crate::specs::FunctionParsing::inst))]
-    fn inst<A: Allocator + Copy>(&mut self, alloc: A) -> Result<Inst<'a, A>, Stop<'t, 'a>>
+    fn inst<A: Allocator + Copy>(&mut self, alloc: A) -> Result<Inst<'a, A>, CursorError<'t, 'a>>
         ensures { Gives (λ x. x) (seen self.new.rest.now) result (functions.inst (seen self.old.rest.now)) }
     {
         if self.starts_with(Mark::Temp) {
@@ -333,7 +333,7 @@ impl<'t, 'a> Cursor<'t, 'a> {
         self.plain(alloc)
     }
 
-    pub fn inst_line<A: Allocator + Copy>(&mut self, alloc: A) -> Result<Inst<'a, A>, Stop<'t, 'a>>
+    pub fn inst_line<A: Allocator + Copy>(&mut self, alloc: A) -> Result<Inst<'a, A>, CursorError<'t, 'a>>
         ensures { Gives (λ x. x) (seen self.new.rest.now) result (parsing.before functions.inst newline (seen self.old.rest.now)) }
     {
         let inst = self.inst(alloc)?;

@@ -6,6 +6,7 @@
 #![tactic(auto)]
 
 mod cursor;
+mod cursor_error;
 mod data_cursor;
 mod error;
 mod func_cursor;
@@ -13,7 +14,6 @@ mod inst_cursor;
 mod mark;
 mod parser;
 mod program_cursor;
-mod stop;
 mod words;
 
 pub use error::{ParseCode, ParseError};

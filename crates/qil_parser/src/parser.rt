@@ -6,13 +6,13 @@ ghost use Rattle.qil_parser.specs.Token.{Tok, seen};
 ghost use Rattle.qil_parser.specs.Programs.{Spells};
 ghost use Rattle.qil_tree.specs.Trees.{HasBlocks};
 ghost use Rattle.qil_parser.specs.Fault.{TokenFault, last_line};
-ghost use Rattle.qil_parser.specs.Outcome.{IsFault, IsProgram, IsRefusal, IsAnswered, code_of};
+ghost use Rattle.qil_parser.specs.Outcome.{IsFault, IsProgram, IsRefusedAt, TellsError, code_of};
 ghost use Rattle.qil_tree.specs.declared.tree.Program.{Program};
 ghost use Rattle.qil_parser.specs.declared.error.ParseCode.{ParseCode};
 
 use crate::cursor::Cursor;
 use crate::error::{ParseCode, ParseError};
-use crate::stop::Stop;
+use crate::cursor_error::CursorError;
 use crate::words::is_left_out;
 use qil_lexer::{Token, TokenKind};
 use qil_tree::Program;
@@ -42,7 +42,7 @@ fn code_of(marked: bool, token: &Token) -> ParseCode
 
 /// The fault of tokens of which these are left, and whether a block without a jump came before them.
 fn refusal(tokens: &[Token], marked: bool, left: &[Token]) -> ParseError
-    ensures { IsAnswered (seen tokens.now) marked (seen left.now) result }
+    ensures { TellsError (seen tokens.now) marked (seen left.now) result }
 {
     match left {
         [first, ..] => ParseError::Refused {
@@ -73,7 +73,7 @@ pub fn parse<'a, A: Allocator + Copy>(
     // Where the tokens spell a program it is given.
     ensures only_spelled { (p : Program A) → Spells (seen tokens.now) p → IsProgram p result }
     // Where the tokens have a fault it is answered.
-    ensures only_fault { (code : ParseCode) (line : ℕ) → TokenFault A (seen tokens.now) code line → IsRefusal code line result }
+    ensures only_fault { (code : ParseCode) (line : ℕ) → TokenFault A (seen tokens.now) code line → IsRefusedAt code line result }
 {
     let mut cursor = Cursor { rest: tokens };
     match cursor.program(alloc) {
@@ -81,8 +81,8 @@ pub fn parse<'a, A: Allocator + Copy>(
             [] => Ok(program),
             [_, ..] => Err(refusal(tokens, false, cursor.rest)),
         },
-        Err(Stop::Memory) => Err(ParseError::OutOfMemory),
-        Err(Stop::Refused(marked, left)) => Err(refusal(tokens, marked, left)),
+        Err(CursorError::Memory) => Err(ParseError::OutOfMemory),
+        Err(CursorError::Refused(marked, left)) => Err(refusal(tokens, marked, left)),
     }
 }
 

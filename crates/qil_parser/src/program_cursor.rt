@@ -10,7 +10,7 @@ ghost use Rattle.qil_parser.specs.Outcome.{Gives, Adds};
 
 use crate::cursor::Cursor;
 use crate::mark::Mark;
-use crate::stop::Stop;
+use crate::cursor_error::CursorError;
 use qil_tree::{Data, Definition, Func, Items, Program};
 use std::alloc::Allocator;
 use std::marker::Model;
@@ -50,7 +50,7 @@ impl<'a, A: Allocator + Copy> Parts<'a, A> {
     }
 
     /// Adds a definition at the end.
-    fn add<'t>(&mut self, def: Defined<'a, A>) -> Result<(), Stop<'t, 'a>>
+    fn add<'t>(&mut self, def: Defined<'a, A>) -> Result<(), CursorError<'t, 'a>>
         ensures { Adds self.old def.entry self.new result }
     {
         match def {
@@ -79,7 +79,7 @@ impl<'a, A: Allocator + Copy> Parts<'a, A> {
 
 impl<'t, 'a> Cursor<'t, 'a> {
     #[tactic(auto, unfolding(crate::specs::DataParsing::link))]
-    fn link(&mut self) -> Result<(), Stop<'t, 'a>>
+    fn link(&mut self) -> Result<(), CursorError<'t, 'a>>
         ensures { Gives (λ x. tt) (seen self.new.rest.now) result (reading.link (seen self.old.rest.now)) }
     {
         if self.starts_with(Mark::Export) {
@@ -100,7 +100,7 @@ impl<'t, 'a> Cursor<'t, 'a> {
         matches!(self.next(), Mark::Export | Mark::Section)
     }
 
-    fn links(&mut self) -> Result<(), Stop<'t, 'a>>
+    fn links(&mut self) -> Result<(), CursorError<'t, 'a>>
         ensures { Gives (λ x. tt) (seen self.new.rest.now) result (reading.links (seen self.old.rest.now)) }
     {
         'each: while self.starts_link() {
@@ -110,7 +110,7 @@ impl<'t, 'a> Cursor<'t, 'a> {
     }
 
     #[tactic(auto, unfolding(crate::specs::DataParsing::thing))]
-    fn thing<A: Allocator + Copy>(&mut self, alloc: A) -> Result<Defined<'a, A>, Stop<'t, 'a>>
+    fn thing<A: Allocator + Copy>(&mut self, alloc: A) -> Result<Defined<'a, A>, CursorError<'t, 'a>>
         ensures { Gives (λ x. x) (seen self.new.rest.now) result (reading.thing (seen self.old.rest.now)) }
     {
         if self.starts_with(Mark::Data) {
@@ -122,7 +122,7 @@ impl<'t, 'a> Cursor<'t, 'a> {
     }
 
     #[tactic(auto, unfolding(crate::specs::DataParsing::def_line, crate::specs::DataParsing::def))]
-    fn def_line<A: Allocator + Copy>(&mut self, alloc: A) -> Result<Defined<'a, A>, Stop<'t, 'a>>
+    fn def_line<A: Allocator + Copy>(&mut self, alloc: A) -> Result<Defined<'a, A>, CursorError<'t, 'a>>
         ensures { Gives (λ x. x) (seen self.new.rest.now) result (reading.def_line (seen self.old.rest.now)) }
     {
         self.links()?;
@@ -141,14 +141,14 @@ impl<'t, 'a> Cursor<'t, 'a> {
     }
 
     #[tactic(auto, unfolding(crate::specs::DataParsing::program))]
-    pub fn program<A: Allocator + Copy>(&mut self, alloc: A) -> Result<Program<'a, A>, Stop<'t, 'a>>
+    pub fn program<A: Allocator + Copy>(&mut self, alloc: A) -> Result<Program<'a, A>, CursorError<'t, 'a>>
         ensures { Gives (λ x. x) (seen self.new.rest.now) result (reading.program (seen self.old.rest.now)) }
     {
         self.line()?;
         self.defs(alloc)
     }
 
-    fn defs<A: Allocator + Copy>(&mut self, alloc: A) -> Result<Program<'a, A>, Stop<'t, 'a>>
+    fn defs<A: Allocator + Copy>(&mut self, alloc: A) -> Result<Program<'a, A>, CursorError<'t, 'a>>
         ensures { Gives (λ x. x) (seen self.new.rest.now) result (image program_of reading.defs (seen self.old.rest.now)) }
     {
         let mut parts = Parts::new(alloc);

@@ -11,7 +11,7 @@ use crate::session::{Next, Session};
 use qil_commands::{Command, read_command};
 use qil_history::History;
 use qil_machine::Machine;
-use qil_streams::{Put, Stopped};
+use qil_streams::{Put, PutError};
 use std::alloc::Allocator;
 
 /// Answers a line, of which the front is kept: a `quit` is no more than told.
@@ -19,7 +19,7 @@ pub fn answer_line<'c, A: Allocator + Copy + 'c, H: History<A, Machine<'c, 'c, A
     session: &mut Session<A, H>,
     kept: &[u8],
     out: &mut P,
-) -> Result<Next, Stopped>
+) -> Result<Next, PutError>
     requires stops { P.stops out.old < 2 ^ 64 - 1 }
     requires before { position (H.timeline session.old.history) < 2 ^ 61 }
     requires limit { session.old.limit ≤ 4294967295 }
@@ -35,6 +35,6 @@ pub fn answer_line<'c, A: Allocator + Copy + 'c, H: History<A, Machine<'c, 'c, A
     }
     match session.answer(said, out) {
         Ok(()) => Ok(Next::Go),
-        Err(Stopped) => Err(Stopped),
+        Err(PutError) => Err(PutError),
     }
 }

@@ -20,7 +20,7 @@ use qil_history::History;
 use qil_machine::Machine;
 use qil_meaning::Reason;
 use qil_stops::{Stops, run, run_back};
-use qil_streams::{Put, Stopped, put_line};
+use qil_streams::{Put, PutError, put_line};
 use std::alloc::Allocator;
 
 /// Whether the run is over.
@@ -34,7 +34,7 @@ fn is_over<'c, 'a, A: Allocator + Copy>(machine: &Machine<'c, 'a, A>) -> bool
 pub fn put_now<'c, A: Allocator + Copy + 'c, H: History<A, Machine<'c, 'c, A>>, P: Put>(
     history: &H,
     out: &mut P,
-) -> Result<(), Stopped>
+) -> Result<(), PutError>
     requires { P.stops out.old < 2 ^ 64 - 1 }
     ensures text { Puts result (P.written out.old) (P.written out.new) (place_line (H.timeline history.now)) }
     ensures counted { Counts result (P.stops out.old) (P.stops out.new) }
@@ -48,7 +48,7 @@ pub fn put_stopped<'c, A: Allocator + Copy + 'c, H: History<A, Machine<'c, 'c, A
     history: &H,
     reason: Reason,
     out: &mut P,
-) -> Result<(), Stopped>
+) -> Result<(), PutError>
     requires { P.stops out.old < 2 ^ 64 - 1 }
     ensures text { Puts result (P.written out.old) (P.written out.new) (reason_line reason ++ place_line (H.timeline history.now)) }
     ensures counted { Counts result (P.stops out.old) (P.stops out.new) }
@@ -63,7 +63,7 @@ pub fn step<'c, A: Allocator + Copy + 'c, H: History<A, Machine<'c, 'c, A>>, P: 
     history: &mut H,
     count: u32,
     out: &mut P,
-) -> Result<(), Stopped>
+) -> Result<(), PutError>
     requires stops { P.stops out.old < 2 ^ 64 - 1 }
     requires before { position (H.timeline history.old) < 2 ^ 61 }
     ensures program { H.program history.new ≡ H.program history.old }
@@ -100,7 +100,7 @@ pub fn back<'c, A: Allocator + Copy + 'c, H: History<A, Machine<'c, 'c, A>>, P: 
     history: &mut H,
     count: u32,
     out: &mut P,
-) -> Result<(), Stopped>
+) -> Result<(), PutError>
     requires { P.stops out.old < 2 ^ 64 - 1 }
     ensures program { H.program history.new ≡ H.program history.old }
     ensures near { position (H.timeline history.new) < position (H.timeline history.old) + 2 ^ 32 }
@@ -122,7 +122,7 @@ pub fn go_on<'c, A: Allocator + Copy + 'c, H: History<A, Machine<'c, 'c, A>>, P:
     stops: &Stops<A>,
     limit: u64,
     out: &mut P,
-) -> Result<(), Stopped>
+) -> Result<(), PutError>
     requires stops { P.stops out.old < 2 ^ 64 - 1 }
     requires before { position (H.timeline history.old) < 2 ^ 61 }
     requires limit { limit ≤ 4294967295 }
@@ -146,7 +146,7 @@ pub fn go_back<'c, A: Allocator + Copy + 'c, H: History<A, Machine<'c, 'c, A>>, 
     stops: &Stops<A>,
     limit: u64,
     out: &mut P,
-) -> Result<(), Stopped>
+) -> Result<(), PutError>
     requires { P.stops out.old < 2 ^ 64 - 1 }
     ensures program { H.program history.new ≡ H.program history.old }
     ensures near { position (H.timeline history.new) < position (H.timeline history.old) + 2 ^ 32 }

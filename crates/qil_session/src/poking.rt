@@ -14,7 +14,7 @@ use qil_commands::Address;
 use qil_history::History;
 use qil_machine::{Machine, PokeError};
 use qil_meaning::Reason;
-use qil_streams::{Put, Stopped, put_line};
+use qil_streams::{Put, PutError, put_line};
 use qil_tree::Width;
 use std::alloc::Allocator;
 
@@ -24,7 +24,7 @@ pub fn set<'c, A: Allocator + Copy + 'c, H: History<A, Machine<'c, 'c, A>>, P: P
     name: &[u8],
     value: u64,
     out: &mut P,
-) -> Result<(), Stopped>
+) -> Result<(), PutError>
     requires stops { P.stops out.old < 2 ^ 64 - 1 }
     requires before { position (H.timeline history.old) < 2 ^ 61 }
     ensures program { H.program history.new ≡ H.program history.old }
@@ -50,7 +50,7 @@ pub fn poke<'c, A: Allocator + Copy + 'c, H: History<A, Machine<'c, 'c, A>>, P: 
     address: Address<'_>,
     value: u64,
     out: &mut P,
-) -> Result<(), Stopped>
+) -> Result<(), PutError>
     requires stops { P.stops out.old < 2 ^ 64 - 1 }
     requires before { position (H.timeline history.old) < 2 ^ 61 }
     ensures program { H.program history.new ≡ H.program history.old }

@@ -16,7 +16,7 @@ use qil_commands::{Command, Refused};
 use qil_history::History;
 use qil_machine::Machine;
 use qil_stops::Stops;
-use qil_streams::{Put, Stopped};
+use qil_streams::{Put, PutError};
 use std::alloc::{AllocError, Allocator};
 use std::marker::Model;
 
@@ -62,7 +62,7 @@ impl<A: Allocator, H: Drop> Session<A, H> {
 
 impl<'c, A: Allocator + Copy + 'c, H: History<A, Machine<'c, 'c, A>>> Session<A, H> {
     /// Puts the line of the place where the session stands.
-    pub fn put_now<P: Put>(&self, out: &mut P) -> Result<(), Stopped>
+    pub fn put_now<P: Put>(&self, out: &mut P) -> Result<(), PutError>
         requires { P.stops out.old < 2 ^ 64 - 1 }
         ensures text { Puts result (P.written out.old) (P.written out.new) (place_line (situation H.program H.timeline self.now).timeline) }
         ensures counted { Counts result (P.stops out.old) (P.stops out.new) }
@@ -72,7 +72,7 @@ impl<'c, A: Allocator + Copy + 'c, H: History<A, Machine<'c, 'c, A>>> Session<A,
     }
 
     /// Answers a command. Where the writing stops the session has moved all the same.
-    fn answer_command<P: Put>(&mut self, command: Command<'_>, out: &mut P) -> Result<(), Stopped>
+    fn answer_command<P: Put>(&mut self, command: Command<'_>, out: &mut P) -> Result<(), PutError>
         requires stops { P.stops out.old < 2 ^ 64 - 1 }
         requires before { position (H.timeline self.old.history) < 2 ^ 61 }
         requires limit { self.old.limit ≤ 4294967295 }
@@ -120,7 +120,7 @@ impl<'c, A: Allocator + Copy + 'c, H: History<A, Machine<'c, 'c, A>>> Session<A,
         &mut self,
         said: Result<Option<Command<'_>>, Refused>,
         out: &mut P,
-    ) -> Result<(), Stopped>
+    ) -> Result<(), PutError>
         requires stops { P.stops out.old < 2 ^ 64 - 1 }
         requires before { position (H.timeline self.old.history) < 2 ^ 61 }
         requires limit { self.old.limit ≤ 4294967295 }

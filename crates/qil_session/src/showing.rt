@@ -12,7 +12,7 @@ use qil_answers::{put_block, put_frames, put_memory, put_output, put_printed, pu
 use qil_commands::Address;
 use qil_history::History;
 use qil_machine::Machine;
-use qil_streams::{Put, Stopped, put_line};
+use qil_streams::{Put, PutError, put_line};
 use std::alloc::Allocator;
 
 /// Answers `print %x`.
@@ -20,7 +20,7 @@ pub fn show_printed<'c, A: Allocator + Copy + 'c, H: History<A, Machine<'c, 'c, 
     history: &H,
     name: &[u8],
     out: &mut P,
-) -> Result<(), Stopped>
+) -> Result<(), PutError>
     requires { P.stops out.old < 2 ^ 64 - 1 }
     ensures text { Puts result (P.written out.old) (P.written out.new) (printed (H.program history.now) (H.timeline history.now).now.frames name.now) }
     ensures counted { Counts result (P.stops out.old) (P.stops out.new) }
@@ -33,7 +33,7 @@ pub fn show_printed<'c, A: Allocator + Copy + 'c, H: History<A, Machine<'c, 'c, 
 pub fn show_temps<'c, A: Allocator + Copy + 'c, H: History<A, Machine<'c, 'c, A>>, P: Put>(
     history: &H,
     out: &mut P,
-) -> Result<(), Stopped>
+) -> Result<(), PutError>
     requires { P.stops out.old < 2 ^ 64 - 1 }
     ensures text { Puts result (P.written out.old) (P.written out.new) (temps_shown (H.program history.now) (H.timeline history.now).now.frames) }
     ensures counted { Counts result (P.stops out.old) (P.stops out.new) }
@@ -46,7 +46,7 @@ pub fn show_temps<'c, A: Allocator + Copy + 'c, H: History<A, Machine<'c, 'c, A>
 pub fn show_frames<'c, A: Allocator + Copy + 'c, H: History<A, Machine<'c, 'c, A>>, P: Put>(
     history: &H,
     out: &mut P,
-) -> Result<(), Stopped>
+) -> Result<(), PutError>
     requires { P.stops out.old < 2 ^ 64 - 1 }
     ensures text { Puts result (P.written out.old) (P.written out.new) (frames_shown (H.timeline history.now).now.frames) }
     ensures counted { Counts result (P.stops out.old) (P.stops out.new) }
@@ -59,7 +59,7 @@ pub fn show_frames<'c, A: Allocator + Copy + 'c, H: History<A, Machine<'c, 'c, A
 pub fn show_block<'c, A: Allocator + Copy + 'c, H: History<A, Machine<'c, 'c, A>>, P: Put>(
     history: &H,
     out: &mut P,
-) -> Result<(), Stopped>
+) -> Result<(), PutError>
     requires { P.stops out.old < 2 ^ 64 - 1 }
     ensures text { Puts result (P.written out.old) (P.written out.new) (block_shown (H.program history.now) (H.timeline history.now).now.frames) }
     ensures counted { Counts result (P.stops out.old) (P.stops out.new) }
@@ -72,7 +72,7 @@ pub fn show_block<'c, A: Allocator + Copy + 'c, H: History<A, Machine<'c, 'c, A>
 pub fn show_output<'c, A: Allocator + Copy + 'c, H: History<A, Machine<'c, 'c, A>>, P: Put>(
     history: &H,
     out: &mut P,
-) -> Result<(), Stopped>
+) -> Result<(), PutError>
     requires { P.stops out.old < 2 ^ 64 - 1 }
     ensures text { Puts result (P.written out.old) (P.written out.new) (output_shown (H.timeline history.now).now.output) }
     ensures counted { Counts result (P.stops out.old) (P.stops out.new) }
@@ -87,7 +87,7 @@ pub fn show_bytes<'c, A: Allocator + Copy + 'c, H: History<A, Machine<'c, 'c, A>
     address: &Address<'_>,
     count: u32,
     out: &mut P,
-) -> Result<(), Stopped>
+) -> Result<(), PutError>
     requires { P.stops out.old < 2 ^ 64 - 1 }
     ensures text { Puts result (P.written out.old) (P.written out.new) (memory_text (H.timeline history.now).now count (address_said (H.program history.now) address.now)) }
     ensures counted { Counts result (P.stops out.old) (P.stops out.new) }

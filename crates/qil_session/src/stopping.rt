@@ -16,7 +16,7 @@ use crate::words::{address_said, place_said, temp_said, width_bytes};
 use qil_commands::{Address, BreakPlace};
 use qil_numbering::Code;
 use qil_stops::{Stop, StopError, StopKind, Stops, Watched};
-use qil_streams::{Put, Stopped, put_line};
+use qil_streams::{Put, PutError, put_line};
 use qil_tree::Width;
 use std::alloc::Allocator;
 
@@ -26,7 +26,7 @@ fn put_made<'c, 'a, A: Allocator + Copy, P: Put>(
     made: Result<u64, StopError>,
     kind: StopKind,
     out: &mut P,
-) -> Result<(), Stopped>
+) -> Result<(), PutError>
     requires { P.stops out.old < 2 ^ 64 - 1 }
     ensures text { Puts result (P.written out.old) (P.written out.new) (made_text code.now made kind) }
     ensures counted { Counts result (P.stops out.old) (P.stops out.new) }
@@ -47,7 +47,7 @@ pub fn add_break<'c, 'a, A: Allocator + Copy, P: Put>(
     func: &[u8],
     at: Option<BreakPlace<'_>>,
     out: &mut P,
-) -> Result<(), Stopped>
+) -> Result<(), PutError>
     requires { P.stops out.old < 2 ^ 64 - 1 }
     ensures answered { (t : Timeline) (limit : ℕ) → Answers (sits code.now t stops.old limit) (sits code.now t stops.new limit)
         (Ok (Some (commands.Break func.now at.entry))) result (P.written out.old) (P.written out.new) }
@@ -68,7 +68,7 @@ pub fn watch_bytes<'c, 'a, A: Allocator + Copy, P: Put>(
     width: Width,
     address: Address<'_>,
     out: &mut P,
-) -> Result<(), Stopped>
+) -> Result<(), PutError>
     requires { P.stops out.old < 2 ^ 64 - 1 }
     ensures answered { (t : Timeline) (limit : ℕ) → Answers (sits code.now t stops.old limit) (sits code.now t stops.new limit)
         (Ok (Some (commands.WatchBytes width address.entry))) result (P.written out.old) (P.written out.new) }
@@ -91,7 +91,7 @@ pub fn watch_temp<'c, 'a, A: Allocator + Copy, P: Put>(
     func: &[u8],
     name: &[u8],
     out: &mut P,
-) -> Result<(), Stopped>
+) -> Result<(), PutError>
     requires { P.stops out.old < 2 ^ 64 - 1 }
     ensures answered { (t : Timeline) (limit : ℕ) → Answers (sits code.now t stops.old limit) (sits code.now t stops.new limit)
         (Ok (Some (commands.WatchTemp func.now name.now))) result (P.written out.old) (P.written out.new) }
@@ -110,7 +110,7 @@ pub fn delete<A: Allocator + Copy, P: Put>(
     stops: &mut Stops<A>,
     number: u64,
     out: &mut P,
-) -> Result<(), Stopped>
+) -> Result<(), PutError>
     requires { P.stops out.old < 2 ^ 64 - 1 }
     ensures answered { (p : Program A) (t : Timeline) (limit : ℕ) → Answers (sits p t stops.old limit) (sits p t stops.new limit)
         (Ok (Some (commands.Delete number))) result (P.written out.old) (P.written out.new) }
@@ -128,7 +128,7 @@ pub fn put_stops<'c, 'a, A: Allocator + Copy, P: Put>(
     stops: &Stops<A>,
     code: &'c Code<'c, 'a, A>,
     out: &mut P,
-) -> Result<(), Stopped>
+) -> Result<(), PutError>
     requires { P.stops out.old < 2 ^ 64 - 1 }
     ensures text { Puts result (P.written out.old) (P.written out.new) (or_none (map (listed_line code.now) stops.now.kept)) }
     ensures counted { Counts result (P.stops out.old) (P.stops out.new) }
@@ -147,7 +147,7 @@ fn put_listed<'c, 'a, A: Allocator + Copy, P: Put>(
     list: &[Stop],
     code: &'c Code<'c, 'a, A>,
     out: &mut P,
-) -> Result<(), Stopped>
+) -> Result<(), PutError>
     requires { P.stops out.old < 2 ^ 64 - 1 }
     ensures text { Puts result (P.written out.old) (P.written out.new) (flat_map (listed_line code.now) list.now) }
     ensures counted { Counts result (P.stops out.old) (P.stops out.new) }

@@ -10,11 +10,11 @@ use qil_commands::Refused;
 use qil_meaning::Reason;
 use qil_numbering::Code;
 use qil_stops::{StopKind, Watched};
-use qil_streams::{Put, Stopped, put_line};
+use qil_streams::{Put, PutError, put_line};
 use std::alloc::Allocator;
 
 /// Puts why a run stopped.
-pub fn put_reason<P: Put>(out: &mut P, reason: Reason) -> Result<(), Stopped>
+pub fn put_reason<P: Put>(out: &mut P, reason: Reason) -> Result<(), PutError>
     requires { P.stops out.old < 2 ^ 64 - 1 }
     ensures text { Puts result (P.written out.old) (P.written out.new) (reason_line reason) }
     ensures counted { Counts result (P.stops out.old) (P.stops out.new) }
@@ -46,7 +46,7 @@ pub fn put_reason<P: Put>(out: &mut P, reason: Reason) -> Result<(), Stopped>
 }
 
 /// Puts why a line spells no command.
-pub fn put_refusal<P: Put>(out: &mut P, refused: Refused) -> Result<(), Stopped>
+pub fn put_refusal<P: Put>(out: &mut P, refused: Refused) -> Result<(), PutError>
     requires { P.stops out.old < 2 ^ 64 - 1 }
     ensures text { Puts result (P.written out.old) (P.written out.new) (line (refusal_text refused)) }
     ensures counted { Counts result (P.stops out.old) (P.stops out.new) }
@@ -82,7 +82,7 @@ pub fn put_stop<'c, 'a, P: Put, A: Allocator + Copy>(
     code: &'c Code<'c, 'a, A>,
     number: u64,
     kind: StopKind,
-) -> Result<(), Stopped>
+) -> Result<(), PutError>
     requires { P.stops out.old < 2 ^ 64 - 1 }
     ensures text { Puts result (P.written out.old) (P.written out.new) (stop_line code.now number kind) }
     ensures counted { Counts result (P.stops out.old) (P.stops out.new) }
@@ -131,7 +131,7 @@ pub fn put_stop<'c, 'a, P: Put, A: Allocator + Copy>(
 }
 
 /// Puts that a stop was deleted.
-pub fn put_deleted<P: Put>(out: &mut P, number: u64) -> Result<(), Stopped>
+pub fn put_deleted<P: Put>(out: &mut P, number: u64) -> Result<(), PutError>
     requires { P.stops out.old < 2 ^ 64 - 1 }
     ensures text { Puts result (P.written out.old) (P.written out.new) (deleted_line number) }
     ensures counted { Counts result (P.stops out.old) (P.stops out.new) }

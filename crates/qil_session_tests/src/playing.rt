@@ -11,7 +11,7 @@ use qil_machine::Machine;
 use qil_numbering::{Code, number};
 use qil_parser::parse;
 use qil_session::{Next, Session, answer_line};
-use qil_streams::{Put, Stopped};
+use qil_streams::{Put, PutError};
 use refusing::Refusing;
 use std::alloc::{Allocator, Global};
 use std::hash::RandomState;
@@ -60,7 +60,7 @@ impl Put for Collected {
 
     ghost device = { λ _. 0 };
 
-    fn put(&mut self, bytes: &[u8]) -> Result<(), Stopped> {
+    fn put(&mut self, bytes: &[u8]) -> Result<(), PutError> {
         let whole = bytes.len() <= self.room;
         let count = if whole { bytes.len() } else { self.room };
         self.room -= count;
@@ -68,7 +68,7 @@ impl Put for Collected {
             return Ok(());
         }
         self.stops += 1;
-        Err(Stopped)
+        Err(PutError)
     }
 }
 
@@ -103,7 +103,7 @@ pub fn play<'c, A: Allocator + Copy + 'c, H: History<A, Machine<'c, 'c, A>>, P: 
     session: &mut Session<A, H>,
     lines: &[&[u8]],
     out: &mut P,
-) -> Result<(), Stopped>
+) -> Result<(), PutError>
     requires stops { P.stops out.old < 2 ^ 64 - 1 }
     requires few { length lines.now < 2 ^ 20 }
     requires before { position (H.timeline session.old.history) < 2 ^ 60 }

@@ -10,7 +10,7 @@ use Rattle.qil_tree.specs.declared.ops.Class.{Class}
 use Rattle.qil_tree.specs.declared.tree.Program.{Program}
 use Rattle.qil_tree.specs.Types.{class_of}
 use Rattle.qil_checker.specs.Operands.{argument_read}
-use Rattle.qil_ops.specs.Values.{width, Low}
+use Rattle.qil_ops.specs.Values.{width, low_bits}
 use Rattle.qil_meaning.specs.State.{Name, unset_temporary}
 use Rattle.qil_meaning.specs.Slots.{temps_of}
 use Rattle.qil_meaning.specs.Values.{Outcome, ◌>>=◌, known, vals}
@@ -36,11 +36,11 @@ abbrev pub values_unless : {X : Type 0} → List Name → X → Option Slot → 
 values_unless ns x None = Ok x
 values_unless ns x (Some s) = Err (unset_temporary (name_at ns s.index))
 
-known_unless : (ns : List Name) (c : Class) (s : Slot) (o : Option ℕ) → values_unless ns (Low (width c) (unwrap_or o 0)) (unless_set s o) ≡ known c (name_at ns s.index) o
+known_unless : (ns : List Name) (c : Class) (s : Slot) (o : Option ℕ) → values_unless ns (low_bits (width c) (unwrap_or o 0)) (unless_set s o) ≡ known c (name_at ns s.index) o
 known_unless ns c s None = refl
 known_unless ns c s (Some v) = refl
 
-slot_val_unless : (ns : List Name) (vs : List (Option ℕ)) (c : Class) (a : Source) → values_unless ns (Low (width c) (held_or_zero vs a)) (unset_in vs a) ≡ slot_val ns vs c a
+slot_val_unless : (ns : List Name) (vs : List (Option ℕ)) (c : Class) (a : Source) → values_unless ns (low_bits (width c) (held_or_zero vs a)) (unset_in vs a) ≡ slot_val ns vs c a
 slot_val_unless ns vs c (sources.Constant n) = refl
 slot_val_unless ns vs c (sources.Slot s) = known_unless ns c s (get_or vs s.index None)
 

@@ -4,7 +4,7 @@ use Rattle.std.specs.Prelude.{get_or, unwrap_or, slice_get, slice_set}
 use Rattle.std.proofs.lemmas.Option.{get_or_from_slice_get}
 use Rattle.qil_tree.specs.declared.ops.Class.{Class}
 use Rattle.qil_tree.specs.declared.tree.Program.{Program}
-use Rattle.qil_ops.specs.Values.{width, Low}
+use Rattle.qil_ops.specs.Values.{width, low_bits}
 use Rattle.qil_meaning.specs.State.{Name}
 use Rattle.qil_meaning.specs.Temps.{with_temp}
 use Rattle.qil_meaning.specs.Slots.{temps_of}
@@ -51,7 +51,7 @@ slot_written ns vs i v are h = λ j y. temps-set ns vs (name_at ns i) i v y are.
 
 -- an operand by its slot
 abbrev pub slot_val : List Name → List (Option ℕ) → Class → Source → Outcome ℕ
-slot_val ns vs c (sources.Constant n) = Ok (Low (width c) n)
+slot_val ns vs c (sources.Constant n) = Ok (low_bits (width c) n)
 slot_val ns vs c (sources.Slot s) = known c (name_at ns s.index) (get_or vs s.index None)
 
 pub slot_val_is : {A : Type 0} (p : Program A) (ns : List Name) (vs : List (Option ℕ)) (c : Class) (a : Source)

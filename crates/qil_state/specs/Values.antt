@@ -6,7 +6,7 @@ use Rattle.qil_tree.specs.declared.tree.Expr.{Expr}
 use Rattle.qil_tree.specs.declared.tree.Program.{Program}
 use Rattle.qil_tree.specs.Types.{class_of}
 use Rattle.qil_checker.specs.Operands.{expr_reads}
-use Rattle.qil_ops.specs.Values.{width, Low}
+use Rattle.qil_ops.specs.Values.{width, low_bits}
 use Rattle.qil_memory.specs.Live.{Live}
 use Rattle.qil_meaning.specs.State.{Name, Temps}
 use Rattle.qil_meaning.specs.Slots.{slot_of}
@@ -45,7 +45,7 @@ held_or_zero vs (sources.Slot s) = unwrap_or (get_or vs s.index None) 0
 
 -- an argument in the class of the type that is written at it
 abbrev pub argument_value : List (Option ℕ) → NumberedArgument → ℕ
-argument_value vs a = Low (width (class_of a.abi_type)) (held_or_zero vs a.source)
+argument_value vs a = low_bits (width (class_of a.abi_type)) (held_or_zero vs a.source)
 
 abbrev pub argument_values : List (Option ℕ) → List NumberedArgument → List ℕ
 argument_values vs args = map (argument_value vs) args

@@ -9,7 +9,7 @@ use qil_answers::{
 use qil_layout::layout;
 use qil_machine::Machine;
 use qil_numbering::{Code, number};
-use qil_streams::{Put, Stopped};
+use qil_streams::{Put, PutError};
 use std::alloc::Global;
 use std::hash::RandomState;
 use std::test::*;
@@ -43,7 +43,7 @@ impl<'a> Put for Wanting<'a> {
 
     ghost device = { λ _. 0 };
 
-    fn put(&mut self, bytes: &[u8]) -> Result<(), Stopped> {
+    fn put(&mut self, bytes: &[u8]) -> Result<(), PutError> {
         let whole = bytes.len() <= self.room;
         let count = if whole { bytes.len() } else { self.room };
         self.room -= count;
@@ -55,7 +55,7 @@ impl<'a> Put for Wanting<'a> {
             return Ok(());
         }
         self.stops += 1;
-        Err(Stopped)
+        Err(PutError)
     }
 }
 
@@ -337,7 +337,7 @@ fn show<'c, 'a, P: Put>(
     machine: &Machine<'c, 'a, Global>,
     position: u64,
     shown: Shown,
-) -> Result<(), Stopped>
+) -> Result<(), PutError>
     requires { P.stops out.old < 2 ^ 64 - 1 }
 {
     match shown {

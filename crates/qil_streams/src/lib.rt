@@ -6,7 +6,7 @@ mod put;
 mod reader;
 
 pub use device::{DeviceFault, FromReader, IntoWriter, Sink, Source};
-pub use put::{Outlet, Put, Stopped, put_line, put_number, write_all};
+pub use put::{Outlet, Put, PutError, put_line, put_number, write_all};
 pub use reader::{KeptLine, LineEnd, LineReader, Piece, SCRIPT_LIMIT, ScriptBytes};
 
 #[cfg(test)]

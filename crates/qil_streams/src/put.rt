@@ -9,7 +9,7 @@ use itoa::Buffer;
 
 /// The putting of a text stopped before its end.
 #[derive(Clone, Copy, Debug, PartialEq, Eq)]
-pub struct Stopped;
+pub struct PutError;
 
 /// What a text is put into, piece by piece.
 pub trait Put {
@@ -26,8 +26,8 @@ pub trait Put {
     ///
     /// # Errors
     ///
-    /// `Stopped` where it could not take them all. Then it has put a front of them, which may be empty.
-    fn put(&mut self, bytes: &[u8]) -> Result<(), Stopped>
+    /// `PutError` where it could not take them all. Then it has put a front of them, which may be empty.
+    fn put(&mut self, bytes: &[u8]) -> Result<(), PutError>
         requires { stops self.old < 2 ^ 64 - 1 }
         ensures text { Puts result (written self.old) (written self.new) bytes.now }
         ensures counted { Counts result (stops self.old) (stops self.new) }
@@ -76,10 +76,10 @@ impl<'a, W: Sink> Put for Outlet<'a, W> {
 
     ghost device = { λ s. s.sink.ghost_name };
 
-    fn put(&mut self, bytes: &[u8]) -> Result<(), Stopped> {
+    fn put(&mut self, bytes: &[u8]) -> Result<(), PutError> {
         match write_all(self.sink, bytes) {
             Ok(()) => Ok(()),
-            Err(DeviceFault) => Err(Stopped),
+            Err(DeviceFault) => Err(PutError),
         }
     }
 }
@@ -88,8 +88,8 @@ impl<'a, W: Sink> Put for Outlet<'a, W> {
 ///
 /// # Errors
 ///
-/// `Stopped` where `out` stopped. Then a front of the digits was put.
-pub fn put_number<P: Put>(out: &mut P, number: u64) -> Result<(), Stopped>
+/// `PutError` where `out` stopped. Then a front of the digits was put.
+pub fn put_number<P: Put>(out: &mut P, number: u64) -> Result<(), PutError>
     requires { P.stops out.old < 2 ^ 64 - 1 }
     ensures text { Puts result (P.written out.old) (P.written out.new) (decimal number) }
     ensures counted { Counts result (P.stops out.old) (P.stops out.new) }
@@ -103,8 +103,8 @@ pub fn put_number<P: Put>(out: &mut P, number: u64) -> Result<(), Stopped>
 ///
 /// # Errors
 ///
-/// `Stopped` where `out` stopped. Then a front of the line was put.
-pub fn put_line<P: Put>(out: &mut P, text: &[u8]) -> Result<(), Stopped>
+/// `PutError` where `out` stopped. Then a front of the line was put.
+pub fn put_line<P: Put>(out: &mut P, text: &[u8]) -> Result<(), PutError>
     requires { P.stops out.old < 2 ^ 64 - 1 }
     ensures text { Puts result (P.written out.old) (P.written out.new) (line text.now) }
     ensures counted { Counts result (P.stops out.old) (P.stops out.new) }

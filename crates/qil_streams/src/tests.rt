@@ -3,7 +3,7 @@
 ghost use Rattle.std.specs.Prelude.{◌≡◌};
 
 use crate::{
-    DeviceFault, FromReader, IntoWriter, LineEnd, LineReader, Outlet, Put, Sink, Source, Stopped,
+    DeviceFault, FromReader, IntoWriter, LineEnd, LineReader, Outlet, Put, Sink, Source, PutError,
     put_line, put_number, write_all,
 };
 use std::alloc::Global;
@@ -292,7 +292,7 @@ fn a_write_fails(rt: HostRuntime) {
     for n in 1..=3 {
         let mut sink = narrow_sink(rt.alloc(), n);
         let mut out = Outlet::new(&mut sink);
-        assert_eq!(rt; put_line(&mut out, b"ab"), Err(Stopped));
+        assert_eq!(rt; put_line(&mut out, b"ab"), Err(PutError));
         let Outlet { sink: _ } = out;
         assert_eq!(rt; sink.faults(), 1);
         assert!(rt; sink.written.len() as u64 == n - 1);

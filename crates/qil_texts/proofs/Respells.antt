@@ -17,7 +17,7 @@ use Rattle.qil_texts.proofs.Writable.{GoodKind, GoodPhi, GoodJump}
 use Rattle.qil_texts.proofs.WritesInsts.{writes_inst}
 use Rattle.qil_texts.proofs.WritesJumps.{writes_phi, writes_jump}
 use Rattle.qil_texts.proofs.WordsFit.{fits_kind, fits_phi, fits_going}
-use Rattle.qil_texts.proofs.Spelled.{IsPiece, gives_inst, gives_phi, gives_jump}
+use Rattle.qil_texts.proofs.Spelled.{IsPiece, yields_inst, yields_phi, yields_jump}
 
 pub pieces : (ts : List Token) → All IsShaped ts → AllOf IsPiece (seen ts)
 pieces [] h = tt
@@ -58,10 +58,10 @@ jump_again j good =
     record { tokens = tokens_at (jump_text j) 0 (jump_words j); cut = cut; again = told.value; spelled = each_cut JumpOf told.value (jump_text j) (tokens_at (jump_text j) 0 (jump_words j)) cut told.spelled; same = told.holds }
 
 pub inst_respelled : {A : Type 0} (ts : List Token) (i : Inst A) → All IsShaped ts → InstOf (seen ts) i → InstRespelled i
-inst_respelled ts i shaped spelled = inst_again i (gives_inst (seen ts) i (pieces ts shaped) spelled)
+inst_respelled ts i shaped spelled = inst_again i (yields_inst (seen ts) i (pieces ts shaped) spelled)
 
 pub phi_respelled : {A : Type 0} (ts : List Token) (p : Phi A) → All IsShaped ts → PhiOf (seen ts) p → PhiRespelled p
-phi_respelled ts p shaped spelled = phi_again p (gives_phi (seen ts) p (pieces ts shaped) spelled)
+phi_respelled ts p shaped spelled = phi_again p (yields_phi (seen ts) p (pieces ts shaped) spelled)
 
 pub jump_respelled : (ts : List Token) (j : Jump) → All IsShaped ts → JumpOf (seen ts) j → JumpRespelled j
-jump_respelled ts j shaped spelled = jump_again j (gives_jump (seen ts) j (pieces ts shaped) spelled)
+jump_respelled ts j shaped spelled = jump_again j (yields_jump (seen ts) j (pieces ts shaped) spelled)

@@ -32,8 +32,8 @@ right_pieces [] q h = h
 right_pieces (t ∷ p) q h = right_pieces p q h.1
 
 -- what pieces of a text stand for in a language has a property
-abbrev pub Gives : {A : Type 0} → (List Tok → A → Type 0) → (A → Type 0) → Type 0
-Gives S P = (ts : List Tok) (v : _) → AllOf IsPiece ts → S ts v → P v
+abbrev pub Yields : {A : Type 0} → (List Tok → A → Type 0) → (A → Type 0) → Type 0
+Yields S P = (ts : List Tok) (v : _) → AllOf IsPiece ts → S ts v → P v
 
 moved : (ts us : List Tok) → ts ≡ us → AllOf IsPiece ts → AllOf IsPiece us
 moved ts us e h = subst (AllOf IsPiece) e h
@@ -41,44 +41,44 @@ moved ts us e h = subst (AllOf IsPiece) e h
 abbrev pub Any : {A : Type 0} → A → Type 0
 Any v = Unit {0}
 
-pub gives_any : {A : Type 0} (S : List Tok → A → Type 0) → Gives S Any
-gives_any S ts v h s = tt
+pub yields_any : {A : Type 0} (S : List Tok → A → Type 0) → Yields S Any
+yields_any S ts v h s = tt
 
-gives_one : {A : Type 0} (f : Tok → Option A) (P : A → Type 0) → ((t : Tok) (a : A) → IsPiece t → f t ≡ Some a → P a) → Gives (One f) P
-gives_one f P g ts v h s = g s.token v (moved ts (s.token ∷ []) s.alone h).0 s.means
+yields_one : {A : Type 0} (f : Tok → Option A) (P : A → Type 0) → ((t : Tok) (a : A) → IsPiece t → f t ≡ Some a → P a) → Yields (One f) P
+yields_one f P g ts v h s = g s.token v (moved ts (s.token ∷ []) s.alone h).0 s.means
 
-pub gives_seq : {A B : Type 0} {S : List Tok → A → Type 0} {U : List Tok → B → Type 0} {P : A → Type 0} {Q : B → Type 0} → Gives S P → Gives U Q → Gives (Seq S U) (λ v. P v.0 × Q v.1)
-gives_seq f g ts v h s =
+pub yields_seq : {A B : Type 0} {S : List Tok → A → Type 0} {U : List Tok → B → Type 0} {P : A → Type 0} {Q : B → Type 0} → Yields S P → Yields U Q → Yields (Seq S U) (λ v. P v.0 × Q v.1)
+yields_seq f g ts v h s =
     let k = moved ts (s.left ++ s.right) s.parts h in
     (f s.left v.0 (left_pieces s.left s.right k) s.first, g s.right v.1 (right_pieces s.left s.right k) s.second)
 
-pub gives_image : {A B : Type 0} {S : List Tok → A → Type 0} {P : A → Type 0} (f : A → B) (Q : B → Type 0) → Gives S P → ((a : A) → P a → Q (f a)) → Gives (Image f S) Q
-gives_image f Q g h ts v k s = subst Q s.made (h s.value (g ts s.value k s.spelled))
+pub yields_image : {A B : Type 0} {S : List Tok → A → Type 0} {P : A → Type 0} (f : A → B) (Q : B → Type 0) → Yields S P → ((a : A) → P a → Q (f a)) → Yields (Image f S) Q
+yields_image f Q g h ts v k s = subst Q s.made (h s.value (g ts s.value k s.spelled))
 
-pub gives_either : {A : Type 0} {S U : List Tok → A → Type 0} {P : A → Type 0} → Gives S P → Gives U P → Gives (Either S U) P
-gives_either f g ts v h (inl s) = f ts v h s
-gives_either f g ts v h (inr s) = g ts v h s
+pub yields_either : {A : Type 0} {S U : List Tok → A → Type 0} {P : A → Type 0} → Yields S P → Yields U P → Yields (Either S U) P
+yields_either f g ts v h (inl s) = f ts v h s
+yields_either f g ts v h (inr s) = g ts v h s
 
-pub gives_nothing : {A : Type 0} (x : A) (P : A → Type 0) → P x → Gives (Nothing x) P
-gives_nothing x P p ts v h s = subst P s.value p
+pub yields_nothing : {A : Type 0} (x : A) (P : A → Type 0) → P x → Yields (Nothing x) P
+yields_nothing x P p ts v h s = subst P s.value p
 
-pub gives_many : {A : Type 0} (S : List Tok → A → Type 0) (P : A → Type 0) → Gives S P → Gives (Many S) (AllOf P)
-gives_many S P f ts [] h s = tt
-gives_many S P f ts (a ∷ others) h s =
+pub yields_many : {A : Type 0} (S : List Tok → A → Type 0) (P : A → Type 0) → Yields S P → Yields (Many S) (AllOf P)
+yields_many S P f ts [] h s = tt
+yields_many S P f ts (a ∷ others) h s =
     let k = moved ts (s.0 ++ s.1) s.2 h in
-    (f s.0 a (left_pieces s.0 s.1 k) s.3, gives_many S P f s.1 others (right_pieces s.0 s.1 k) s.4)
+    (f s.0 a (left_pieces s.0 s.1 k) s.3, yields_many S P f s.1 others (right_pieces s.0 s.1 k) s.4)
 
-gives_tail : {A : Type 0} (C : List Tok → Unit {0} → Type 0) (S : List Tok → A → Type 0) (P : A → Type 0) → Gives S P → Gives (Tail C S) (AllOf P)
-gives_tail C S P f ts [] h s = tt
-gives_tail C S P f ts (a ∷ others) h s =
+yields_tail : {A : Type 0} (C : List Tok → Unit {0} → Type 0) (S : List Tok → A → Type 0) (P : A → Type 0) → Yields S P → Yields (Tail C S) (AllOf P)
+yields_tail C S P f ts [] h s = tt
+yields_tail C S P f ts (a ∷ others) h s =
     let k = right_pieces s.0 (s.1 ++ s.2) (moved ts (s.0 ++ (s.1 ++ s.2)) s.3 h) in
-    (f s.1 a (left_pieces s.1 s.2 k) s.5, gives_tail C S P f s.2 others (right_pieces s.1 s.2 k) s.6)
+    (f s.1 a (left_pieces s.1 s.2 k) s.5, yields_tail C S P f s.2 others (right_pieces s.1 s.2 k) s.6)
 
-pub gives_before : {A : Type 0} {S : List Tok → A → Type 0} (m : Mark) (P : A → Type 0) → Gives S P → Gives (Before S m) P
-gives_before m P f = gives_image (λ v. v.0) P (gives_seq f (gives_any (Word m))) (λ a q. q.0)
+pub yields_before : {A : Type 0} {S : List Tok → A → Type 0} (m : Mark) (P : A → Type 0) → Yields S P → Yields (Before S m) P
+yields_before m P f = yields_image (λ v. v.0) P (yields_seq f (yields_any (Word m))) (λ a q. q.0)
 
-pub gives_after : {A : Type 0} {S : List Tok → A → Type 0} (m : Mark) (P : A → Type 0) → Gives S P → Gives (After m S) P
-gives_after m P f = gives_image (λ v. v.1) P (gives_seq (gives_any (Word m)) f) (λ a q. q.1)
+pub yields_after : {A : Type 0} {S : List Tok → A → Type 0} (m : Mark) (P : A → Type 0) → Yields S P → Yields (After m S) P
+yields_after m P f = yields_image (λ v. v.1) P (yields_seq (yields_any (Word m)) f) (λ a q. q.1)
 
 -- ---- names and numbers
 
@@ -119,71 +119,71 @@ count_good : (kind : TokenKind) (text : List ℕ) (a : ℕ) → (kind ≡ kinds.
 count_good kinds.Number text a range e = unsigned_value (is_signed text) (number_value text) a (value_fits text (range refl)) e
 count_good _ text a range e = absurd cc
 
-gives_temp : Gives TempName (λ v. IsName v.1)
-gives_temp = gives_one (λ t. temp_at t.kind t.text t.line) (λ v. IsName v.1) (λ t a h e. temp_good t.kind t.text t.line a h.shape e)
+yields_temp : Yields TempName (λ v. IsName v.1)
+yields_temp = yields_one (λ t. temp_at t.kind t.text t.line) (λ v. IsName v.1) (λ t a h e. temp_good t.kind t.text t.line a h.shape e)
 
-pub gives_label : Gives LabelName (λ v. IsName v.1)
-gives_label = gives_one (λ t. label_at t.kind t.text t.line) (λ v. IsName v.1) (λ t a h e. label_good t.kind t.text t.line a h.shape e)
+pub yields_label : Yields LabelName (λ v. IsName v.1)
+yields_label = yields_one (λ t. label_at t.kind t.text t.line) (λ v. IsName v.1) (λ t a h e. label_good t.kind t.text t.line a h.shape e)
 
-gives_val : Gives Val GoodOperand
-gives_val = gives_one (λ t. operand_at t.kind t.text) GoodOperand (λ t a h e. operand_good t.kind t.text a h.shape h.in_range e)
+yields_val : Yields Val GoodOperand
+yields_val = yields_one (λ t. operand_at t.kind t.text) GoodOperand (λ t a h e. operand_good t.kind t.text a h.shape h.in_range e)
 
-gives_count : Gives Count (λ n. n < 2 ^ 64)
-gives_count = gives_one (λ t. count_at t.kind t.text) (λ n. n < 2 ^ 64) (λ t a h e. count_good t.kind t.text a h.in_range e)
+yields_count : Yields Count (λ n. n < 2 ^ 64)
+yields_count = yields_one (λ t. count_at t.kind t.text) (λ n. n < 2 ^ 64) (λ t a h e. count_good t.kind t.text a h.in_range e)
 
-gives_two : Gives Two GoodTwo
-gives_two = gives_seq (gives_before marks.Comma GoodOperand gives_val) gives_val
+yields_two : Yields Two GoodTwo
+yields_two = yields_seq (yields_before marks.Comma GoodOperand yields_val) yields_val
 
 -- ---- instructions
 
-gives_dest : Gives Dest (λ v. IsName v.1)
-gives_dest = gives_before marks.Equals (λ v. IsName v.1) gives_temp
+yields_dest : Yields Dest (λ v. IsName v.1)
+yields_dest = yields_before marks.Equals (λ v. IsName v.1) yields_temp
 
-gives_target : Gives TargetOf (λ v. GoodTarget v.1)
-gives_target = gives_image target_of (λ v. GoodTarget v.1) (gives_seq gives_dest (gives_any ClassWord)) (λ a q. q.0)
+yields_target : Yields TargetOf (λ v. GoodTarget v.1)
+yields_target = yields_image target_of (λ v. GoodTarget v.1) (yields_seq yields_dest (yields_any ClassWord)) (λ a q. q.0)
 
-gives_result : Gives ResultOf (λ v. IsName v.1.name)
-gives_result = gives_image result_of (λ v. IsName v.1.name) (gives_seq gives_dest (gives_any TypeWord)) (λ a q. q.0)
+yields_result : Yields ResultOf (λ v. IsName v.1.name)
+yields_result = yields_image result_of (λ v. IsName v.1.name) (yields_seq yields_dest (yields_any TypeWord)) (λ a q. q.0)
 
-gives_expr : Gives ExprOf GoodExpr
-gives_expr = gives_either (gives_image unary_of GoodExpr (gives_seq (gives_any UnaryWord) gives_val) (λ a q. q.1))
-    (gives_either (gives_image binary_of GoodExpr (gives_seq (gives_any BinaryWord) gives_two) (λ a q. q.1))
-    (gives_either (gives_image compare_of GoodExpr (gives_seq (gives_any CompareWord) gives_two) (λ a q. q.1))
-    (gives_either (gives_image extend_of GoodExpr (gives_seq (gives_any ExtendWord) gives_val) (λ a q. q.1))
-    (gives_image load_of GoodExpr (gives_seq (gives_any LoadWord) gives_val) (λ a q. q.1)))))
+yields_expr : Yields ExprOf GoodExpr
+yields_expr = yields_either (yields_image unary_of GoodExpr (yields_seq (yields_any UnaryWord) yields_val) (λ a q. q.1))
+    (yields_either (yields_image binary_of GoodExpr (yields_seq (yields_any BinaryWord) yields_two) (λ a q. q.1))
+    (yields_either (yields_image compare_of GoodExpr (yields_seq (yields_any CompareWord) yields_two) (λ a q. q.1))
+    (yields_either (yields_image extend_of GoodExpr (yields_seq (yields_any ExtendWord) yields_val) (λ a q. q.1))
+    (yields_image load_of GoodExpr (yields_seq (yields_any LoadWord) yields_val) (λ a q. q.1)))))
 
-gives_argument : Gives ArgumentOf GoodArgument
-gives_argument = gives_image argument_of GoodArgument (gives_seq (gives_any TypeWord) gives_val) (λ a q. q.1)
+yields_argument : Yields ArgumentOf GoodArgument
+yields_argument = yields_image argument_of GoodArgument (yields_seq (yields_any TypeWord) yields_val) (λ a q. q.1)
 
-gives_arguments : Gives (Listed ArgumentOf) (AllOf GoodArgument)
-gives_arguments = gives_either (gives_image list_of (AllOf GoodArgument) (gives_seq gives_argument (gives_tail (Word marks.Comma) ArgumentOf GoodArgument gives_argument)) (λ a q. q)) (gives_nothing [] (AllOf GoodArgument) tt)
+yields_arguments : Yields (Listed ArgumentOf) (AllOf GoodArgument)
+yields_arguments = yields_either (yields_image list_of (AllOf GoodArgument) (yields_seq yields_argument (yields_tail (Word marks.Comma) ArgumentOf GoodArgument yields_argument)) (λ a q. q)) (yields_nothing [] (AllOf GoodArgument) tt)
 
-gives_callee : Gives Callee (λ v. GoodOperand v.0 × AllOf GoodArgument v.1)
-gives_callee = gives_seq gives_val (gives_after marks.OpenParen (AllOf GoodArgument) (gives_before marks.CloseParen (AllOf GoodArgument) gives_arguments))
+yields_callee : Yields Callee (λ v. GoodOperand v.0 × AllOf GoodArgument v.1)
+yields_callee = yields_seq yields_val (yields_after marks.OpenParen (AllOf GoodArgument) (yields_before marks.CloseParen (AllOf GoodArgument) yields_arguments))
 
 abbrev GoodInst : {A : Type 0} → Inst A → Type 0
 GoodInst i = GoodKind i.kind
 
-gives_plain : {A : Type 0} → Gives (Plain {A = A}) GoodInst
-gives_plain = gives_either (gives_image store_of GoodInst (gives_seq (gives_any StoreWord) gives_two) (λ a q. q.1))
-    (gives_either (gives_image blit_of GoodInst (gives_seq (gives_any (WordLine marks.Blit)) (gives_seq (gives_before marks.Comma GoodTwo gives_two) gives_count)) (λ a q. (q.1.0.0, q.1.0.1, q.1.1)))
-    (gives_image plain_call_of GoodInst (gives_seq (gives_any (WordLine marks.Call)) gives_callee) (λ a q. (tt, q.1.0, q.1.1))))
+yields_plain : {A : Type 0} → Yields (Plain {A = A}) GoodInst
+yields_plain = yields_either (yields_image store_of GoodInst (yields_seq (yields_any StoreWord) yields_two) (λ a q. q.1))
+    (yields_either (yields_image blit_of GoodInst (yields_seq (yields_any (WordLine marks.Blit)) (yields_seq (yields_before marks.Comma GoodTwo yields_two) yields_count)) (λ a q. (q.1.0.0, q.1.0.1, q.1.1)))
+    (yields_image plain_call_of GoodInst (yields_seq (yields_any (WordLine marks.Call)) yields_callee) (λ a q. (tt, q.1.0, q.1.1))))
 
-pub gives_inst : {A : Type 0} → Gives (InstOf {A = A}) (λ i. GoodKind i.kind)
-gives_inst = gives_either (gives_image assign_of GoodInst (gives_seq gives_target gives_expr) (λ a q. q))
-    (gives_either (gives_image alloc_of GoodInst (gives_seq gives_target (gives_seq (gives_any AllocWord) gives_val)) (λ a q. (q.0, q.1.1)))
-    (gives_either (gives_image call_of GoodInst (gives_seq gives_result (gives_after marks.Call (λ v. GoodOperand v.0 × AllOf GoodArgument v.1) gives_callee)) (λ a q. (q.0, q.1.0, q.1.1))) gives_plain))
+pub yields_inst : {A : Type 0} → Yields (InstOf {A = A}) (λ i. GoodKind i.kind)
+yields_inst = yields_either (yields_image assign_of GoodInst (yields_seq yields_target yields_expr) (λ a q. q))
+    (yields_either (yields_image alloc_of GoodInst (yields_seq yields_target (yields_seq (yields_any AllocWord) yields_val)) (λ a q. (q.0, q.1.1)))
+    (yields_either (yields_image call_of GoodInst (yields_seq yields_result (yields_after marks.Call (λ v. GoodOperand v.0 × AllOf GoodArgument v.1) yields_callee)) (λ a q. (q.0, q.1.0, q.1.1))) yields_plain))
 
 -- ---- phis and jumps
 
-gives_source : Gives SourceOf GoodSource
-gives_source = gives_image source_of GoodSource (gives_seq gives_label gives_val) (λ a q. q)
+yields_source : Yields SourceOf GoodSource
+yields_source = yields_image source_of GoodSource (yields_seq yields_label yields_val) (λ a q. q)
 
-gives_sources : Gives Sources GoodSources
-gives_sources = gives_after marks.Phi GoodSources (gives_image list_of GoodSources (gives_seq gives_source (gives_many (After marks.Comma SourceOf) GoodSource (gives_after marks.Comma GoodSource gives_source))) (λ a q. q))
+yields_sources : Yields Sources GoodSources
+yields_sources = yields_after marks.Phi GoodSources (yields_image list_of GoodSources (yields_seq yields_source (yields_many (After marks.Comma SourceOf) GoodSource (yields_after marks.Comma GoodSource yields_source))) (λ a q. q))
 
-pub gives_phi : {A : Type 0} → Gives (PhiOf {A = A}) GoodPhi
-gives_phi = gives_image phi_of GoodPhi (gives_seq gives_target gives_sources) (λ a q. q)
+pub yields_phi : {A : Type 0} → Yields (PhiOf {A = A}) GoodPhi
+yields_phi = yields_image phi_of GoodPhi (yields_seq yields_target yields_sources) (λ a q. q)
 
 abbrev PerhapsGood : Option Operand → Type 0
 PerhapsGood None = Unit {0}
@@ -196,8 +196,8 @@ ret_good v h = go v.1 h
     go None k = tt
     go (Some a) k = k
 
-pub gives_jump : Gives JumpOf (λ j. GoodJump j.kind)
-gives_jump = gives_either (gives_image jmp_of (λ j. GoodJump j.kind) (gives_seq (gives_any (WordLine marks.Jmp)) gives_label) (λ a q. q.1))
-    (gives_either (gives_image jnz_of (λ j. GoodJump j.kind) (gives_seq (gives_any (WordLine marks.Jnz)) (gives_seq (gives_before marks.Comma GoodOperand gives_val) (gives_seq (gives_before marks.Comma (λ v. IsName v.1) gives_label) gives_label))) (λ a q. (q.1.0, q.1.1.0, q.1.1.1)))
-    (gives_either (gives_image ret_of (λ j. GoodJump j.kind) (gives_seq (gives_any (WordLine marks.Ret)) (gives_either (gives_image Some PerhapsGood gives_val (λ a q. q)) (gives_nothing None PerhapsGood tt))) (λ a q. ret_good a q.1))
-    (gives_image hlt_of (λ j. GoodJump j.kind) (gives_any (WordLine marks.Hlt)) (λ a q. tt))))
+pub yields_jump : Yields JumpOf (λ j. GoodJump j.kind)
+yields_jump = yields_either (yields_image jmp_of (λ j. GoodJump j.kind) (yields_seq (yields_any (WordLine marks.Jmp)) yields_label) (λ a q. q.1))
+    (yields_either (yields_image jnz_of (λ j. GoodJump j.kind) (yields_seq (yields_any (WordLine marks.Jnz)) (yields_seq (yields_before marks.Comma GoodOperand yields_val) (yields_seq (yields_before marks.Comma (λ v. IsName v.1) yields_label) yields_label))) (λ a q. (q.1.0, q.1.1.0, q.1.1.1)))
+    (yields_either (yields_image ret_of (λ j. GoodJump j.kind) (yields_seq (yields_any (WordLine marks.Ret)) (yields_either (yields_image Some PerhapsGood yields_val (λ a q. q)) (yields_nothing None PerhapsGood tt))) (λ a q. ret_good a q.1))
+    (yields_image hlt_of (λ j. GoodJump j.kind) (yields_any (WordLine marks.Hlt)) (λ a q. tt))))

@@ -22,7 +22,7 @@ use Rattle.qil_parser.specs.Programs.{Links, ThingOf, DefOf, DefLine, funcs_in, 
 use Rattle.qil_texts.specs.Respelled.{BlockRespelled, ProgramRespelled}
 use Rattle.qil_texts.proofs.Writes.{AllOf}
 use Rattle.qil_texts.proofs.Writable.{GoodKind, GoodPhi, GoodJump}
-use Rattle.qil_texts.proofs.Spelled.{Gives, Any, gives_any, gives_seq, gives_image, gives_either, gives_nothing, gives_many, gives_before, gives_after, gives_label, gives_inst, gives_phi, gives_jump}
+use Rattle.qil_texts.proofs.Spelled.{Yields, Any, yields_any, yields_seq, yields_image, yields_either, yields_nothing, yields_many, yields_before, yields_after, yields_label, yields_inst, yields_phi, yields_jump}
 use Rattle.qil_texts.proofs.Respells.{pieces, inst_again, phi_again, jump_again}
 
 abbrev GoodInst : {A : Type 0} → Inst A → Type 0
@@ -51,17 +51,17 @@ GoodFunc f = AllOf GoodBlock f.blocks
 
 -- ---- blocks
 
-gives_body : {A : Type 0} → Gives (Body {A = A}) (λ v. AllOf GoodPhi v.0 × AllOf GoodInst v.1)
-gives_body = gives_seq (gives_many (Before PhiOf marks.Newline) GoodPhi (gives_before marks.Newline GoodPhi gives_phi)) (gives_many (Before InstOf marks.Newline) GoodInst (gives_before marks.Newline GoodInst gives_inst))
+yields_body : {A : Type 0} → Yields (Body {A = A}) (λ v. AllOf GoodPhi v.0 × AllOf GoodInst v.1)
+yields_body = yields_seq (yields_many (Before PhiOf marks.Newline) GoodPhi (yields_before marks.Newline GoodPhi yields_phi)) (yields_many (Before InstOf marks.Newline) GoodInst (yields_before marks.Newline GoodInst yields_inst))
 
-gives_head : {A : Type 0} → Gives (Head {A = A}) GoodFront
-gives_head = gives_seq (gives_before marks.Newline (λ v. IsName v.1) gives_label) gives_body
+yields_head : {A : Type 0} → Yields (Head {A = A}) GoodFront
+yields_head = yields_seq (yields_before marks.Newline (λ v. IsName v.1) yields_label) yields_body
 
-gives_part : {A : Type 0} → Gives (BlockOf {A = A}) GoodPart
-gives_part = gives_seq gives_head (gives_either (gives_image Some GoodLeft (gives_before marks.Newline (λ j. GoodJump j.kind) gives_jump) (λ a q. q)) (gives_nothing None GoodLeft tt))
+yields_part : {A : Type 0} → Yields (BlockOf {A = A}) GoodPart
+yields_part = yields_seq yields_head (yields_either (yields_image Some GoodLeft (yields_before marks.Newline (λ j. GoodJump j.kind) yields_jump) (λ a q. q)) (yields_nothing None GoodLeft tt))
 
-gives_last : {A : Type 0} → Gives (LastBlock {A = A}) GoodLast
-gives_last = gives_seq gives_head (gives_before marks.Newline (λ j. GoodJump j.kind) gives_jump)
+yields_last : {A : Type 0} → Yields (LastBlock {A = A}) GoodLast
+yields_last = yields_seq yields_head (yields_before marks.Newline (λ j. GoodJump j.kind) yields_jump)
 
 good_block : {A : Type 0} (v : Front A) (j : Jump) → GoodFront v → GoodJump j.kind → GoodBlock (block_of v j)
 good_block v j h k = record { phis = h.1.0; insts = h.1.1; jump = k }
@@ -80,34 +80,34 @@ good_blocks [] last h k = (good_block last.0 last.1 k.0 k.1, tt)
 good_blocks (v ∷ vs) last h k =
     (good_block v.0 (jump_or v.1 (first_label vs last)) h.0.0 (good_jump v.1 (first_label vs last) h.0.1 (good_label vs last h.1 k)), good_blocks vs last h.1 k)
 
-gives_blocks : {A : Type 0} → Gives (Blocks {A = A}) (AllOf GoodBlock)
-gives_blocks = gives_image (λ v. blocks_of v.0 v.1) (AllOf GoodBlock) (gives_seq (gives_many BlockOf GoodPart gives_part) gives_last) (λ a q. good_blocks a.0 a.1 q.0 q.1)
+yields_blocks : {A : Type 0} → Yields (Blocks {A = A}) (AllOf GoodBlock)
+yields_blocks = yields_image (λ v. blocks_of v.0 v.1) (AllOf GoodBlock) (yields_seq (yields_many BlockOf GoodPart yields_part) yields_last) (λ a q. good_blocks a.0 a.1 q.0 q.1)
 
 -- ---- programs
 
-gives_func : {A : Type 0} → Gives (FuncOf {A = A}) GoodFunc
-gives_func = gives_image func_of GoodFunc (gives_seq (gives_any FuncTop) (gives_before marks.CloseBrace (AllOf GoodBlock) gives_blocks)) (λ a q. q.1)
+yields_func : {A : Type 0} → Yields (FuncOf {A = A}) GoodFunc
+yields_func = yields_image func_of GoodFunc (yields_seq (yields_any FuncTop) (yields_before marks.CloseBrace (AllOf GoodBlock) yields_blocks)) (λ a q. q.1)
 
 abbrev GoodDefined : {A : Type 0} → Defined A → Type 0
 GoodDefined (defined.Data d) = Unit {0}
 GoodDefined (defined.Func f) = GoodFunc f
 
-gives_thing : {A : Type 0} → Gives (ThingOf {A = A}) GoodDefined
-gives_thing = gives_either (gives_image defined.Data GoodDefined (gives_any DataOf) (λ a q. tt)) (gives_image defined.Func GoodDefined gives_func (λ a q. q))
+yields_thing : {A : Type 0} → Yields (ThingOf {A = A}) GoodDefined
+yields_thing = yields_either (yields_image defined.Data GoodDefined (yields_any DataOf) (λ a q. tt)) (yields_image defined.Func GoodDefined yields_func (λ a q. q))
 
-gives_def : {A : Type 0} → Gives (DefOf {A = A}) GoodDefined
-gives_def = gives_image (λ v. v.1) GoodDefined (gives_seq (gives_any Links) gives_thing) (λ a q. q.1)
+yields_def : {A : Type 0} → Yields (DefOf {A = A}) GoodDefined
+yields_def = yields_image (λ v. v.1) GoodDefined (yields_seq (yields_any Links) yields_thing) (λ a q. q.1)
 
-gives_line : {A : Type 0} → Gives (DefLine {A = A}) GoodDefined
-gives_line = gives_image (λ v. v.0) GoodDefined (gives_seq gives_def (gives_any Line)) (λ a q. q.0)
+yields_line : {A : Type 0} → Yields (DefLine {A = A}) GoodDefined
+yields_line = yields_image (λ v. v.0) GoodDefined (yields_seq yields_def (yields_any Line)) (λ a q. q.0)
 
 good_funcs : {A : Type 0} (defs : List (Defined A)) → AllOf GoodDefined defs → AllOf GoodFunc (flat_map funcs_in defs)
 good_funcs [] h = tt
 good_funcs (defined.Data d ∷ defs) h = good_funcs defs h.1
 good_funcs (defined.Func f ∷ defs) h = (h.0, good_funcs defs h.1)
 
-gives_program : {A : Type 0} → Gives (Spells {A = A}) (λ p. AllOf GoodFunc p.funcs)
-gives_program = gives_image program_of (λ p. AllOf GoodFunc p.funcs) (gives_image (λ v. v.1) (AllOf GoodDefined) (gives_seq (gives_any Line) (gives_many DefLine GoodDefined gives_line)) (λ a q. q.1)) (λ a q. good_funcs a q)
+yields_program : {A : Type 0} → Yields (Spells {A = A}) (λ p. AllOf GoodFunc p.funcs)
+yields_program = yields_image program_of (λ p. AllOf GoodFunc p.funcs) (yields_image (λ v. v.1) (AllOf GoodDefined) (yields_seq (yields_any Line) (yields_many DefLine GoodDefined yields_line)) (λ a q. q.1)) (λ a q. good_funcs a q)
 
 -- ---- each of them
 
@@ -129,4 +129,4 @@ block_again b h = record {
 
 pub program_respelled : {A : Type 0} (text : List ℕ) (ts : List Token) (p : Program A) → Cuts text ts → Spells (seen ts) p → ProgramRespelled p
 program_respelled text ts p cut spelled =
-    all_of GoodFunc _ p.funcs (λ f h. all_of GoodBlock BlockRespelled f.blocks block_again h) (gives_program (seen ts) p (pieces ts (cut_shapes text ts cut)) spelled)
+    all_of GoodFunc _ p.funcs (λ f h. all_of GoodBlock BlockRespelled f.blocks block_again h) (yields_program (seen ts) p (pieces ts (cut_shapes text ts cut)) spelled)

@@ -16,7 +16,7 @@ ghost use Rattle.qil_tree.specs.declared.tree.Program.{Program};
 ghost use Rattle.qil_parser.specs.Programs.{Spells};
 ghost use Rattle.qil_texts.specs.Respelled.{InstRespelled, PhiRespelled, JumpRespelled, ProgramRespelled};
 
-use qil_streams::{Put, Stopped, put_number};
+use qil_streams::{Put, PutError, put_number};
 use qil_tree::{
     AbiType, AllocOp, Argument, BinaryOp, CallResult, Class, CompareOp, Expr, Extension, Inst,
     InstKind, Jump, JumpKind, LoadOp, Operand, Phi, PhiSource, Target, UnaryOp, Width,
@@ -159,7 +159,7 @@ pub enum Piece<'p, 'a> {
 }
 
 /// Puts a name behind its sigil.
-fn put_name<P: Put>(out: &mut P, sigil: &[u8], name: &[u8]) -> Result<(), Stopped>
+fn put_name<P: Put>(out: &mut P, sigil: &[u8], name: &[u8]) -> Result<(), PutError>
     requires { P.stops out.old < 2 ^ 64 - 1 }
     ensures text { Puts result (P.written out.old) (P.written out.new) (sigil.now ++ name.now) }
     ensures counted { Counts result (P.stops out.old) (P.stops out.new) }
@@ -169,7 +169,7 @@ fn put_name<P: Put>(out: &mut P, sigil: &[u8], name: &[u8]) -> Result<(), Stoppe
     out.put(name)
 }
 
-fn put_operand<P: Put>(out: &mut P, operand: &Operand) -> Result<(), Stopped>
+fn put_operand<P: Put>(out: &mut P, operand: &Operand) -> Result<(), PutError>
     requires { P.stops out.old < 2 ^ 64 - 1 }
     ensures text { Puts result (P.written out.old) (P.written out.new) (operand_bytes operand.now) }
     ensures counted { Counts result (P.stops out.old) (P.stops out.new) }
@@ -182,7 +182,7 @@ fn put_operand<P: Put>(out: &mut P, operand: &Operand) -> Result<(), Stopped>
     }
 }
 
-fn put_piece<P: Put>(out: &mut P, piece: &Piece) -> Result<(), Stopped>
+fn put_piece<P: Put>(out: &mut P, piece: &Piece) -> Result<(), PutError>
     requires { P.stops out.old < 2 ^ 64 - 1 }
     ensures text { Puts result (P.written out.old) (P.written out.new) (piece_bytes piece.now) }
     ensures counted { Counts result (P.stops out.old) (P.stops out.new) }
@@ -196,7 +196,7 @@ fn put_piece<P: Put>(out: &mut P, piece: &Piece) -> Result<(), Stopped>
 }
 
 /// Puts pieces of a text one after the other.
-fn put_pieces<P: Put>(out: &mut P, pieces: &[Piece]) -> Result<(), Stopped>
+fn put_pieces<P: Put>(out: &mut P, pieces: &[Piece]) -> Result<(), PutError>
     requires { P.stops out.old < 2 ^ 64 - 1 }
     ensures text { Puts result (P.written out.old) (P.written out.new) (flat_map piece_bytes pieces.now) }
     ensures counted { Counts result (P.stops out.old) (P.stops out.new) }
@@ -214,7 +214,7 @@ fn put_one<'p, 'a, P: Put>(
     target: &'p Target<'a>,
     op: &'p [u8],
     value: &'p Operand<'a>,
-) -> Result<(), Stopped>
+) -> Result<(), PutError>
     requires { P.stops out.old < 2 ^ 64 - 1 }
     ensures text { Puts result (P.written out.old) (P.written out.new) (text_of (target_words target.now.name (class_name target.now.class) ++ one_value op.now value.now)) }
     ensures counted { Counts result (P.stops out.old) (P.stops out.new) }
@@ -243,7 +243,7 @@ fn put_two<'p, 'a, P: Put>(
     class: &'p [u8],
     left: &'p Operand<'a>,
     right: &'p Operand<'a>,
-) -> Result<(), Stopped>
+) -> Result<(), PutError>
     requires { P.stops out.old < 2 ^ 64 - 1 }
     ensures text { Puts result (P.written out.old) (P.written out.new) (text_of (target_words target.now.name (class_name target.now.class) ++ two_values (op.now ++ class.now) left.now right.now)) }
     ensures counted { Counts result (P.stops out.old) (P.stops out.new) }
@@ -271,7 +271,7 @@ fn put_assign<'p, 'a, P: Put>(
     out: &mut P,
     target: &'p Target<'a>,
     value: &'p Expr<'a>,
-) -> Result<(), Stopped>
+) -> Result<(), PutError>
     requires { P.stops out.old < 2 ^ 64 - 1 }
     ensures text { Puts result (P.written out.old) (P.written out.new) (text_of (target_words target.now.name (class_name target.now.class) ++ expr_words value.now)) }
     ensures counted { Counts result (P.stops out.old) (P.stops out.new) }
@@ -298,7 +298,7 @@ fn put_called<'p, 'a, P: Put>(
     out: &mut P,
     target: &'p Option<CallResult<'a>>,
     callee: &'p Operand<'a>,
-) -> Result<(), Stopped>
+) -> Result<(), PutError>
     requires { P.stops out.old < 2 ^ 64 - 1 }
     ensures text { Puts result (P.written out.old) (P.written out.new) (text_of (call_words target.now callee.now)) }
     ensures counted { Counts result (P.stops out.old) (P.stops out.new) }
@@ -329,7 +329,7 @@ fn put_called<'p, 'a, P: Put>(
 }
 
 /// Puts a comma and an argument.
-fn put_argument<P: Put>(out: &mut P, argument: &Argument) -> Result<(), Stopped>
+fn put_argument<P: Put>(out: &mut P, argument: &Argument) -> Result<(), PutError>
     requires { P.stops out.old < 2 ^ 64 - 1 }
     ensures text { Puts result (P.written out.old) (P.written out.new) (more_argument_text argument.now) }
     ensures counted { Counts result (P.stops out.old) (P.stops out.new) }
@@ -347,7 +347,7 @@ fn put_argument<P: Put>(out: &mut P, argument: &Argument) -> Result<(), Stopped>
 }
 
 /// Puts the arguments after a first.
-fn put_more_arguments<P: Put>(out: &mut P, arguments: &[Argument]) -> Result<(), Stopped>
+fn put_more_arguments<P: Put>(out: &mut P, arguments: &[Argument]) -> Result<(), PutError>
     requires { P.stops out.old < 2 ^ 64 - 1 }
     ensures text { Puts result (P.written out.old) (P.written out.new) (flat_map more_argument_text arguments.now) }
     ensures counted { Counts result (P.stops out.old) (P.stops out.new) }
@@ -360,7 +360,7 @@ fn put_more_arguments<P: Put>(out: &mut P, arguments: &[Argument]) -> Result<(),
 }
 
 /// Puts an argument.
-fn put_first_argument<P: Put>(out: &mut P, argument: &Argument) -> Result<(), Stopped>
+fn put_first_argument<P: Put>(out: &mut P, argument: &Argument) -> Result<(), PutError>
     requires { P.stops out.old < 2 ^ 64 - 1 }
     ensures text { Puts result (P.written out.old) (P.written out.new) (text_of (argument_words argument.now)) }
     ensures counted { Counts result (P.stops out.old) (P.stops out.new) }
@@ -376,7 +376,7 @@ fn put_first_argument<P: Put>(out: &mut P, argument: &Argument) -> Result<(), St
     )
 }
 
-fn put_arguments<P: Put>(out: &mut P, arguments: &[Argument]) -> Result<(), Stopped>
+fn put_arguments<P: Put>(out: &mut P, arguments: &[Argument]) -> Result<(), PutError>
     requires { P.stops out.old < 2 ^ 64 - 1 }
     ensures text { Puts result (P.written out.old) (P.written out.new) (text_of (arguments_words arguments.now)) }
     ensures counted { Counts result (P.stops out.old) (P.stops out.new) }
@@ -396,7 +396,7 @@ fn put_call<'p, 'a, P: Put>(
     target: &'p Option<CallResult<'a>>,
     callee: &'p Operand<'a>,
     arguments: &'p [Argument<'a>],
-) -> Result<(), Stopped>
+) -> Result<(), PutError>
     requires { P.stops out.old < 2 ^ 64 - 1 }
     ensures text { Puts result (P.written out.old) (P.written out.new) (text_of (call_words target.now callee.now ++ (arguments_words arguments.now ++ close_paren ∷ []))) }
     ensures counted { Counts result (P.stops out.old) (P.stops out.new) }
@@ -412,8 +412,8 @@ fn put_call<'p, 'a, P: Put>(
 ///
 /// # Errors
 ///
-/// `Stopped` where `out` stopped. Then a front of the text was put.
-pub fn inst_text<P: Put, A: Allocator>(inst: &Inst<'_, A>, out: &mut P) -> Result<(), Stopped>
+/// `PutError` where `out` stopped. Then a front of the text was put.
+pub fn inst_text<P: Put, A: Allocator>(inst: &Inst<'_, A>, out: &mut P) -> Result<(), PutError>
     requires { P.stops out.old < 2 ^ 64 - 1 }
     ensures text { Puts result (P.written out.old) (P.written out.new) (inst_text inst.now) }
     ensures counted { Counts result (P.stops out.old) (P.stops out.new) }
@@ -453,7 +453,7 @@ pub fn inst_text<P: Put, A: Allocator>(inst: &Inst<'_, A>, out: &mut P) -> Resul
 }
 
 /// Puts a comma and a source.
-fn put_source<P: Put>(out: &mut P, source: &PhiSource) -> Result<(), Stopped>
+fn put_source<P: Put>(out: &mut P, source: &PhiSource) -> Result<(), PutError>
     requires { P.stops out.old < 2 ^ 64 - 1 }
     ensures text { Puts result (P.written out.old) (P.written out.new) (more_source_text source.now) }
     ensures counted { Counts result (P.stops out.old) (P.stops out.new) }
@@ -471,7 +471,7 @@ fn put_source<P: Put>(out: &mut P, source: &PhiSource) -> Result<(), Stopped>
 }
 
 /// Puts the sources after a first.
-fn put_more_sources<P: Put>(out: &mut P, sources: &[PhiSource]) -> Result<(), Stopped>
+fn put_more_sources<P: Put>(out: &mut P, sources: &[PhiSource]) -> Result<(), PutError>
     requires { P.stops out.old < 2 ^ 64 - 1 }
     ensures text { Puts result (P.written out.old) (P.written out.new) (flat_map more_source_text sources.now) }
     ensures counted { Counts result (P.stops out.old) (P.stops out.new) }
@@ -484,7 +484,7 @@ fn put_more_sources<P: Put>(out: &mut P, sources: &[PhiSource]) -> Result<(), St
 }
 
 /// Puts a source.
-fn put_first_source<P: Put>(out: &mut P, source: &PhiSource) -> Result<(), Stopped>
+fn put_first_source<P: Put>(out: &mut P, source: &PhiSource) -> Result<(), PutError>
     requires { P.stops out.old < 2 ^ 64 - 1 }
     ensures text { Puts result (P.written out.old) (P.written out.new) (text_of (source_words source.now)) }
     ensures counted { Counts result (P.stops out.old) (P.stops out.new) }
@@ -501,7 +501,7 @@ fn put_first_source<P: Put>(out: &mut P, source: &PhiSource) -> Result<(), Stopp
     )
 }
 
-fn put_sources<P: Put>(out: &mut P, sources: &[PhiSource]) -> Result<(), Stopped>
+fn put_sources<P: Put>(out: &mut P, sources: &[PhiSource]) -> Result<(), PutError>
     requires { P.stops out.old < 2 ^ 64 - 1 }
     ensures text { Puts result (P.written out.old) (P.written out.new) (text_of (sources_words sources.now)) }
     ensures counted { Counts result (P.stops out.old) (P.stops out.new) }
@@ -517,7 +517,7 @@ fn put_sources<P: Put>(out: &mut P, sources: &[PhiSource]) -> Result<(), Stopped
 }
 
 /// Puts a phi up to its sources.
-fn put_phi<P: Put>(out: &mut P, target: &Target) -> Result<(), Stopped>
+fn put_phi<P: Put>(out: &mut P, target: &Target) -> Result<(), PutError>
     requires { P.stops out.old < 2 ^ 64 - 1 }
     ensures text { Puts result (P.written out.old) (P.written out.new) (text_of (phi_start target.now)) }
     ensures counted { Counts result (P.stops out.old) (P.stops out.new) }
@@ -539,8 +539,8 @@ fn put_phi<P: Put>(out: &mut P, target: &Target) -> Result<(), Stopped>
 ///
 /// # Errors
 ///
-/// `Stopped` where `out` stopped. Then a front of the text was put.
-pub fn phi_text<P: Put, A: Allocator>(phi: &Phi<'_, A>, out: &mut P) -> Result<(), Stopped>
+/// `PutError` where `out` stopped. Then a front of the text was put.
+pub fn phi_text<P: Put, A: Allocator>(phi: &Phi<'_, A>, out: &mut P) -> Result<(), PutError>
     requires { P.stops out.old < 2 ^ 64 - 1 }
     ensures text { Puts result (P.written out.old) (P.written out.new) (phi_text phi.now) }
     ensures counted { Counts result (P.stops out.old) (P.stops out.new) }
@@ -554,8 +554,8 @@ pub fn phi_text<P: Put, A: Allocator>(phi: &Phi<'_, A>, out: &mut P) -> Result<(
 ///
 /// # Errors
 ///
-/// `Stopped` where `out` stopped. Then a front of the text was put.
-pub fn jump_text<P: Put>(jump: &Jump, out: &mut P) -> Result<(), Stopped>
+/// `PutError` where `out` stopped. Then a front of the text was put.
+pub fn jump_text<P: Put>(jump: &Jump, out: &mut P) -> Result<(), PutError>
     requires { P.stops out.old < 2 ^ 64 - 1 }
     ensures text { Puts result (P.written out.old) (P.written out.new) (jump_text jump.now) }
     ensures counted { Counts result (P.stops out.old) (P.stops out.new) }

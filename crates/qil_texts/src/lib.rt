@@ -4,4 +4,4 @@
 mod canonical;
 
 pub use canonical::{canonical_spells, inst_text, jump_text, phi_text};
-pub use qil_streams::{Put, Stopped};
+pub use qil_streams::{Put, PutError};

@@ -27,7 +27,7 @@ use qil_layout::layout;
 use qil_machine::Machine;
 use qil_numbering::{Code, number};
 use qil_session::Session;
-use qil_streams::{Outlet, Put, Sink, Source, Stopped};
+use qil_streams::{Outlet, Put, Sink, Source, PutError};
 use std::alloc::Allocator;
 use std::hash::RandomState;
 
@@ -62,7 +62,7 @@ fn refuse<P: Put>(out: &mut P, error: LoadError) -> Outcome
     match error {
         LoadError::Refused(refusal) => match put_refusal_line(out, refusal) {
             Ok(()) => Outcome::Refused,
-            Err(Stopped) => Outcome::WriteFault,
+            Err(PutError) => Outcome::WriteFault,
         },
         LoadError::OutOfMemory => Outcome::Memory,
     }
@@ -73,7 +73,7 @@ fn put_loaded<'c, A: Allocator + Copy + 'c, H: History<A, Machine<'c, 'c, A>>, P
     session: &Session<A, H>,
     loaded: &Loaded<'_>,
     out: &mut P,
-) -> Result<(), Stopped>
+) -> Result<(), PutError>
     requires { P.stops out.old < 2 ^ 64 - 1 }
     ensures text { (verdict : Verdict A) → IsLoaded loaded.now verdict → Puts result (P.written out.old) (P.written out.new)
         (load_lines verdict.program verdict.form (H.timeline session.now.history)) }
@@ -106,7 +106,7 @@ fn run<'c, A: Allocator + Copy + 'c, H: History<A, Machine<'c, 'c, A>> + Drop, S
 {
     match put_loaded(&session, loaded, out) {
         Ok(()) => {}
-        Err(Stopped) => return Outcome::WriteFault,
+        Err(PutError) => return Outcome::WriteFault,
     }
     match serve_lines(&mut session, source, out) {
         Ok(()) => Outcome::Ended,

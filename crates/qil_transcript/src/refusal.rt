@@ -10,7 +10,7 @@ use qil_layout::LayoutCode;
 use qil_lexer::LexCode;
 use qil_meaning::StartFault;
 use qil_parser::ParseCode;
-use qil_streams::{Put, Stopped};
+use qil_streams::{Put, PutError};
 
 /// Why a program is refused, in the order in which the reasons are looked for.
 #[derive(Clone, Copy, Debug, PartialEq, Eq)]
@@ -27,7 +27,7 @@ pub enum Refusal {
     Start(StartFault),
 }
 
-fn put_refused_at<P: Put>(out: &mut P, code: &[u8], line: u32) -> Result<(), Stopped>
+fn put_refused_at<P: Put>(out: &mut P, code: &[u8], line: u32) -> Result<(), PutError>
     requires { P.stops out.old < 2 ^ 64 - 1 }
     ensures text { Puts result (P.written out.old) (P.written out.new) (refused_at code.now line) }
     ensures counted { Counts result (P.stops out.old) (P.stops out.new) }
@@ -46,7 +46,7 @@ fn put_refused_at<P: Put>(out: &mut P, code: &[u8], line: u32) -> Result<(), Sto
 }
 
 /// Puts the line of a refusal.
-pub fn put_refusal_line<P: Put>(out: &mut P, refusal: Refusal) -> Result<(), Stopped>
+pub fn put_refusal_line<P: Put>(out: &mut P, refusal: Refusal) -> Result<(), PutError>
     requires { P.stops out.old < 2 ^ 64 - 1 }
     ensures text { Puts result (P.written out.old) (P.written out.new) (refused_line refusal) }
     ensures counted { Counts result (P.stops out.old) (P.stops out.new) }
@@ -74,7 +74,7 @@ pub fn put_loaded_line<P: Put>(
     funcs: usize,
     bytes: usize,
     form: &Form<'_>,
-) -> Result<(), Stopped>
+) -> Result<(), PutError>
     requires { P.stops out.old < 2 ^ 64 - 1 }
     ensures text { Puts result (P.written out.old) (P.written out.new) (loaded_line funcs bytes form.now) }
     ensures counted { Counts result (P.stops out.old) (P.stops out.new) }

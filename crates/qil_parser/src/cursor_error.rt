@@ -1,31 +1,31 @@
 //! Why reading stopped.
 
 ghost use Rattle.std.specs.Prelude.{◌≡◌};
-ghost use Rattle.qil_parser.specs.declared.stop.Stop.TheVariants.{Memory};
+ghost use Rattle.qil_parser.specs.declared.cursor_error.CursorError.TheVariants.{Memory};
 
 use qil_lexer::Token;
 use std::alloc::{AllocError, AllocFailed};
 
 /// Why reading stopped.
 #[derive(Drop)]
-pub enum Stop<'t, 'a> {
+pub enum CursorError<'t, 'a> {
     Memory,
     /// The token that fits nothing is the first of these; whether a block without a jump came before it.
     Refused(bool, &'t [Token<'a>]),
 }
 
-impl From<AllocError> for Stop<'_, '_> {
+impl From<AllocError> for CursorError<'_, '_> {
     ghost from_gives = { λ _ e. e ≡ Memory };
 
     fn from(_error: AllocError) -> Self {
-        Stop::Memory
+        CursorError::Memory
     }
 }
 
-impl<T: Drop> From<AllocFailed<T>> for Stop<'_, '_> {
+impl<T: Drop> From<AllocFailed<T>> for CursorError<'_, '_> {
     ghost from_gives = { λ _ e. e ≡ Memory };
 
     fn from(_error: AllocFailed<T>) -> Self {
-        Stop::Memory
+        CursorError::Memory
     }
 }
