@@ -2,3 +2,4 @@
 pub mod Frames
 pub mod Enter
 pub mod Kept
+pub mod Taken

@@ -6,13 +6,53 @@ ghost use Rattle.qil_numbering.specs.Ranges.{MoveInRange, IsShort};
 ghost use Rattle.qil_frames.specs.Frames.{SlotFrame, with_slot, at_index, at_place};
 ghost use Rattle.qil_frames.specs.Enter.{gathered, AreSlots, returned, Explains};
 ghost use Rattle.qil_frames.specs.Kept.{HasEntered};
+ghost use Rattle.qil_frames.specs.Taken.{taken};
 
 use crate::phis::{do_phis, undo_phis};
 use crate::saved::{PhiFault, PhiSaved};
 use qil_layout::FuncId;
 use qil_numbering::{BlockId, PhiMove, Receiver, Slot};
+use qil_tree::AbiType;
 use std::alloc::{AllocError, Allocator};
 use std::marker::Model;
+
+/// An `Option<Receiver>` in 4 bytes, so that a body has 40: whole frames are kept behind returns.
+#[derive(Clone, Copy)]
+struct Taker {
+    slot: Slot,
+    abi_type: Option<AbiType>,
+}
+
+impl Taker {
+    #[inline(always)]
+    fn new(receiver: Option<Receiver>) -> Taker
+        ensures { taken result ≡ receiver }
+    {
+        match receiver {
+            Some(it) => Taker {
+                slot: it.slot,
+                abi_type: Some(it.abi_type),
+            },
+            None => Taker {
+                slot: Slot { index: 0 },
+                abi_type: None,
+            },
+        }
+    }
+
+    #[inline(always)]
+    fn receiver(self) -> Option<Receiver>
+        ensures { result ≡ taken self }
+    {
+        match self.abi_type {
+            Some(abi_type) => Some(Receiver {
+                slot: self.slot,
+                abi_type,
+            }),
+            None => None,
+        }
+    }
+}
 
 #[derive(Drop)]
 struct Body<A: Allocator> {
@@ -21,7 +61,7 @@ struct Body<A: Allocator> {
     block: u16,
     index: u32,
     floor: u32,
-    result: Option<Receiver>,
+    taker: Taker,
 }
 
 /// A call that is not over, behind one pointer.
@@ -33,10 +73,11 @@ pub struct Frame<A: Allocator> {
 impl<A: Allocator> Model for Frame<A> {
     ghost use Rattle.std.specs.Prelude.{length, ◌≤◌};
     ghost use Rattle.qil_frames.specs.Frames.{SlotFrame};
+    ghost use Rattle.qil_frames.specs.Taken.{taken};
 
     ghost Value = { SlotFrame };
 
-    ghost view = { λ f. record { func = f.body.value.func; block = f.body.value.block; index = f.body.value.index; slots = f.body.value.slots.items; floor = f.body.value.floor; result = f.body.value.result } };
+    ghost view = { λ f. record { func = f.body.value.func; block = f.body.value.block; index = f.body.value.index; slots = f.body.value.slots.items; floor = f.body.value.floor; result = taken f.body.value.taker } };
 
     ghost invariant = { λ f. length f.body.value.slots.items ≤ 65535 };
 }
@@ -62,7 +103,7 @@ impl<A: Allocator + Copy> Frame<A> {
                 block: 0,
                 index: 0,
                 floor: floor as u32,
-                result: receiver,
+                taker: Taker::new(receiver),
             },
         )?;
         Ok(Frame { body })
@@ -82,7 +123,7 @@ impl<A: Allocator + Copy> Frame<A> {
                 block: self.body.block,
                 index: self.body.index,
                 floor: self.body.floor,
-                result: self.body.result,
+                taker: self.body.taker,
             },
         )?;
         Ok(Frame { body })
@@ -171,7 +212,7 @@ impl<A: Allocator> Frame<A> {
     pub fn result(&self) -> Option<Receiver>
         ensures { result ≡ self.now.result }
     {
-        self.body.result
+        self.body.taker.receiver()
     }
 
     #[inline(always)]
@@ -242,7 +283,7 @@ impl<A: Allocator> Frame<A> {
             && self.body.block == other.body.block
             && self.body.index == other.body.index
             && self.body.floor == other.body.floor
-            && self.body.result == other.body.result
+            && self.result() == other.result()
             && same_slots(&self.body.slots, &other.body.slots)
     }
 }
