@@ -1,8 +1,10 @@
 //! The operations, each on what came of the round before.
 
+use crate::memory::{memory_of, time as time_memory};
 use crate::stopwatch::Stopwatch;
 use qil_ops::{binary, compare, extend, unary};
 use qil_tree::{BinaryOp, Class, CompareOp, Extension, UnaryOp};
+use std::hash::RandomState;
 use std::io;
 use std::time::Clock;
 
@@ -107,7 +109,20 @@ fn time_class<R: Clock + Print + Eprint>(watch: &Stopwatch<'_, R>, class: Class)
 }
 
 /// Times each operation in each class; for an extension both are the same.
-pub fn time<R: Clock + Print + Eprint>(watch: &Stopwatch<'_, R>) -> io::Result<()> {
+fn time<R: Clock + Print + Eprint>(watch: &Stopwatch<'_, R>) -> io::Result<()> {
     time_class(watch, Class::W)?;
     time_class(watch, Class::L)
+}
+
+/// Times the operations and the calls of a memory, each done so many thousand times.
+pub fn time_all<R: Clock + Print + Eprint + AllocGlobal>(
+    rt: &R,
+    keys: RandomState,
+    thousands: u32,
+) -> anyhow::Result<()> {
+    let watch = Stopwatch::new(rt, thousands);
+    time(&watch)?;
+    let mut memory = memory_of(rt.alloc(), keys)?;
+    time_memory(&watch, &mut memory)?;
+    Ok(())
 }

@@ -9,22 +9,22 @@ use qil_tree::{
     Argument, Block, CallResult, Class, Expr, Func, InstKind, JumpKind, Name, Operand, Param, Phi,
     Target,
 };
-use std::alloc::Global;
+use std::alloc::Allocator;
 
 /// A function of a tree, and that of its name in a code.
 #[derive(Clone, Copy, Drop)]
-pub struct Reader<'r, 'c, 'a, 't> {
-    code: &'r Code<'c, 'a, Global>,
+pub struct Reader<'r, 'c, 'a, 't, A: Allocator> {
+    code: &'r Code<'c, 'a, A>,
     func: FuncId,
-    tree: &'r Func<'t, Global>,
+    tree: &'r Func<'t, A>,
 }
 
-impl<'r, 'c, 'a, 't> Reader<'r, 'c, 'a, 't> {
+impl<'r, 'c, 'a, 't, A: Allocator + Copy> Reader<'r, 'c, 'a, 't, A> {
     /// The function of a tree, if the code has one of its name.
     pub fn new(
-        code: &'r Code<'c, 'a, Global>,
-        tree: &'r Func<'t, Global>,
-    ) -> Option<Reader<'r, 'c, 'a, 't>> {
+        code: &'r Code<'c, 'a, A>,
+        tree: &'r Func<'t, A>,
+    ) -> Option<Reader<'r, 'c, 'a, 't, A>> {
         let func = code.func_named(tree.name.bytes())?;
         Some(Reader { code, func, tree })
     }
@@ -116,7 +116,7 @@ impl<'r, 'c, 'a, 't> Reader<'r, 'c, 'a, 't> {
         found.len() == arguments.len()
     }
 
-    fn is_inst(&self, found: &NumberedInst<Global>, kind: &InstKind<'_, Global>) -> bool {
+    fn is_inst(&self, found: &NumberedInst<A>, kind: &InstKind<'_, A>) -> bool {
         match (found, kind) {
             (NumberedInst::Assign(class, slot, value), InstKind::Assign(target, expr)) => {
                 self.is_target(*class, *slot, target) && self.is_expr(*value, expr)
@@ -145,7 +145,7 @@ impl<'r, 'c, 'a, 't> Reader<'r, 'c, 'a, 't> {
     }
 
     /// Whether a move is what a phi does where the block of a label is left.
-    fn is_move(&self, found: &PhiMove, phi: &Phi<'_, Global>, left: &[u8]) -> bool {
+    fn is_move(&self, found: &PhiMove, phi: &Phi<'_, A>, left: &[u8]) -> bool {
         for source in phi.sources.as_slice() {
             if source.label.bytes() == left {
                 return self.is_target(found.class, found.target, &phi.target)
@@ -202,7 +202,7 @@ impl<'r, 'c, 'a, 't> Reader<'r, 'c, 'a, 't> {
     }
 
     /// The first line of a block that is read back otherwise.
-    fn block_difference(&self, block: &Block<'_, Global>) -> Option<u32> {
+    fn block_difference(&self, block: &Block<'_, A>) -> Option<u32> {
         let Some(id) = self.code.block_of(self.func, block.label.bytes()) else {
             return Some(block.line)
         };

@@ -4,12 +4,12 @@ use qil_machine::Machine;
 use qil_numbering::Slot;
 use qil_ops::DivFault;
 use qil_state::{Fault, Status};
-use std::alloc::Global;
+use std::alloc::Allocator;
 
 /// Writes the position with how the machine stands there, and how many bytes it wrote.
-pub fn report<R: Print>(
+pub fn report<R: Print, A: Allocator + Copy>(
     rt: &R,
-    machine: &Machine<'_, '_, Global>,
+    machine: &Machine<'_, '_, A>,
     position: u64,
 ) -> anyhow::Result<()> {
     match machine.status() {
@@ -24,9 +24,9 @@ pub fn report<R: Print>(
     Ok(())
 }
 
-fn report_fault<R: Print>(
+fn report_fault<R: Print, A: Allocator + Copy>(
     rt: &R,
-    machine: &Machine<'_, '_, Global>,
+    machine: &Machine<'_, '_, A>,
     position: u64,
     fault: Fault,
 ) -> anyhow::Result<()> {
@@ -47,9 +47,9 @@ fn report_fault<R: Print>(
 }
 
 /// An unset temporary is told by its name.
-fn report_unset<R: Print>(
+fn report_unset<R: Print, A: Allocator + Copy>(
     rt: &R,
-    machine: &Machine<'_, '_, Global>,
+    machine: &Machine<'_, '_, A>,
     position: u64,
     slot: Slot,
 ) -> anyhow::Result<()> {

@@ -1,13 +1,16 @@
 //! A run forward, and back by what its moves kept, over a history as `qrev` has it.
 
-ghost use Rattle.std.specs.Prelude.{◌^◌, ◌<◌};
-
+use crate::answer::Answer;
+use crate::report::report;
 use qil_history::{Deltas, History};
-use qil_machine::MoveError;
-use std::alloc::Global;
+use qil_machine::{Delta, Machine, MoveError, StartError};
+use qil_memory::STACK_BASE;
+use qil_numbering::Code;
+use std::alloc::Allocator;
+use std::time::{Clock, Instant};
 
 /// Makes at most so many moves, up to the end of the run, and none behind that position.
-pub fn forward(run: &mut Deltas<'_, '_, Global>, limit: u32) -> anyhow::Result<()> {
+fn forward<A: Allocator + Copy>(run: &mut Deltas<'_, '_, A>, limit: u32) -> anyhow::Result<()> {
     for _ in 0..limit {
         if run.position() >= u64::from(limit) {
             return Ok(());
@@ -22,11 +25,70 @@ pub fn forward(run: &mut Deltas<'_, '_, Global>, limit: u32) -> anyhow::Result<(
 }
 
 /// Takes moves back, up to the start: how many are left.
-pub fn back(run: &mut Deltas<'_, '_, Global>) -> u64 {
+fn back<A: Allocator + Copy>(run: &mut Deltas<'_, '_, A>) -> u64 {
     for _ in 0..run.position() {
         if run.back().is_err() {
             break;
         }
     }
     run.position()
+}
+
+/// Whether a machine stands where a run starts: with one frame, at the first instruction of its first block, nothing written,
+/// and an empty stack.
+fn is_at_start<A: Allocator + Copy>(machine: &Machine<'_, '_, A>) -> bool {
+    match machine.frames() {
+        [frame] => {
+            frame.block().index == 0
+                && frame.index() == 0
+                && machine.output().is_empty()
+                && machine.top() == STACK_BASE
+                && !machine.is_final()
+        }
+        _ => false,
+    }
+}
+
+/// Whether all that is kept is the machine and a record of each move.
+fn is_kept<A: Allocator + Copy>(run: &Deltas<'_, '_, A>) -> bool {
+    let (machine, deltas): (&Machine<'_, '_, A>, &[Delta<A>]) = run.parts();
+    deltas.len() as u64 == run.position() && machine.same(run.machine())
+}
+
+/// Runs to the end, and back.
+fn run_timed<R: Clock + Print + Eprint, A: Allocator + Copy>(
+    rt: &R,
+    run: &mut Deltas<'_, '_, A>,
+    limit: u32,
+) -> anyhow::Result<Answer> {
+    let start = Instant::now(rt)?;
+    forward(run, limit)?;
+    let forward_time = start.elapsed(rt)?.as_nanos();
+    let position = run.position();
+    report(rt, run.machine(), position)?;
+    if !is_kept(run) {
+        return Ok(Answer::DiffersAt(position));
+    }
+    let start = Instant::now(rt)?;
+    let left = back(run);
+    let back_time = start.elapsed(rt)?.as_nanos();
+    eprintln!(rt; "moves {position} forward {forward_time} back {back_time}")?;
+    if left == 0 && is_at_start(run.machine()) {
+        return Ok(Answer::Back);
+    }
+    Ok(Answer::DiffersAt(left))
+}
+
+/// Runs `main` for at most so many moves, tells where that ends, and goes back.
+pub fn run<R: Clock + Print + Eprint, A: Allocator + Copy>(
+    rt: &R,
+    alloc: A,
+    code: &Code<'_, '_, A>,
+    limit: u32,
+) -> anyhow::Result<Answer> {
+    match Machine::start(alloc, code, b"main", &[]) {
+        Ok(machine) => run_timed(rt, &mut Deltas::new(alloc, machine), limit),
+        Err(StartError::OutOfMemory) => Err(StartError::OutOfMemory.into()),
+        Err(_) => Ok(Answer::Refused),
+    }
 }

@@ -1,0 +1,103 @@
+//! The questions, and the way of a text to what answers them.
+
+use crate::answer::Answer;
+use crate::load::checked;
+use crate::moves::each_move;
+use crate::read_back::read_back;
+use crate::run::run;
+use crate::whole_states::answer_script;
+use qil_checker::Checked;
+use qil_layout::layout;
+use qil_numbering::{Code, number};
+use refusing::Refusing;
+use std::alloc::{Allocator, Global};
+use std::hash::RandomState;
+use std::time::{Clock, Instant};
+
+#[derive(Clone, Copy, PartialEq, Eq)]
+pub enum Question {
+    Operations,
+    ReadBack,
+    Run,
+    Moves,
+    WholeStates,
+}
+
+impl Question {
+    /// The question of that name.
+    pub fn of(word: &str) -> Option<Question> {
+        match word {
+            "operations" => Some(Question::Operations),
+            "read-back" => Some(Question::ReadBack),
+            "run" => Some(Question::Run),
+            "moves" => Some(Question::Moves),
+            "whole-states" => Some(Question::WholeStates),
+            _ => None,
+        }
+    }
+
+    /// Whether something can stand behind the text.
+    pub fn has_two_parts(self) -> bool {
+        self == Question::ReadBack || self == Question::WholeStates
+    }
+}
+
+/// What is asked, and what it takes to answer.
+#[derive(Clone, Copy)]
+pub struct Bench<'t, R> {
+    pub rt: &'t R,
+    pub keys: RandomState,
+    pub question: Question,
+    /// The most moves.
+    pub most: u32,
+    /// What stands behind the text.
+    pub behind: &'t [u8],
+    /// What refuses allocations, where the question is about these.
+    pub heap: &'t Refusing<Global>,
+}
+
+fn ask_code<R: Clock + Print + Eprint, A: Allocator + Copy>(
+    bench: &Bench<'_, R>,
+    alloc: A,
+    checked: &Checked<'_, A>,
+    code: &Code<'_, '_, A>,
+) -> anyhow::Result<Answer> {
+    match bench.question {
+        Question::Operations => Ok(Answer::Told),
+        Question::ReadBack => read_back(bench, alloc, checked, code),
+        Question::Run => run(bench.rt, alloc, code, bench.most),
+        Question::Moves => each_move(bench.rt, bench.heap, alloc, code, bench.most),
+        Question::WholeStates => answer_script(bench.rt, alloc, code, bench.behind),
+    }
+}
+
+/// Lays a program out and numbers it, and tells the microseconds that it took.
+fn ask_checked<R: Clock + Print + Eprint, A: Allocator + Copy>(
+    bench: &Bench<'_, R>,
+    alloc: A,
+    checked: &Checked<'_, A>,
+) -> anyhow::Result<Answer> {
+    let rt = bench.rt;
+    let start = Instant::now(rt)?;
+    let Ok(image) = layout(alloc, bench.keys, checked) else {
+        return Ok(Answer::Refused)
+    };
+    let layout_time = start.elapsed(rt)?.as_micros();
+    let start = Instant::now(rt)?;
+    let code = number(alloc, bench.keys, checked, &image)?;
+    let number_time = start.elapsed(rt)?.as_micros();
+    eprintln!(rt; "layout {layout_time} number {number_time}")?;
+    ask_code(bench, alloc, checked, &code)
+}
+
+/// Asks the question of a text.
+pub fn ask<R: Clock + Print + Eprint, A: Allocator + Copy>(
+    bench: &Bench<'_, R>,
+    alloc: A,
+    text: &[u8],
+) -> anyhow::Result<Answer> {
+    match checked(bench.rt, alloc, bench.keys, text)? {
+        Some(checked) => ask_checked(bench, alloc, &checked),
+        None => Ok(Answer::Refused),
+    }
+}

@@ -1,0 +1,113 @@
+//! Each move of a run: what its record keeps and weighs, how many allocations it takes, and that it can be undone.
+
+use crate::answer::Answer;
+use crate::record::kind_of;
+use crate::refusals::{Poked, allocations, poke_data, poke_slot, step};
+use qil_machine::{Delta, Machine, MoveError};
+use qil_numbering::Code;
+use refusing::{Refusing, refuse_each};
+use std::alloc::{Allocator, Global};
+use std::mem::size_of;
+
+/// The weight of the next move's record, if that fits the machine behind the move and leads back to the one before.
+fn weight<A: Allocator + Copy>(before: &Machine<'_, '_, A>) -> anyhow::Result<Option<u64>> {
+    let mut machine = before.try_clone()?;
+    let delta = machine.advance()?;
+    let is_changed = !machine.same(before);
+    let weight = delta.weight();
+    if !delta.fits(&machine) {
+        return Ok(None);
+    }
+    machine.undo(delta);
+    Ok(if is_changed && machine.same(before) {
+        Some(weight)
+    } else {
+        None
+    })
+}
+
+/// What the next move's record keeps.
+fn kind<A: Allocator + Copy>(before: &Machine<'_, '_, A>) -> anyhow::Result<&'static str> {
+    let mut machine = before.try_clone()?;
+    let delta = machine.advance()?;
+    Ok(kind_of(delta.into_kind()))
+}
+
+/// How many allocations the move behind a state takes.
+fn taken<B: Allocator, A: Allocator + Copy>(
+    heap: &Refusing<B>,
+    before: &Machine<'_, '_, A>,
+) -> anyhow::Result<Option<u64>> {
+    let mut moved = before.try_clone()?;
+    step(&mut moved)?;
+    Ok(allocations(heap, before, &moved)?)
+}
+
+fn poked(word: &'static str, came: Poked) -> &'static str {
+    match came {
+        Poked::Undone => word,
+        Poked::Refused => "",
+        Poked::Fault => ", a wrong poke",
+    }
+}
+
+/// Tells of the move behind a state: false where it isn't as it has to be.
+fn tell_move<R: Print, B: Allocator, A: Allocator + Copy>(
+    rt: &R,
+    heap: &Refusing<B>,
+    before: &Machine<'_, '_, A>,
+    position: u32,
+) -> anyhow::Result<bool> {
+    let slot = poke_slot(heap, before)?;
+    let data = poke_data(heap, before)?;
+    let (Some(weight), Some(taken)) = (weight(before)?, taken(heap, before)?) else {
+        println!(rt; "#{position} isn't undone")?;
+        return Ok(false);
+    };
+    let kind = kind(before)?;
+    let slot_word = poked(", a temporary set", slot);
+    let data_word = poked(", bytes set", data);
+    println!(rt; "#{position} {kind}: weight {weight}, allocations {taken}{slot_word}{data_word}")?;
+    Ok(slot != Poked::Fault && data != Poked::Fault)
+}
+
+/// Starts a machine with each allocation refused in turn, and makes an equal one so: how many each takes.
+fn start_refusals<B: Allocator, A: Allocator + Copy>(
+    heap: &Refusing<B>,
+    alloc: A,
+    code: &Code<'_, '_, A>,
+    machine: &Machine<'_, '_, A>,
+) -> Result<(u64, u64), u64> {
+    let starts = refuse_each(heap, |_| Machine::start(alloc, code, b"main", &[]))?;
+    let copies = refuse_each(heap, |_| machine.try_clone())?;
+    Ok((starts, copies))
+}
+
+/// Tells of each move, up to the end of the run or so many moves.
+pub fn each_move<R: Print, B: Allocator, A: Allocator + Copy>(
+    rt: &R,
+    heap: &Refusing<B>,
+    alloc: A,
+    code: &Code<'_, '_, A>,
+    most: u32,
+) -> anyhow::Result<Answer> {
+    let Ok(mut machine) = Machine::start(alloc, code, b"main", &[]) else {
+        return Ok(Answer::Refused);
+    };
+    let Ok((starts, copies)) = start_refusals(heap, alloc, code, &machine) else {
+        println!(rt; "a start or a copy without memory")?;
+        return Ok(Answer::DiffersAt(0));
+    };
+    let bytes = size_of::<Delta<Global>>();
+    println!(rt; "start: allocations {starts}; copy: allocations {copies}; record: {bytes} bytes")?;
+    for position in 0..most {
+        if machine.is_final() {
+            return Ok(Answer::Told);
+        }
+        if !tell_move(rt, heap, &machine, position)? {
+            return Ok(Answer::DiffersAt(u64::from(position)));
+        }
+        step(&mut machine)?;
+    }
+    Ok(Answer::Told)
+}

@@ -1,0 +1,127 @@
+//! Allocations refused in turn, and how many are taken.
+
+ghost use Rattle.std.specs.Prelude.{◌≡◌};
+
+use qil_machine::{Machine, MoveError};
+use qil_memory::DATA_BASE;
+use qil_numbering::Slot;
+use refusing::Refusing;
+use std::alloc::{AllocError, Allocator};
+
+/// More allocations than any move takes.
+const MANY: u64 = 10;
+
+/// Makes the next move, and keeps no record of it.
+pub fn step<A: Allocator + Copy>(machine: &mut Machine<'_, '_, A>) -> Result<(), MoveError>
+    ensures { machine.new.program ≡ machine.old.program }
+{
+    match machine.advance() {
+        Ok(_) => Ok(()),
+        Err(error) => Err(error),
+    }
+}
+
+/// What came of a move one of whose allocations was to be refused.
+#[derive(Clone, Copy)]
+enum Met {
+    /// The move takes fewer allocations, and was made.
+    NoRefusal,
+    /// The machine was as before, and the move was made then, with memory.
+    Refusal,
+    /// Something else.
+    Fault,
+}
+
+/// Makes the move behind a state with its nth allocation refused. `moved` is the machine behind that move.
+fn refused<B: Allocator, A: Allocator + Copy>(
+    heap: &Refusing<B>,
+    before: &Machine<'_, '_, A>,
+    moved: &Machine<'_, '_, A>,
+    n: u64,
+) -> Result<Met, AllocError> {
+    let mut machine = before.try_clone()?;
+    heap.refuse_nth(n);
+    let answer = step(&mut machine);
+    let was_refused = !heap.is_armed();
+    heap.refuse_nth(0);
+    if !was_refused {
+        let is_made = answer == Ok(()) && machine.same(moved);
+        return Ok(if is_made { Met::NoRefusal } else { Met::Fault });
+    }
+    let is_as_before = answer == Err(MoveError::OutOfMemory) && machine.same(before);
+    let is_made = is_as_before && step(&mut machine) == Ok(()) && machine.same(moved);
+    Ok(if is_made { Met::Refusal } else { Met::Fault })
+}
+
+/// How many allocations the move behind a state takes, where want of each leaves the machine as it was.
+pub fn allocations<B: Allocator, A: Allocator + Copy>(
+    heap: &Refusing<B>,
+    before: &Machine<'_, '_, A>,
+    moved: &Machine<'_, '_, A>,
+) -> Result<Option<u64>, AllocError> {
+    for n in 1..MANY {
+        match refused(heap, before, moved, n)? {
+            Met::NoRefusal => return Ok(Some(n - 1)),
+            Met::Refusal => {}
+            Met::Fault => return Ok(None),
+        }
+    }
+    Ok(None)
+}
+
+/// What came of a poke with no memory to be had.
+#[derive(Clone, Copy, PartialEq, Eq)]
+pub enum Poked {
+    /// It was made, its record has the weight that it is to have, and was undone.
+    Undone,
+    /// It was refused, and the machine is as before.
+    Refused,
+    /// Something else.
+    Fault,
+}
+
+/// Sets the first temporary of a state, and takes it back. The record weighs 4, and 2 for the value of a slot.
+pub fn poke_slot<B: Allocator, A: Allocator + Copy>(
+    heap: &Refusing<B>,
+    before: &Machine<'_, '_, A>,
+) -> Result<Poked, AllocError> {
+    let mut machine = before.try_clone()?;
+    heap.refuse_nth(1);
+    let answer = machine.poke_temp(Slot { index: 0 }, 7);
+    let is_right = heap.is_armed();
+    heap.refuse_nth(0);
+    match answer {
+        Ok(delta) => {
+            if !is_right || delta.weight() != 6 || !delta.fits(&machine) {
+                return Ok(Poked::Fault);
+            }
+            machine.undo(delta);
+            Ok(if machine.same(before) { Poked::Undone } else { Poked::Fault })
+        }
+        Err(_) if is_right && machine.same(before) => Ok(Poked::Refused),
+        Err(_) => Ok(Poked::Fault),
+    }
+}
+
+/// Sets the first four bytes of the data, and takes it back. The record weighs 4, and 1 for each byte.
+pub fn poke_data<B: Allocator, A: Allocator + Copy>(
+    heap: &Refusing<B>,
+    before: &Machine<'_, '_, A>,
+) -> Result<Poked, AllocError> {
+    let mut machine = before.try_clone()?;
+    heap.refuse_nth(1);
+    let answer = machine.poke_memory(DATA_BASE, 4, u64::MAX);
+    let is_right = heap.is_armed();
+    heap.refuse_nth(0);
+    match answer {
+        Ok(delta) => {
+            if !is_right || delta.weight() != 8 || !delta.fits(&machine) {
+                return Ok(Poked::Fault);
+            }
+            machine.undo(delta);
+            Ok(if machine.same(before) { Poked::Undone } else { Poked::Fault })
+        }
+        Err(_) if is_right && machine.same(before) => Ok(Poked::Refused),
+        Err(_) => Ok(Poked::Fault),
+    }
+}
