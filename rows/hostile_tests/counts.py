@@ -73,7 +73,9 @@ REVERSED = (b"break $main @start 1\nstep 2\n", b"reverse\nreverse\n",
             LOADED + b"break 1 $main @start 1\n#2 done 5\nstop: break 1\n#1 $main @start 1\nstop: start\n#0 $main @start 0\n")
 QUIET = {"what only looks": LOOKED, "a run back": REVERSED}
 
+# A loop beside as many data as there may be.
 GREATEST = b"data $z = { z 1048576 }\n" + LOOP
+GREATEST_LOADED = LOADED.replace(b"0 data", b"1048576 data")
 
 
 class Counting:
@@ -140,7 +142,8 @@ def long_run(running, history, most):
     with library() as made:
         counting = Counting(running, made, LOOP, history)
         taken, back = counting.more(b"", b"step 3000\n"), counting.more(b"step 3000\n", b"back 3000\n")
-        return f"{taken} allocations, and {back} of the way back" if taken > most or back else None
+        return difference(LOADED + b"#3000 $main @l 0\n", counting.run(b"step 3000\n").written) or (
+            f"{taken} allocations, and {back} of the way back" if taken > most or back else None)
 
 
 def ring(running):
@@ -156,9 +159,10 @@ def records(running):
     """1,000 moves over 2^20 bytes of data take 24 bytes each, in lists of 4, 8 and so on to 1,024 records."""
     with library() as made:
         counting = Counting(running, made, GREATEST, None)
-        taken = counting.run(b"step 1000\n").bytes - counting.run(b"").bytes
-        most = 24 * sum(2**n for n in range(2, 11))
-        return f"{taken} bytes, more than {most}" if taken > most else None
+        run, most = counting.run(b"step 1000\n"), 24 * sum(2**n for n in range(2, 11))
+        taken = run.bytes - counting.run(b"").bytes
+        return difference(GREATEST_LOADED + b"#1000 $main @l 0\n", run.written) or (
+            f"{taken} bytes, more than {most}" if taken > most else None)
 
 
 def cases():
