@@ -1,6 +1,6 @@
 """Hostile use of the built program, from outside; rows/hostile runs these.
 
-    running.py     runs the program, and compares what it did
+    running.py     runs the program, and compares what it did; the texts that several modules use
     programs.py    random programs
     scripts.py     random scripts
     texts.py       texts: of one byte, cut, changed, long
@@ -8,4 +8,6 @@
     sessions.py    scripts: long ones, and random ones against the model of rows/reference
     devices.py     standard input and output that are slow, closed or fail
     memory.py      each allocation refused in turn
+    counts.py      how many allocations moves and commands take
+    preloaded.py   a run with the library that refuses and counts allocations
 """

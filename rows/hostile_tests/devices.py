@@ -10,18 +10,17 @@ import tempfile
 import termios
 import time
 
-from .running import TOP, Case, difference, quoted
+from .running import FIRST, LOADED, TOP, Case, difference, quoted
 
 EXAMPLE = TOP / "examples" / "squares.ssa"
 SCRIPT = (TOP / "examples" / "squares.script").read_bytes()
 TRANSCRIPT = (TOP / "examples" / "squares.transcript").read_bytes()
 SUM = TOP / "examples" / "sum.ssa"
-LOADED = b"loaded 1 functions 0 data bytes ssa yes\n#0 $main @start 0\n"
 STEPPED = LOADED + b"#1 $main @start 1\n"
 
 
-def started(running, program, **given):
-    return subprocess.Popen([running.program, str(program)], **given)
+def started(running, program, words=(), **given):
+    return subprocess.Popen([running.program, str(program), *words], **given)
 
 
 def ended(running, process, transcript, status, script=None, written=None, may_lack=False):
@@ -150,6 +149,39 @@ def failing_input(running, script, transcript, status):
     return ended(running, process, transcript, status)
 
 
+def cut_input(running, length):
+    """An input that fails behind so many bytes: what was written answers the lines that were read as a whole."""
+    script = SUM_SCRIPT[:length]
+    answers = SUM_ANSWERS.splitlines(True)[:script.count(b"\n")]
+    return failing_input(running, script, LOADED + b"".join(answers), 2)
+
+
+def read_of(running, text, words, script, written, status):
+    """How many bytes of a script in a file are read, and what the program does otherwise than it must, or None."""
+    with tempfile.NamedTemporaryFile(prefix="hostile-", suffix=".ssa") as program, tempfile.TemporaryFile() as source:
+        program.write(text)
+        program.flush()
+        source.write(script)
+        source.seek(0)
+        process = started(running, program.name, words, stdin=source, stdout=subprocess.PIPE)
+        fault = ended(running, process, written, status)
+        # The place of an open file is one for all that hold it.
+        return os.lseek(source.fileno(), 0, os.SEEK_CUR), fault
+
+
+def unread_script(running, name):
+    """The script of a program that is refused isn't read."""
+    text, words, written = REFUSED[name]
+    read, fault = read_of(running, text, words, b"step\n", written, 1)
+    return fault or (f"{read} bytes of the script were read" if read else None)
+
+
+def greatest_input(running):
+    """Of a script that is too long one byte more than it may have is read, and no more."""
+    read, fault = read_of(running, FIRST, [], b"\n" * (2**24 + 10_000), LOADED, 2)
+    return fault or (f"{read} bytes of the script were read" if read != 2**24 + 1 else None)
+
+
 def bad_output(running, kind):
     """An output that takes nothing: status 2."""
     given = {"stdin": subprocess.PIPE}
@@ -238,10 +270,24 @@ def program_by_pipe(running):
 
 # Scripts behind which a read fails, what is written, and the status.
 FAILING = [
-    (b"", LOADED, 2), (b"step", LOADED, 2), (b"step\n", STEPPED, 2), (b"step\npri", STEPPED, 2),
-    (b"step\nquit", STEPPED, 2), (b"quit\n", LOADED, 0), (b"step\nquit\nstep\n", STEPPED, 0), (b"\n" * 5000, LOADED, 2),
-    (b"a" * 300, LOADED, 2), (b"a" * 300 + b"\n", LOADED + b"no: line too long\n", 2),
+    (b"step\npri", STEPPED, 2), (b"step\nquit", STEPPED, 2), (b"quit\n", LOADED, 0), (b"step\nquit\nstep\n", STEPPED, 0),
+    (b"\n" * 5000, LOADED, 2), (b"a" * 300, LOADED, 2), (b"a" * 300 + b"\n", LOADED + b"no: line too long\n", 2),
 ]
+SUM_SCRIPT = b"step\nprint %x\nback\nprint %x\nstep 5\nstep\n"
+SUM_ANSWERS = b"#1 $main @start 1\n%x = 5\n#0 $main @start 0\n%x unset\n#2 done 5\nno: at end\n"
+# Programs that are refused, each in a part of the load: the text, the words behind it, and what is written.
+RETURNS = b"function $main() {\n@start\n\tret\n}\n"
+REFUSED = {
+    "can't be cut": (b"function $main() {\n@start\n\t%x =l copy 18446744073709551616\n\tret\n}\n", [],
+                     b"refused: L3 line 3\n"),
+    "can't be parsed": (b"function w $main() {\n@start\n%x =w add 2,", [], b"refused: P3 line 3\n"),
+    "breaks a rule": (b"function $main() {\n@start\n\t%w =w copy 1\n\t%p =l add %w, 1\n\tret\n}\n", [],
+                      b"refused: C7 line 4\n"),
+    "has too many data": (b"data $z = { z 1048577 }\n" + RETURNS, [], b"refused: Y1 line 1\n"),
+    "has data that can't be aligned": (b"\ndata $z = align 3 { b 0 }\n" + RETURNS, [], b"refused: Y2 line 2\n"),
+    "lacks the entry": (FIRST, ["--entry", "nope"], b"refused: S1\n"),
+    "takes no argument": (FIRST, ["5"], b"refused: S2\n"),
+}
 UNREADABLE = b"cannot read program\n"
 FILES = {
     "the program on standard input": (["/dev/stdin"], SUM.read_bytes(), LOADED, b"", 0),
@@ -270,6 +316,11 @@ def cases():
         yield Case(f"standard input: {kind}", bad_input, (kind,))
     for script, transcript, status in FAILING:
         yield Case(f"a read that fails behind {quoted(script)}", failing_input, (script, transcript, status))
+    for length in range(len(SUM_SCRIPT) + 1):
+        yield Case(f"a read that fails behind {length} bytes", cut_input, (length,))
+    for name in REFUSED:
+        yield Case(f"the script of a program that {name}", unread_script, (name,))
+    yield Case("how much of a script that is too long is read", greatest_input)
     for kind in ("closed", "full", "open for reading alone", "a pipe without a reader"):
         yield Case(f"standard output: {kind}", bad_output, (kind,))
     yield Case("help that can't be written", help_unwritten)

@@ -1,16 +1,14 @@
 """Each allocation of the program refused in turn, by a library that is preloaded (refusing.c)."""
-import os
-import pathlib
-import shutil
 import subprocess
 import tempfile
 
 import reference
 from reference.session import No, lines_of, read_command
 
-from .running import Case, quoted
+from . import counts
+from .preloaded import Run, library
+from .running import FIRST, LOADED, LOOP, Case, quoted
 
-HERE = pathlib.Path(__file__).resolve().parent
 MOST = 20_000  # refused allocations that are tried before a run must meet none
 
 # A small program with each kind of definition and of move.
@@ -85,54 +83,24 @@ reverse
 set %q 9
 step 5
 """
-LOOP = b"function $main() {\n@start\n\tjmp @l\n@l\n\tjmp @l\n}\n"
+LOAD = b"data $d = { w 5 }\nfunction w $main() {\n@start\n\t%x =w loadw $d\n\tret %x\n}\n"
+HELLO = rb"""data $str = { b "hello world", b 0 }
+export function w $main() {
+@start
+	%r =w call $puts(l $str)
+	call $exit(w 7)
+	ret 0
+}
+"""
 # A text of 200 kB, with as many temporaries as lines.
 LONG = b"function $main() {\n@start\n" + b"".join(b"\t%%x%d =w add %d, 1\n" % (n, n) for n in range(9_000)) + b"\tret\n}\n"
 
 
-def made_library(folder):
-    """The library that refuses, compiled into a folder; or nothing, where there is no compiler."""
-    made = os.path.join(folder, "refusing.so")
-    for compiler in compilers():
-        # What the library takes of the C library is there in the program that it is preloaded to.
-        line = [*compiler, "-shared", "-fPIC", "-O1", "-fno-builtin", "-nostdlib", "-o", made,
-                str(HERE.parent / "refusing.c")]
-        if subprocess.run(line, stderr=subprocess.DEVNULL).returncode == 0:
-            return made
-    return None
-
-
-def compilers():
-    """The system's C compiler, else that of the toolchain."""
-    if shutil.which("cc"):
-        yield ["cc"]
-    if shutil.which("rt"):
-        guide = subprocess.run(["rt", "doc"], stdout=subprocess.PIPE, stdin=subprocess.DEVNULL).stdout.decode().strip()
-        clang = pathlib.Path(guide).parent / "toolchain" / "bin" / "clang"
-        if clang.is_file():
-            yield [str(clang), "-fuse-ld=lld"]
-
-
-class Run:
-    """A run in which the allocation of that number was refused, if it came to that."""
-
-    def __init__(self, running, folder, library, which, words, script):
-        tells = os.path.join(folder, f"tells.{which}")
-        given = {**os.environ, "LD_PRELOAD": library, "REFUSING_WHICH": str(which), "REFUSING_TELLS": tells}
-        run = subprocess.run([running.program, *words], input=script, capture_output=True, env=given,
-                             timeout=running.seconds)
-        self.was_refused = os.path.exists(tells)
-        self.written, self.errors, self.status = run.stdout, run.stderr, run.returncode
-
-
 def each_refused(running, words, script, judge):
     """Runs with the first allocation refused, the second, and so on until a run meets none; what is wrong, or None."""
-    with tempfile.TemporaryDirectory(prefix="refusing-") as folder:
-        library = made_library(folder)
-        if library is None:
-            return "there is no C compiler for the library that refuses"
+    with library() as made:
         for which in range(1, MOST):
-            run = Run(running, folder, library, which, words, script)
+            run = Run(running, made, which, words, script)
             fault = judge(run)
             if fault:
                 return f"allocation {which}: {fault}"
@@ -215,8 +183,7 @@ def session_refused(running, text, script, history, limit, must_want):
             return f"standard error: {quoted(run.errors)}"
         if run.status == 3:
             loads += 1
-            return "memory was wanting where none was refused" if not run.was_refused else \
-                f"{quoted(run.written)} was written" if run.written else None
+            return want_while_loading(run)
         if run.status != status:
             return f"status {run.status} in place of {status} or 3"
         if not run.was_refused:
@@ -237,6 +204,56 @@ def session_refused(running, text, script, history, limit, must_want):
     lacks = set(must_want) - seen
     return f"no run wanted memory in {sorted(lacks)}, only in {sorted(seen)}" if lacks else \
         f"memory was wanting in {sorted(seen)}" if not must_want and seen else None
+
+
+HELLO_LOADED, LOAD_LOADED = (LOADED.replace(b"0 data", b"%d data" % count) for count in (12, 4))
+
+# Scripts with what they are answered, and what they may be answered where one allocation behind the load was refused. The
+# command that meets the refusal makes no move, and can be made again; of the line that is written there is all or nothing.
+AGAIN = b'#2 exit 7\nout 12 "hello world\\012"\n'
+HELLO_TWICE = (HELLO, b"step 9\nout\nback 9\nstep 9\nout\n", HELLO_LOADED + AGAIN + b"#0 $main @start 0\n" + AGAIN,
+               [HELLO_LOADED + b'stop: memory\n#0 $main @start 0\nout 0 ""\nno: at start\n' + AGAIN])
+SET_TWICE = (LOAD, b"set %x 7\nprint %x\nset %x 8\nprint %x\n",
+             LOAD_LOADED + b"#1 $main @start 0\n%x = 7\n#2 $main @start 0\n%x = 8\n",
+             [LOAD_LOADED + b"stop: memory\n#0 $main @start 0\n%x unset\n#1 $main @start 0\n%x = 8\n"])
+POKED_TWICE = (LOAD, b"poke w $d 9\nmem $d 4\npoke b 65537 1\nmem $d 4\n",
+               LOAD_LOADED + b"#1 $main @start 0\n09 00 00 00\n#2 $main @start 0\n09 01 00 00\n",
+               [LOAD_LOADED + b"stop: memory\n#0 $main @start 0\n05 00 00 00\n#1 $main @start 0\n05 01 00 00\n"])
+STEPPED_TWICE = (FIRST, b"step\nprint %x\nstep\n", LOADED + b"#1 $main @start 1\n%x = 5\n#2 done 5\n",
+                 [LOADED + b"stop: memory\n#0 $main @start 0\n%x unset\n#1 $main @start 1\n"])
+STATED = {"a line that is written": HELLO_TWICE, "a temporary that is set": SET_TWICE,
+          "bytes that are poked": POKED_TWICE, "a step": STEPPED_TWICE}
+
+
+def want_while_loading(run):
+    """What is wrong where memory was wanting for the load, or None: nothing is written, and no line is read."""
+    return "memory was wanting where none was refused" if not run.was_refused else \
+        f"{quoted(run.written)} was written" if run.written else \
+        f"{run.script_read} bytes of the script were read" if run.script_read else None
+
+
+def as_stated(running, name, history):
+    """A session that answers as it is stated where no allocation is refused, and where one is; each answer must come.
+
+    With a bound of the history only what is written takes memory, and it alone may be wanting."""
+    text, script, plain, wants = STATED[name]
+    words = [] if history is None else ["--history", str(history)]
+    if history is not None and text != HELLO:
+        wants = []
+    seen = set()
+
+    def judge(run):
+        if run.status == 3:
+            seen.add(b"")
+            return want_while_loading(run)
+        if run.written != plain:
+            seen.add(run.written)
+        lawful = [plain, *wants] if run.was_refused else [plain]
+        return None if run.written in lawful and not run.status and not run.errors else \
+            f"{quoted(run.written)}, status {run.status}, standard error: {quoted(run.errors)}"
+
+    fault = with_file(running, text, words, script, judge)
+    return fault or (f"only {len(seen)} answers of {len(wants) + 1} came" if seen != {b"", *wants} else None)
 
 
 def answer_refused(running, text, words, lawful):
@@ -272,6 +289,10 @@ def cases():
                (LOOP, b"back\nstep 9\nout\nback 9\nstep 9\n", None, 1000, ("step",)))
     yield Case("pokes, each allocation refused", session_refused,
                (PROGRAM, b"set %v 1\nset %v 2\npoke w $d 1\npoke b $d 2\nback 9\nmem $d 4\n" * 3, None, 1000, ("set",)))
+    for name in STATED:
+        for history in (None, 3):
+            bound = "" if history is None else f" with --history {history}"
+            yield Case(f"{name}{bound}, each allocation refused", as_stated, (name, history))
     yield Case("a refused program, each allocation refused", answer_refused,
                (PROGRAM + b"data $d = { }\n", [], (b"refused: C1 line 33\n", 1)))
     yield Case("a text that can't be cut, each allocation refused", answer_refused,
@@ -279,3 +300,4 @@ def cases():
     yield Case("a missing program, each allocation refused", answer_refused, (None, ["/no/such/program"], (b"", 2)))
     yield Case("an unknown option, each allocation refused", answer_refused, (None, ["--nope"], (b"", 64)))
     yield Case("help, each allocation refused", help_refused)
+    yield from counts.cases()

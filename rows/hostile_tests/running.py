@@ -8,6 +8,11 @@ from typing import NamedTuple
 TOP = pathlib.Path(__file__).resolve().parent.parent.parent
 BUILT = TOP / "crates" / "qrev" / "out" / "qrev"
 
+# The first example, its load lines, which are those of the loop as well, and a loop without an end.
+FIRST = b"function w $main() {\n@start\n\t%x =w add 2, 3\n\tret %x\n}\n"
+LOADED = b"loaded 1 functions 0 data bytes ssa yes\n#0 $main @start 0\n"
+LOOP = b"function $main() {\n@start\n\tjmp @l\n@l\n\tjmp @l\n}\n"
+
 
 class Case(NamedTuple):
     """A test: `function(running, *arguments)` gives what is wrong, or None."""

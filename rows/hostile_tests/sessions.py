@@ -5,11 +5,13 @@ import reference
 from reference.session import lines_of
 
 from .programs import random_program
-from .running import Case
+from .running import FIRST, LOADED, TOP, Case
 from .scripts import random_script
 
 SEEDS = 600
 LINES = 60
+# The rows that go to and fro over each kind of move, with pokes between.
+ROUNDS = [f"rounds-of-pokes-{what}" for what in ("and-calls", "and-output", "and-phis", "and-three-phis", "at-a-fault")]
 
 
 def options_of(random):
@@ -66,8 +68,6 @@ def bound_not_met(running, seed, lines=LINES):
     return None
 
 
-FIRST = b"function w $main() {\n@start\n\t%x =w add 2, 3\n\tret %x\n}\n"
-LOADED = b"loaded 1 functions 0 data bytes ssa yes\n#0 $main @start 0\n"
 GREATEST = 2**24
 
 # Commands with the answers that they have one after the other, again and again from the start.
@@ -112,6 +112,14 @@ def too_long_script(running):
     """With one byte more the line that isn't ended among the first 2^24 bytes has no answer."""
     script, answers = long_script()
     return running.fault(FIRST, script + b" ", [], b"".join(answers[:-1]), 2)
+
+
+def rounds_bounded(running, name, bound):
+    """A row of rounds answers with a bound of the history as the model does."""
+    row = TOP / "rows" / name
+    text, script = (row / "program.ssa").read_bytes(), (row / "script").read_bytes()
+    wanted, status = reference.transcript(text, script, history=bound)
+    return running.fault(text, script, ["--history", str(bound)], wanted, status)
 
 
 def scripted(running, script, answers, status):
@@ -164,6 +172,9 @@ def cases():
         yield Case(f"script: {name}", of_scripts, (name,))
     yield Case("a script of 2^24 bytes, answered whole", greatest_script)
     yield Case("a script of 2^24 bytes and one", too_long_script)
+    for name in ROUNDS:
+        for bound in (3, 100):
+            yield Case(f"{name} with --history {bound}", rounds_bounded, (name, bound))
     for seed in range(SEEDS):
         yield Case(f"seed {seed}: against the model", against_model, (seed,))
         yield Case(f"seed {seed}: with a bound that is not met", bound_not_met, (seed,))

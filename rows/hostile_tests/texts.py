@@ -5,11 +5,10 @@ import reference
 
 from .long_texts import TABLES
 from .programs import changed, random_program
-from .running import Case
+from .running import FIRST, Case
 
 CHANGED = 1500  # random programs that are changed
 
-FIRST = b"function w $main() {\n@start\n\t%x =w add 2, 3\n\tret %x\n}\n"
 SCRIPT = b"step 9\nback 2\nlist\ntemps\n"
 
 # A text with each production of the grammar, and each kind of token.
