@@ -3,7 +3,7 @@
 ghost use Rattle.std.specs.Prelude.{◌≡◌};
 
 use crate::{
-    DeviceFault, FromReader, IntoWriter, LineEnd, LineReader, Outlet, Put, Sink, Source, PutError,
+    DeviceFault, FromReader, IntoWriter, LineEnd, LineReader, Outlet, Put, PutError, Sink, Source,
     put_line, put_number, write_all,
 };
 use std::alloc::Global;

@@ -27,8 +27,8 @@ mod run;
 mod stopwatch;
 mod whole_states;
 
-use anyhow::bail;
 use answer::Answer;
+use anyhow::bail;
 use ask::{Bench, Question, ask};
 use refusing::Refusing;
 use std::hash::RandomState;
