@@ -6,7 +6,7 @@ use crate::refusals::{Poked, allocations, poke_data, poke_slot, step};
 use qil_machine::{Delta, Machine, MoveError};
 use qil_numbering::Code;
 use refusing::{Refusing, refuse_each};
-use std::alloc::{Allocator, Global};
+use std::alloc::{AllocError, Allocator, Global};
 use std::mem::size_of;
 
 /// The weight of the next move's record, if that fits the machine behind the move and leads back to the one before.
@@ -71,16 +71,55 @@ fn tell_move<R: Print, B: Allocator, A: Allocator + Copy>(
     Ok(slot != Poked::Fault && data != Poked::Fault)
 }
 
-/// Starts a machine with each allocation refused in turn, and makes an equal one so: how many each takes.
+fn started<A: Allocator + Copy>(alloc: A, code: &Code<'_, '_, A>) -> Result<(), AllocError> {
+    match Machine::start(alloc, code, b"main", &[]) {
+        Ok(_) => Ok(()),
+        Err(_) => Err(AllocError),
+    }
+}
+
+/// Starts a machine with each allocation refused in turn: how many it takes.
 fn start_refusals<B: Allocator, A: Allocator + Copy>(
     heap: &Refusing<B>,
     alloc: A,
     code: &Code<'_, '_, A>,
+) -> Result<u64, u64> {
+    refuse_each(heap, |_| started(alloc, code))
+}
+
+fn copied<A: Allocator + Copy>(machine: &Machine<'_, '_, A>) -> Result<(), AllocError> {
+    match machine.try_clone() {
+        Ok(_) => Ok(()),
+        Err(_) => Err(AllocError),
+    }
+}
+
+/// Makes an equal machine with each allocation refused in turn: how many it takes.
+fn copy_refusals<B: Allocator, A: Allocator + Copy>(
+    heap: &Refusing<B>,
     machine: &Machine<'_, '_, A>,
-) -> Result<(u64, u64), u64> {
-    let starts = refuse_each(heap, |_| Machine::start(alloc, code, b"main", &[]))?;
-    let copies = refuse_each(heap, |_| machine.try_clone())?;
-    Ok((starts, copies))
+) -> Result<u64, u64> {
+    refuse_each(heap, |_| copied(machine))
+}
+
+/// Tells how many allocations a start and a copy take, and how big a record is: false where one went on without memory.
+fn tell_start<R: Print, B: Allocator, A: Allocator + Copy>(
+    rt: &R,
+    heap: &Refusing<B>,
+    alloc: A,
+    code: &Code<'_, '_, A>,
+    machine: &Machine<'_, '_, A>,
+) -> anyhow::Result<bool> {
+    let (Ok(starts), Ok(copies)) = (
+        start_refusals(heap, alloc, code),
+        copy_refusals(heap, machine),
+    ) else {
+        println!(rt; "a start or a copy without memory")?;
+        return Ok(false);
+    };
+    let bytes = size_of::<Delta<Global>>();
+    println!(rt; "start: allocations {starts}; copy: allocations {copies}; record: {bytes} bytes")?;
+    Ok(true)
 }
 
 /// Tells of each move, up to the end of the run or so many moves.
@@ -94,12 +133,9 @@ pub fn each_move<R: Print, B: Allocator, A: Allocator + Copy>(
     let Ok(mut machine) = Machine::start(alloc, code, b"main", &[]) else {
         return Ok(Answer::Refused);
     };
-    let Ok((starts, copies)) = start_refusals(heap, alloc, code, &machine) else {
-        println!(rt; "a start or a copy without memory")?;
+    if !tell_start(rt, heap, alloc, code, &machine)? {
         return Ok(Answer::DiffersAt(0));
-    };
-    let bytes = size_of::<Delta<Global>>();
-    println!(rt; "start: allocations {starts}; copy: allocations {copies}; record: {bytes} bytes")?;
+    }
     for position in 0..most {
         if machine.is_final() {
             return Ok(Answer::Told);

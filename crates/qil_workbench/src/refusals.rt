@@ -38,7 +38,9 @@ fn refused<B: Allocator, A: Allocator + Copy>(
     before: &Machine<'_, '_, A>,
     moved: &Machine<'_, '_, A>,
     n: u64,
-) -> Result<Met, AllocError> {
+) -> Result<Met, AllocError>
+    requires { moved.now.program ≡ before.now.program }
+{
     let mut machine = before.try_clone()?;
     heap.refuse_nth(n);
     let answer = step(&mut machine);
@@ -58,7 +60,9 @@ pub fn allocations<B: Allocator, A: Allocator + Copy>(
     heap: &Refusing<B>,
     before: &Machine<'_, '_, A>,
     moved: &Machine<'_, '_, A>,
-) -> Result<Option<u64>, AllocError> {
+) -> Result<Option<u64>, AllocError>
+    requires { moved.now.program ≡ before.now.program }
+{
     for n in 1..MANY {
         match refused(heap, before, moved, n)? {
             Met::NoRefusal => return Ok(Some(n - 1)),

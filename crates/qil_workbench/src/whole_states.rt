@@ -33,9 +33,19 @@ fn answer_at<'c, R: Print, A: Allocator + Copy + 'c>(
     let Ok(machine) = Machine::start(alloc, code, b"main", &[]) else {
         return Ok(Answer::Refused);
     };
-    let Ok(mut session) = Session::new(alloc, Snapshots::new(alloc, machine), MOVES) else {
-        bail!("no memory");
-    };
+    match Session::new(alloc, Snapshots::new(alloc, machine), MOVES) {
+        Ok(session) => answer_session(rt, alloc, session, script),
+        Err(_) => bail!("no memory"),
+    }
+}
+
+fn answer_session<'c, R: Print, A: Allocator + Copy + 'c>(
+    rt: &R,
+    alloc: A,
+    session: Session<A, Snapshots<'c, 'c, A>>,
+    script: &[u8],
+) -> anyhow::Result<Answer> {
+    let mut session = session;
     let mut source = FromReader::new(script);
     let mut sink = IntoWriter::new(LineWriter::new(alloc, io::writer(rt))?);
     if serve(&mut session, &mut source, &mut sink).is_err() {
