@@ -12,5 +12,5 @@
     devices.py       standard input and output that are slow, closed or fail
     memory.py        each allocation refused in turn
     counts.py        how many allocations moves and commands take
-    preloaded.py     a run with the library that refuses and counts allocations
+    preloaded.py     libraries that are preloaded to a run, as the one that refuses and counts allocations
 """

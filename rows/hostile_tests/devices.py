@@ -10,6 +10,7 @@ import tempfile
 import termios
 import time
 
+from .preloaded import library
 from .running import FIRST, LOADED, TOP, Case, difference, quoted
 
 EXAMPLE = TOP / "examples" / "squares.ssa"
@@ -234,6 +235,19 @@ def output_of_size(running, program, script, transcript, size):
         return ended(running, process, transcript[:size], status, script, written=lambda: all_of(out))
 
 
+def no_bytes_taken(running):
+    """Behind each number of bytes the output takes none, without an error: status 2, unless all was written."""
+    transcript = STEPPED
+    with library("full.c") as made:
+        for count in range(len(transcript) + 2):
+            process = started(running, SUM, stdin=subprocess.PIPE, stdout=subprocess.PIPE,
+                              env={**os.environ, "LD_PRELOAD": made, "FULL_AFTER": str(count)})
+            fault = ended(running, process, transcript[:count], 0 if count >= len(transcript) else 2, b"step\n")
+            if fault:
+                return f"behind {count} bytes: {fault}"
+    return None
+
+
 def reader_goes(running, count, signals):
     """The reader goes away after so many bytes of the load lines, and then there is something to write."""
     process = started(running, SUM, stdin=subprocess.PIPE, stdout=subprocess.PIPE, restore_signals=signals)
@@ -339,6 +353,7 @@ def cases():
     for kind in ("closed", "full", "open for reading alone", "a pipe without a reader"):
         yield Case(f"standard output: {kind}", bad_output, (kind,))
     yield Case("help that can't be written", help_unwritten)
+    yield Case("an output that takes no bytes, without an error", no_bytes_taken)
     for size in range(len(TRANSCRIPT) + 2):
         yield Case(f"an output of {size} bytes", output_of_size, (EXAMPLE, SCRIPT, TRANSCRIPT, size))
     transcript = (CANONICAL / "transcript").read_bytes()
