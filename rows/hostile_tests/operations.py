@@ -14,7 +14,7 @@ VALUES = [number % 2**64 for number in (
     2**63 - 2, 2**63 - 1, 2**63, 2**63 + 1, 0xffff_ffff_0000_0007, 0x1234_5678_ffff_fffe, 0x8000_0000_7fff_ffff,
     3_141_592_653, 12_345_678_901_234_567_890, 987_654_321_987_654_321)]
 # The edges of parts of words.
-PARTS = VALUES + [0x7f, 0x80, 0xff, 0x100, 0x7fff, 0x8000, 0xffff, 0x10000, 0x8080, 0xfedc_ba98_7654_807f]
+PARTS = VALUES + [0x7f, 0xff, 0x100, 0x7fff, 0x8000, 0xffff, 0x10000, 0x8080, 0xfedc_ba98_7654_807f]
 
 
 def unsigned(bits, number):
