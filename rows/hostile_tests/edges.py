@@ -48,7 +48,7 @@ CALLS = [(4096, "", "$f @s 0"), (4112, "l 0", "$puts @s 0"), (4128, "l 0", "$mai
          (1056, "w 7", "exit 7")]
 CALLS += [(address, "l 0", f"fault no function at {address}")
           for address in (0, 1008, 1023, 1025, 1040, 1055, 1057, 1072, 4080, 4095, 4097, 4104, 4111, 4113, 4129, 4144,
-                          65_536, 16_777_216, 2**63 + 4096, 2**64 - 1)]
+                          16_777_216, 2**63 + 4096, 2**64 - 1)]
 
 
 def called(running, address, argument, place):
