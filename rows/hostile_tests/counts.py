@@ -147,12 +147,19 @@ def long_run(running, history, most):
 
 
 def ring(running):
-    """A bound takes one block, for the load; then moves that need no memory of their own take none."""
+    """A bound takes its room for the load, 24 bytes for each move that is kept, in a block, however many these are."""
     with library() as made:
-        counting, without = Counting(running, made, PLAIN, 3), Counting(running, made, PLAIN, None)
-        block, taken = counting.run(b"").allocations - without.run(b"").allocations, counting.more(b"", ROUND)
-        return difference(ROUND_SAID, counting.run(ROUND).written) or (
-            f"a block of {block}, and then {taken} allocations" if (block, taken) != (1, 0) else None)
+        few, many = (Counting(running, made, PLAIN, history).run(b"") for history in (100, 900))
+        more = many.allocations - few.allocations, many.bytes - few.bytes
+        return f"{more[0]} allocations of {more[1]} bytes more for 800 moves" if more != (0, 800 * 24) else None
+
+
+def ring_moves(running):
+    """Then moves that need no memory of their own take none."""
+    with library() as made:
+        counting = Counting(running, made, PLAIN, 3)
+        taken = counting.more(b"", ROUND)
+        return difference(ROUND_SAID, counting.run(ROUND).written) or (f"{taken} allocations" if taken else None)
 
 
 def records(running):
@@ -174,5 +181,6 @@ def cases():
     yield Case("growths of the list of records", growths)
     yield Case("3,000 moves take few allocations", long_run, (None, 20))
     yield Case("3,000 moves with --history 3 take none", long_run, (3, 0))
-    yield Case("a bound takes one block", ring)
+    yield Case("the room of a bound", ring)
+    yield Case("moves to and fro with --history 3 take no memory", ring_moves)
     yield Case("a move keeps a record and nothing beside it", records)

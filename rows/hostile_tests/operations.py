@@ -107,7 +107,7 @@ class Text:
         self.moves += 1
 
     def fault(self, running, loaded="1 functions 0 data bytes", script="", answers=""):
-        """What is wrong with the temporaries after all that stands in the text, and with the answers to a script, or None."""
+        """What is wrong with the temporaries behind the whole text, and with the answers to a script, or None."""
         text = f"{self.front}function $main({','.join(self.params)}) {{\n@s\n{''.join(self.lines)}ret\n}}\n"
         temps = "".join(f"%{name} = {value}\n" for name, value in self.temps + self.results)
         wanted = f"loaded {loaded} ssa yes\n#0 $main @s 0\n#{self.moves} $main @s {len(self.lines)}\n{temps}{answers}"

@@ -8,8 +8,8 @@ ghost use Rattle.qil_parser.specs.Grammar.{is_signed};
 ghost use Rattle.qil_parser.specs.Outcome.{Gives};
 ghost use Rattle.qil_parser.specs.declared.mark.Mark.TheVariants.{Comma as comma};
 
-use crate::mark::{Mark, token_mark, token_name};
 use crate::cursor_error::CursorError;
+use crate::mark::{Mark, token_mark, token_name};
 use qil_lexer::{Token, TokenKind, number_value};
 use qil_tree::{AbiType, Class, Name, Operand};
 

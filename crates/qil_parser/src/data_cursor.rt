@@ -10,8 +10,8 @@ ghost use Rattle.qil_parser.specs.DataParsing as reading;
 ghost use Rattle.qil_parser.specs.Outcome.{Gives};
 
 use crate::cursor::Cursor;
-use crate::mark::Mark;
 use crate::cursor_error::CursorError;
+use crate::mark::Mark;
 use qil_lexer::{TokenKind, number_value, string_bytes};
 use qil_tree::{Data, Field, Item, Items, Name, Width};
 use std::alloc::Allocator;
@@ -90,7 +90,10 @@ impl<'t, 'a> Cursor<'t, 'a> {
     }
 
     #[tactic(auto, unfolding(crate::specs::DataParsing::text_item))]
-    fn text_item<A: Allocator + Copy>(&mut self, alloc: A) -> Result<Item<'a, A>, CursorError<'t, 'a>>
+    fn text_item<A: Allocator + Copy>(
+        &mut self,
+        alloc: A,
+    ) -> Result<Item<'a, A>, CursorError<'t, 'a>>
         ensures { Gives (λ x. x) (seen self.new.rest.now) result (reading.text_item (seen self.old.rest.now)) }
     {
         let bytes = self.text(alloc)?;

@@ -9,8 +9,8 @@ ghost use Rattle.qil_parser.specs.Outcome.{Gives};
 ghost use Rattle.qil_parser.specs.declared.mark.Mark.TheVariants.{Newline as newline, Comma as comma};
 
 use crate::cursor::Cursor;
-use crate::mark::{Mark, token_name};
 use crate::cursor_error::CursorError;
+use crate::mark::{Mark, token_name};
 use qil_tree::{
     AbiType, Block, Class, Func, Inst, Items, Jump, JumpKind, Name, Param, Phi, PhiSource, Target,
 };
@@ -326,7 +326,10 @@ impl<'t, 'a> Cursor<'t, 'a> {
     }
 
     /// Parameters with commas between them, and perhaps one at the end.
-    fn params<A: Allocator + Copy>(&mut self, alloc: A) -> Result<Items<Param<'a>, A>, CursorError<'t, 'a>>
+    fn params<A: Allocator + Copy>(
+        &mut self,
+        alloc: A,
+    ) -> Result<Items<Param<'a>, A>, CursorError<'t, 'a>>
         ensures { Gives (λ x. x) (seen self.new.rest.now) result (functions.params (seen self.old.rest.now)) }
     {
         let mut items = Vec::new(alloc);
@@ -380,7 +383,10 @@ impl<'t, 'a> Cursor<'t, 'a> {
     }
 
     #[tactic(auto, unfolding(crate::specs::FunctionParsing::func))]
-    pub fn func<A: Allocator + Copy>(&mut self, alloc: A) -> Result<Func<'a, A>, CursorError<'t, 'a>>
+    pub fn func<A: Allocator + Copy>(
+        &mut self,
+        alloc: A,
+    ) -> Result<Func<'a, A>, CursorError<'t, 'a>>
         ensures { Gives (λ x. x) (seen self.new.rest.now) result (functions.func (seen self.old.rest.now)) }
     {
         let (returns, ((line, name), params)) = self.top(alloc)?;

@@ -9,8 +9,8 @@ ghost use Rattle.qil_parser.specs.Outcome.{Gives};
 ghost use Rattle.qil_parser.specs.declared.mark.Mark.TheVariants.{Newline as newline};
 
 use crate::cursor::Cursor;
-use crate::mark::Mark;
 use crate::cursor_error::CursorError;
+use crate::mark::Mark;
 use qil_tree::{
     AbiType, AllocOp, Argument, BinaryOp, CallResult, Class, CompareOp, Expr, Extension, Inst,
     InstKind, Items, LoadOp, Name, Operand, Target, UnaryOp, Width,
@@ -213,7 +213,10 @@ impl<'t, 'a> Cursor<'t, 'a> {
 
     /// An instruction without a destination.
     #[tactic(auto, unfolding(crate::specs::FunctionParsing::plain))]
-    pub fn plain<A: Allocator + Copy>(&mut self, alloc: A) -> Result<Inst<'a, A>, CursorError<'t, 'a>>
+    pub fn plain<A: Allocator + Copy>(
+        &mut self,
+        alloc: A,
+    ) -> Result<Inst<'a, A>, CursorError<'t, 'a>>
         ensures { Gives (λ x. x) (seen self.new.rest.now) result (functions.plain (seen self.old.rest.now)) }
     {
         match self.next() {
@@ -333,7 +336,10 @@ impl<'t, 'a> Cursor<'t, 'a> {
         self.plain(alloc)
     }
 
-    pub fn inst_line<A: Allocator + Copy>(&mut self, alloc: A) -> Result<Inst<'a, A>, CursorError<'t, 'a>>
+    pub fn inst_line<A: Allocator + Copy>(
+        &mut self,
+        alloc: A,
+    ) -> Result<Inst<'a, A>, CursorError<'t, 'a>>
         ensures { Gives (λ x. x) (seen self.new.rest.now) result (parsing.before functions.inst newline (seen self.old.rest.now)) }
     {
         let inst = self.inst(alloc)?;

@@ -11,8 +11,8 @@ ghost use Rattle.qil_tree.specs.declared.tree.Program.{Program};
 ghost use Rattle.qil_parser.specs.declared.error.ParseCode.{ParseCode};
 
 use crate::cursor::Cursor;
-use crate::error::{ParseCode, ParseError};
 use crate::cursor_error::CursorError;
+use crate::error::{ParseCode, ParseError};
 use crate::words::is_left_out;
 use qil_lexer::{Token, TokenKind};
 use qil_tree::Program;

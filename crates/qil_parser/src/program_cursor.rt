@@ -9,8 +9,8 @@ ghost use Rattle.qil_parser.specs.Programs.{program_of};
 ghost use Rattle.qil_parser.specs.Outcome.{Gives, Adds};
 
 use crate::cursor::Cursor;
-use crate::mark::Mark;
 use crate::cursor_error::CursorError;
+use crate::mark::Mark;
 use qil_tree::{Data, Definition, Func, Items, Program};
 use std::alloc::Allocator;
 use std::marker::Model;
@@ -110,7 +110,10 @@ impl<'t, 'a> Cursor<'t, 'a> {
     }
 
     #[tactic(auto, unfolding(crate::specs::DataParsing::thing))]
-    fn thing<A: Allocator + Copy>(&mut self, alloc: A) -> Result<Defined<'a, A>, CursorError<'t, 'a>>
+    fn thing<A: Allocator + Copy>(
+        &mut self,
+        alloc: A,
+    ) -> Result<Defined<'a, A>, CursorError<'t, 'a>>
         ensures { Gives (λ x. x) (seen self.new.rest.now) result (reading.thing (seen self.old.rest.now)) }
     {
         if self.starts_with(Mark::Data) {
@@ -122,7 +125,10 @@ impl<'t, 'a> Cursor<'t, 'a> {
     }
 
     #[tactic(auto, unfolding(crate::specs::DataParsing::def_line, crate::specs::DataParsing::def))]
-    fn def_line<A: Allocator + Copy>(&mut self, alloc: A) -> Result<Defined<'a, A>, CursorError<'t, 'a>>
+    fn def_line<A: Allocator + Copy>(
+        &mut self,
+        alloc: A,
+    ) -> Result<Defined<'a, A>, CursorError<'t, 'a>>
         ensures { Gives (λ x. x) (seen self.new.rest.now) result (reading.def_line (seen self.old.rest.now)) }
     {
         self.links()?;
@@ -141,7 +147,10 @@ impl<'t, 'a> Cursor<'t, 'a> {
     }
 
     #[tactic(auto, unfolding(crate::specs::DataParsing::program))]
-    pub fn program<A: Allocator + Copy>(&mut self, alloc: A) -> Result<Program<'a, A>, CursorError<'t, 'a>>
+    pub fn program<A: Allocator + Copy>(
+        &mut self,
+        alloc: A,
+    ) -> Result<Program<'a, A>, CursorError<'t, 'a>>
         ensures { Gives (λ x. x) (seen self.new.rest.now) result (reading.program (seen self.old.rest.now)) }
     {
         self.line()?;

@@ -27,7 +27,7 @@ use qil_layout::layout;
 use qil_machine::Machine;
 use qil_numbering::{Code, number};
 use qil_session::Session;
-use qil_streams::{Outlet, Put, Sink, Source, PutError};
+use qil_streams::{Outlet, Put, PutError, Sink, Source};
 use std::alloc::Allocator;
 use std::hash::RandomState;
 

@@ -27,8 +27,8 @@ mod run;
 mod stopwatch;
 mod whole_states;
 
-use anyhow::bail;
 use answer::Answer;
+use anyhow::bail;
 use ask::{Bench, Question, ask};
 use refusing::Refusing;
 use std::hash::RandomState;
@@ -46,7 +46,7 @@ struct Words {
     number: Option<u32>,
 }
 
-fn words<R: Env + AllocGlobal>(rt: &R) -> anyhow::Result<Words> {
+fn read_words<R: Env + AllocGlobal>(rt: &R) -> anyhow::Result<Words> {
     let mut words = Words {
         question: None,
         number: None,
@@ -73,7 +73,7 @@ fn split(input: &[u8], words: Words) -> (&[u8], &[u8]) {
 }
 
 fn main(rt: HostRuntime) -> anyhow::Result<ExitCode> {
-    let words = words(&rt)?;
+    let words = read_words(&rt)?;
     let Some(question) = words.question else {
         bail!("operations, read-back, run, moves or whole-states");
     };

@@ -96,7 +96,11 @@ pub fn poke_slot<B: Allocator, A: Allocator + Copy>(
                 return Ok(Poked::Fault);
             }
             machine.undo(delta);
-            Ok(if machine.same(before) { Poked::Undone } else { Poked::Fault })
+            Ok(if machine.same(before) {
+                Poked::Undone
+            } else {
+                Poked::Fault
+            })
         }
         Err(_) if is_right && machine.same(before) => Ok(Poked::Refused),
         Err(_) => Ok(Poked::Fault),
@@ -119,7 +123,11 @@ pub fn poke_data<B: Allocator, A: Allocator + Copy>(
                 return Ok(Poked::Fault);
             }
             machine.undo(delta);
-            Ok(if machine.same(before) { Poked::Undone } else { Poked::Fault })
+            Ok(if machine.same(before) {
+                Poked::Undone
+            } else {
+                Poked::Fault
+            })
         }
         Err(_) if is_right && machine.same(before) => Ok(Poked::Refused),
         Err(_) => Ok(Poked::Fault),
