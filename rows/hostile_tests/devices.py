@@ -10,11 +10,14 @@ import tempfile
 import termios
 import time
 
+from .preloaded import library
 from .running import FIRST, LOADED, TOP, Case, difference, quoted
 
 EXAMPLE = TOP / "examples" / "squares.ssa"
 SCRIPT = (TOP / "examples" / "squares.script").read_bytes()
 TRANSCRIPT = (TOP / "examples" / "squares.transcript").read_bytes()
+# A row that shows each shape of an instruction.
+CANONICAL = TOP / "rows" / "canonical-text"
 SUM = TOP / "examples" / "sum.ssa"
 STEPPED = LOADED + b"#1 $main @start 1\n"
 
@@ -117,6 +120,18 @@ def held_by_hand(running):
     return ended(running, process, b"", 0, written=rest)
 
 
+def ended_by_hand(running):
+    """The end of input is told at a terminal behind an unfinished line, once; what comes behind it isn't waited for."""
+    ours, theirs = os.openpty()
+    process = started(running, SUM, stdin=theirs, stdout=subprocess.PIPE)
+    os.close(theirs)
+    # The first ends the piece, the second is a read of no bytes.
+    os.write(ours, b"step\x04\x04")
+    fault = ended(running, process, STEPPED, 0)
+    os.close(ours)
+    return fault
+
+
 def bad_input(running, kind):
     """An input that can't be read: the load lines, and status 2."""
     files = {"a folder": ("/", os.O_RDONLY), "open for writing alone": (os.devnull, os.O_WRONLY),
@@ -207,17 +222,30 @@ def help_unwritten(running):
     return None if run.returncode == 2 else f"status {run.returncode} in place of 2"
 
 
-def output_of_size(running, size):
+def output_of_size(running, program, script, transcript, size):
     """A file that takes so many bytes and no more: it has the front of the transcript of that length."""
     def bounded():
         resource.setrlimit(resource.RLIMIT_FSIZE, (size, size))
 
     with tempfile.TemporaryFile() as out:
         # Python ignores the signal of a file that is too long, and so does what it starts without restoring signals.
-        process = started(running, EXAMPLE, stdin=subprocess.PIPE, stdout=out, preexec_fn=bounded,
+        process = started(running, program, stdin=subprocess.PIPE, stdout=out, preexec_fn=bounded,
                           restore_signals=False)
-        status = 0 if size >= len(TRANSCRIPT) else 2
-        return ended(running, process, TRANSCRIPT[:size], status, SCRIPT, written=lambda: all_of(out))
+        status = 0 if size >= len(transcript) else 2
+        return ended(running, process, transcript[:size], status, script, written=lambda: all_of(out))
+
+
+def no_bytes_taken(running):
+    """Behind each number of bytes the output takes none, without an error: status 2, unless all was written."""
+    transcript = STEPPED
+    with library("full.c") as made:
+        for count in range(len(transcript) + 2):
+            process = started(running, SUM, stdin=subprocess.PIPE, stdout=subprocess.PIPE,
+                              env={**os.environ, "LD_PRELOAD": made, "FULL_AFTER": str(count)})
+            fault = ended(running, process, transcript[:count], 0 if count >= len(transcript) else 2, b"step\n")
+            if fault:
+                return f"behind {count} bytes: {fault}"
+    return None
 
 
 def reader_goes(running, count, signals):
@@ -312,6 +340,7 @@ def cases():
     yield Case("a script of single bytes", fed_by_bytes)
     yield Case("a transcript that is read by single bytes", read_by_bytes)
     yield Case("a session held by hand", held_by_hand)
+    yield Case("a session ended by hand", ended_by_hand)
     for kind in ("closed", "without a byte now", "a folder", "open for writing alone", "memory that can't be read"):
         yield Case(f"standard input: {kind}", bad_input, (kind,))
     for script, transcript, status in FAILING:
@@ -324,8 +353,13 @@ def cases():
     for kind in ("closed", "full", "open for reading alone", "a pipe without a reader"):
         yield Case(f"standard output: {kind}", bad_output, (kind,))
     yield Case("help that can't be written", help_unwritten)
+    yield Case("an output that takes no bytes, without an error", no_bytes_taken)
     for size in range(len(TRANSCRIPT) + 2):
-        yield Case(f"an output of {size} bytes", output_of_size, (size,))
+        yield Case(f"an output of {size} bytes", output_of_size, (EXAMPLE, SCRIPT, TRANSCRIPT, size))
+    transcript = (CANONICAL / "transcript").read_bytes()
+    for size in range(len(LOADED), len(transcript) + 2):
+        yield Case(f"an output of {size} bytes, of a block's text", output_of_size,
+                   (CANONICAL / "program.ssa", b"list\n", transcript, size))
     for count in range(len(LOADED) + 1):
         yield Case(f"a reader that goes away after {count} bytes", reader_goes, (count, count % 2 == 0))
     yield Case("a full pipe that doesn't wait", full_pipe)

@@ -1,4 +1,4 @@
-"""Loads and stores at the edges of live memory: the data, and the part of the stack that was made."""
+"""Loads and stores at the edges of live memory, the data and the part of the stack that was made; calls of addresses."""
 from .running import Case
 
 # The bytes 1 to 24 as data, and as many on the stack, which starts at 16,777,216.
@@ -27,6 +27,36 @@ def dead_addresses(width):
             2**64 - 1 - width, 2**64 - 1]
 
 
+# Three functions, one of which has the name of a built-in, and a call of the address that the last is given.
+CALLS_TEXT = """function $f() {{
+@s
+	ret
+}}
+function $puts(l %x) {{
+@s
+	ret
+}}
+function $main(l %a) {{
+@s
+	call %a({argument})
+	ret
+}}
+"""
+# Addresses, an argument of the call, and the place behind it. The functions lie 16 bytes apart from 4096 on, `$putchar` at
+# 1024 and `$exit` at 1056.
+CALLS = [(4096, "", "$f @s 0"), (4112, "l 0", "$puts @s 0"), (4128, "l 0", "$main @s 0"), (1024, "w 65", "$main @s 1"),
+         (1056, "w 7", "exit 7")]
+CALLS += [(address, "l 0", f"fault no function at {address}")
+          for address in (0, 1008, 1023, 1025, 1040, 1055, 1057, 1072, 4080, 4095, 4097, 4104, 4111, 4113, 4129, 4144,
+                          16_777_216, 2**63 + 4096, 2**64 - 1)]
+
+
+def called(running, address, argument, place):
+    text = CALLS_TEXT.format(argument=argument).encode()
+    written = f"loaded 3 functions 0 data bytes ssa yes\n#0 $main @s 0\n#1 {place}\n"
+    return running.fault(text, b"step\n", [str(address)], written.encode(), 0)
+
+
 def access(running, line, address, end):
     text = TEXT.format(access=line).encode()
     written = f"loaded 1 functions 24 data bytes ssa yes\n#0 $main @s 0\n{end}\n"
@@ -34,6 +64,8 @@ def access(running, line, address, end):
 
 
 def cases():
+    for address, argument, place in CALLS:
+        yield Case(f"call of {address}", called, (address, argument, place))
     for width, address, value in LIVE:
         yield Case(f"load of {width} at {address}", access, (f"%v =l {LOADS[width]} %a", address, f"#4 done {value}"))
     for width in LOADS:

@@ -1,4 +1,4 @@
-"""A run with a library preloaded to it (refusing.c), which refuses an allocation and counts them."""
+"""Libraries that are preloaded to a run; and a run with the one that refuses an allocation and counts them (refusing.c)."""
 import os
 import pathlib
 import shutil
@@ -15,18 +15,18 @@ class NoCompiler(Exception):
 
 
 @contextmanager
-def library():
+def library(source="refusing.c"):
     """The library, compiled into a folder of its own."""
-    with tempfile.TemporaryDirectory(prefix="refusing-") as folder:
-        made = os.path.join(folder, "refusing.so")
+    with tempfile.TemporaryDirectory(prefix="preloaded-") as folder:
+        made = os.path.join(folder, "preloaded.so")
         for compiler in compilers():
             # What the library takes of the C library is there in the program that it is preloaded to.
             line = [*compiler, "-shared", "-fPIC", "-O1", "-fno-builtin", "-nostdlib", "-o", made,
-                    str(HERE.parent / "refusing.c")]
+                    str(HERE.parent / source)]
             if subprocess.run(line, stderr=subprocess.DEVNULL).returncode == 0:
                 yield made
                 return
-        raise NoCompiler("there is no C compiler for the library that refuses")
+        raise NoCompiler(f"there is no C compiler for {source}")
 
 
 def compilers():

@@ -4,6 +4,7 @@ from random import Random
 import reference
 from reference.session import lines_of
 
+from . import single_lines
 from .programs import random_program
 from .running import FIRST, LOADED, TOP, Case
 from .scripts import random_script
@@ -170,6 +171,7 @@ def of_scripts(running, name):
 def cases():
     for name in SCRIPTS:
         yield Case(f"script: {name}", of_scripts, (name,))
+    yield from single_lines.cases()
     yield Case("a script of 2^24 bytes, answered whole", greatest_script)
     yield Case("a script of 2^24 bytes and one", too_long_script)
     for name in ROUNDS:

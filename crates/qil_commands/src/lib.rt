@@ -10,6 +10,3 @@ mod words;
 
 pub use command::{Address, BreakPlace, Command, Name, Refused};
 pub use read::read_command;
-
-#[cfg(test)]
-mod tests;

@@ -1,12 +1,6 @@
-//! Tests of `qil_lexer`, `qil_parser`, `qil_texts`, `qil_checker` and `qil_layout` that only a caller of these crates can make. What
-//! each text is answered is asked of the built program.
+//! How the refusals of `qil_lexer`, `qil_parser`, `qil_checker` and `qil_layout` are told to a caller that prints them,
+//! which no program here does. What a load answers is asked of the built program.
 #![tactic(auto)]
 
 #[cfg(test)]
-mod canonical;
-#[cfg(test)]
 mod messages;
-#[cfg(test)]
-mod programs;
-#[cfg(test)]
-mod refusals;

@@ -11,6 +11,3 @@ mod numbers;
 pub use firsts::Firsts;
 pub use groups::Groups;
 pub use numbers::Numbers;
-
-#[cfg(test)]
-mod tests;

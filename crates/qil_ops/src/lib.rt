@@ -10,6 +10,3 @@ mod operations;
 pub use division::DivFault;
 pub use laws::{bit_by_bit, quotient_truncates, shifted_bits, signed_value};
 pub use operations::{binary, compare, extend, unary};
-
-#[cfg(test)]
-mod tests;
