@@ -1,9 +1,12 @@
 //! A session over whole states, in the place of the records by which `qrev` goes back. Keeping m states takes m times the
 //! memory of a state: it is for sessions of few moves.
 
+ghost use Rattle.std.specs.Prelude.{◌^◌, ◌<◌, ◌≤◌};
+ghost use Rattle.qil_meaning.specs.Timeline.{position};
+
 use crate::answer::Answer;
 use anyhow::bail;
-use qil_history::Snapshots;
+use qil_history::{History, Snapshots};
 use qil_machine::Machine;
 use qil_numbering::Code;
 use qil_transcript::{FromReader, IntoWriter, Session, serve};
@@ -34,21 +37,27 @@ fn answer_at<'c, R: Print, A: Allocator + Copy + 'c>(
         return Ok(Answer::Refused);
     };
     match Session::new(alloc, Snapshots::new(alloc, machine), MOVES) {
-        Ok(session) => answer_session(rt, alloc, session, script),
+        Ok(session) => {
+            let mut session = session;
+            answer_session(rt, alloc, &mut session, script)
+        }
         Err(_) => bail!("no memory"),
     }
 }
 
-fn answer_session<'c, R: Print, A: Allocator + Copy + 'c>(
+/// Answers a script in a session over any history.
+fn answer_session<'c, R: Print, A: Allocator + Copy + 'c, H: History<A, Machine<'c, 'c, A>>>(
     rt: &R,
     alloc: A,
-    session: Session<A, Snapshots<'c, 'c, A>>,
+    session: &mut Session<A, H>,
     script: &[u8],
-) -> anyhow::Result<Answer> {
-    let mut session = session;
+) -> anyhow::Result<Answer>
+    requires before { position (H.timeline session.old.history) < 2 ^ 60 }
+    requires limit { session.old.limit ≤ 4294967295 }
+{
     let mut source = FromReader::new(script);
     let mut sink = IntoWriter::new(LineWriter::new(alloc, io::writer(rt))?);
-    if serve(&mut session, &mut source, &mut sink).is_err() {
+    if serve(session, &mut source, &mut sink).is_err() {
         bail!("the script or the output failed");
     }
     Ok(Answer::Told)
