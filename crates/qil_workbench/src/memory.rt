@@ -2,13 +2,12 @@
 
 ghost use Rattle.qil_memory.specs.Calls.{IsWidth};
 
+use crate::load::checked;
 use crate::stopwatch::Stopwatch;
-use anyhow::Context;
-use qil_checker::check;
+use anyhow::{Context, bail};
+use qil_checker::Checked;
 use qil_layout::layout;
-use qil_lexer::tokens;
 use qil_memory::{DATA_BASE, Memory, STACK_BASE};
-use qil_parser::parse;
 use std::alloc::Global;
 use std::hash::RandomState;
 use std::io;
@@ -163,16 +162,25 @@ pub fn time<R: Clock + Print + Eprint>(
 /// Data of 8,192 bytes, and no function.
 const TEXT: &[u8] = b"data $bytes = { z 8192 }\n";
 
-/// A memory with that data, and as many live bytes of the stack.
-pub fn memory_of(alloc: Global, keys: RandomState) -> anyhow::Result<Memory<Global>> {
-    let tokens = tokens(alloc, TEXT)?;
-    let program = parse(alloc, &tokens)?;
-    let checked = match check(alloc, keys, program) {
-        Ok(checked) => checked,
-        Err((_, error)) => return Err(error.into()),
-    };
-    let image = layout(alloc, keys, &checked)?;
+fn memory_over(
+    alloc: Global,
+    keys: RandomState,
+    checked: &Checked<'_, Global>,
+) -> anyhow::Result<Memory<Global>> {
+    let image = layout(alloc, keys, checked)?;
     let mut memory = Memory::new(alloc, &image)?;
     let (_, _) = memory.alloc(16, 8192).ok().context("no room on the stack")?;
     Ok(memory)
+}
+
+/// A memory with that data, and as many live bytes of the stack.
+pub fn memory_of<R: Clock + Eprint>(
+    rt: &R,
+    alloc: Global,
+    keys: RandomState,
+) -> anyhow::Result<Memory<Global>> {
+    match checked(rt, alloc, keys, TEXT)? {
+        Some(checked) => memory_over(alloc, keys, &checked),
+        None => bail!("no memory"),
+    }
 }

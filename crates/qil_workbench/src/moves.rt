@@ -10,16 +10,17 @@ use std::alloc::{AllocError, Allocator, Global};
 use std::mem::size_of;
 
 /// The weight of the next move's record, if that fits the machine behind the move and leads back to the one before.
-fn weight<A: Allocator + Copy>(before: &Machine<'_, '_, A>) -> anyhow::Result<Option<u64>> {
+fn weight<A: Allocator + Copy>(before: &Machine<'_, '_, A>) -> Result<Option<u64>, AllocError> {
     let mut machine = before.try_clone()?;
-    let delta = machine.advance()?;
-    let is_changed = !machine.same(before);
+    let Ok(delta) = machine.advance() else {
+        return Ok(None);
+    };
     let weight = delta.weight();
-    if !delta.fits(&machine) {
+    if machine.same(before) || !delta.fits(&machine) {
         return Ok(None);
     }
     machine.undo(delta);
-    Ok(if is_changed && machine.same(before) {
+    Ok(if machine.same(before) {
         Some(weight)
     } else {
         None
@@ -27,20 +28,24 @@ fn weight<A: Allocator + Copy>(before: &Machine<'_, '_, A>) -> anyhow::Result<Op
 }
 
 /// What the next move's record keeps.
-fn kind<A: Allocator + Copy>(before: &Machine<'_, '_, A>) -> anyhow::Result<&'static str> {
+fn kind<A: Allocator + Copy>(before: &Machine<'_, '_, A>) -> Result<&'static str, AllocError> {
     let mut machine = before.try_clone()?;
-    let delta = machine.advance()?;
-    Ok(kind_of(delta.into_kind()))
+    match machine.advance() {
+        Ok(delta) => Ok(kind_of(delta.into_kind())),
+        Err(_) => Ok("no move"),
+    }
 }
 
 /// How many allocations the move behind a state takes.
 fn taken<B: Allocator, A: Allocator + Copy>(
     heap: &Refusing<B>,
     before: &Machine<'_, '_, A>,
-) -> anyhow::Result<Option<u64>> {
+) -> Result<Option<u64>, AllocError> {
     let mut moved = before.try_clone()?;
-    step(&mut moved)?;
-    Ok(allocations(heap, before, &moved)?)
+    match step(&mut moved) {
+        Ok(()) => allocations(heap, before, &moved),
+        Err(_) => Ok(None),
+    }
 }
 
 fn poked(word: &'static str, came: Poked) -> &'static str {

@@ -122,7 +122,7 @@ pub fn time_all<R: Clock + Print + Eprint + AllocGlobal>(
 ) -> anyhow::Result<()> {
     let watch = Stopwatch::new(rt, thousands);
     time(&watch)?;
-    let mut memory = memory_of(rt.alloc(), keys)?;
+    let mut memory = memory_of(rt, rt.alloc(), keys)?;
     time_memory(&watch, &mut memory)?;
     Ok(())
 }

@@ -12,7 +12,7 @@ use qil_tree::{
 use std::alloc::Allocator;
 
 /// A function of a tree, and that of its name in a code.
-#[derive(Clone, Copy, Drop)]
+#[derive(Drop)]
 pub struct Reader<'r, 'c, 'a, 't, A: Allocator> {
     code: &'r Code<'c, 'a, A>,
     func: FuncId,

@@ -24,24 +24,36 @@ pub fn report<R: Print, A: Allocator + Copy>(
     Ok(())
 }
 
+/// What a fault is called, and the address that is told with it.
+fn words_of(fault: Fault) -> (&'static str, Option<u64>) {
+    match fault {
+        Fault::Division(DivFault::Zero) => ("division by zero", None),
+        Fault::Division(DivFault::Overflow) => ("division overflow", None),
+        Fault::DeadAddress(address) => ("dead address", Some(address)),
+        Fault::Unset(_) => ("unset temporary", None),
+        Fault::OverlappingBlit => ("overlapping blit", None),
+        Fault::StackFull => ("stack full", None),
+        Fault::CallsTooDeep => ("calls too deep", None),
+        Fault::NoFunction(address) => ("no function at", Some(address)),
+        Fault::CallShape => ("call shape", None),
+        Fault::OutputFull => ("output full", None),
+        Fault::Halted => ("halted", None),
+    }
+}
+
 fn report_fault<R: Print, A: Allocator + Copy>(
     rt: &R,
     machine: &Machine<'_, '_, A>,
     position: u64,
     fault: Fault,
 ) -> anyhow::Result<()> {
-    match fault {
-        Fault::Division(DivFault::Zero) => println!(rt; "#{position} fault division by zero")?,
-        Fault::Division(DivFault::Overflow) => println!(rt; "#{position} fault division overflow")?,
-        Fault::DeadAddress(address) => println!(rt; "#{position} fault dead address {address}")?,
-        Fault::Unset(slot) => report_unset(rt, machine, position, slot)?,
-        Fault::OverlappingBlit => println!(rt; "#{position} fault overlapping blit")?,
-        Fault::StackFull => println!(rt; "#{position} fault stack full")?,
-        Fault::CallsTooDeep => println!(rt; "#{position} fault calls too deep")?,
-        Fault::NoFunction(address) => println!(rt; "#{position} fault no function at {address}")?,
-        Fault::CallShape => println!(rt; "#{position} fault call shape")?,
-        Fault::OutputFull => println!(rt; "#{position} fault output full")?,
-        Fault::Halted => println!(rt; "#{position} fault halted")?,
+    if let Fault::Unset(slot) = fault {
+        return report_unset(rt, machine, position, slot);
+    }
+    let (words, address) = words_of(fault);
+    match address {
+        Some(address) => println!(rt; "#{position} fault {words} {address}")?,
+        None => println!(rt; "#{position} fault {words}")?,
     }
     Ok(())
 }
