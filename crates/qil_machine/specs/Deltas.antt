@@ -8,7 +8,7 @@ use Rattle.qil_machine.specs.Moves.{Move, at, end_of}
 use Rattle.qil_machine.specs.Kinds.{one, value_of, slots_move, bytes_move, called_move, returned_move, grown_move, copied_move, wrote_move, ended_move, poked_slot_move, poked_bytes_move}
 
 abbrev pub move_of : {A : Type 0} → Kind A → Move
-move_of (kinds.Assigned set slot index value) = slots_move (at index) (one slot (value_of set value))
+move_of (kinds.Assigned slot index value) = slots_move (at index) (one slot value)
 move_of (kinds.Stored count index address number) = bytes_move index address (low_bytes count number)
 move_of (kinds.Left block) = slots_move (end_of block) []
 move_of (kinds.LeftOne set block slot value) = slots_move (end_of block) (saved_slot set slot value ∷ [])

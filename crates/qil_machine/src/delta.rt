@@ -31,8 +31,8 @@ pub struct Copied<A: Allocator> {
 /// The kinds of moves. A flag says whether a slot was set; then the number is what it held.
 #[derive(Drop)]
 pub enum Kind<A: Allocator> {
-    /// Flag, slot, index, old value.
-    Assigned(bool, Slot, u32, u64),
+    /// Slot, index, what the slot held.
+    Assigned(Slot, u32, Option<u64>),
     /// How many bytes, index, address, and the number that they spelled.
     Stored(u8, u32, u32, u64),
     /// The block that was left, at its end.
@@ -82,13 +82,8 @@ impl<A: Allocator> Delta<A> {
     pub(crate) fn assigned(slot: Slot, old: Option<u64>, index: u32) -> Delta<A>
         ensures { result ≡ slots_move (at index) (one slot old) }
     {
-        match old {
-            Some(old) => Delta {
-                kind: Kind::Assigned(true, slot, index, old),
-            },
-            None => Delta {
-                kind: Kind::Assigned(false, slot, index, 0),
-            },
+        Delta {
+            kind: Kind::Assigned(slot, index, old),
         }
     }
 
@@ -231,7 +226,7 @@ impl<A: Allocator> Delta<A> {
         ensures { result ≡ weight self.now }
     {
         match &self.kind {
-            Kind::Assigned(_, _, _, _) => 6,
+            Kind::Assigned(_, _, _) => 6,
             Kind::Stored(count, _, _, _) => 4 + u64::from(*count),
             Kind::Left(_) => 4,
             Kind::LeftOne(_, _, _, _) => 6,

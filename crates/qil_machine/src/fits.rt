@@ -27,9 +27,7 @@ impl<A: Allocator + Copy> Delta<A> {
         ensures { IsTrue result ↔ Fits self.now machine.now }
     {
         match &self.kind {
-            Kind::Assigned(set, slot, index, value) => {
-                machine.fits_assigned(*slot, value_of(*set, *value), *index)
-            }
+            Kind::Assigned(slot, index, value) => machine.fits_assigned(*slot, *value, *index),
             Kind::Stored(count, index, address, number) => {
                 machine.fits_stored(*count, *index, *address, *number)
             }

@@ -27,9 +27,7 @@ impl<'c, 'a, A: Allocator + Copy> Machine<'c, 'a, A> {
     {
         let Delta { kind } = delta;
         match kind {
-            Kind::Assigned(set, slot, index, value) => {
-                self.undo_assigned(slot, value_of(set, value), index);
-            }
+            Kind::Assigned(slot, index, value) => self.undo_assigned(slot, value, index),
             Kind::Stored(count, index, address, number) => {
                 self.undo_stored(count, index, address, number);
             }
@@ -66,7 +64,7 @@ impl<'c, 'a, A: Allocator + Copy> Machine<'c, 'a, A> {
         ensures { self.new ≡ undone (slots_move (at index) (one slot value)) self.old }
     {
         let _ = self.frames.assign(slot, value, index);
-        self.status = Status::Running;
+        run_again(&mut self.status);
     }
 
     #[inline(always)]
@@ -78,7 +76,7 @@ impl<'c, 'a, A: Allocator + Copy> Machine<'c, 'a, A> {
         self.memory
             .put_back(u64::from(address), u64::from(count), number);
         self.frames.set_index(index);
-        self.status = Status::Running;
+        run_again(&mut self.status);
     }
 
     #[inline(always)]
@@ -91,7 +89,7 @@ impl<'c, 'a, A: Allocator + Copy> Machine<'c, 'a, A> {
         let end = end_of(self.code, self.frames.innermost().func(), block);
         self.frames
             .undo_enter(PhiSaved::from_parts(block, end, slots));
-        self.status = Status::Running;
+        run_again(&mut self.status);
     }
 
     #[inline(always)]
@@ -101,7 +99,7 @@ impl<'c, 'a, A: Allocator + Copy> Machine<'c, 'a, A> {
     {
         let _ = self.frames.pop();
         self.frames.set_index(index);
-        self.status = Status::Running;
+        run_again(&mut self.status);
     }
 
     #[inline(always)]
@@ -112,7 +110,7 @@ impl<'c, 'a, A: Allocator + Copy> Machine<'c, 'a, A> {
         self.memory.set_top(u64::from(top));
         put_received(&mut self.frames, frame.result(), value);
         self.frames.push(frame);
-        self.status = Status::Running;
+        run_again(&mut self.status);
     }
 
     /// The rare kinds are taken out of their boxes in calls of their own, so that the way of the others has no room for them.
@@ -139,7 +137,7 @@ impl<'c, 'a, A: Allocator + Copy> Machine<'c, 'a, A> {
         self.memory.undo(saved);
         let _ = self.frames.set(slot, value);
         self.frames.set_index(index);
-        self.status = Status::Running;
+        run_again(&mut self.status);
     }
 
     #[inline(never)]
@@ -159,7 +157,7 @@ impl<'c, 'a, A: Allocator + Copy> Machine<'c, 'a, A> {
         let _ = self.memory.top();
         self.memory.undo(saved);
         self.frames.set_index(index);
-        self.status = Status::Running;
+        run_again(&mut self.status);
     }
 
     fn undo_wrote(&mut self, index: u32, count: u32)
@@ -169,7 +167,7 @@ impl<'c, 'a, A: Allocator + Copy> Machine<'c, 'a, A> {
         let length = count as usize;
         self.output.truncate(length);
         self.frames.set_index(index);
-        self.status = Status::Running;
+        run_again(&mut self.status);
     }
 
     fn undo_wrote_to(&mut self, slot: Slot, value: Option<u64>, index: u32, count: u32)
@@ -179,14 +177,14 @@ impl<'c, 'a, A: Allocator + Copy> Machine<'c, 'a, A> {
         self.output.truncate(count as usize);
         let _ = self.frames.set(slot, value);
         self.frames.set_index(index);
-        self.status = Status::Running;
+        run_again(&mut self.status);
     }
 
     fn undo_ended(&mut self)
         requires { Fits ended_move self.old }
         ensures { self.new ≡ undone ended_move self.old }
     {
-        self.status = Status::Running;
+        run_again(&mut self.status);
     }
 
     fn undo_poked_slot(&mut self, slot: Slot, value: Option<u64>)
@@ -203,6 +201,17 @@ impl<'c, 'a, A: Allocator + Copy> Machine<'c, 'a, A> {
     {
         self.memory
             .put_back(u64::from(address), u64::from(count), number);
+    }
+}
+
+/// Makes a status that of a run that goes on. Nearly each move is taken back while it does: then nothing is written.
+#[inline(always)]
+fn run_again(status: &mut Status)
+    ensures { status.new ≡ Status.Running }
+{
+    match status {
+        Status::Running => {}
+        Status::Done(_) | Status::Exited(_) | Status::Faulted(_) => *status = Status::Running,
     }
 }
 

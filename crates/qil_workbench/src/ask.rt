@@ -79,8 +79,12 @@ fn ask_checked<R: Clock + Print + Eprint, A: Allocator + Copy>(
 ) -> anyhow::Result<Answer> {
     let rt = bench.rt;
     let start = Instant::now(rt)?;
-    let Ok(image) = layout(alloc, bench.keys, checked) else {
-        return Ok(Answer::Refused)
+    let image = match layout(alloc, bench.keys, checked) {
+        Ok(image) => image,
+        Err(error) => {
+            println!(rt; "refused: {error}")?;
+            return Ok(Answer::Told);
+        }
     };
     let layout_time = start.elapsed(rt)?.as_micros();
     let start = Instant::now(rt)?;
@@ -98,6 +102,6 @@ pub fn ask<R: Clock + Print + Eprint, A: Allocator + Copy>(
 ) -> anyhow::Result<Answer> {
     match checked(bench.rt, alloc, bench.keys, text)? {
         Some(checked) => ask_checked(bench, alloc, &checked),
-        None => Ok(Answer::Refused),
+        None => Ok(Answer::Told),
     }
 }

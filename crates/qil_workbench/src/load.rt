@@ -6,11 +6,21 @@ use qil_checker::{Checked, check};
 use qil_lexer::tokens;
 use qil_parser::{Program, parse};
 use std::alloc::Allocator;
+use std::fmt::Display;
 use std::hash::RandomState;
 use std::time::{Clock, Instant};
 
-/// Checks a program, and tells the microseconds that it took. Nothing where it is refused.
-fn check_timed<'t, R: Clock + Eprint, A: Allocator + Copy>(
+/// Tells why there is no program, as its error says it.
+fn refused<'t, R: Print, A: Allocator, E: Display>(
+    rt: &R,
+    error: &E,
+) -> anyhow::Result<Option<Checked<'t, A>>> {
+    println!(rt; "refused: {error}")?;
+    Ok(None)
+}
+
+/// Checks a program, and tells the microseconds that it took, or why it is refused.
+fn check_timed<'t, R: Clock + Print + Eprint, A: Allocator + Copy>(
     rt: &R,
     alloc: A,
     keys: RandomState,
@@ -26,22 +36,23 @@ fn check_timed<'t, R: Clock + Eprint, A: Allocator + Copy>(
             eprintln!(rt; "check {time}")?;
             Ok(Some(checked))
         }
-        Err(_) => Ok(None),
+        Err((_program, error)) => refused(rt, &error),
     }
 }
 
-/// The program of a text, checked; nothing where it is refused.
-pub fn checked<'t, R: Clock + Eprint, A: Allocator + Copy>(
+/// The program of a text, checked. Where it is refused the line of that is told.
+pub fn checked<'t, R: Clock + Print + Eprint, A: Allocator + Copy>(
     rt: &R,
     alloc: A,
     keys: RandomState,
     text: &'t [u8],
 ) -> anyhow::Result<Option<Checked<'t, A>>> {
-    let Ok(found) = tokens(alloc, text) else {
-        return Ok(None)
+    let found = match tokens(alloc, text) {
+        Ok(found) => found,
+        Err(error) => return refused(rt, &error),
     };
     match parse(alloc, &found) {
         Ok(program) => check_timed(rt, alloc, keys, program),
-        Err(_) => Ok(None),
+        Err(error) => refused(rt, &error),
     }
 }

@@ -3,8 +3,10 @@
 use crate::answer::Answer;
 use crate::record::kind_of;
 use crate::refusals::{Poked, allocations, poke_data, poke_slot, step};
+use qil_frames::Frame;
 use qil_machine::{Delta, Machine, MoveError};
-use qil_numbering::Code;
+use qil_memory::Saved;
+use qil_numbering::{Code, NumberedInst, Source};
 use refusing::{Refusing, refuse_each};
 use std::alloc::{AllocError, Allocator, Global};
 use std::mem::size_of;
@@ -107,7 +109,7 @@ fn copy_refusals<B: Allocator, A: Allocator + Copy>(
     refuse_each(heap, |_| copied(machine))
 }
 
-/// Tells how many allocations a start and a copy take, and how big a record is: false where one went on without memory.
+/// Tells how many allocations a start and a copy take: false where one went on without memory.
 fn tell_start<R: Print, B: Allocator, A: Allocator + Copy>(
     rt: &R,
     heap: &Refusing<B>,
@@ -122,9 +124,21 @@ fn tell_start<R: Print, B: Allocator, A: Allocator + Copy>(
         println!(rt; "a start or a copy without memory")?;
         return Ok(false);
     };
-    let bytes = size_of::<Delta<Global>>();
-    println!(rt; "start: allocations {starts}; copy: allocations {copies}; record: {bytes} bytes")?;
+    println!(rt; "start: allocations {starts}; copy: allocations {copies}")?;
     Ok(true)
+}
+
+/// Tells how many bytes a record takes, what it keeps of bytes, a frame's handle, an operand and an instruction.
+fn tell_sizes<R: Print>(rt: &R) -> anyhow::Result<()> {
+    let record = size_of::<Delta<Global>>();
+    let kept = size_of::<Saved<Global>>();
+    let frame = size_of::<Frame<Global>>();
+    let operand = size_of::<Source>();
+    let inst = size_of::<NumberedInst<Global>>();
+    println!(rt;
+        "bytes: record {record}, kept bytes {kept}, frame {frame}, operand {operand}, instruction {inst}"
+    )?;
+    Ok(())
 }
 
 /// Tells of each move, up to the end of the run or so many moves.
@@ -135,6 +149,7 @@ pub fn each_move<R: Print, B: Allocator, A: Allocator + Copy>(
     code: &Code<'_, '_, A>,
     most: u32,
 ) -> anyhow::Result<Answer> {
+    tell_sizes(rt)?;
     let Ok(mut machine) = Machine::start(alloc, code, b"main", &[]) else {
         return Ok(Answer::Refused);
     };

@@ -27,7 +27,7 @@ fn compare<'r, A: Allocator + Copy>(
 }
 
 /// Compares a code with the tree that it was numbered from, or with that of the text behind the first, if there is one.
-pub fn read_back<R: Clock + Eprint, A: Allocator + Copy>(
+pub fn read_back<R: Clock + Print + Eprint, A: Allocator + Copy>(
     bench: &Bench<'_, R>,
     alloc: A,
     tree: &Checked<'_, A>,
@@ -38,6 +38,6 @@ pub fn read_back<R: Clock + Eprint, A: Allocator + Copy>(
     }
     match checked(bench.rt, alloc, bench.keys, bench.behind)? {
         Some(other) => Ok(compare(&other, code)),
-        None => Ok(Answer::Refused),
+        None => Ok(Answer::Told),
     }
 }

@@ -1,40 +1,68 @@
 //! What a record keeps, part by part, and nothing else.
 
-use qil_frames::{Frame, SavedSlot};
+use qil_frames::{Frame, KeptSlots, SavedSlot};
 use qil_machine::{Copied, Grown, Kind};
-use qil_memory::Saved;
+use qil_memory::{KeptBytes, Saved};
 use qil_numbering::Slot;
 use std::alloc::Allocator;
+
+/// The kind of a jump, by what is kept of the slots that its phis set.
+fn left<A: Allocator>(block: u16, slots: KeptSlots<A>) -> &'static str {
+    let _: u16 = block;
+    match slots {
+        KeptSlots::None => "jump",
+        KeptSlots::One(set, slot, value) => {
+            let _: (bool, Slot, u64) = (set, slot, value);
+            "jump with a phi"
+        }
+        KeptSlots::Two(first, second, one, other) => {
+            let _: (Slot, Slot, u64, u64) = (first, second, one, other);
+            "jump with two phis"
+        }
+        KeptSlots::Many(kept) => {
+            for saved in kept.iter() {
+                let SavedSlot { slot, value } = *saved;
+                let _: (Slot, Option<u64>) = (slot, value);
+            }
+            "jump with many phis"
+        }
+    }
+}
+
+/// Names what is kept of bytes, each part with its type.
+fn name_bytes<A: Allocator>(saved: Saved<A>) {
+    let (address, top, bytes): (u32, u32, KeptBytes<A>) = saved.into_parts();
+    let _: (u32, u32) = (address, top);
+    match bytes {
+        KeptBytes::Few(count, number) => {
+            let _: (u8, u64) = (count, number);
+        }
+        KeptBytes::Many(list) => {
+            let _: Vec<u8, A> = list;
+        }
+    }
+}
 
 /// The kind of a move, by what its record keeps, each part with its type. Another part of a kind, or another kind, doesn't
 /// pass the compiler.
 pub fn kind_of<A: Allocator>(kind: Kind<A>) -> &'static str {
     match kind {
-        Kind::Assigned(set, slot, index, value) => {
-            let _: (bool, Slot, u32, u64) = (set, slot, index, value);
+        Kind::Assigned(slot, index, value) => {
+            let _: (Slot, u32, Option<u64>) = (slot, index, value);
             "result"
         }
         Kind::Stored(count, index, address, number) => {
             let _: (u8, u32, u32, u64) = (count, index, address, number);
             "bytes"
         }
-        Kind::Left(block) => {
-            let _: u16 = block;
-            "jump"
-        }
+        Kind::Left(block) => left::<A>(block, KeptSlots::None),
         Kind::LeftOne(set, block, slot, value) => {
-            let _: (bool, u16, Slot, u64) = (set, block, slot, value);
-            "jump with a phi"
+            left::<A>(block, KeptSlots::One(set, slot, value))
         }
         Kind::LeftTwo(block, first, second, one, other) => {
-            let _: (u16, Slot, Slot, u64, u64) = (block, first, second, one, other);
-            "jump with two phis"
+            left::<A>(block, KeptSlots::Two(first, second, one, other))
         }
-        Kind::LeftMany(block, kept) => {
-            let _: u16 = block;
-            let _: Box<Vec<SavedSlot, A>, A> = kept;
-            "jump with many phis"
-        }
+        Kind::LeftMany(block, kept) => left(block, KeptSlots::Many(kept)),
         Kind::Called(index) => {
             let _: u32 = index;
             "call"
@@ -52,13 +80,13 @@ pub fn kind_of<A: Allocator>(kind: Kind<A>) -> &'static str {
                 saved,
             } = Box::into_inner(grown);
             let _: (u32, Slot, Option<u64>) = (index, slot, value);
-            let _: Saved<A> = saved;
+            name_bytes(saved);
             "bytes of the stack"
         }
         Kind::Copied(copied) => {
             let Copied { index, saved } = Box::into_inner(copied);
             let _: u32 = index;
-            let _: Saved<A> = saved;
+            name_bytes(saved);
             "copied bytes"
         }
         Kind::Wrote(index, count) => {

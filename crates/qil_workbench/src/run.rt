@@ -9,7 +9,9 @@ use qil_numbering::Code;
 use std::alloc::Allocator;
 use std::time::{Clock, Instant};
 
-/// Makes at most so many moves, up to the end of the run, and none behind that position.
+/// Makes at most so many moves, up to the end of the run, and none behind that position. Not inlined, so that its loop has the
+/// registers to itself.
+#[inline(never)]
 fn forward<A: Allocator + Copy>(run: &mut Deltas<'_, '_, A>, limit: u32) -> anyhow::Result<()> {
     for _ in 0..limit {
         if run.position() >= u64::from(limit) {
@@ -25,6 +27,7 @@ fn forward<A: Allocator + Copy>(run: &mut Deltas<'_, '_, A>, limit: u32) -> anyh
 }
 
 /// Takes moves back, up to the start: how many are left.
+#[inline(never)]
 fn back<A: Allocator + Copy>(run: &mut Deltas<'_, '_, A>) -> u64 {
     for _ in 0..run.position() {
         if run.back().is_err() {

@@ -6,6 +6,7 @@ ghost use Rattle.qrev.specs.Status.{outcome_status};
 
 mod options;
 
+use clap::ArgMatches;
 use options::{Failure, Options};
 use qil_streams::{FromReader, IntoWriter};
 use qil_transcript::{Outcome, debug};
@@ -81,19 +82,45 @@ fn run_session<R: Input + Print>(
     ))
 }
 
-/// The command line first, then the file, then the session, whose tables hash with keys drawn for it.
+/// The file, and then the session, whose tables hash with keys drawn for it.
+fn run_options<R: Files + Input + Print + Eprint + RandomSource>(
+    rt: &R,
+    alloc: Global,
+    options: &Options<'_>,
+) -> Result<Outcome, Failure> {
+    let program = load(rt, alloc, options.program)?;
+    match RandomState::new(rt) {
+        Ok(keys) => run_session(rt, alloc, keys, program.as_slice(), options),
+        Err(_) => Err(Failure::NoKeys),
+    }
+}
+
+/// What the words say, and then what they ask for.
+fn run_words<R: Files + Input + Print + Eprint + RandomSource>(
+    rt: &R,
+    alloc: Global,
+    words: &[String],
+) -> Result<Outcome, Failure> {
+    let matches = options::parse(rt, alloc, words)?;
+    run_matches(rt, alloc, &matches)
+}
+
+fn run_matches<R: Files + Input + Print + Eprint + RandomSource>(
+    rt: &R,
+    alloc: Global,
+    matches: &ArgMatches<'_>,
+) -> Result<Outcome, Failure> {
+    let options = options::read_options(alloc, matches)?;
+    run_options(rt, alloc, &options)
+}
+
+/// The command line first, then the file, then the session.
 fn run<R: Files + Input + Print + Eprint + Env + RandomSource + AllocGlobal>(
     rt: &R,
     alloc: Global,
 ) -> Result<Outcome, Failure> {
     let words = options::read_words(rt, alloc)?;
-    let matches = options::parse(rt, alloc, words.as_slice())?;
-    let options = options::read_options(alloc, &matches)?;
-    let program = load(rt, alloc, options.program)?;
-    let Ok(keys) = RandomState::new(rt) else {
-        return Err(Failure::NoKeys);
-    };
-    run_session(rt, alloc, keys, program.as_slice(), &options)
+    run_words(rt, alloc, words.as_slice())
 }
 
 /// The status after a session.

@@ -81,37 +81,57 @@ fn refuse_words<R: Print + Eprint>(rt: &R, alloc: Global) -> Failure {
     }
 }
 
-fn make_command<'a>(alloc: Global) -> Result<Command<'a>, clap::Error> {
-    let program = Arg::new(alloc, "PROGRAM")
+// Each argument is made in a function of its own, so that none holds more than one that may have to be let go.
+
+fn program_arg<'a>(alloc: Global) -> Arg<'a> {
+    Arg::new(alloc, "PROGRAM")
         .help("The file of the program, in QBE IL")
         .required(true)
-        .action(ArgAction::Set);
-    let args = Arg::new(alloc, "ARGS")
+        .action(ArgAction::Set)
+}
+
+fn args_arg<'a>(alloc: Global) -> Arg<'a> {
+    Arg::new(alloc, "ARGS")
         .help("The arguments of the entry, decimals from 0 to 18446744073709551615")
         .num_args(0..)
         .action(ArgAction::Append)
-        .value_parser(value_parser!(u64));
-    let entry = Arg::new(alloc, "entry")
+        .value_parser(value_parser!(u64))
+}
+
+fn entry_arg<'a>(alloc: Global) -> Arg<'a> {
+    Arg::new(alloc, "entry")
         .help("The function that runs first")
         .long("entry")
         .value_name("NAME")
-        .default_value("main");
-    let limit = Arg::new(alloc, "limit")
+        .default_value("main")
+}
+
+fn limit_arg<'a>(alloc: Global) -> Arg<'a> {
+    Arg::new(alloc, "limit")
         .help("The most moves of one continue or reverse")
         .long("limit")
         .value_name("N")
         .value_parser(value_parser!(u64).range(1..4_294_967_296))
-        .default_value("1000000");
-    let history = Arg::new(alloc, "history")
+        .default_value("1000000")
+}
+
+fn history_arg<'a>(alloc: Global) -> Arg<'a> {
+    Arg::new(alloc, "history")
         .help("Only the last N moves can be taken back, 1 to 1000000; all where it isn't given")
         .long("history")
         .value_name("N")
-        .value_parser(value_parser!(u64).range(1..1_000_001));
+        .value_parser(value_parser!(u64).range(1..1_000_001))
+}
+
+fn make_command<'a>(alloc: Global) -> Result<Command<'a>, clap::Error> {
     let command = Command::new(alloc, "qrev")
         .about("Runs a program in QBE IL forward and back, by the commands on standard input")
-        .arg(program)?
-        .arg(args)?;
-    Ok(command.arg(entry)?.arg(limit)?.arg(history)?)
+        .arg(program_arg(alloc))?
+        .arg(args_arg(alloc))?
+        .arg(entry_arg(alloc))?
+        .arg(limit_arg(alloc))?
+        .arg(history_arg(alloc))?;
+    Ok(command)
 }
 
 /// Prints why the words were not taken, or the help that they asked for.
