@@ -174,7 +174,7 @@ fn memory_over(
 }
 
 /// A memory with that data, and as many live bytes of the stack.
-pub fn memory_of<R: Clock + Eprint>(
+pub fn memory_of<R: Clock + Print + Eprint>(
     rt: &R,
     alloc: Global,
     keys: RandomState,
