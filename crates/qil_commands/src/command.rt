@@ -37,7 +37,7 @@ impl<'a> Name<'a> {
 }
 
 /// The first word of a line, which says what the others are.
-#[derive(Clone, Copy, Debug, PartialEq, Eq)]
+#[derive(Clone, Copy, PartialEq, Eq)]
 pub enum Verb {
     Step,
     Back,

@@ -51,6 +51,27 @@ pub fn write(target: &mut [u8], at: usize, bytes: &[u8])
     target[at..at + bytes.len()].copy_from_slice(bytes);
 }
 
+/// Writes over a whole slice: one store, where copying a slice is a loop or a call.
+#[inline(always)]
+fn write_whole<const N: usize>(target: &mut [u8], bytes: [u8; N])
+    requires { length target.old ≡ N }
+    ensures { target.new ≡ bytes.entry }
+{
+    match target.as_mut_array::<N>() {
+        Some(place) => *place = bytes,
+        None => unreachable!(),
+    }
+}
+
+/// Writes as many bytes as a width has over those from a place on.
+#[inline(always)]
+fn write_width<const N: usize>(target: &mut [u8], at: usize, bytes: [u8; N])
+    requires { at + N ≤ length target.old }
+    ensures { target.new ≡ over target.old at bytes.entry }
+{
+    write_whole(&mut target[at..at + N], bytes);
+}
+
 /// Makes `n` bytes from a place on zero.
 #[tactic(auto, unfolding(qil_layout::specs::Layout::zeros))]
 pub fn clear(target: &mut [u8], at: usize, n: usize)
@@ -68,10 +89,10 @@ pub fn write_number(target: &mut [u8], at: usize, n: usize, v: u64)
     ensures { target.new ≡ over target.old at (low_bytes n v) }
 {
     match n {
-        1 => write(target, at, &[(v % 0x100) as u8]),
-        2 => write(target, at, &((v % 0x1_0000) as u16).to_le_bytes()),
-        4 => write(target, at, &((v % 0x1_0000_0000) as u32).to_le_bytes()),
-        8 => write(target, at, &v.to_le_bytes()),
+        1 => write_width(target, at, [(v % 0x100) as u8]),
+        2 => write_width(target, at, ((v % 0x1_0000) as u16).to_le_bytes()),
+        4 => write_width(target, at, ((v % 0x1_0000_0000) as u32).to_le_bytes()),
+        8 => write_width(target, at, v.to_le_bytes()),
         _ => write(target, at, &v.to_le_bytes()[..n]),
     }
 }

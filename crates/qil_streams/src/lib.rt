@@ -6,5 +6,5 @@ mod put;
 mod reader;
 
 pub use device::{DeviceFault, FromReader, IntoWriter, Sink, Source};
-pub use put::{Outlet, Put, PutError, put_line, put_number, write_all};
+pub use put::{Outlet, Put, PutError, put_line, put_number};
 pub use reader::{KeptLine, LineEnd, LineReader, Piece, SCRIPT_LIMIT, ScriptBytes};
