@@ -1,5 +1,5 @@
 -- What is kept of slots as a list, and what phis make of slots.
-use Rattle.std.specs.Prelude.{◌≡◌, ℕ, Bool, true, false, List, [], ◌∷◌, length, Option, Some, None, Result, Ok, Err}
+use Rattle.std.specs.Prelude.{◌≡◌, ℕ, List, [], ◌∷◌, length, Option, Some, Result, Ok, Err}
 use Rattle.qil_numbering.specs.declared.numbered.Slot.{Slot}
 use Rattle.qil_numbering.specs.declared.numbered.PhiMove.{PhiMove}
 use Rattle.qil_frames.specs.declared.saved.SavedSlot.{SavedSlot}
@@ -8,14 +8,10 @@ use Rattle.qil_frames.specs.declared.saved.KeptSlots.TheVariants as kept
 use Rattle.qil_frames.specs.Frames.{SlotFrame, at_place}
 use Rattle.qil_frames.specs.Enter.{gathered, written, put_back, AreSlots, LeftBlock}
 
-abbrev pub saved_slot : Bool → Slot → ℕ → SavedSlot
-saved_slot true s v = record { slot = s; value = Some v }
-saved_slot false s v = record { slot = s; value = None }
-
 abbrev pub kept_slots : {A : Type 0} → KeptSlots A → List SavedSlot
 kept_slots kept.None = []
-kept_slots (kept.One is_set s v) = saved_slot is_set s v ∷ []
-kept_slots (kept.Two s t v w) = saved_slot true s v ∷ saved_slot true t w ∷ []
+kept_slots (kept.One s v) = record { slot = s; value = v } ∷ []
+kept_slots (kept.Two s t v w) = record { slot = s; value = Some v } ∷ record { slot = t; value = Some w } ∷ []
 kept_slots (kept.Many ks) = ks.value.items
 
 -- the slots with the values written that phis gathered, or the first slot that is unset

@@ -1,6 +1,6 @@
 //! What going into a block keeps of a frame.
 
-ghost use Rattle.std.specs.Prelude.{◌≡◌, [], ◌∷◌, ◌↔◌, IsTrue, length};
+ghost use Rattle.std.specs.Prelude.{◌≡◌, ◌↔◌, IsTrue, length};
 ghost use Rattle.qil_numbering.specs.Ranges.{IsShort};
 ghost use Rattle.qil_frames.specs.Enter.{AreSlots, Fits};
 ghost use Rattle.qil_frames.specs.Kept.{kept_slots};
@@ -29,32 +29,21 @@ pub enum PhiFault {
 #[derive(Drop)]
 pub enum KeptSlots<A: Allocator> {
     None,
-    /// Whether the slot was set, the slot, and the value if it was.
-    One(bool, Slot, u64),
+    /// The slot, and what it held.
+    One(Slot, Option<u64>),
     /// Two slots that were set, and their values.
     Two(Slot, Slot, u64, u64),
     Many(Box<Vec<SavedSlot, A>, A>),
 }
 
 impl<A: Allocator> KeptSlots<A> {
-    /// One slot, and what it held.
-    #[inline(always)]
-    pub fn one(slot: Slot, value: Option<u64>) -> KeptSlots<A>
-        ensures { kept_slots result ≡ record { slot = slot; value = value } ∷ [] }
-    {
-        match value {
-            Some(value) => KeptSlots::One(true, slot, value),
-            None => KeptSlots::One(false, slot, 0),
-        }
-    }
-
     /// Whether each slot is one of the first `count`.
     pub fn is_within(&self, count: usize) -> bool
         ensures { IsTrue result ↔ AreSlots (kept_slots self.now) count }
     {
         match self {
             KeptSlots::None => true,
-            KeptSlots::One(_, slot, _) => usize::from(slot.index) < count,
+            KeptSlots::One(slot, _) => usize::from(slot.index) < count,
             KeptSlots::Two(first, second, _, _) => {
                 usize::from(first.index) < count && usize::from(second.index) < count
             }
@@ -116,9 +105,6 @@ impl<A: Allocator> PhiSaved<A> {
     pub fn fits(&self, frames: &Frames<A>) -> bool
         ensures { IsTrue result ↔ Fits self.now frames.now }
     {
-        match frames.frames().last() {
-            Some(frame) => self.slots.is_within(frame.slots().len()),
-            None => false,
-        }
+        frames.depth() > 0 && self.slots.is_within(frames.innermost().slots().len())
     }
 }

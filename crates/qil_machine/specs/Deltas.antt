@@ -1,7 +1,6 @@
 -- What a delta keeps, by its kind, as a move.
-use Rattle.std.specs.Prelude.{◌<◌, ◌≤◌, ◌^◌, [], ◌∷◌, length, true}
+use Rattle.std.specs.Prelude.{◌<◌, ◌≤◌, ◌^◌, [], ◌∷◌, length, Some}
 use Rattle.qil_layout.specs.Layout.{low_bytes}
-use Rattle.qil_frames.specs.Kept.{saved_slot}
 use Rattle.qil_machine.specs.declared.delta.Kind.{Kind}
 use Rattle.qil_machine.specs.declared.delta.Kind.TheVariants as kinds
 use Rattle.qil_machine.specs.Moves.{Move, at, end_of}
@@ -11,8 +10,8 @@ abbrev pub move_of : {A : Type 0} → Kind A → Move
 move_of (kinds.Assigned slot index value) = slots_move (at index) (one slot value)
 move_of (kinds.Stored count index address number) = bytes_move index address (low_bytes count number)
 move_of (kinds.Left block) = slots_move (end_of block) []
-move_of (kinds.LeftOne set block slot value) = slots_move (end_of block) (saved_slot set slot value ∷ [])
-move_of (kinds.LeftTwo block a b x y) = slots_move (end_of block) (saved_slot true a x ∷ saved_slot true b y ∷ [])
+move_of (kinds.LeftOne block slot value) = slots_move (end_of block) (one slot value)
+move_of (kinds.LeftTwo block a b x y) = slots_move (end_of block) (record { slot = a; value = Some x } ∷ record { slot = b; value = Some y } ∷ [])
 move_of (kinds.LeftMany block kept) = slots_move (end_of block) kept.value.items
 move_of (kinds.Called index) = called_move index
 move_of (kinds.Returned set top value frame) = returned_move frame top (value_of set value)

@@ -37,7 +37,8 @@ pub enum Kind<A: Allocator> {
     Stored(u8, u32, u32, u64),
     /// The block that was left, at its end.
     Left(u16),
-    LeftOne(bool, u16, Slot, u64),
+    /// The block, the slot that a phi wrote, and what it held.
+    LeftOne(u16, Slot, Option<u64>),
     /// Both slots were set.
     LeftTwo(u16, Slot, Slot, u64, u64),
     LeftMany(u16, Box<Vec<SavedSlot, A>, A>),
@@ -107,8 +108,8 @@ impl<A: Allocator> Delta<A> {
             KeptSlots::None => Delta {
                 kind: Kind::Left(block),
             },
-            KeptSlots::One(set, slot, value) => Delta {
-                kind: Kind::LeftOne(set, block, slot, value),
+            KeptSlots::One(slot, value) => Delta {
+                kind: Kind::LeftOne(block, slot, value),
             },
             KeptSlots::Two(a, b, x, y) => Delta {
                 kind: Kind::LeftTwo(block, a, b, x, y),
@@ -229,7 +230,7 @@ impl<A: Allocator> Delta<A> {
             Kind::Assigned(_, _, _) => 6,
             Kind::Stored(count, _, _, _) => 4 + u64::from(*count),
             Kind::Left(_) => 4,
-            Kind::LeftOne(_, _, _, _) => 6,
+            Kind::LeftOne(_, _, _) => 6,
             Kind::LeftTwo(_, _, _, _, _) => 8,
             Kind::LeftMany(_, kept) => 4 + 2 * (kept.len() as u64),
             Kind::Called(_) => 4,

@@ -6,7 +6,6 @@ ghost use Rattle.qil_memory.specs.Places.{HasPlaces};
 ghost use Rattle.qil_numbering.specs.Numbered.{block_at};
 ghost use Rattle.qil_frames.specs.Enter.{AreSlots};
 ghost use Rattle.qil_frames.specs.Frames.{HasSlot};
-ghost use Rattle.qil_frames.specs.Kept.{saved_slot};
 ghost use Rattle.qil_state.specs.State.{PlaceFits, FrameFits, ReceiverFits, IsMachine};
 ghost use Rattle.qil_machine.specs.Moves.{at, end_of, without, Fits};
 ghost use Rattle.qil_machine.specs.Kinds.{slots_move, one, bytes_move, called_move, returned_move, grown_move, copied_move, wrote_move, ended_move, poked_slot_move, poked_bytes_move};
@@ -32,12 +31,20 @@ impl<A: Allocator + Copy> Delta<A> {
                 machine.fits_stored(*count, *index, *address, *number)
             }
             Kind::Left(block) => machine.fits_left(*block, &[]),
-            Kind::LeftOne(set, block, slot, value) => {
-                machine.fits_left(*block, &[saved_slot(*set, *slot, *value)])
+            Kind::LeftOne(block, slot, value) => {
+                let (slot, value) = (*slot, *value);
+                machine.fits_left(*block, &[SavedSlot { slot, value }])
             }
             Kind::LeftTwo(block, a, b, x, y) => {
-                let kept = [saved_slot(true, *a, *x), saved_slot(true, *b, *y)];
-                machine.fits_left(*block, &kept)
+                let first = SavedSlot {
+                    slot: *a,
+                    value: Some(*x),
+                };
+                let second = SavedSlot {
+                    slot: *b,
+                    value: Some(*y),
+                };
+                machine.fits_left(*block, &[first, second])
             }
             Kind::LeftMany(block, kept) => machine.fits_left(*block, kept.as_slice()),
             Kind::Called(index) => machine.fits_called(*index),
@@ -175,16 +182,6 @@ impl<'c, 'a, A: Allocator + Copy> Machine<'c, 'a, A> {
     {
         let frames = &self.frames;
         frames.depth() > 0 && are_within(kept, frames.innermost().slots().len())
-    }
-}
-
-/// What a slot held, as it is put back.
-fn saved_slot(set: bool, slot: Slot, value: u64) -> SavedSlot
-    ensures { result ≡ saved_slot set slot value }
-{
-    SavedSlot {
-        slot,
-        value: value_of(set, value),
     }
 }
 

@@ -32,8 +32,8 @@ impl<'c, 'a, A: Allocator + Copy> Machine<'c, 'a, A> {
                 self.undo_stored(count, index, address, number);
             }
             Kind::Left(block) => self.undo_left(block, KeptSlots::None),
-            Kind::LeftOne(set, block, slot, value) => {
-                self.undo_left(block, KeptSlots::One(set, slot, value));
+            Kind::LeftOne(block, slot, value) => {
+                self.undo_left(block, KeptSlots::One(slot, value));
             }
             Kind::LeftTwo(block, a, b, x, y) => self.undo_left(block, KeptSlots::Two(a, b, x, y)),
             Kind::LeftMany(block, kept) => self.undo_left(block, KeptSlots::Many(kept)),

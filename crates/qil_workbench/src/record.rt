@@ -11,8 +11,8 @@ fn left<A: Allocator>(block: u16, slots: KeptSlots<A>) -> &'static str {
     let _: u16 = block;
     match slots {
         KeptSlots::None => "jump",
-        KeptSlots::One(set, slot, value) => {
-            let _: (bool, Slot, u64) = (set, slot, value);
+        KeptSlots::One(slot, value) => {
+            let _: (Slot, Option<u64>) = (slot, value);
             "jump with a phi"
         }
         KeptSlots::Two(first, second, one, other) => {
@@ -56,9 +56,7 @@ pub fn kind_of<A: Allocator>(kind: Kind<A>) -> &'static str {
             "bytes"
         }
         Kind::Left(block) => left::<A>(block, KeptSlots::None),
-        Kind::LeftOne(set, block, slot, value) => {
-            left::<A>(block, KeptSlots::One(set, slot, value))
-        }
+        Kind::LeftOne(block, slot, value) => left::<A>(block, KeptSlots::One(slot, value)),
         Kind::LeftTwo(block, first, second, one, other) => {
             left::<A>(block, KeptSlots::Two(first, second, one, other))
         }
