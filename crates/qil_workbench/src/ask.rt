@@ -1,10 +1,11 @@
 //! The questions, and the way of a text to what answers them.
 
 use crate::answer::Answer;
-use crate::load::checked;
+use crate::load::{checked, tell_refused};
 use crate::moves::each_move;
 use crate::read_back::read_back;
 use crate::run::run;
+use crate::stopwatch::tell_since;
 use crate::whole_states::answer_script;
 use qil_checker::Checked;
 use qil_layout::layout;
@@ -82,15 +83,14 @@ fn ask_checked<R: Clock + Print + Eprint, A: Allocator + Copy>(
     let image = match layout(alloc, bench.keys, checked) {
         Ok(image) => image,
         Err(error) => {
-            println!(rt; "refused: {error}")?;
+            tell_refused(rt, &error)?;
             return Ok(Answer::Told);
         }
     };
-    let layout_time = start.elapsed(rt)?.as_micros();
+    tell_since(rt, "layout", start)?;
     let start = Instant::now(rt)?;
     let code = number(alloc, bench.keys, checked, &image)?;
-    let number_time = start.elapsed(rt)?.as_micros();
-    eprintln!(rt; "layout {layout_time} number {number_time}")?;
+    tell_since(rt, "number", start)?;
     ask_code(bench, alloc, checked, &code)
 }
 

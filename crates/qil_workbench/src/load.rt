@@ -2,6 +2,7 @@
 
 ghost use Rattle.qil_tree.specs.Trees.{HasBlocks};
 
+use crate::stopwatch::tell_since;
 use qil_checker::{Checked, check};
 use qil_lexer::tokens;
 use qil_parser::{Program, parse};
@@ -11,11 +12,16 @@ use std::hash::RandomState;
 use std::time::{Clock, Instant};
 
 /// Tells why there is no program, as its error says it.
+pub fn tell_refused<R: Print, E: Display>(rt: &R, error: &E) -> anyhow::Result<()> {
+    println!(rt; "refused: {error}")?;
+    Ok(())
+}
+
 fn refused<'t, R: Print, A: Allocator, E: Display>(
     rt: &R,
     error: &E,
 ) -> anyhow::Result<Option<Checked<'t, A>>> {
-    println!(rt; "refused: {error}")?;
+    tell_refused(rt, error)?;
     Ok(None)
 }
 
@@ -32,8 +38,7 @@ fn check_timed<'t, R: Clock + Print + Eprint, A: Allocator + Copy>(
     let start = Instant::now(rt)?;
     match check(alloc, keys, program) {
         Ok(checked) => {
-            let time = start.elapsed(rt)?.as_micros();
-            eprintln!(rt; "check {time}")?;
+            tell_since(rt, "check", start)?;
             Ok(Some(checked))
         }
         Err((_program, error)) => refused(rt, &error),

@@ -2,7 +2,7 @@
 
 use crate::answer::Answer;
 use crate::record::kind_of;
-use crate::refusals::{Poked, allocations, poke_data, poke_slot, step};
+use crate::refusals::{Poked, allocations, leads_back, poke_data, poke_slot, step};
 use qil_frames::Frame;
 use qil_machine::{Delta, Machine, MoveError};
 use qil_memory::Saved;
@@ -18,15 +18,10 @@ fn weight<A: Allocator + Copy>(before: &Machine<'_, '_, A>) -> Result<Option<u64
         return Ok(None);
     };
     let weight = delta.weight();
-    if machine.same(before) || !delta.fits(&machine) {
-        return Ok(None);
+    if !machine.same(before) && leads_back(&mut machine, delta, before) {
+        return Ok(Some(weight));
     }
-    machine.undo(delta);
-    Ok(if machine.same(before) {
-        Some(weight)
-    } else {
-        None
-    })
+    Ok(None)
 }
 
 /// What the next move's record keeps.

@@ -2,7 +2,7 @@
 
 ghost use Rattle.std.specs.Prelude.{◌≡◌};
 
-use qil_machine::{Machine, MoveError};
+use qil_machine::{Delta, Machine, MoveError};
 use qil_memory::DATA_BASE;
 use qil_numbering::Slot;
 use refusing::Refusing;
@@ -84,6 +84,59 @@ pub enum Poked {
     Fault,
 }
 
+/// Whether a record fits the machine behind its move, and leads back to the one before.
+pub fn leads_back<A: Allocator + Copy>(
+    machine: &mut Machine<'_, '_, A>,
+    delta: Delta<A>,
+    before: &Machine<'_, '_, A>,
+) -> bool
+    requires { machine.old.program ≡ before.now.program }
+{
+    if !delta.fits(machine) {
+        return false;
+    }
+    machine.undo(delta);
+    machine.same(before)
+}
+
+/// Whether nothing was asked for since the first allocation was to be refused. None is refused from here on.
+fn took_nothing<B: Allocator>(heap: &Refusing<B>) -> bool {
+    let is_armed = heap.is_armed();
+    heap.refuse_nth(0);
+    is_armed
+}
+
+/// What came of a poke that was made, and whose record is to weigh so much.
+fn made<B: Allocator, A: Allocator + Copy>(
+    heap: &Refusing<B>,
+    machine: &mut Machine<'_, '_, A>,
+    delta: Delta<A>,
+    before: &Machine<'_, '_, A>,
+    weight: u64,
+) -> Poked
+    requires { machine.old.program ≡ before.now.program }
+{
+    let is_right = took_nothing(heap) && delta.weight() == weight;
+    if leads_back(machine, delta, before) && is_right {
+        return Poked::Undone;
+    }
+    Poked::Fault
+}
+
+/// What came of a poke that was refused.
+fn unmade<B: Allocator, A: Allocator + Copy>(
+    heap: &Refusing<B>,
+    machine: &Machine<'_, '_, A>,
+    before: &Machine<'_, '_, A>,
+) -> Poked
+    requires { machine.now.program ≡ before.now.program }
+{
+    if took_nothing(heap) && machine.same(before) {
+        return Poked::Refused;
+    }
+    Poked::Fault
+}
+
 /// Sets the first temporary of a state, and takes it back. The record weighs 4, and 2 for the value of a slot.
 pub fn poke_slot<B: Allocator, A: Allocator + Copy>(
     heap: &Refusing<B>,
@@ -91,23 +144,9 @@ pub fn poke_slot<B: Allocator, A: Allocator + Copy>(
 ) -> Result<Poked, AllocError> {
     let mut machine = before.try_clone()?;
     heap.refuse_nth(1);
-    let answer = machine.poke_temp(Slot { index: 0 }, 7);
-    let is_right = heap.is_armed();
-    heap.refuse_nth(0);
-    match answer {
-        Ok(delta) => {
-            if !is_right || delta.weight() != 6 || !delta.fits(&machine) {
-                return Ok(Poked::Fault);
-            }
-            machine.undo(delta);
-            Ok(if machine.same(before) {
-                Poked::Undone
-            } else {
-                Poked::Fault
-            })
-        }
-        Err(_) if is_right && machine.same(before) => Ok(Poked::Refused),
-        Err(_) => Ok(Poked::Fault),
+    match machine.poke_temp(Slot { index: 0 }, 7) {
+        Ok(delta) => Ok(made(heap, &mut machine, delta, before, 6)),
+        Err(_) => Ok(unmade(heap, &machine, before)),
     }
 }
 
@@ -118,22 +157,8 @@ pub fn poke_data<B: Allocator, A: Allocator + Copy>(
 ) -> Result<Poked, AllocError> {
     let mut machine = before.try_clone()?;
     heap.refuse_nth(1);
-    let answer = machine.poke_memory(DATA_BASE, 4, u64::MAX);
-    let is_right = heap.is_armed();
-    heap.refuse_nth(0);
-    match answer {
-        Ok(delta) => {
-            if !is_right || delta.weight() != 8 || !delta.fits(&machine) {
-                return Ok(Poked::Fault);
-            }
-            machine.undo(delta);
-            Ok(if machine.same(before) {
-                Poked::Undone
-            } else {
-                Poked::Fault
-            })
-        }
-        Err(_) if is_right && machine.same(before) => Ok(Poked::Refused),
-        Err(_) => Ok(Poked::Fault),
+    match machine.poke_memory(DATA_BASE, 4, u64::MAX) {
+        Ok(delta) => Ok(made(heap, &mut machine, delta, before, 8)),
+        Err(_) => Ok(unmade(heap, &machine, before)),
     }
 }

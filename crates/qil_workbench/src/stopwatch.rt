@@ -36,3 +36,10 @@ impl<'a, R: Clock + Print + Eprint> Stopwatch<'a, R> {
         Ok(())
     }
 }
+
+/// Tells on standard error how many microseconds it took since a start.
+pub fn tell_since<R: Clock + Eprint>(rt: &R, what: &str, start: Instant) -> anyhow::Result<()> {
+    let time = start.elapsed(rt)?.as_micros();
+    eprintln!(rt; "{what} {time}")?;
+    Ok(())
+}
