@@ -1,4 +1,3 @@
 -- What tables say: of a noted name, of two lists of names, of how many names there are.
-pub mod Noted
 pub mod Same
 pub mod Counts

@@ -2,9 +2,6 @@
 use Rattle.std.specs.Prelude.{◌≡◌, ◌≢◌, ◌↔◌, ℕ, zero, suc, List, [], ◌∷◌, ◌++◌, Option, Some, None, Bool, false, if◌then◌else◌, slice_get}
 use Rattle.std.specs.Str.{bytes_eq}
 use Rattle.std.specs.Option.{option_or}
-use Rattle.std.specs.declared.vec.Vec.{Vec}
-use Rattle.indexmap.specs.IndexMap.{IndexMap, get_by}
-use denote.Ref.{Bor}
 use Rattle.qil_checker.specs.declared.mention.Kind.{Kind}
 use Rattle.qil_checker.specs.declared.rule.Rule.{Rule}
 use Rattle.qil_checker.specs.declared.rule.Rule.TheVariants.{C8}
@@ -12,12 +9,6 @@ use Rattle.qil_checker.specs.declared.mention.Kind.TheVariants.{Defined, Named, 
 use Rattle.qil_tree.specs.declared.tree.PhiSource.{PhiSource}
 use Rattle.qil_checker.specs.Mentions.{What, Mention, DataName, FunctionName, Label, Edge, PhiOf, Defines, Uses}
 use Rattle.qil_checker.specs.Text.{Stands, AreDistinct, IsAmong}
-
-abbrev pub place_of : {S : Type 0} → IndexMap (Bor (List ℕ)) ℕ S → List ℕ → Option ℕ
-place_of m x = get_by (λ k. bytes_eq x k.now) m
-
-abbrev pub at_name : List ℕ → ℕ → List ℕ → Option ℕ
-at_name name place x = if bytes_eq name x then Some place else None
 
 -- the name that a mention brings to a table of this kind
 abbrev pub named : What → Kind → Option (List ℕ)
@@ -67,13 +58,6 @@ AreSameOnce xs ys = AreDistinct xs × ((x : List ℕ) → IsAmong x xs ↔ IsAmo
 
 -- ---- the predecessors of a block
 
-abbrev pub items_of : {X A : Type 0} → Option (Vec X A) → List X
-items_of None = []
-items_of (Some v) = v.items
-
-abbrev pub list_at : {X A S : Type 0} → IndexMap (Bor (List ℕ)) (Vec X A) S → List ℕ → List X
-list_at m x = items_of (get_by (λ k. bytes_eq x k.now) m)
-
 abbrev pub predecessor : List ℕ → What → List (List ℕ)
 predecessor b (Edge l to) = if bytes_eq to b then l ∷ [] else []
 predecessor b what = []
@@ -106,10 +90,6 @@ block_at text k = block_from None text k
 -- each phi stands in its block
 abbrev pub AreAtHome : List Mention → Type 0
 AreAtHome text = (k : ℕ) (x : List ℕ) (sources : List PhiSource) → Stands text k (PhiOf x sources) → block_at text k ≡ Some x
-
-abbrev pub names_in : {X A : Type 0} → Option (Bor (Vec X A)) → List X
-names_in None = []
-names_in (Some v) = v.now.items
 
 -- the predecessors of the block that a place stands in
 abbrev pub AreAtHand : List Mention → ℕ → List (List ℕ) → Type 0

@@ -3,11 +3,11 @@
 
 mod checker;
 mod form;
+mod lookup;
 mod mention;
 mod phi_labels;
 mod predecessors;
 mod rule;
-mod table;
 mod text;
 mod walk;
 mod whole;

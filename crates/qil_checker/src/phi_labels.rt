@@ -1,10 +1,12 @@
 //! Whether the labels of a phi are those of another list, each once.
 
 ghost use Rattle.std.specs.Prelude.{◌≡◌, List, ℕ, IfOk, IsTrue, ◌↔◌};
-ghost use Rattle.qil_checker.specs.Tables.{place_of, first, is, AreKnown, AreSameOnce};
+ghost use Rattle.qil_names.specs.Tables.{value_at};
+ghost use Rattle.qil_checker.specs.Tables.{first, is, AreKnown, AreSameOnce};
 ghost use Rattle.qil_checker.specs.Text.{AreDistinct, labels_of};
 
-use crate::table::Table;
+use crate::lookup::place_of;
+use qil_names::Firsts;
 use qil_tree::{Name, PhiSource};
 use std::alloc::{AllocError, Allocator};
 use std::hash::RandomState;
@@ -28,23 +30,23 @@ fn places_of<'a, A: Allocator + Copy>(
     alloc: A,
     keys: RandomState,
     names: &[Name<'a>],
-) -> Result<Table<'a, A>, AllocError>
-    ensures { IfOk result (λ t. (x : List ℕ) → place_of t.places x ≡ first (is x) 0 names.now) }
+) -> Result<Firsts<'a, usize, A>, AllocError>
+    ensures { IfOk result (λ t. (x : List ℕ) → value_at t.values x ≡ first (is x) 0 names.now) }
 {
-    let mut table = Table::new(alloc, keys);
+    let mut table = Firsts::new(alloc, keys);
     for (place, name) in names.iter().enumerate() {
-        table.note(name, place)?;
+        table.note(name.bytes(), place)?;
     }
     Ok(table)
 }
 
 /// Whether no name of the list stands twice.
-fn each_once<'a, A: Allocator + Copy>(names: &[Name<'a>], places: &Table<'a, A>) -> bool
-    requires { (x : List ℕ) → place_of places.now.places x ≡ first (is x) 0 names.now }
+fn each_once<'a, A: Allocator + Copy>(names: &[Name<'a>], places: &Firsts<'a, usize, A>) -> bool
+    requires { (x : List ℕ) → value_at places.now.values x ≡ first (is x) 0 names.now }
     ensures { IsTrue result ↔ AreDistinct names.now }
 {
     for (place, name) in names.iter().enumerate() {
-        match places.place(name) {
+        match place_of(places, name) {
             Some(first) => {
                 if first != place {
                     return false;
@@ -57,16 +59,30 @@ fn each_once<'a, A: Allocator + Copy>(names: &[Name<'a>], places: &Table<'a, A>)
 }
 
 /// Whether a table has each name of a list.
-fn all_known<'a, A: Allocator + Copy>(names: &[Name<'a>], table: &Table<'a, A>) -> bool
-    ensures { IsTrue result ↔ AreKnown names.now (place_of table.now.places) }
+fn all_known<'a, A: Allocator + Copy>(names: &[Name<'a>], table: &Firsts<'a, usize, A>) -> bool
+    ensures { IsTrue result ↔ AreKnown names.now (value_at table.now.values) }
 {
     for (place, name) in names.iter().enumerate() {
-        match table.place(name) {
+        match place_of(table, name) {
             Some(_) => {}
             None => return false,
         }
     }
     true
+}
+
+/// The same, by where the names of each list stand first.
+fn are_same_once<'a, A: Allocator + Copy>(
+    names: &[Name<'a>],
+    others: &[Name<'a>],
+    here: &Firsts<'a, usize, A>,
+    there: &Firsts<'a, usize, A>,
+) -> bool
+    requires here { (x : List ℕ) → value_at here.now.values x ≡ first (is x) 0 names.now }
+    requires there { (x : List ℕ) → value_at there.now.values x ≡ first (is x) 0 others.now }
+    ensures { IsTrue result ↔ AreSameOnce names.now others.now }
+{
+    each_once(names, here) && all_known(names, there) && all_known(others, here)
 }
 
 /// Whether the names stand once each and are those of the other list.
@@ -80,11 +96,5 @@ pub fn same_once<'a, A: Allocator + Copy>(
 {
     let here = places_of(alloc, keys, names)?;
     let there = places_of(alloc, keys, others)?;
-    if !each_once(names, &here) {
-        return Ok(false);
-    }
-    if !all_known(names, &there) {
-        return Ok(false);
-    }
-    Ok(all_known(others, &here))
+    Ok(are_same_once(names, others, &here, &there))
 }

@@ -1,17 +1,18 @@
-//! The text of one definition: its mentions, where its names stand first, and what breaks a rule in it.
+//! The text of one definition: its mentions with their tables, and what breaks a rule in it.
 
-ghost use Rattle.std.specs.Prelude.{◌≡◌, List, ℕ, Some, IfOk, IsTrue, ◌↔◌, ◌+◌, MatchOption, slice_get, option_copied, if◌then◌else◌};
+ghost use Rattle.std.specs.Prelude.{◌≡◌, List, ℕ, Some, IfOk, IsTrue, ◌↔◌, ◌+◌, MatchOption, slice_get, if◌then◌else◌};
 ghost use Rattle.std.specs.List.{count_by};
-ghost use Rattle.qil_checker.specs.Tables.{place_of, first, named, is_named, list_at, predecessors_of, head_name, begun_label, names_in, AreAtHome, AreAtHand, AreAtHandFor};
+ghost use Rattle.qil_names.specs.Tables.{value_at, values_at, kept};
+ghost use Rattle.qil_checker.specs.Tables.{first, is_named, predecessors_of, head_name, begun_label, AreAtHome, AreAtHand, AreAtHandFor};
 ghost use Rattle.qil_checker.specs.Text.{FirstClass, IsUndefined, IsAgain, LacksLabel, IsFirstLabel};
 ghost use Rattle.qil_checker.specs.Rules.{IsSecondLabel, IsLostLabel, IsJumpToFirst, IsOtherClass, IsUndefinedUse, IsNarrowUse, IsWrongPhi, IsUntypedReturn, IsNarrowResult, HasManyTemporaries, HasManyBlocks, is_label, is_function, begins_function};
 ghost use Rattle.qil_checker.specs.Scan.{IsSingle, IsAgainFirst};
 ghost use Rattle.qil_checker.specs.declared.mention.Kind.TheVariants.{Defined, Named, Labels};
 
-use crate::mention::{Kind, Mention, What};
-use crate::predecessors::{Predecessors, all_predecessors, are_predecessors};
+use crate::lookup::{Tables, place_of};
+use crate::mention::{Mention, What};
+use crate::predecessors::are_predecessors;
 use crate::rule::Rule;
-use crate::table::Table;
 use qil_tree::{Class, Name};
 use std::alloc::{AllocError, Allocator};
 use std::hash::RandomState;
@@ -20,38 +21,6 @@ use std::hash::RandomState;
 const MAX_TEMPORARIES: usize = 65_535;
 /// How many blocks a function may have.
 const MAX_BLOCKS: usize = 65_535;
-
-/// The name that a mention brings to a table of a kind.
-fn named<'m, 'a>(mention: &'m Mention<'_, 'a>, kind: Kind) -> Option<&'m Name<'a>>
-    ensures { option_copied result ≡ named mention.now.what kind }
-{
-    match (&mention.what, kind) {
-        (What::Defines(name, _), Kind::Defined) => Some(name),
-        (What::Defines(name, _), Kind::Named) => Some(name),
-        (What::Uses(name, _), Kind::Named) => Some(name),
-        (What::Label(name), Kind::Labels) => Some(name),
-        _ => None,
-    }
-}
-
-/// Where each name of a kind stands first.
-fn first_places<'a, A: Allocator + Copy>(
-    alloc: A,
-    keys: RandomState,
-    mentions: &[Mention<'_, 'a>],
-    kind: Kind,
-) -> Result<Table<'a, A>, AllocError>
-    ensures { IfOk result (λ t. (x : List ℕ) → place_of t.places x ≡ first (is_named kind x) 0 mentions.now) }
-{
-    let mut table = Table::new(alloc, keys);
-    for (place, mention) in mentions.iter().enumerate() {
-        match named(mention, kind) {
-            Some(name) => table.note(name, place)?,
-            None => {}
-        }
-    }
-    Ok(table)
-}
 
 fn is_label(mention: &Mention) -> bool
     ensures { result ≡ is_label mention.now }
@@ -100,18 +69,15 @@ pub struct Text<'p, 'a, A: Allocator> {
     pub mentions: Vec<Mention<'p, 'a>, A>,
     blocks: usize,
     first_label: Option<Name<'a>>,
-    defined: Table<'a, A>,
-    named: Table<'a, A>,
-    labels: Table<'a, A>,
-    predecessors: Predecessors<'a, A>,
+    tables: Tables<'a, A>,
     ghost name_is: { head_name mentions.items ≡ Some name },
     ghost phis_are: { AreAtHome mentions.items },
     ghost first_is: { first_label ≡ begun_label mentions.items },
     ghost blocks_are: { blocks ≡ count_by is_label mentions.items },
-    ghost defined_places: { (x : List ℕ) → place_of defined.places x ≡ first (is_named Defined x) 0 mentions.items },
-    ghost named_places: { (x : List ℕ) → place_of named.places x ≡ first (is_named Named x) 0 mentions.items },
-    ghost label_places: { (x : List ℕ) → place_of labels.places x ≡ first (is_named Labels x) 0 mentions.items },
-    ghost predecessor_lists: { (x : List ℕ) → list_at predecessors.lists x ≡ predecessors_of x mentions.items },
+    ghost defined_places: { (x : List ℕ) → value_at tables.defined.values x ≡ first (is_named Defined x) 0 mentions.items },
+    ghost named_places: { (x : List ℕ) → value_at tables.named.values x ≡ first (is_named Named x) 0 mentions.items },
+    ghost label_places: { (x : List ℕ) → value_at tables.labels.values x ≡ first (is_named Labels x) 0 mentions.items },
+    ghost predecessor_lists: { (x : List ℕ) → values_at tables.predecessors.lists x ≡ predecessors_of x mentions.items },
 }
 
 impl<'p, 'a, A: Allocator + Copy> Text<'p, 'a, A> {
@@ -127,20 +93,14 @@ impl<'p, 'a, A: Allocator + Copy> Text<'p, 'a, A> {
     {
         let blocks = count_blocks(mentions.as_slice());
         let first_label = first_label(mentions.as_slice());
-        let defined = first_places(alloc, keys, mentions.as_slice(), Kind::Defined)?;
-        let named = first_places(alloc, keys, mentions.as_slice(), Kind::Named)?;
-        let labels = first_places(alloc, keys, mentions.as_slice(), Kind::Labels)?;
-        let predecessors = all_predecessors(alloc, keys, mentions.as_slice())?;
+        let tables = Tables::new(alloc, keys, mentions.as_slice())?;
         Ok(Text {
             keys,
             name,
             mentions,
             blocks,
             first_label,
-            defined,
-            named,
-            labels,
-            predecessors,
+            tables,
         })
     }
 
@@ -148,7 +108,7 @@ impl<'p, 'a, A: Allocator + Copy> Text<'p, 'a, A> {
     fn class_of(&self, name: &Name<'a>) -> Option<Class>
         ensures { MatchOption result (IsUndefined self.now.mentions.items name.now) (FirstClass self.now.mentions.items name.now) }
     {
-        match self.defined.place(name) {
+        match place_of(&self.tables.defined, name) {
             Some(place) => match &self.mentions[place].what {
                 What::Defines(_, class) => Some(*class),
                 _ => None,
@@ -160,7 +120,7 @@ impl<'p, 'a, A: Allocator + Copy> Text<'p, 'a, A> {
     fn lacks(&self, label: &Name<'a>) -> bool
         ensures { IsTrue result ↔ LacksLabel self.now.mentions.items label.now }
     {
-        match self.labels.place(label) {
+        match place_of(&self.tables.labels, label) {
             Some(_) => false,
             None => true,
         }
@@ -183,11 +143,11 @@ impl<'p, 'a, A: Allocator + Copy> Text<'p, 'a, A> {
         predecessors: Option<&'t Vec<Name<'a>, A>>,
     ) -> Option<&'t Vec<Name<'a>, A>>
         requires there { slice_get self.now.mentions.items place ≡ Some mention.now }
-        requires at_hand { AreAtHand self.now.mentions.items place (names_in predecessors) }
-        ensures { AreAtHand self.now.mentions.items (place + 1) (names_in result) }
+        requires at_hand { AreAtHand self.now.mentions.items place (kept predecessors) }
+        ensures { AreAtHand self.now.mentions.items (place + 1) (kept result) }
     {
         match &mention.what {
-            What::Label(label) => self.predecessors.at(label),
+            What::Label(label) => self.tables.predecessors.get(label.bytes()),
             _ => predecessors,
         }
     }
@@ -201,8 +161,8 @@ impl<'p, 'a, A: Allocator + Copy> Text<'p, 'a, A> {
         predecessors: Option<&'t Vec<Name<'a>, A>>,
     ) -> Option<&'t Vec<Name<'a>, A>>
         requires there { slice_get self.now.mentions.items place ≡ Some mention.now }
-        requires at_hand { AreAtHandFor rule self.now.mentions.items place (names_in predecessors) }
-        ensures { AreAtHandFor rule self.now.mentions.items (place + 1) (names_in result) }
+        requires at_hand { AreAtHandFor rule self.now.mentions.items place (kept predecessors) }
+        ensures { AreAtHandFor rule self.now.mentions.items (place + 1) (kept result) }
     {
         match rule {
             Rule::C8 => self.predecessors_behind(place, mention, predecessors),
@@ -228,7 +188,7 @@ impl<'p, 'a, A: Allocator + Copy> Text<'p, 'a, A> {
         ensures { IsTrue result ↔ IsSecondLabel self.now.mentions.items place }
     {
         match &mention.what {
-            What::Label(name) => match self.labels.place(name) {
+            What::Label(name) => match place_of(&self.tables.labels, name) {
                 Some(first) => first != place,
                 None => false,
             },
@@ -310,7 +270,7 @@ impl<'p, 'a, A: Allocator + Copy> Text<'p, 'a, A> {
         predecessors: Option<&Vec<Name<'a>, A>>,
     ) -> Result<bool, AllocError>
         requires there { slice_get self.now.mentions.items place ≡ Some mention.now }
-        requires at_hand { AreAtHand self.now.mentions.items place (names_in predecessors) }
+        requires at_hand { AreAtHand self.now.mentions.items place (kept predecessors) }
         ensures { IfOk result (λ b. IsTrue b ↔ IsWrongPhi self.now.mentions.items place) }
     {
         match &mention.what {
@@ -355,7 +315,7 @@ impl<'p, 'a, A: Allocator + Copy> Text<'p, 'a, A> {
     pub fn has_many_temporaries(&self) -> bool
         ensures { IsTrue result ↔ HasManyTemporaries self.now.mentions.items }
     {
-        self.named.len() > MAX_TEMPORARIES
+        self.tables.named.len() > MAX_TEMPORARIES
     }
 
     pub fn has_many_blocks(&self) -> bool
@@ -372,7 +332,7 @@ impl<'p, 'a, A: Allocator + Copy> Text<'p, 'a, A> {
         ensures { MatchOption result ((x : List ℕ) → IsAgain self.now.mentions.items place x → ⊥) (IsAgain self.now.mentions.items place) }
     {
         match &mention.what {
-            What::Defines(name, _) => match self.defined.place(name) {
+            What::Defines(name, _) => match place_of(&self.tables.defined, name) {
                 Some(first) => {
                     if first != place {
                         Some(Name::new(name.bytes()))

@@ -3,7 +3,8 @@
 ghost use Rattle.std.specs.Prelude.{◌≡◌, ◌++◌, ◌∷◌, map, List, ℕ, ◌≤◌, Some, take, IfOk, OnOk, IsTrue, ◌↔◌, MatchOption, slice_get};
 ghost use Rattle.std.specs.List.{count_by};
 ghost use Rattle.qil_checker.specs.Mentions.{texts, texts_in, data_mentions, func_mentions};
-ghost use Rattle.qil_checker.specs.Tables.{place_of, first, has_name, names_in, AreAtHandFor};
+ghost use Rattle.qil_names.specs.Tables.{value_at, kept};
+ghost use Rattle.qil_checker.specs.Tables.{first, has_name, AreAtHandFor};
 ghost use Rattle.qil_checker.specs.Rules.{AreWellFormed, AreBroken, IsKept, IsBrokenFirst, Breaks, IsNamedBefore, IsSecondName, IsUnknown, IsLostGlobal, IsTooMuch, is_built_in, is_function};
 ghost use Rattle.qil_checker.specs.Scan.{Keeps, Breach};
 ghost use Rattle.qil_checker.specs.Whole.{mentions_of};
@@ -11,11 +12,12 @@ ghost use Rattle.qil_checker.specs.Forms.{HaveForm};
 ghost use Rattle.qil_tree.specs.declared.tree.Definition.{Definition};
 
 use crate::form::Form;
+use crate::lookup::place_of;
 use crate::mention::{Mention, What};
 use crate::rule::Rule;
-use crate::table::Table;
 use crate::text::Text;
 use crate::walk;
+use qil_names::Firsts;
 use qil_tree::{Data, Definition, Func, Name, Program};
 use std::alloc::{AllocError, Allocator};
 use std::hash::RandomState;
@@ -142,12 +144,12 @@ fn first_names<'a, A: Allocator + Copy>(
     alloc: A,
     keys: RandomState,
     texts: &[Text<'_, 'a, A>],
-) -> Result<Table<'a, A>, AllocError>
-    ensures { IfOk result (λ t. (x : List ℕ) → place_of t.places x ≡ first (has_name x) 0 (mentions_of texts.now)) }
+) -> Result<Firsts<'a, usize, A>, AllocError>
+    ensures { IfOk result (λ t. (x : List ℕ) → value_at t.values x ≡ first (has_name x) 0 (mentions_of texts.now)) }
 {
-    let mut table = Table::new(alloc, keys);
+    let mut table = Firsts::new(alloc, keys);
     for (number, text) in texts.iter().enumerate() {
-        table.note(&text.name, number)?;
+        table.note(text.name.bytes(), number)?;
     }
     Ok(table)
 }
@@ -173,8 +175,8 @@ struct Visit<'t, 'p, 'a, A: Allocator> {
 #[derive(Drop)]
 pub struct Whole<'p, 'a, A: Allocator> {
     texts: Vec<Text<'p, 'a, A>, A>,
-    names: Table<'a, A>,
-    ghost first_names: { (x : List ℕ) → place_of names.places x ≡ first (has_name x) 0 (mentions_of texts.items) },
+    names: Firsts<'a, usize, A>,
+    ghost first_names: { (x : List ℕ) → value_at names.values x ≡ first (has_name x) 0 (mentions_of texts.items) },
 }
 
 impl<'p, 'a, A: Allocator + Copy> Whole<'p, 'a, A> {
@@ -195,7 +197,7 @@ impl<'p, 'a, A: Allocator + Copy> Whole<'p, 'a, A> {
     fn is_named_before(&self, name: &Name<'a>, number: usize) -> bool
         ensures { IsTrue result ↔ IsNamedBefore (mentions_of self.now.texts.items) number name.now }
     {
-        match self.names.place(name) {
+        match place_of(&self.names, name) {
             Some(first) => first < number,
             None => false,
         }
@@ -221,7 +223,7 @@ impl<'p, 'a, A: Allocator + Copy> Whole<'p, 'a, A> {
     fn is_unknown(&self, name: &Name<'a>) -> bool
         ensures { IsTrue result ↔ IsUnknown (mentions_of self.now.texts.items) name.now }
     {
-        match self.names.place(name) {
+        match place_of(&self.names, name) {
             Some(_) => false,
             None => !is_built_in(name),
         }
@@ -278,7 +280,7 @@ impl<'p, 'a, A: Allocator + Copy> Whole<'p, 'a, A> {
         predecessors: Option<&Vec<Name<'a>, A>>,
     ) -> Result<bool, AllocError>
         requires there { slice_get visit.now.text.now.mentions.items place ≡ Some mention.now }
-        requires at_hand { AreAtHandFor rule visit.now.text.now.mentions.items place (names_in predecessors) }
+        requires at_hand { AreAtHandFor rule visit.now.text.now.mentions.items place (kept predecessors) }
         requires counted { visit.now.functions ≡ count_by is_function (take visit.now.number (mentions_of self.now.texts.items)) }
         ensures { IfOk result (λ b. IsTrue b ↔ Breaks rule (mentions_of self.now.texts.items) visit.now.text.now.mentions.items visit.now.number place) }
     {

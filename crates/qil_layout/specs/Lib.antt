@@ -1,7 +1,6 @@
 -- The definitions.
 pub mod Layout
 pub mod Room
-pub mod Table
 pub mod Answer
 pub mod Callee
 pub mod Laws

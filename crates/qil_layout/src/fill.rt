@@ -3,10 +3,10 @@
 ghost use Rattle.std.specs.Prelude.{◌≡◌, ◌++◌, None, OnOk, IfOk};
 ghost use Rattle.std.specs.List.{flat_map};
 ghost use Rattle.qil_layout.specs.Layout.{width_bytes, low_bytes, zeros, item_bytes, field_bytes, bytes_from, fault_from};
-ghost use Rattle.qil_layout.specs.Table.{found};
+ghost use Rattle.qil_names.specs.Tables.{value_at};
 
 use crate::place::{DATA_BASE, span_of};
-use crate::table::Table;
+use qil_names::Firsts;
 use qil_tree::{Data, Field, Item, Width};
 use std::alloc::{AllocError, Allocator};
 
@@ -38,17 +38,17 @@ fn push_zeros<A: Allocator>(out: &mut Vec<u8, A>, count: u64) -> Result<(), Allo
 
 fn push_item<'a, A: Allocator + Copy>(
     out: &mut Vec<u8, A>,
-    names: &Table<'a, A>,
+    names: &Firsts<'a, u64, A>,
     width: Width,
     item: &Item<'a, A>,
 ) -> Result<(), AllocError>
-    ensures { OnOk result (out.new.items ≡ out.old.items ++ item_bytes (found names.now.addresses) width item.now) }
+    ensures { OnOk result (out.new.items ≡ out.old.items ++ item_bytes (value_at names.now.values) width item.now) }
 {
     match item {
         Item::Number(number) => push_number(out, width, *number),
         Item::Text(bytes) => out.extend_from_slice(bytes.as_slice()),
         Item::Address(name, offset) => {
-            let address = names.address(name.bytes()).unwrap_or(0);
+            let address = names.get(name.bytes()).unwrap_or(0);
             push_number(out, width, address.wrapping_add(*offset))
         }
     }
@@ -56,11 +56,11 @@ fn push_item<'a, A: Allocator + Copy>(
 
 fn push_items<'a, A: Allocator + Copy>(
     out: &mut Vec<u8, A>,
-    names: &Table<'a, A>,
+    names: &Firsts<'a, u64, A>,
     width: Width,
     items: &[Item<'a, A>],
 ) -> Result<(), AllocError>
-    ensures { OnOk result (out.new.items ≡ out.old.items ++ flat_map (item_bytes (found names.now.addresses) width) items.now) }
+    ensures { OnOk result (out.new.items ≡ out.old.items ++ flat_map (item_bytes (value_at names.now.values) width) items.now) }
 {
     for item in items {
         push_item(out, names, width, item)?;
@@ -70,10 +70,10 @@ fn push_items<'a, A: Allocator + Copy>(
 
 fn push_field<'a, A: Allocator + Copy>(
     out: &mut Vec<u8, A>,
-    names: &Table<'a, A>,
+    names: &Firsts<'a, u64, A>,
     field: &Field<'a, A>,
 ) -> Result<(), AllocError>
-    ensures { OnOk result (out.new.items ≡ out.old.items ++ field_bytes (found names.now.addresses) field.now) }
+    ensures { OnOk result (out.new.items ≡ out.old.items ++ field_bytes (value_at names.now.values) field.now) }
 {
     match field {
         Field::Values(width, items) => push_items(out, names, *width, items.as_slice()),
@@ -83,10 +83,10 @@ fn push_field<'a, A: Allocator + Copy>(
 
 fn push_fields<'a, A: Allocator + Copy>(
     out: &mut Vec<u8, A>,
-    names: &Table<'a, A>,
+    names: &Firsts<'a, u64, A>,
     fields: &[Field<'a, A>],
 ) -> Result<(), AllocError>
-    ensures { OnOk result (out.new.items ≡ out.old.items ++ flat_map (field_bytes (found names.now.addresses)) fields.now) }
+    ensures { OnOk result (out.new.items ≡ out.old.items ++ flat_map (field_bytes (value_at names.now.values)) fields.now) }
 {
     for field in fields {
         push_field(out, names, field)?;
@@ -97,11 +97,11 @@ fn push_fields<'a, A: Allocator + Copy>(
 /// The bytes of data that has no fault, the first at the data's base.
 pub fn bytes_of<'a, A: Allocator + Copy>(
     alloc: A,
-    names: &Table<'a, A>,
+    names: &Firsts<'a, u64, A>,
     datas: &[Data<'a, A>],
 ) -> Result<Vec<u8, A>, AllocError>
     requires { fault_from 65536 datas.now ≡ None }
-    ensures { IfOk result (λ v. v.items ≡ bytes_from (found names.now.addresses) 65536 datas.now) }
+    ensures { IfOk result (λ v. v.items ≡ bytes_from (value_at names.now.values) 65536 datas.now) }
 {
     let mut out = Vec::new(alloc);
     let mut at = DATA_BASE;

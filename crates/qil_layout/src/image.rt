@@ -9,8 +9,8 @@ use crate::callee::{Callee, FuncId};
 use crate::error::LayoutError;
 use crate::fill;
 use crate::names::{EXIT, FUNC_BASE, FUNC_STRIDE, PUTCHAR, PUTS, names_of};
-use crate::table::Table;
 use qil_checker::Checked;
+use qil_names::Firsts;
 use qil_tree::{Name, Program};
 use std::alloc::Allocator;
 use std::hash::RandomState;
@@ -20,7 +20,7 @@ use std::marker::Model;
 #[derive(Drop)]
 pub struct Image<'c, 'a, A: Allocator> {
     program: &'c Program<'a, A>,
-    names: Table<'a, A>,
+    names: Firsts<'a, u64, A>,
     bytes: Vec<u8, A>,
 }
 
@@ -28,13 +28,13 @@ impl<'c, 'a, A: Allocator> Model for Image<'c, 'a, A> {
     ghost use Rattle.std.specs.Prelude.{◌≡◌, ◌≤◌, ℕ, List, None, length};
     ghost use Rattle.qil_tree.specs.declared.tree.Program.{Program};
     ghost use Rattle.qil_layout.specs.Layout.{address_of, bytes_of, fault_of};
-    ghost use Rattle.qil_layout.specs.Table.{found};
+    ghost use Rattle.qil_names.specs.Tables.{value_at};
 
     ghost Value = { Program A };
 
     ghost view = { λ image. image.program.now };
 
-    ghost invariant = { λ image. ((x : List ℕ) → found image.names.addresses x ≡ address_of image.program.now x) × (image.bytes.items ≡ bytes_of image.program.now) × (fault_of image.program.now ≡ None) × (length image.program.now.funcs ≤ 1000) };
+    ghost invariant = { λ image. ((x : List ℕ) → value_at image.names.values x ≡ address_of image.program.now x) × (image.bytes.items ≡ bytes_of image.program.now) × (fault_of image.program.now ≡ None) × (length image.program.now.funcs ≤ 1000) };
 }
 
 /// Lays a program out: its data from 65,536 on in the order of the text, each object at the next multiple of its
@@ -68,7 +68,7 @@ impl<'c, 'a, A: Allocator + Copy> Image<'c, 'a, A> {
     pub fn address(&self, name: &[u8]) -> Option<u64>
         ensures { result ≡ address_of self.now name.now }
     {
-        self.names.address(name)
+        self.names.get(name)
     }
 
     /// The bytes of the data, the first at 65,536; zeros stand between objects.

@@ -9,7 +9,6 @@ mod laws;
 mod names;
 mod place;
 mod room;
-mod table;
 
 pub use callee::{Callee, FuncId};
 pub use error::{LayoutCode, LayoutError};

@@ -3,12 +3,12 @@
 ghost use Rattle.std.specs.Prelude.{◌≡◌, ◌≤◌, ◌<◌, ◌+◌, List, ℕ, None, OnOk, IfOk, IfErr, length};
 ghost use Rattle.std.specs.Option.{option_or};
 ghost use Rattle.qil_layout.specs.Layout.{data_address, func_address, built_in_address, address_of, fault_from, fault_of};
-ghost use Rattle.qil_layout.specs.Table.{found};
+ghost use Rattle.qil_names.specs.Tables.{value_at};
 ghost use Rattle.qil_layout.specs.Answer.{IsFault};
 
 use crate::error::LayoutError;
 use crate::place::{DATA_BASE, span_of};
-use crate::table::Table;
+use qil_names::Firsts;
 use qil_tree::{Data, Func, Program};
 use std::alloc::{AllocError, Allocator};
 use std::hash::RandomState;
@@ -27,10 +27,10 @@ pub const EXIT: u64 = 1056;
 
 /// Notes the addresses of the data, or tells the first object that can't be laid out.
 fn note_datas<'a, A: Allocator + Copy>(
-    table: &mut Table<'a, A>,
+    table: &mut Firsts<'a, u64, A>,
     datas: &[Data<'a, A>],
 ) -> Result<(), LayoutError>
-    ensures noted { OnOk result ((x : List ℕ) → found table.new.addresses x ≡ option_or (found table.old.addresses x) (data_address 65536 datas.now x)) }
+    ensures noted { OnOk result ((x : List ℕ) → value_at table.new.values x ≡ option_or (value_at table.old.values x) (data_address 65536 datas.now x)) }
     ensures no_fault { IfOk result (λ x. fault_from 65536 datas.now ≡ None) }
     ensures fault { IfErr result (IsFault (fault_from 65536 datas.now)) }
 {
@@ -54,11 +54,11 @@ fn note_datas<'a, A: Allocator + Copy>(
 
 /// Notes the addresses of the functions.
 fn note_funcs<'a, A: Allocator + Copy>(
-    table: &mut Table<'a, A>,
+    table: &mut Firsts<'a, u64, A>,
     funcs: &[Func<'a, A>],
 ) -> Result<(), AllocError>
     requires { length funcs.now ≤ 65535 }
-    ensures { OnOk result ((x : List ℕ) → found table.new.addresses x ≡ option_or (found table.old.addresses x) (func_address 4096 funcs.now x)) }
+    ensures { OnOk result ((x : List ℕ) → value_at table.new.values x ≡ option_or (value_at table.old.values x) (func_address 4096 funcs.now x)) }
 {
     let mut at = FUNC_BASE;
     for func in funcs {
@@ -69,8 +69,8 @@ fn note_funcs<'a, A: Allocator + Copy>(
 }
 
 /// Notes the addresses of the functions that every program has.
-fn note_built_ins<'a, A: Allocator + Copy>(table: &mut Table<'a, A>) -> Result<(), AllocError>
-    ensures { OnOk result ((x : List ℕ) → found table.new.addresses x ≡ option_or (found table.old.addresses x) (built_in_address x)) }
+fn note_built_ins<'a, A: Allocator + Copy>(table: &mut Firsts<'a, u64, A>) -> Result<(), AllocError>
+    ensures { OnOk result ((x : List ℕ) → value_at table.new.values x ≡ option_or (value_at table.old.values x) (built_in_address x)) }
 {
     table.note(b"putchar", PUTCHAR)?;
     table.note(b"puts", PUTS)?;
@@ -83,13 +83,13 @@ pub fn names_of<'a, A: Allocator + Copy>(
     alloc: A,
     keys: RandomState,
     program: &Program<'a, A>,
-) -> Result<Table<'a, A>, LayoutError>
+) -> Result<Firsts<'a, u64, A>, LayoutError>
     requires { length program.now.funcs ≤ 65535 }
-    ensures addresses { IfOk result (λ t. (x : List ℕ) → found t.addresses x ≡ address_of program.now x) }
+    ensures addresses { IfOk result (λ t. (x : List ℕ) → value_at t.values x ≡ address_of program.now x) }
     ensures no_fault { IfOk result (λ t. fault_of program.now ≡ None) }
     ensures fault { IfErr result (IsFault (fault_of program.now)) }
 {
-    let mut table = Table::new(alloc, keys);
+    let mut table = Firsts::new(alloc, keys);
     note_datas(&mut table, program.datas.as_slice())?;
     note_funcs(&mut table, program.funcs.as_slice())?;
     note_built_ins(&mut table)?;

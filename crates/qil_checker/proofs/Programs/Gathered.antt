@@ -9,7 +9,8 @@ use Rattle.qil_tree.specs.declared.tree.Definition.TheVariants as definitions
 use Rattle.qil_checker.specs.declared.text.Text.{Text}
 use Rattle.qil_checker.specs.Mentions.{Mention, data_mentions, func_mentions, texts_in}
 use Rattle.std.specs.Option.{option_or}
-use Rattle.qil_checker.specs.Tables.{at_name, first, has_name, is_name}
+use Rattle.qil_names.specs.Tables.{for_name}
+use Rattle.qil_checker.specs.Tables.{first, has_name, is_name}
 use Rattle.qil_checker.specs.Whole.{mentions_of}
 
 behind : (front rest : List (List Mention)) (x : List Mention) → (front ++ x ∷ []) ++ rest ≡ front ++ x ∷ rest
@@ -72,12 +73,12 @@ named_so : {A : Type 0} (t : Text A) (x : List ℕ) → has_name x t.mentions.it
 named_so t x = ap (is_name x) t.name_is
 
 pub noted_name : {A : Type 0} (t : Text A) (ts : List (Text A)) (i : ℕ) (x : List ℕ) (old new : Option ℕ) (all : Option ℕ)
-    → option_or old (first (has_name x) i (mentions_of (drop i ts))) ≡ all → i < length ts → t ≡ get_or ts i t → new ≡ option_or old (at_name t.name i x)
+    → option_or old (first (has_name x) i (mentions_of (drop i ts))) ≡ all → i < length ts → t ≡ get_or ts i t → new ≡ option_or old (for_name t.name i x)
     → option_or new (first (has_name x) (i + 1) (mentions_of (drop (i + 1) ts))) ≡ all
 noted_name t ts i x old new all so_far l there e =
     let next : i + 1 ≡ suc i = omega arith in
     ap (λ o. option_or o (first (has_name x) (i + 1) (mentions_of (drop (i + 1) ts)))) e
-    ∙ ap (λ k. option_or (option_or old (at_name t.name i x)) (first (has_name x) k (mentions_of (drop (i + 1) ts)))) next
+    ∙ ap (λ k. option_or (option_or old (for_name t.name i x)) (first (has_name x) k (mentions_of (drop (i + 1) ts)))) next
     ∙ first_of_two x t.name i t (drop (i + 1) ts) old (bytes_eq t.name x) refl (named_so t x)
     ∙ ap (λ b. option_or old (if b then Some i else first (has_name x) (suc i) (mentions_of (drop (i + 1) ts)))) (sym (named_so t x))
     ∙ ap (λ ms. option_or old (first (has_name x) i ms)) (sym (text_front t ts i l there))

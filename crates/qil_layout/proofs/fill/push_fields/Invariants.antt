@@ -2,8 +2,8 @@
 use Rattle.std.proofs.Common.{◌≡◌, ◌++◌, drop}
 use Rattle.std.specs.List.{flat_map}
 use Rattle.qil_layout.specs.Layout.{field_bytes}
-use Rattle.qil_layout.specs.Table.{found}
+use Rattle.qil_names.specs.Tables.{value_at}
 use Rattle.qil_layout.proofs.fill.push_fields.Given as goal
 
 abbrev pub invariant-loop-field : goal.invariant-loop-field
-invariant-loop-field g l = l.out.items ++ flat_map (field_bytes (found l.names.addresses)) (drop l.field-index l.fields) ≡ l.fn.out.items ++ flat_map (field_bytes (found l.names.addresses)) l.fields
+invariant-loop-field g l = l.out.items ++ flat_map (field_bytes (value_at l.names.values)) (drop l.field-index l.fields) ≡ l.fn.out.items ++ flat_map (field_bytes (value_at l.names.values)) l.fields

@@ -6,4 +6,4 @@ use Rattle.qil_checker.proofs.text.Text.has_many_temporaries.Goals as goal
 pub returns : goal.returns
 returns g c =
     let s = c.args.self.now in
-    many s.named.places s.mentions.items s.named_places c.len.ensures.unique _ c.len.result c.len.ensures.len refl
+    many s.tables.named.values s.mentions.items s.named_places c.len.ensures.unique _ c.len.result c.len.ensures.len refl

@@ -1,0 +1,88 @@
+//! The tables of a text: where its names of each kind stand first, and the predecessors of its blocks.
+
+ghost use Rattle.std.specs.Prelude.{◌≡◌, List, ℕ, IfOk, option_copied};
+ghost use Rattle.qil_names.specs.Tables.{value_at, values_at};
+ghost use Rattle.qil_checker.specs.Tables.{first, named, is_named, predecessors_of};
+ghost use Rattle.qil_checker.specs.declared.mention.Kind.TheVariants.{Defined, Named, Labels};
+
+use crate::mention::{Kind, Mention, What};
+use crate::predecessors::all_predecessors;
+use qil_names::{Firsts, Groups};
+use qil_tree::Name;
+use std::alloc::{AllocError, Allocator};
+use std::hash::RandomState;
+
+/// The place that a table has for a name.
+pub fn place_of<'a, A: Allocator + Copy>(
+    places: &Firsts<'a, usize, A>,
+    name: &Name<'a>,
+) -> Option<usize>
+    ensures { result ≡ value_at places.now.values name.now }
+{
+    places.get(name.bytes())
+}
+
+/// The name that a mention brings to a table of a kind.
+fn named<'m, 'a>(mention: &'m Mention<'_, 'a>, kind: Kind) -> Option<&'m Name<'a>>
+    ensures { option_copied result ≡ named mention.now.what kind }
+{
+    match (&mention.what, kind) {
+        (What::Defines(name, _), Kind::Defined) => Some(name),
+        (What::Defines(name, _), Kind::Named) => Some(name),
+        (What::Uses(name, _), Kind::Named) => Some(name),
+        (What::Label(name), Kind::Labels) => Some(name),
+        _ => None,
+    }
+}
+
+/// Where each name of a kind stands first.
+fn first_places<'a, A: Allocator + Copy>(
+    alloc: A,
+    keys: RandomState,
+    mentions: &[Mention<'_, 'a>],
+    kind: Kind,
+) -> Result<Firsts<'a, usize, A>, AllocError>
+    ensures { IfOk result (λ t. (x : List ℕ) → value_at t.values x ≡ first (is_named kind x) 0 mentions.now) }
+{
+    let mut table = Firsts::new(alloc, keys);
+    for (place, mention) in mentions.iter().enumerate() {
+        match named(mention, kind) {
+            Some(name) => table.note(name.bytes(), place)?,
+            None => {}
+        }
+    }
+    Ok(table)
+}
+
+/// What a text's rules look up.
+#[derive(Drop)]
+pub struct Tables<'a, A: Allocator> {
+    /// Where temporaries are defined first.
+    pub defined: Firsts<'a, usize, A>,
+    /// Where temporaries are defined or used first.
+    pub named: Firsts<'a, usize, A>,
+    /// Where labels begin a block first.
+    pub labels: Firsts<'a, usize, A>,
+    /// The labels of the blocks that go to each block.
+    pub predecessors: Groups<'a, Name<'a>, A>,
+}
+
+impl<'a, A: Allocator + Copy> Tables<'a, A> {
+    pub fn new(
+        alloc: A,
+        keys: RandomState,
+        mentions: &[Mention<'_, 'a>],
+    ) -> Result<Tables<'a, A>, AllocError>
+        ensures defined { IfOk result (λ t. (x : List ℕ) → value_at t.defined.values x ≡ first (is_named Defined x) 0 mentions.now) }
+        ensures named { IfOk result (λ t. (x : List ℕ) → value_at t.named.values x ≡ first (is_named Named x) 0 mentions.now) }
+        ensures labels { IfOk result (λ t. (x : List ℕ) → value_at t.labels.values x ≡ first (is_named Labels x) 0 mentions.now) }
+        ensures predecessors { IfOk result (λ t. (x : List ℕ) → values_at t.predecessors.lists x ≡ predecessors_of x mentions.now) }
+    {
+        Ok(Tables {
+            defined: first_places(alloc, keys, mentions, Kind::Defined)?,
+            named: first_places(alloc, keys, mentions, Kind::Named)?,
+            labels: first_places(alloc, keys, mentions, Kind::Labels)?,
+            predecessors: all_predecessors(alloc, keys, mentions)?,
+        })
+    }
+}

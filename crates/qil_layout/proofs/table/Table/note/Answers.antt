@@ -1,8 +1,0 @@
--- What the table says once a new name is in it.
-use Rattle.std.proofs.Common.{sym, refl}
-use Rattle.qil_layout.proofs.TableLemmas.{noted}
-use Rattle.qil_layout.proofs.table.Table.note.Goals as goal
-
-pub returns-in_ok-insert-in-None : goal.returns-in_ok-insert-in-None
-returns-in_ok-insert-in-None g c = λ x.
-    noted _ _ _ c.args.self.now.addresses c.insert.new.self c.in_ok-insert-in-None.ensures.updates refl (sym c.in-None.ensures) x
