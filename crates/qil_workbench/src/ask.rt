@@ -1,5 +1,7 @@
 //! The questions, and the way of a text to what answers them.
 
+ghost use Rattle.std.specs.Prelude.{◌≡◌};
+
 use crate::answer::Answer;
 use crate::load::{checked, tell_refused};
 use crate::moves::each_move;
@@ -8,7 +10,7 @@ use crate::run::run;
 use crate::stopwatch::tell_since;
 use crate::whole_states::answer_script;
 use qil_checker::Checked;
-use qil_layout::layout;
+use qil_layout::{Image, layout};
 use qil_numbering::{Code, number};
 use refusing::Refusing;
 use std::alloc::{Allocator, Global};
@@ -44,7 +46,7 @@ impl Question {
 }
 
 /// What is asked, and what it takes to answer.
-#[derive(Clone, Copy)]
+#[derive(Drop)]
 pub struct Bench<'t, R> {
     pub rt: &'t R,
     pub keys: RandomState,
@@ -72,26 +74,38 @@ fn ask_code<R: Clock + Print + Eprint, A: Allocator + Copy>(
     }
 }
 
-/// Lays a program out and numbers it, and tells the microseconds that it took.
+/// Numbers a program, and tells the microseconds that it took.
+fn ask_laid_out<'c, 'a, R: Clock + Print + Eprint, A: Allocator + Copy>(
+    bench: &Bench<'_, R>,
+    alloc: A,
+    checked: &'c Checked<'a, A>,
+    image: &'c Image<'c, 'a, A>,
+) -> anyhow::Result<Answer>
+    requires { image.now ≡ checked.now.program }
+{
+    let start = Instant::now(bench.rt)?;
+    let code = number(alloc, bench.keys, checked, image)?;
+    tell_since(bench.rt, "number", start)?;
+    ask_code(bench, alloc, checked, &code)
+}
+
+/// Lays a program out, and tells the microseconds that it took.
 fn ask_checked<R: Clock + Print + Eprint, A: Allocator + Copy>(
     bench: &Bench<'_, R>,
     alloc: A,
     checked: &Checked<'_, A>,
 ) -> anyhow::Result<Answer> {
-    let rt = bench.rt;
-    let start = Instant::now(rt)?;
-    let image = match layout(alloc, bench.keys, checked) {
-        Ok(image) => image,
-        Err(error) => {
-            tell_refused(rt, &error)?;
-            return Ok(Answer::Told);
+    let start = Instant::now(bench.rt)?;
+    match layout(alloc, bench.keys, checked) {
+        Ok(image) => {
+            tell_since(bench.rt, "layout", start)?;
+            ask_laid_out(bench, alloc, checked, &image)
         }
-    };
-    tell_since(rt, "layout", start)?;
-    let start = Instant::now(rt)?;
-    let code = number(alloc, bench.keys, checked, &image)?;
-    tell_since(rt, "number", start)?;
-    ask_code(bench, alloc, checked, &code)
+        Err(error) => {
+            tell_refused(bench.rt, &error)?;
+            Ok(Answer::Told)
+        }
+    }
 }
 
 /// Asks the question of a text.

@@ -18,10 +18,13 @@ fn weight<A: Allocator + Copy>(before: &Machine<'_, '_, A>) -> Result<Option<u64
         return Ok(None);
     };
     let weight = delta.weight();
-    if !machine.same(before) && leads_back(&mut machine, delta, before) {
-        return Ok(Some(weight));
-    }
-    Ok(None)
+    let is_other = !machine.same(before);
+    let leads_back = leads_back(&mut machine, delta, before);
+    Ok(if is_other && leads_back {
+        Some(weight)
+    } else {
+        None
+    })
 }
 
 /// What the next move's record keeps.
@@ -136,7 +139,26 @@ fn tell_sizes<R: Print>(rt: &R) -> anyhow::Result<()> {
     Ok(())
 }
 
-/// Tells of each move, up to the end of the run or so many moves.
+/// Tells of each move of a machine, up to the end of its run or so many moves.
+fn tell_moves<R: Print, B: Allocator, A: Allocator + Copy>(
+    rt: &R,
+    heap: &Refusing<B>,
+    machine: &mut Machine<'_, '_, A>,
+    most: u32,
+) -> anyhow::Result<Answer> {
+    for position in 0..most {
+        if machine.is_final() {
+            return Ok(Answer::Told);
+        }
+        if !tell_move(rt, heap, machine, position)? {
+            return Ok(Answer::DiffersAt(u64::from(position)));
+        }
+        step(machine)?;
+    }
+    Ok(Answer::Told)
+}
+
+/// Tells of a start, and of each move behind it, up to the end of the run or so many moves.
 pub fn each_move<R: Print, B: Allocator, A: Allocator + Copy>(
     rt: &R,
     heap: &Refusing<B>,
@@ -151,14 +173,5 @@ pub fn each_move<R: Print, B: Allocator, A: Allocator + Copy>(
     if !tell_start(rt, heap, alloc, code, &machine)? {
         return Ok(Answer::DiffersAt(0));
     }
-    for position in 0..most {
-        if machine.is_final() {
-            return Ok(Answer::Told);
-        }
-        if !tell_move(rt, heap, &machine, position)? {
-            return Ok(Answer::DiffersAt(u64::from(position)));
-        }
-        step(&mut machine)?;
-    }
-    Ok(Answer::Told)
+    tell_moves(rt, heap, &mut machine, most)
 }

@@ -32,6 +32,35 @@ enum Met {
     Fault,
 }
 
+/// Whether the next move is made, and leads to that state.
+fn goes_to<A: Allocator + Copy>(
+    machine: &mut Machine<'_, '_, A>,
+    moved: &Machine<'_, '_, A>,
+) -> bool
+    requires { moved.now.program ≡ machine.old.program }
+{
+    step(machine).is_ok() && machine.same(moved)
+}
+
+/// What came of a move that gave this answer, by the machine behind it.
+fn outcome<A: Allocator + Copy>(
+    was_refused: bool,
+    answer: Result<(), MoveError>,
+    machine: &mut Machine<'_, '_, A>,
+    before: &Machine<'_, '_, A>,
+    moved: &Machine<'_, '_, A>,
+) -> Met
+    requires as_before { before.now.program ≡ machine.old.program }
+    requires as_moved { moved.now.program ≡ machine.old.program }
+{
+    match answer {
+        Ok(()) if !was_refused && machine.same(moved) => Met::NoRefusal,
+        Err(MoveError::OutOfMemory)
+            if was_refused && machine.same(before) && goes_to(machine, moved) => { Met::Refusal }
+        _ => Met::Fault,
+    }
+}
+
 /// Makes the move behind a state with its nth allocation refused. `moved` is the machine behind that move.
 fn refused<B: Allocator, A: Allocator + Copy>(
     heap: &Refusing<B>,
@@ -46,13 +75,7 @@ fn refused<B: Allocator, A: Allocator + Copy>(
     let answer = step(&mut machine);
     let was_refused = !heap.is_armed();
     heap.refuse_nth(0);
-    if !was_refused {
-        let is_made = answer == Ok(()) && machine.same(moved);
-        return Ok(if is_made { Met::NoRefusal } else { Met::Fault });
-    }
-    let is_as_before = answer == Err(MoveError::OutOfMemory) && machine.same(before);
-    let is_made = is_as_before && step(&mut machine) == Ok(()) && machine.same(moved);
-    Ok(if is_made { Met::Refusal } else { Met::Fault })
+    Ok(outcome(was_refused, answer, &mut machine, before, moved))
 }
 
 /// How many allocations the move behind a state takes, where want of each leaves the machine as it was.

@@ -1,10 +1,46 @@
 //! How a run stands, as a line.
 
 use qil_machine::Machine;
-use qil_numbering::Slot;
 use qil_ops::DivFault;
 use qil_state::{Fault, Status};
 use std::alloc::Allocator;
+
+/// What a fault is called, and the address that is told with it.
+fn words_of_fault(fault: Fault) -> (&'static str, Option<u64>) {
+    match fault {
+        Fault::Division(DivFault::Zero) => (" fault division by zero", None),
+        Fault::Division(DivFault::Overflow) => (" fault division overflow", None),
+        Fault::DeadAddress(address) => (" fault dead address", Some(address)),
+        Fault::Unset(_) => (" fault unset temporary", None),
+        Fault::OverlappingBlit => (" fault overlapping blit", None),
+        Fault::StackFull => (" fault stack full", None),
+        Fault::CallsTooDeep => (" fault calls too deep", None),
+        Fault::NoFunction(address) => (" fault no function at", Some(address)),
+        Fault::CallShape => (" fault call shape", None),
+        Fault::OutputFull => (" fault output full", None),
+        Fault::Halted => (" fault halted", None),
+    }
+}
+
+/// What a status is called, and the number that is told with it.
+fn words_of(status: Status) -> (&'static str, Option<u64>) {
+    match status {
+        Status::Running => ("", None),
+        Status::Done(value) => (" done", value),
+        Status::Exited(word) => (" exit", Some(u64::from(word))),
+        Status::Faulted(fault) => words_of_fault(fault),
+    }
+}
+
+/// The name of the temporary that the run stopped for, as it was unset.
+fn unset_name<'r, 'a, A: Allocator + Copy>(machine: &'r Machine<'_, 'a, A>) -> Option<&'r [u8]> {
+    let Status::Faulted(Fault::Unset(slot)) = machine.status() else {
+        return None;
+    };
+    let frame = machine.frames().last()?;
+    let name = machine.code().name_of(frame.func(), slot)?;
+    Some(name.bytes())
+}
 
 /// Writes the position with how the machine stands there, and how many bytes it wrote.
 pub fn report<R: Print, A: Allocator + Copy>(
@@ -12,68 +48,16 @@ pub fn report<R: Print, A: Allocator + Copy>(
     machine: &Machine<'_, '_, A>,
     position: u64,
 ) -> anyhow::Result<()> {
-    match machine.status() {
-        Status::Running => println!(rt; "#{position}")?,
-        Status::Done(None) => println!(rt; "#{position} done")?,
-        Status::Done(Some(value)) => println!(rt; "#{position} done {value}")?,
-        Status::Exited(word) => println!(rt; "#{position} exit {word}")?,
-        Status::Faulted(fault) => report_fault(rt, machine, position, fault)?,
+    let (words, number) = words_of(machine.status());
+    print!(rt; "#{position}{words}")?;
+    if let Some(number) = number {
+        print!(rt; " {number}")?;
+    }
+    if let Some(name) = unset_name(machine) {
+        let name = str::from_utf8(name).unwrap_or("?");
+        print!(rt; " %{name}")?;
     }
     let count = machine.output().len();
-    println!(rt; "out {count}")?;
-    Ok(())
-}
-
-/// What a fault is called, and the address that is told with it.
-fn words_of(fault: Fault) -> (&'static str, Option<u64>) {
-    match fault {
-        Fault::Division(DivFault::Zero) => ("division by zero", None),
-        Fault::Division(DivFault::Overflow) => ("division overflow", None),
-        Fault::DeadAddress(address) => ("dead address", Some(address)),
-        Fault::Unset(_) => ("unset temporary", None),
-        Fault::OverlappingBlit => ("overlapping blit", None),
-        Fault::StackFull => ("stack full", None),
-        Fault::CallsTooDeep => ("calls too deep", None),
-        Fault::NoFunction(address) => ("no function at", Some(address)),
-        Fault::CallShape => ("call shape", None),
-        Fault::OutputFull => ("output full", None),
-        Fault::Halted => ("halted", None),
-    }
-}
-
-fn report_fault<R: Print, A: Allocator + Copy>(
-    rt: &R,
-    machine: &Machine<'_, '_, A>,
-    position: u64,
-    fault: Fault,
-) -> anyhow::Result<()> {
-    if let Fault::Unset(slot) = fault {
-        return report_unset(rt, machine, position, slot);
-    }
-    let (words, address) = words_of(fault);
-    match address {
-        Some(address) => println!(rt; "#{position} fault {words} {address}")?,
-        None => println!(rt; "#{position} fault {words}")?,
-    }
-    Ok(())
-}
-
-/// An unset temporary is told by its name.
-fn report_unset<R: Print, A: Allocator + Copy>(
-    rt: &R,
-    machine: &Machine<'_, '_, A>,
-    position: u64,
-    slot: Slot,
-) -> anyhow::Result<()> {
-    let frames = machine.frames();
-    let name = match frames.last() {
-        Some(frame) => machine.code().name_of(frame.func(), slot),
-        None => None,
-    };
-    let text = match &name {
-        Some(name) => str::from_utf8(name.bytes()).unwrap_or("?"),
-        None => "?",
-    };
-    println!(rt; "#{position} fault unset temporary %{text}")?;
+    println!(rt; "\nout {count}")?;
     Ok(())
 }

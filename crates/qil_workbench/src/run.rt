@@ -58,24 +58,44 @@ fn is_kept<A: Allocator + Copy>(run: &Deltas<'_, '_, A>) -> bool {
     deltas.len() as u64 == run.position() && machine.same(run.machine())
 }
 
+/// Goes forward: the nanoseconds that it took.
+fn forward_timed<R: Clock, A: Allocator + Copy>(
+    rt: &R,
+    run: &mut Deltas<'_, '_, A>,
+    limit: u32,
+) -> anyhow::Result<u128> {
+    let start = Instant::now(rt)?;
+    forward(run, limit)?;
+    Ok(start.elapsed(rt)?.as_nanos())
+}
+
+/// Goes back, and tells the nanoseconds of both ways: how many moves are left.
+fn back_timed<R: Clock + Eprint, A: Allocator + Copy>(
+    rt: &R,
+    run: &mut Deltas<'_, '_, A>,
+    forward_time: u128,
+) -> anyhow::Result<u64> {
+    let position = run.position();
+    let start = Instant::now(rt)?;
+    let left = back(run);
+    let back_time = start.elapsed(rt)?.as_nanos();
+    eprintln!(rt; "moves {position} forward {forward_time} back {back_time}")?;
+    Ok(left)
+}
+
 /// Runs to the end, and back.
 fn run_timed<R: Clock + Print + Eprint, A: Allocator + Copy>(
     rt: &R,
     run: &mut Deltas<'_, '_, A>,
     limit: u32,
 ) -> anyhow::Result<Answer> {
-    let start = Instant::now(rt)?;
-    forward(run, limit)?;
-    let forward_time = start.elapsed(rt)?.as_nanos();
+    let forward_time = forward_timed(rt, run, limit)?;
     let position = run.position();
     report(rt, run.machine(), position)?;
     if !is_kept(run) {
         return Ok(Answer::DiffersAt(position));
     }
-    let start = Instant::now(rt)?;
-    let left = back(run);
-    let back_time = start.elapsed(rt)?.as_nanos();
-    eprintln!(rt; "moves {position} forward {forward_time} back {back_time}")?;
+    let left = back_timed(rt, run, forward_time)?;
     if left == 0 && is_at_start(run.machine()) {
         return Ok(Answer::Back);
     }
