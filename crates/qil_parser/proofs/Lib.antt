@@ -1,6 +1,7 @@
 -- The lemmas of this crate.
 pub mod Numbers
 pub mod Strings
+pub mod Tables
 pub mod Productions
 pub mod FunctionProductions
 pub mod Insts

@@ -21,8 +21,8 @@ beside (row ∷ rows) text = if bytes_eq text row.0 then Some row.1 else beside 
 
 -- ---- the words of the grammar
 
-abbrev pub keywords : List (List ℕ × Mark)
-keywords =
+abbrev pub grammar_words : List (List ℕ × Mark)
+grammar_words =
     (codes "w", marks.W) ∷
     (codes "l", marks.L) ∷
     (codes "call", marks.Call) ∷
@@ -32,61 +32,39 @@ keywords =
     (codes "jnz", marks.Jnz) ∷
     (codes "function", marks.Function) ∷
     (codes "hlt", marks.Hlt) ∷
-    (codes "blit", marks.Blit) ∷ []
-
--- of data and of links
-abbrev pub data_words : List (List ℕ × Mark)
-data_words =
+    (codes "blit", marks.Blit) ∷
     (codes "data", marks.Data) ∷
     (codes "align", marks.Align) ∷
     (codes "z", marks.Z) ∷
     (codes "b", marks.B) ∷
     (codes "h", marks.H) ∷
     (codes "export", marks.Export) ∷
-    (codes "section", marks.Section) ∷ []
-
-abbrev pub sub_words : List (List ℕ × Mark)
-sub_words =
+    (codes "section", marks.Section) ∷
     (codes "sb", marks.Sb) ∷
     (codes "ub", marks.Ub) ∷
     (codes "sh", marks.Sh) ∷
-    (codes "uh", marks.Uh) ∷ []
-
-abbrev pub unaries : List (List ℕ × Mark)
-unaries =
+    (codes "uh", marks.Uh) ∷
     (codes "copy", marks.Unary unary_ops.Copy) ∷
-    (codes "neg", marks.Unary unary_ops.Neg) ∷ []
-
-abbrev pub arithmetic : List (List ℕ × Mark)
-arithmetic =
+    (codes "neg", marks.Unary unary_ops.Neg) ∷
     (codes "add", marks.Binary binary_ops.Add) ∷
     (codes "sub", marks.Binary binary_ops.Sub) ∷
     (codes "mul", marks.Binary binary_ops.Mul) ∷
     (codes "div", marks.Binary binary_ops.Div) ∷
     (codes "rem", marks.Binary binary_ops.Rem) ∷
     (codes "udiv", marks.Binary binary_ops.Udiv) ∷
-    (codes "urem", marks.Binary binary_ops.Urem) ∷ []
-
-abbrev pub bit_words : List (List ℕ × Mark)
-bit_words =
+    (codes "urem", marks.Binary binary_ops.Urem) ∷
     (codes "and", marks.Binary binary_ops.And) ∷
     (codes "or", marks.Binary binary_ops.Or) ∷
     (codes "xor", marks.Binary binary_ops.Xor) ∷
     (codes "sar", marks.Binary binary_ops.Sar) ∷
     (codes "shr", marks.Binary binary_ops.Shr) ∷
-    (codes "shl", marks.Binary binary_ops.Shl) ∷ []
-
-abbrev pub extensions : List (List ℕ × Mark)
-extensions =
+    (codes "shl", marks.Binary binary_ops.Shl) ∷
     (codes "extsw", marks.Extend extension_ops.Sw) ∷
     (codes "extuw", marks.Extend extension_ops.Uw) ∷
     (codes "extsh", marks.Extend extension_ops.Sh) ∷
     (codes "extuh", marks.Extend extension_ops.Uh) ∷
     (codes "extsb", marks.Extend extension_ops.Sb) ∷
-    (codes "extub", marks.Extend extension_ops.Ub) ∷ []
-
-abbrev pub loads : List (List ℕ × Mark)
-loads =
+    (codes "extub", marks.Extend extension_ops.Ub) ∷
     (codes "loadl", marks.Load load_ops.L) ∷
     (codes "loadw", marks.Load load_ops.Sw) ∷
     (codes "loadsw", marks.Load load_ops.Sw) ∷
@@ -94,23 +72,14 @@ loads =
     (codes "loadsh", marks.Load load_ops.Sh) ∷
     (codes "loaduh", marks.Load load_ops.Uh) ∷
     (codes "loadsb", marks.Load load_ops.Sb) ∷
-    (codes "loadub", marks.Load load_ops.Ub) ∷ []
-
-abbrev pub stores : List (List ℕ × Mark)
-stores =
+    (codes "loadub", marks.Load load_ops.Ub) ∷
     (codes "storel", marks.Store widths.L) ∷
     (codes "storew", marks.Store widths.W) ∷
     (codes "storeh", marks.Store widths.H) ∷
-    (codes "storeb", marks.Store widths.B) ∷ []
-
-abbrev pub allocs : List (List ℕ × Mark)
-allocs =
+    (codes "storeb", marks.Store widths.B) ∷
     (codes "alloc4", marks.Alloc alloc_ops.Four) ∷
     (codes "alloc8", marks.Alloc alloc_ops.Eight) ∷
-    (codes "alloc16", marks.Alloc alloc_ops.Sixteen) ∷ []
-
-abbrev pub word_comparisons : List (List ℕ × Mark)
-word_comparisons =
+    (codes "alloc16", marks.Alloc alloc_ops.Sixteen) ∷
     (codes "ceqw", marks.Compare compare_ops.Eq classes.W) ∷
     (codes "cnew", marks.Compare compare_ops.Ne classes.W) ∷
     (codes "cslew", marks.Compare compare_ops.Sle classes.W) ∷
@@ -120,10 +89,7 @@ word_comparisons =
     (codes "culew", marks.Compare compare_ops.Ule classes.W) ∷
     (codes "cultw", marks.Compare compare_ops.Ult classes.W) ∷
     (codes "cugew", marks.Compare compare_ops.Uge classes.W) ∷
-    (codes "cugtw", marks.Compare compare_ops.Ugt classes.W) ∷ []
-
-abbrev pub long_comparisons : List (List ℕ × Mark)
-long_comparisons =
+    (codes "cugtw", marks.Compare compare_ops.Ugt classes.W) ∷
     (codes "ceql", marks.Compare compare_ops.Eq classes.L) ∷
     (codes "cnel", marks.Compare compare_ops.Ne classes.L) ∷
     (codes "cslel", marks.Compare compare_ops.Sle classes.L) ∷
@@ -141,19 +107,7 @@ or_else (Some mark) instead = mark
 or_else None instead = instead
 
 unfoldable pub word_mark : List ℕ → Mark
-word_mark text =
-    or_else (beside keywords text)
-    (or_else (beside data_words text)
-    (or_else (beside sub_words text)
-    (or_else (beside unaries text)
-    (or_else (beside arithmetic text)
-    (or_else (beside bit_words text)
-    (or_else (beside extensions text)
-    (or_else (beside loads text)
-    (or_else (beside stores text)
-    (or_else (beside allocs text)
-    (or_else (beside word_comparisons text)
-    (or_else (beside long_comparisons text) marks.Other)))))))))))
+word_mark text = or_else (beside grammar_words text) marks.Other
 
 -- ---- what is left out of QBE's IL
 
@@ -161,35 +115,23 @@ abbrev pub is_one_of : List (List ℕ) → List ℕ → Bool
 is_one_of [] text = false
 is_one_of (word ∷ words) text = bytes_eq text word || is_one_of words text
 
--- of types, threads, variable arguments and debugging, and of classes beside w and l
-abbrev pub left_out_forms : List (List ℕ)
-left_out_forms = codes "type" ∷ codes "env" ∷ codes "thread" ∷ codes "vastart" ∷ codes "vaarg" ∷ codes "dbgfile" ∷ codes "dbgloc" ∷ codes "cast" ∷ codes "s" ∷ codes "d" ∷ []
-
--- of floating point: loads, stores and conversions
-abbrev pub left_out_moves : List (List ℕ)
-left_out_moves = codes "loads" ∷ codes "loadd" ∷ codes "stores" ∷ codes "stored" ∷ codes "exts" ∷ codes "truncd" ∷ []
-
-abbrev pub left_out_conversions : List (List ℕ)
-left_out_conversions = codes "stosi" ∷ codes "stoui" ∷ codes "dtosi" ∷ codes "dtoui" ∷ codes "swtof" ∷ codes "uwtof" ∷ codes "sltof" ∷ codes "ultof" ∷ []
-
--- of floating point: comparisons
-abbrev pub left_out_single : List (List ℕ)
-left_out_single = codes "ceqs" ∷ codes "cnes" ∷ codes "cles" ∷ codes "clts" ∷ codes "cges" ∷ codes "cgts" ∷ codes "cos" ∷ codes "cuos" ∷ []
-
-abbrev pub left_out_double : List (List ℕ)
-left_out_double = codes "ceqd" ∷ codes "cned" ∷ codes "cled" ∷ codes "cltd" ∷ codes "cged" ∷ codes "cgtd" ∷ codes "cod" ∷ codes "cuod" ∷ []
+-- of types, threads, variable arguments and debugging, and of classes beside w and l; of floating point: loads, stores, conversions and comparisons
+abbrev pub left_out_words : List (List ℕ)
+left_out_words =
+    codes "type" ∷ codes "env" ∷ codes "thread" ∷ codes "vastart" ∷ codes "vaarg" ∷ codes "dbgfile" ∷
+    codes "dbgloc" ∷ codes "cast" ∷ codes "s" ∷ codes "d" ∷ codes "loads" ∷ codes "loadd" ∷ codes "stores" ∷
+    codes "stored" ∷ codes "exts" ∷ codes "truncd" ∷ codes "stosi" ∷ codes "stoui" ∷ codes "dtosi" ∷
+    codes "dtoui" ∷ codes "swtof" ∷ codes "uwtof" ∷ codes "sltof" ∷ codes "ultof" ∷ codes "ceqs" ∷
+    codes "cnes" ∷ codes "cles" ∷ codes "clts" ∷ codes "cges" ∷ codes "cgts" ∷ codes "cos" ∷ codes "cuos" ∷
+    codes "ceqd" ∷ codes "cned" ∷ codes "cled" ∷ codes "cltd" ∷ codes "cged" ∷ codes "cgtd" ∷ codes "cod" ∷
+    codes "cuod" ∷ []
 
 -- a constant of floating point, as s_1.5
 abbrev pub is_constant : List ℕ → Bool
 is_constant text = is_one_of (codes "s_" ∷ codes "d_" ∷ []) (take 2 text)
 
 unfoldable pub left_out_word : List ℕ → Bool
-left_out_word text =
-    is_constant text
-    || (is_one_of left_out_forms text
-    || (is_one_of left_out_moves text
-    || (is_one_of left_out_conversions text
-    || (is_one_of left_out_single text || is_one_of left_out_double text))))
+left_out_word text = is_constant text || is_one_of left_out_words text
 
 abbrev pub left_out : TokenKind → List ℕ → Bool
 left_out kinds.Aggregate text = true

@@ -1,422 +1,134 @@
-//! Which word of the grammar a text is, and which words of QBE's IL are left out.
+//! The words of the grammar and the words of QBE's IL that are left out, as tables, and where a text stands in them.
 
-ghost use Rattle.std.specs.Prelude.{◌≡◌};
+ghost use Rattle.std.specs.Prelude.{◌≡◌, map};
 ghost use Rattle.qil_parser.specs.Words as words;
 
 use crate::mark::Mark;
 use qil_lexer::{Token, TokenKind};
 use qil_tree::{AllocOp, BinaryOp, Class, CompareOp, Extension, LoadOp, UnaryOp, Width};
 
-fn keyword(text: &[u8]) -> Option<Mark>
-    ensures { result ≡ words.beside words.keywords text.now }
+/// Each word of the grammar, and what it is there.
+static WORDS: [(&[u8], Mark); 77] = [
+    (b"w", Mark::W),
+    (b"l", Mark::L),
+    (b"call", Mark::Call),
+    (b"phi", Mark::Phi),
+    (b"ret", Mark::Ret),
+    (b"jmp", Mark::Jmp),
+    (b"jnz", Mark::Jnz),
+    (b"function", Mark::Function),
+    (b"hlt", Mark::Hlt),
+    (b"blit", Mark::Blit),
+    (b"data", Mark::Data),
+    (b"align", Mark::Align),
+    (b"z", Mark::Z),
+    (b"b", Mark::B),
+    (b"h", Mark::H),
+    (b"export", Mark::Export),
+    (b"section", Mark::Section),
+    (b"sb", Mark::Sb),
+    (b"ub", Mark::Ub),
+    (b"sh", Mark::Sh),
+    (b"uh", Mark::Uh),
+    (b"copy", Mark::Unary(UnaryOp::Copy)),
+    (b"neg", Mark::Unary(UnaryOp::Neg)),
+    (b"add", Mark::Binary(BinaryOp::Add)),
+    (b"sub", Mark::Binary(BinaryOp::Sub)),
+    (b"mul", Mark::Binary(BinaryOp::Mul)),
+    (b"div", Mark::Binary(BinaryOp::Div)),
+    (b"rem", Mark::Binary(BinaryOp::Rem)),
+    (b"udiv", Mark::Binary(BinaryOp::Udiv)),
+    (b"urem", Mark::Binary(BinaryOp::Urem)),
+    (b"and", Mark::Binary(BinaryOp::And)),
+    (b"or", Mark::Binary(BinaryOp::Or)),
+    (b"xor", Mark::Binary(BinaryOp::Xor)),
+    (b"sar", Mark::Binary(BinaryOp::Sar)),
+    (b"shr", Mark::Binary(BinaryOp::Shr)),
+    (b"shl", Mark::Binary(BinaryOp::Shl)),
+    (b"extsw", Mark::Extend(Extension::Sw)),
+    (b"extuw", Mark::Extend(Extension::Uw)),
+    (b"extsh", Mark::Extend(Extension::Sh)),
+    (b"extuh", Mark::Extend(Extension::Uh)),
+    (b"extsb", Mark::Extend(Extension::Sb)),
+    (b"extub", Mark::Extend(Extension::Ub)),
+    (b"loadl", Mark::Load(LoadOp::L)),
+    (b"loadw", Mark::Load(LoadOp::Sw)),
+    (b"loadsw", Mark::Load(LoadOp::Sw)),
+    (b"loaduw", Mark::Load(LoadOp::Uw)),
+    (b"loadsh", Mark::Load(LoadOp::Sh)),
+    (b"loaduh", Mark::Load(LoadOp::Uh)),
+    (b"loadsb", Mark::Load(LoadOp::Sb)),
+    (b"loadub", Mark::Load(LoadOp::Ub)),
+    (b"storel", Mark::Store(Width::L)),
+    (b"storew", Mark::Store(Width::W)),
+    (b"storeh", Mark::Store(Width::H)),
+    (b"storeb", Mark::Store(Width::B)),
+    (b"alloc4", Mark::Alloc(AllocOp::Four)),
+    (b"alloc8", Mark::Alloc(AllocOp::Eight)),
+    (b"alloc16", Mark::Alloc(AllocOp::Sixteen)),
+    (b"ceqw", Mark::Compare(CompareOp::Eq, Class::W)),
+    (b"cnew", Mark::Compare(CompareOp::Ne, Class::W)),
+    (b"cslew", Mark::Compare(CompareOp::Sle, Class::W)),
+    (b"csltw", Mark::Compare(CompareOp::Slt, Class::W)),
+    (b"csgew", Mark::Compare(CompareOp::Sge, Class::W)),
+    (b"csgtw", Mark::Compare(CompareOp::Sgt, Class::W)),
+    (b"culew", Mark::Compare(CompareOp::Ule, Class::W)),
+    (b"cultw", Mark::Compare(CompareOp::Ult, Class::W)),
+    (b"cugew", Mark::Compare(CompareOp::Uge, Class::W)),
+    (b"cugtw", Mark::Compare(CompareOp::Ugt, Class::W)),
+    (b"ceql", Mark::Compare(CompareOp::Eq, Class::L)),
+    (b"cnel", Mark::Compare(CompareOp::Ne, Class::L)),
+    (b"cslel", Mark::Compare(CompareOp::Sle, Class::L)),
+    (b"csltl", Mark::Compare(CompareOp::Slt, Class::L)),
+    (b"csgel", Mark::Compare(CompareOp::Sge, Class::L)),
+    (b"csgtl", Mark::Compare(CompareOp::Sgt, Class::L)),
+    (b"culel", Mark::Compare(CompareOp::Ule, Class::L)),
+    (b"cultl", Mark::Compare(CompareOp::Ult, Class::L)),
+    (b"cugel", Mark::Compare(CompareOp::Uge, Class::L)),
+    (b"cugtl", Mark::Compare(CompareOp::Ugt, Class::L)),
+];
+
+/// The words of QBE's IL that are left out.
+static LEFT_OUT: [&[u8]; 40] = [
+    b"type", b"env", b"thread", b"vastart", b"vaarg", b"dbgfile", b"dbgloc", b"cast", b"s", b"d",
+    b"loads", b"loadd", b"stores", b"stored", b"exts", b"truncd", b"stosi", b"stoui", b"dtosi",
+    b"dtoui", b"swtof", b"uwtof", b"sltof", b"ultof", b"ceqs", b"cnes", b"cles", b"clts", b"cges",
+    b"cgts", b"cos", b"cuos", b"ceqd", b"cned", b"cled", b"cltd", b"cged", b"cgtd", b"cod",
+    b"cuod",
+];
+
+/// What stands beside a text in a table.
+fn beside(rows: &[(&[u8], Mark)], text: &[u8]) -> Option<Mark>
+    ensures { result ≡ words.beside (map (λ row. (row.0.now, row.1)) rows.now) text.now }
 {
-    if text == b"w".as_slice() {
-        return Some(Mark::W);
-    }
-    if text == b"l".as_slice() {
-        return Some(Mark::L);
-    }
-    if text == b"call".as_slice() {
-        return Some(Mark::Call);
-    }
-    if text == b"phi".as_slice() {
-        return Some(Mark::Phi);
-    }
-    if text == b"ret".as_slice() {
-        return Some(Mark::Ret);
-    }
-    if text == b"jmp".as_slice() {
-        return Some(Mark::Jmp);
-    }
-    if text == b"jnz".as_slice() {
-        return Some(Mark::Jnz);
-    }
-    if text == b"function".as_slice() {
-        return Some(Mark::Function);
-    }
-    if text == b"hlt".as_slice() {
-        return Some(Mark::Hlt);
-    }
-    if text == b"blit".as_slice() {
-        return Some(Mark::Blit);
+    for row in rows {
+        if text == row.0 {
+            return Some(row.1);
+        }
     }
     None
 }
 
-fn data_word(text: &[u8]) -> Option<Mark>
-    ensures { result ≡ words.beside words.data_words text.now }
+fn is_one_of(table: &[&[u8]], text: &[u8]) -> bool
+    ensures { result ≡ words.is_one_of (map (λ word. word.now) table.now) text.now }
 {
-    if text == b"data".as_slice() {
-        return Some(Mark::Data);
+    for word in table {
+        if text == *word {
+            return true;
+        }
     }
-    if text == b"align".as_slice() {
-        return Some(Mark::Align);
-    }
-    if text == b"z".as_slice() {
-        return Some(Mark::Z);
-    }
-    if text == b"b".as_slice() {
-        return Some(Mark::B);
-    }
-    if text == b"h".as_slice() {
-        return Some(Mark::H);
-    }
-    if text == b"export".as_slice() {
-        return Some(Mark::Export);
-    }
-    if text == b"section".as_slice() {
-        return Some(Mark::Section);
-    }
-    None
+    false
 }
 
-fn sub_word(text: &[u8]) -> Option<Mark>
-    ensures { result ≡ words.beside words.sub_words text.now }
-{
-    if text == b"sb".as_slice() {
-        return Some(Mark::Sb);
-    }
-    if text == b"ub".as_slice() {
-        return Some(Mark::Ub);
-    }
-    if text == b"sh".as_slice() {
-        return Some(Mark::Sh);
-    }
-    if text == b"uh".as_slice() {
-        return Some(Mark::Uh);
-    }
-    None
-}
-
-fn unary(text: &[u8]) -> Option<Mark>
-    ensures { result ≡ words.beside words.unaries text.now }
-{
-    if text == b"copy".as_slice() {
-        return Some(Mark::Unary(UnaryOp::Copy));
-    }
-    if text == b"neg".as_slice() {
-        return Some(Mark::Unary(UnaryOp::Neg));
-    }
-    None
-}
-
-fn arithmetic(text: &[u8]) -> Option<Mark>
-    ensures { result ≡ words.beside words.arithmetic text.now }
-{
-    if text == b"add".as_slice() {
-        return Some(Mark::Binary(BinaryOp::Add));
-    }
-    if text == b"sub".as_slice() {
-        return Some(Mark::Binary(BinaryOp::Sub));
-    }
-    if text == b"mul".as_slice() {
-        return Some(Mark::Binary(BinaryOp::Mul));
-    }
-    if text == b"div".as_slice() {
-        return Some(Mark::Binary(BinaryOp::Div));
-    }
-    if text == b"rem".as_slice() {
-        return Some(Mark::Binary(BinaryOp::Rem));
-    }
-    if text == b"udiv".as_slice() {
-        return Some(Mark::Binary(BinaryOp::Udiv));
-    }
-    if text == b"urem".as_slice() {
-        return Some(Mark::Binary(BinaryOp::Urem));
-    }
-    None
-}
-
-fn bits(text: &[u8]) -> Option<Mark>
-    ensures { result ≡ words.beside words.bit_words text.now }
-{
-    if text == b"and".as_slice() {
-        return Some(Mark::Binary(BinaryOp::And));
-    }
-    if text == b"or".as_slice() {
-        return Some(Mark::Binary(BinaryOp::Or));
-    }
-    if text == b"xor".as_slice() {
-        return Some(Mark::Binary(BinaryOp::Xor));
-    }
-    if text == b"sar".as_slice() {
-        return Some(Mark::Binary(BinaryOp::Sar));
-    }
-    if text == b"shr".as_slice() {
-        return Some(Mark::Binary(BinaryOp::Shr));
-    }
-    if text == b"shl".as_slice() {
-        return Some(Mark::Binary(BinaryOp::Shl));
-    }
-    None
-}
-
-fn extension(text: &[u8]) -> Option<Mark>
-    ensures { result ≡ words.beside words.extensions text.now }
-{
-    if text == b"extsw".as_slice() {
-        return Some(Mark::Extend(Extension::Sw));
-    }
-    if text == b"extuw".as_slice() {
-        return Some(Mark::Extend(Extension::Uw));
-    }
-    if text == b"extsh".as_slice() {
-        return Some(Mark::Extend(Extension::Sh));
-    }
-    if text == b"extuh".as_slice() {
-        return Some(Mark::Extend(Extension::Uh));
-    }
-    if text == b"extsb".as_slice() {
-        return Some(Mark::Extend(Extension::Sb));
-    }
-    if text == b"extub".as_slice() {
-        return Some(Mark::Extend(Extension::Ub));
-    }
-    None
-}
-
-fn load(text: &[u8]) -> Option<Mark>
-    ensures { result ≡ words.beside words.loads text.now }
-{
-    if text == b"loadl".as_slice() {
-        return Some(Mark::Load(LoadOp::L));
-    }
-    if text == b"loadw".as_slice() {
-        return Some(Mark::Load(LoadOp::Sw));
-    }
-    if text == b"loadsw".as_slice() {
-        return Some(Mark::Load(LoadOp::Sw));
-    }
-    if text == b"loaduw".as_slice() {
-        return Some(Mark::Load(LoadOp::Uw));
-    }
-    if text == b"loadsh".as_slice() {
-        return Some(Mark::Load(LoadOp::Sh));
-    }
-    if text == b"loaduh".as_slice() {
-        return Some(Mark::Load(LoadOp::Uh));
-    }
-    if text == b"loadsb".as_slice() {
-        return Some(Mark::Load(LoadOp::Sb));
-    }
-    if text == b"loadub".as_slice() {
-        return Some(Mark::Load(LoadOp::Ub));
-    }
-    None
-}
-
-fn store(text: &[u8]) -> Option<Mark>
-    ensures { result ≡ words.beside words.stores text.now }
-{
-    if text == b"storel".as_slice() {
-        return Some(Mark::Store(Width::L));
-    }
-    if text == b"storew".as_slice() {
-        return Some(Mark::Store(Width::W));
-    }
-    if text == b"storeh".as_slice() {
-        return Some(Mark::Store(Width::H));
-    }
-    if text == b"storeb".as_slice() {
-        return Some(Mark::Store(Width::B));
-    }
-    None
-}
-
-fn alloc(text: &[u8]) -> Option<Mark>
-    ensures { result ≡ words.beside words.allocs text.now }
-{
-    if text == b"alloc4".as_slice() {
-        return Some(Mark::Alloc(AllocOp::Four));
-    }
-    if text == b"alloc8".as_slice() {
-        return Some(Mark::Alloc(AllocOp::Eight));
-    }
-    if text == b"alloc16".as_slice() {
-        return Some(Mark::Alloc(AllocOp::Sixteen));
-    }
-    None
-}
-
-fn word_comparison(text: &[u8]) -> Option<Mark>
-    ensures { result ≡ words.beside words.word_comparisons text.now }
-{
-    if text == b"ceqw".as_slice() {
-        return Some(Mark::Compare(CompareOp::Eq, Class::W));
-    }
-    if text == b"cnew".as_slice() {
-        return Some(Mark::Compare(CompareOp::Ne, Class::W));
-    }
-    if text == b"cslew".as_slice() {
-        return Some(Mark::Compare(CompareOp::Sle, Class::W));
-    }
-    if text == b"csltw".as_slice() {
-        return Some(Mark::Compare(CompareOp::Slt, Class::W));
-    }
-    if text == b"csgew".as_slice() {
-        return Some(Mark::Compare(CompareOp::Sge, Class::W));
-    }
-    if text == b"csgtw".as_slice() {
-        return Some(Mark::Compare(CompareOp::Sgt, Class::W));
-    }
-    if text == b"culew".as_slice() {
-        return Some(Mark::Compare(CompareOp::Ule, Class::W));
-    }
-    if text == b"cultw".as_slice() {
-        return Some(Mark::Compare(CompareOp::Ult, Class::W));
-    }
-    if text == b"cugew".as_slice() {
-        return Some(Mark::Compare(CompareOp::Uge, Class::W));
-    }
-    if text == b"cugtw".as_slice() {
-        return Some(Mark::Compare(CompareOp::Ugt, Class::W));
-    }
-    None
-}
-
-fn long_comparison(text: &[u8]) -> Option<Mark>
-    ensures { result ≡ words.beside words.long_comparisons text.now }
-{
-    if text == b"ceql".as_slice() {
-        return Some(Mark::Compare(CompareOp::Eq, Class::L));
-    }
-    if text == b"cnel".as_slice() {
-        return Some(Mark::Compare(CompareOp::Ne, Class::L));
-    }
-    if text == b"cslel".as_slice() {
-        return Some(Mark::Compare(CompareOp::Sle, Class::L));
-    }
-    if text == b"csltl".as_slice() {
-        return Some(Mark::Compare(CompareOp::Slt, Class::L));
-    }
-    if text == b"csgel".as_slice() {
-        return Some(Mark::Compare(CompareOp::Sge, Class::L));
-    }
-    if text == b"csgtl".as_slice() {
-        return Some(Mark::Compare(CompareOp::Sgt, Class::L));
-    }
-    if text == b"culel".as_slice() {
-        return Some(Mark::Compare(CompareOp::Ule, Class::L));
-    }
-    if text == b"cultl".as_slice() {
-        return Some(Mark::Compare(CompareOp::Ult, Class::L));
-    }
-    if text == b"cugel".as_slice() {
-        return Some(Mark::Compare(CompareOp::Uge, Class::L));
-    }
-    if text == b"cugtl".as_slice() {
-        return Some(Mark::Compare(CompareOp::Ugt, Class::L));
-    }
-    None
-}
-
-/// Which word of the grammar a text is; the words that stand most often come first.
+/// Which word of the grammar a text is.
 #[tactic(auto, unfolding(crate::specs::Words::word_mark))]
 pub fn word_mark(text: &[u8]) -> Mark
     ensures { result ≡ words.word_mark text.now }
 {
-    if let Some(mark) = keyword(text) {
-        return mark;
+    match beside(&WORDS, text) {
+        Some(mark) => mark,
+        None => Mark::Other,
     }
-    if let Some(mark) = data_word(text) {
-        return mark;
-    }
-    if let Some(mark) = sub_word(text) {
-        return mark;
-    }
-    if let Some(mark) = unary(text) {
-        return mark;
-    }
-    if let Some(mark) = arithmetic(text) {
-        return mark;
-    }
-    if let Some(mark) = bits(text) {
-        return mark;
-    }
-    if let Some(mark) = extension(text) {
-        return mark;
-    }
-    if let Some(mark) = load(text) {
-        return mark;
-    }
-    if let Some(mark) = store(text) {
-        return mark;
-    }
-    if let Some(mark) = alloc(text) {
-        return mark;
-    }
-    if let Some(mark) = word_comparison(text) {
-        return mark;
-    }
-    if let Some(mark) = long_comparison(text) {
-        return mark;
-    }
-    Mark::Other
-}
-
-fn is_left_out_form(text: &[u8]) -> bool
-    ensures { result ≡ words.is_one_of words.left_out_forms text.now }
-{
-    text == b"type".as_slice()
-        || text == b"env".as_slice()
-        || text == b"thread".as_slice()
-        || text == b"vastart".as_slice()
-        || text == b"vaarg".as_slice()
-        || text == b"dbgfile".as_slice()
-        || text == b"dbgloc".as_slice()
-        || text == b"cast".as_slice()
-        || text == b"s".as_slice()
-        || text == b"d".as_slice()
-}
-
-fn is_left_out_move(text: &[u8]) -> bool
-    ensures { result ≡ words.is_one_of words.left_out_moves text.now }
-{
-    text == b"loads".as_slice()
-        || text == b"loadd".as_slice()
-        || text == b"stores".as_slice()
-        || text == b"stored".as_slice()
-        || text == b"exts".as_slice()
-        || text == b"truncd".as_slice()
-}
-
-fn is_left_out_conversion(text: &[u8]) -> bool
-    ensures { result ≡ words.is_one_of words.left_out_conversions text.now }
-{
-    text == b"stosi".as_slice()
-        || text == b"stoui".as_slice()
-        || text == b"dtosi".as_slice()
-        || text == b"dtoui".as_slice()
-        || text == b"swtof".as_slice()
-        || text == b"uwtof".as_slice()
-        || text == b"sltof".as_slice()
-        || text == b"ultof".as_slice()
-}
-
-fn is_left_out_single(text: &[u8]) -> bool
-    ensures { result ≡ words.is_one_of words.left_out_single text.now }
-{
-    text == b"ceqs".as_slice()
-        || text == b"cnes".as_slice()
-        || text == b"cles".as_slice()
-        || text == b"clts".as_slice()
-        || text == b"cges".as_slice()
-        || text == b"cgts".as_slice()
-        || text == b"cos".as_slice()
-        || text == b"cuos".as_slice()
-}
-
-fn is_left_out_double(text: &[u8]) -> bool
-    ensures { result ≡ words.is_one_of words.left_out_double text.now }
-{
-    text == b"ceqd".as_slice()
-        || text == b"cned".as_slice()
-        || text == b"cled".as_slice()
-        || text == b"cltd".as_slice()
-        || text == b"cged".as_slice()
-        || text == b"cgtd".as_slice()
-        || text == b"cod".as_slice()
-        || text == b"cuod".as_slice()
 }
 
 /// Whether a word is a constant of floating point, as `s_1.5`.
@@ -431,12 +143,7 @@ fn is_constant(text: &[u8]) -> bool
 fn is_left_out_word(text: &[u8]) -> bool
     ensures { result ≡ words.left_out_word text.now }
 {
-    is_constant(text)
-        || is_left_out_form(text)
-        || is_left_out_move(text)
-        || is_left_out_conversion(text)
-        || is_left_out_single(text)
-        || is_left_out_double(text)
+    is_constant(text) || is_one_of(&LEFT_OUT, text)
 }
 
 /// Whether a token belongs to a form of QBE's IL that is left out.
