@@ -118,10 +118,17 @@ callee = seq val (after marks.OpenParen (before arguments marks.CloseParen))
 unfoldable pub called : List Tok → Read Tok (Operand × List Argument)
 called = after marks.Call callee
 
+abbrev pub store : {A : Type 0} → List Tok → Read Tok (Inst A)
+store = image store_of (seq store_word two)
+
+abbrev pub blit : {A : Type 0} → List Tok → Read Tok (Inst A)
+blit = image blit_of (seq (word_line marks.Blit) (seq (before two marks.Comma) count))
+
+abbrev pub plain_call : {A : Type 0} → List Tok → Read Tok (Inst A)
+plain_call = image plain_call_of (seq (word_line marks.Call) callee)
+
 unfoldable pub plain : {A : Type 0} → List Tok → Read Tok (Inst A)
-plain = either index stores (image store_of (seq store_word two))
-    (either index (the marks.Blit) (image blit_of (seq (word_line marks.Blit) (seq (before two marks.Comma) count)))
-    (image plain_call_of (seq (word_line marks.Call) callee)))
+plain = either index stores store (either index (the marks.Blit) blit plain_call)
 
 -- after the destination and a class: what depends on both
 abbrev pub expr_for : {A : Type 0} → Expr → Class → ℕ × List ℕ → Inst A
@@ -229,10 +236,17 @@ head = seq (before label_name marks.Newline) body
 unfoldable pub jnz : List Tok → Read Tok Jump
 jnz = image jnz_of (seq (word_line marks.Jnz) (seq (before val marks.Comma) (seq (before label_name marks.Comma) label_name)))
 
+abbrev pub jmp : List Tok → Read Tok Jump
+jmp = image jmp_of (seq (word_line marks.Jmp) label_name)
+
+abbrev pub ret : List Tok → Read Tok Jump
+ret = image ret_of (seq (word_line marks.Ret) (perhaps values val))
+
+abbrev pub hlt : List Tok → Read Tok Jump
+hlt = image hlt_of (word_line marks.Hlt)
+
 unfoldable pub jump : List Tok → Read Tok Jump
-jump = either index (the marks.Jmp) (image jmp_of (seq (word_line marks.Jmp) label_name))
-    (either index (the marks.Jnz) jnz
-    (either index (the marks.Ret) (image ret_of (seq (word_line marks.Ret) (perhaps values val))) (image hlt_of (word_line marks.Hlt))))
+jump = either index (the marks.Jmp) jmp (either index (the marks.Jnz) jnz (either index (the marks.Ret) ret hlt))
 
 -- the line of the next token, and its text without the sigil
 abbrev pub next_name : List Tok → ℕ × List ℕ

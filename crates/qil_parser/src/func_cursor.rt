@@ -1,6 +1,6 @@
 //! The methods of the cursor for blocks and functions.
 
-ghost use Rattle.std.specs.Prelude.{◌≡◌};
+ghost use Rattle.std.specs.Prelude.{◌≡◌, [], ◌∷◌};
 ghost use Rattle.qil_language.specs.Reading.{starts, joined};
 ghost use Rattle.qil_parser.specs.Token.{seen, index};
 ghost use Rattle.qil_parser.specs.Parsing as parsing;
@@ -98,6 +98,20 @@ impl<'t, 'a> Cursor<'t, 'a> {
         Ok(Items::new(items))
     }
 
+    /// The instructions from one on that was read up to the end of its line.
+    fn lines_from<A: Allocator + Copy>(
+        &mut self,
+        first: Inst<'a, A>,
+        alloc: A,
+    ) -> Result<Items<Inst<'a, A>, A>, CursorError<'t, 'a>>
+        ensures { Gives (λ x. x) (seen self.new.rest.now) result (joined (first.entry ∷ []) (parsing.after newline functions.lines (seen self.old.rest.now))) }
+    {
+        self.word(Mark::Newline)?;
+        let mut items = Vec::new(alloc);
+        items.push(first)?;
+        self.more_lines(items, alloc)
+    }
+
     /// The instructions from one on whose destination has a class.
     #[tactic(auto, using(crate::proofs::BodyLoop::listed_classed))]
     fn class_lines<A: Allocator + Copy>(
@@ -110,10 +124,7 @@ impl<'t, 'a> Cursor<'t, 'a> {
         ensures { Gives (λ x. x) (seen self.new.rest.now) result (functions.class_lines (line, name.entry) class (seen self.old.rest.now)) }
     {
         let first = self.of_class(line, name, class, alloc)?;
-        self.word(Mark::Newline)?;
-        let mut items = Vec::new(alloc);
-        items.push(first)?;
-        self.more_lines(items, alloc)
+        self.lines_from(first, alloc)
     }
 
     /// The instructions from one on whose destination takes a part of a word.
@@ -127,10 +138,7 @@ impl<'t, 'a> Cursor<'t, 'a> {
         ensures { Gives (λ x. x) (seen self.new.rest.now) result (functions.sub_lines (line, name.entry) (seen self.old.rest.now)) }
     {
         let first = self.of_sub(line, name, alloc)?;
-        self.word(Mark::Newline)?;
-        let mut items = Vec::new(alloc);
-        items.push(first)?;
-        self.more_lines(items, alloc)
+        self.lines_from(first, alloc)
     }
 
     /// The instructions from one on that has no destination, if there are some.
@@ -141,14 +149,11 @@ impl<'t, 'a> Cursor<'t, 'a> {
     ) -> Result<Items<Inst<'a, A>, A>, CursorError<'t, 'a>>
         ensures { Gives (λ x. x) (seen self.new.rest.now) result (functions.plain_lines (seen self.old.rest.now)) }
     {
-        let mut items = Vec::new(alloc);
         if self.starts_plain() {
             let first = self.plain(alloc)?;
-            self.word(Mark::Newline)?;
-            items.push(first)?;
-            return self.more_lines(items, alloc);
+            return self.lines_from(first, alloc);
         }
-        Ok(Items::new(items))
+        Ok(Items::new(Vec::new(alloc)))
     }
 
     /// The phis and the instructions of a block: which of them a line has is seen behind its class.
@@ -217,35 +222,47 @@ impl<'t, 'a> Cursor<'t, 'a> {
         })
     }
 
+    fn jmp(&mut self) -> Result<Jump<'a>, CursorError<'t, 'a>>
+        ensures { Gives (λ x. x) (seen self.new.rest.now) result (functions.jmp (seen self.old.rest.now)) }
+    {
+        let line = self.word_line(Mark::Jmp)?;
+        let (_, label) = self.label_name()?;
+        Ok(Jump {
+            line,
+            kind: JumpKind::Jmp(label),
+        })
+    }
+
+    fn ret(&mut self) -> Result<Jump<'a>, CursorError<'t, 'a>>
+        ensures { Gives (λ x. x) (seen self.new.rest.now) result (functions.ret (seen self.old.rest.now)) }
+    {
+        let line = self.word_line(Mark::Ret)?;
+        let value = self.perhaps_val()?;
+        Ok(Jump {
+            line,
+            kind: JumpKind::Ret(value),
+        })
+    }
+
+    fn hlt(&mut self) -> Result<Jump<'a>, CursorError<'t, 'a>>
+        ensures { Gives (λ x. x) (seen self.new.rest.now) result (functions.hlt (seen self.old.rest.now)) }
+    {
+        let line = self.word_line(Mark::Hlt)?;
+        Ok(Jump {
+            line,
+            kind: JumpKind::Hlt,
+        })
+    }
+
     #[tactic(auto, unfolding(crate::specs::FunctionParsing::jump))]
     fn jump(&mut self) -> Result<Jump<'a>, CursorError<'t, 'a>>
         ensures { Gives (λ x. x) (seen self.new.rest.now) result (functions.jump (seen self.old.rest.now)) }
     {
         match self.next() {
-            Mark::Jmp => {
-                let line = self.word_line(Mark::Jmp)?;
-                let (_, label) = self.label_name()?;
-                Ok(Jump {
-                    line,
-                    kind: JumpKind::Jmp(label),
-                })
-            }
+            Mark::Jmp => self.jmp(),
             Mark::Jnz => self.jnz(),
-            Mark::Ret => {
-                let line = self.word_line(Mark::Ret)?;
-                let value = self.perhaps_val()?;
-                Ok(Jump {
-                    line,
-                    kind: JumpKind::Ret(value),
-                })
-            }
-            _ => {
-                let line = self.word_line(Mark::Hlt)?;
-                Ok(Jump {
-                    line,
-                    kind: JumpKind::Hlt,
-                })
-            }
+            Mark::Ret => self.ret(),
+            _ => self.hlt(),
         }
     }
 

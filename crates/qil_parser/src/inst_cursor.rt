@@ -211,6 +211,44 @@ impl<'t, 'a> Cursor<'t, 'a> {
         Ok((callee, arguments))
     }
 
+    fn store<A: Allocator + Copy>(&mut self) -> Result<Inst<'a, A>, CursorError<'t, 'a>>
+        ensures { Gives (λ x. x) (seen self.new.rest.now) result (functions.store (seen self.old.rest.now)) }
+    {
+        let (line, width) = self.store_word()?;
+        let (value, at) = self.two()?;
+        Ok(Inst {
+            line,
+            kind: InstKind::Store(width, value, at),
+        })
+    }
+
+    fn blit<A: Allocator + Copy>(&mut self) -> Result<Inst<'a, A>, CursorError<'t, 'a>>
+        ensures { Gives (λ x. x) (seen self.new.rest.now) result (functions.blit (seen self.old.rest.now)) }
+    {
+        let line = self.word_line(Mark::Blit)?;
+        let (from, to) = self.two()?;
+        self.word(Mark::Comma)?;
+        let count = self.count()?;
+        Ok(Inst {
+            line,
+            kind: InstKind::Blit(from, to, count),
+        })
+    }
+
+    fn plain_call<A: Allocator + Copy>(
+        &mut self,
+        alloc: A,
+    ) -> Result<Inst<'a, A>, CursorError<'t, 'a>>
+        ensures { Gives (λ x. x) (seen self.new.rest.now) result (functions.plain_call (seen self.old.rest.now)) }
+    {
+        let line = self.word_line(Mark::Call)?;
+        let (callee, arguments) = self.callee(alloc)?;
+        Ok(Inst {
+            line,
+            kind: InstKind::Call(None, callee, arguments),
+        })
+    }
+
     /// An instruction without a destination.
     #[tactic(auto, unfolding(crate::specs::FunctionParsing::plain))]
     pub fn plain<A: Allocator + Copy>(
@@ -220,32 +258,9 @@ impl<'t, 'a> Cursor<'t, 'a> {
         ensures { Gives (λ x. x) (seen self.new.rest.now) result (functions.plain (seen self.old.rest.now)) }
     {
         match self.next() {
-            Mark::Store(_) => {
-                let (line, width) = self.store_word()?;
-                let (value, at) = self.two()?;
-                Ok(Inst {
-                    line,
-                    kind: InstKind::Store(width, value, at),
-                })
-            }
-            Mark::Blit => {
-                let line = self.word_line(Mark::Blit)?;
-                let (from, to) = self.two()?;
-                self.word(Mark::Comma)?;
-                let count = self.count()?;
-                Ok(Inst {
-                    line,
-                    kind: InstKind::Blit(from, to, count),
-                })
-            }
-            _ => {
-                let line = self.word_line(Mark::Call)?;
-                let (callee, arguments) = self.callee(alloc)?;
-                Ok(Inst {
-                    line,
-                    kind: InstKind::Call(None, callee, arguments),
-                })
-            }
+            Mark::Store(_) => self.store(),
+            Mark::Blit => self.blit(),
+            _ => self.plain_call(alloc),
         }
     }
 
