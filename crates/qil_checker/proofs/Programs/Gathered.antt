@@ -1,5 +1,5 @@
 -- The texts of a program, one after the other.
-use Rattle.std.proofs.Common.{◌≡◌, ◌∙◌, sym, ap, refl, ℕ, ◌<◌, ◌≤◌, ◌-◌, ◌+◌, suc, List, [], ◌∷◌, ◌++◌, Option, Some, None, Bool, true, false, if◌then◌else◌, take, drop, length, get_or, map, arith}
+use Rattle.std.proofs.Common.{◌≡◌, ◌∙◌, sym, ap, refl, ℕ, ◌<◌, ◌≤◌, ◌-◌, ◌+◌, suc, List, [], ◌∷◌, ◌++◌, Option, Some, None, Bool, true, false, if◌then◌else◌, take, drop, length, get_or, map, append_assoc, arith}
 use Rattle.std.specs.Str.{bytes_eq}
 use Rattle.std.proofs.lemmas.List.{map-append, take_all, drop_more, drop_all}
 use Rattle.qil_tree.specs.declared.tree.Data.{Data}
@@ -53,6 +53,13 @@ pub one_more : {A X : Type 0} (f : X → List Mention) (out new : List (Text A))
     → mentions_of new ++ map f (drop (i + 1) xs) ≡ all
 one_more f out new t x xs i all so_far l there e same =
     one_text out new t (map f (drop (i + 1) xs)) e ∙ ap (λ m. mentions_of out ++ m ∷ map f (drop (i + 1) xs)) same ∙ ap (λ ms. mentions_of out ++ ms) (sym (at_front f x xs i l there)) ∙ so_far
+
+-- once the order has ended, the objects and functions that are left come last
+pub all_in : {A : Type 0} (order : List Definition) (i : ℕ) (ds : List (Data A)) (fs : List (Func A)) (out more last all : List (List Mention))
+    → length order ≤ i → more ≡ out ++ map data_mentions ds → last ≡ more ++ map func_mentions fs → out ++ texts_in (drop i order) ds fs ≡ all → last ≡ all
+all_in order i ds fs out more last all l datas funcs so_far =
+    funcs ∙ ap (λ m. m ++ map func_mentions fs) datas ∙ append_assoc out (map data_mentions ds) (map func_mentions fs)
+    ∙ ap (λ (left : List Definition). out ++ texts_in left ds fs) (sym (drop_all i order l)) ∙ so_far
 
 -- ---- the first text of a name
 
