@@ -121,7 +121,6 @@ fn is_one_of(table: &[&[u8]], text: &[u8]) -> bool
 }
 
 /// Which word of the grammar a text is.
-#[tactic(auto, unfolding(crate::specs::Words::word_mark))]
 pub fn word_mark(text: &[u8]) -> Mark
     ensures { result ≡ words.word_mark text.now }
 {
