@@ -13,5 +13,5 @@ loop-definition-preserved g c =
 pub returns : goal.returns
 returns g c =
     all_in c.as_slice-definition-items.result.now c.loop-definition.definition-index c.loop-definition.left.datas.now c.loop-definition.left.funcs.now
-        (mentions_of c.loop-definition.out.items) (mentions_of c.push_datas.new.out.items) (mentions_of c.push_funcs.new.out.items) (texts c.args.program.now)
-        (omega arith) c.in_ok-push_datas.ensures c.in_ok-push_funcs.ensures c.loop-definition.invariant
+    (mentions_of c.loop-definition.out.items) (mentions_of c.push_datas.new.out.items) (mentions_of c.push_funcs.new.out.items) (texts c.args.program.now)
+    (omega arith) c.in_ok-push_datas.ensures c.in_ok-push_funcs.ensures c.loop-definition.invariant
