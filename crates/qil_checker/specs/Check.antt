@@ -1,17 +1,10 @@
 -- What `check` answers.
 use Rattle.std.specs.Prelude.{◌≡◌, ℕ, List, Result, Ok, Err}
-use Rattle.qil_tree.specs.declared.tree.Program.{Program}
-use Rattle.qil_checker.specs.declared.form.Form.{Form}
-use Rattle.qil_checker.specs.declared.rule.Rule.{Rule}
+use Rattle.qil_rules.specs.declared.rule.Rule.{Rule}
 use Rattle.qil_checker.specs.declared.checker.CheckError.{CheckError}
 use Rattle.qil_checker.specs.declared.checker.CheckError.TheVariants.{Refused, OutOfMemory}
-use Rattle.qil_checker.specs.Mentions.{Mention}
-use Rattle.qil_checker.specs.Rules.{AreBroken}
-
--- a program that was checked, and its form
-pub record Verdict (A : Type 0) : Type 0 where
-  pub program : Program A
-  pub form : Form
+use Rattle.qil_rules.specs.declared.mention.Mention.{Mention}
+use Rattle.qil_rules.specs.Rules.{AreBroken}
 
 -- a refusal tells what is broken first
 abbrev pub IsTold : List (List Mention) → CheckError → Type 0

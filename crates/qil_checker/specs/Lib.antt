@@ -1,10 +1,4 @@
 -- The definitions.
-pub mod Codes
-pub mod Operands
-pub mod Mentions
-pub mod Text
-pub mod Rules
-pub mod Forms
 pub mod Tables
 pub mod Scan
 pub mod Whole

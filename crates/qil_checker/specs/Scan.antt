@@ -1,9 +1,9 @@
 -- What one text of a program breaks, and what it defines again.
 use Rattle.std.specs.Prelude.{◌≡◌, ℕ, ◌<◌, List, Some}
-use Rattle.qil_checker.specs.declared.rule.Rule.{Rule}
-use Rattle.qil_checker.specs.Mentions.{Mention}
-use Rattle.qil_checker.specs.Text.{IsAgain}
-use Rattle.qil_checker.specs.Rules.{Breaks, line_at}
+use Rattle.qil_rules.specs.declared.rule.Rule.{Rule}
+use Rattle.qil_rules.specs.declared.mention.Mention.{Mention}
+use Rattle.qil_rules.specs.Text.{IsAgain}
+use Rattle.qil_rules.specs.Rules.{Breaks, line_at}
 
 -- the text, the n-th of its program, keeps the rule
 abbrev pub Keeps : Rule → List (List Mention) → List Mention → ℕ → Type 0

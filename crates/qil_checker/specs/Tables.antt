@@ -2,13 +2,15 @@
 use Rattle.std.specs.Prelude.{◌≡◌, ◌≢◌, ◌↔◌, ℕ, zero, suc, List, [], ◌∷◌, ◌++◌, Option, Some, None, Bool, false, if◌then◌else◌, slice_get}
 use Rattle.std.specs.Str.{bytes_eq}
 use Rattle.std.specs.Option.{option_or}
-use Rattle.qil_checker.specs.declared.mention.Kind.{Kind}
-use Rattle.qil_checker.specs.declared.rule.Rule.{Rule}
-use Rattle.qil_checker.specs.declared.rule.Rule.TheVariants.{C8}
-use Rattle.qil_checker.specs.declared.mention.Kind.TheVariants.{Defined, Named, Labels}
+use Rattle.qil_checker.specs.declared.lookup.Kind.{Kind}
+use Rattle.qil_rules.specs.declared.rule.Rule.{Rule}
+use Rattle.qil_rules.specs.declared.rule.Rule.TheVariants.{C8}
+use Rattle.qil_checker.specs.declared.lookup.Kind.TheVariants.{Defined, Named, Labels}
 use Rattle.qil_tree.specs.declared.tree.PhiSource.{PhiSource}
-use Rattle.qil_checker.specs.Mentions.{What, Mention, DataName, FunctionName, Label, Edge, PhiOf, Defines, Uses}
-use Rattle.qil_checker.specs.Text.{Stands, AreDistinct, IsAmong}
+use Rattle.qil_rules.specs.declared.mention.What.{What}
+use Rattle.qil_rules.specs.declared.mention.What.TheVariants.{DataName, FunctionName, Label, Edge, PhiOf, Defines, Uses}
+use Rattle.qil_rules.specs.declared.mention.Mention.{Mention}
+use Rattle.qil_rules.specs.Text.{Stands, AreDistinct, IsAmong}
 
 -- the name that a mention brings to a table of this kind
 abbrev pub named : What → Kind → Option (List ℕ)

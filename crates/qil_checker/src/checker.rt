@@ -2,19 +2,17 @@
 
 ghost use Rattle.std.specs.Prelude.{◌≡◌, ℕ, IfOk, IfErr};
 ghost use Rattle.qil_tree.specs.Trees.{HasBlocks};
-ghost use Rattle.qil_checker.specs.Mentions.{texts};
-ghost use Rattle.qil_checker.specs.Rules.{WellFormed, Broken};
+ghost use Rattle.qil_rules.specs.Mentions.{texts};
+ghost use Rattle.qil_rules.specs.Rules.{WellFormed, Broken};
 ghost use Rattle.qil_checker.specs.Check.{IsTold, IsRefusedBy};
-ghost use Rattle.qil_checker.specs.Forms.{HasForm};
-ghost use Rattle.qil_checker.specs.declared.rule.Rule.{Rule};
+ghost use Rattle.qil_rules.specs.Forms.{HasForm};
+ghost use Rattle.qil_rules.specs.declared.rule.Rule.{Rule};
 
-use crate::form::Form;
-use crate::rule::Rule;
 use crate::whole::{Refusal, Whole};
+use qil_rules::{Checked, Form, Rule};
 use qil_tree::Program;
 use std::alloc::{AllocError, Allocator};
 use std::hash::RandomState;
-use std::marker::Model;
 use thiserror::Error;
 
 /// Why a program was not checked.
@@ -34,49 +32,6 @@ impl From<AllocError> for CheckError {
 
     fn from(_error: AllocError) -> Self {
         CheckError::OutOfMemory
-    }
-}
-
-/// A program that is well-formed.
-#[derive(Drop)]
-pub struct Checked<'a, A: Allocator> {
-    program: Program<'a, A>,
-    form: Form<'a>,
-}
-
-impl<'a, A: Allocator> Model for Checked<'a, A> {
-    ghost use Rattle.qil_tree.specs.Trees.{HasBlocks};
-    ghost use Rattle.qil_checker.specs.Check.{Verdict};
-    ghost use Rattle.qil_checker.specs.Rules.{WellFormed};
-    ghost use Rattle.qil_checker.specs.Forms.{HasForm};
-
-    ghost Value = { Verdict A };
-
-    ghost view = { λ c. record { program = c.program; form = c.form } };
-
-    ghost invariant = { λ c. HasBlocks c.program × WellFormed c.program × HasForm c.program c.form };
-}
-
-impl<'a, A: Allocator> Checked<'a, A> {
-    ghost use Rattle.qil_tree.specs.Trees.{HasBlocks};
-    ghost use Rattle.qil_checker.specs.Rules.{WellFormed};
-    ghost use Rattle.qil_checker.specs.Forms.{HasForm};
-
-    /// The program, as it was handed in.
-    pub fn program(&self) -> &Program<'a, A>
-        ensures program { result.now ≡ self.now.program }
-        ensures blocks { HasBlocks self.now.program }
-        ensures well_formed { WellFormed self.now.program }
-    {
-        &self.program
-    }
-
-    /// Whether each temporary has one definition.
-    pub fn form(&self) -> &Form<'a>
-        ensures form { result.now ≡ self.now.form }
-        ensures has_form { HasForm self.now.program self.now.form }
-    {
-        &self.form
     }
 }
 
@@ -100,6 +55,28 @@ fn examine<'a, A: Allocator + Copy>(
     }
 }
 
+/// What is answered of a program whose form, or whose first broken rule, was found.
+fn answered<'a, A: Allocator>(
+    program: Program<'a, A>,
+    found: Result<Form<'a>, CheckError>,
+) -> Result<Checked<'a, A>, (Program<'a, A>, CheckError)>
+    requires blocks { HasBlocks program }
+    requires well_formed { IfOk found (λ form. WellFormed program) }
+    requires form { IfOk found (λ form. HasForm program form) }
+    requires told { IfErr found (λ error. IsTold (texts program) error) }
+    ensures same { IfOk result (λ c. c.program ≡ program.entry) }
+    ensures kept { IfOk result (λ c. WellFormed c.program × HasForm c.program c.form) }
+    ensures handed_back { IfErr result (λ e. e.0 ≡ program.entry) }
+    ensures refused { IfErr result (λ e. IsTold (texts program.entry) e.1) }
+    ensures only_kept { WellFormed program.entry → IfErr result (λ e. e.1 ≡ CheckError.OutOfMemory) }
+    ensures only_broken { (rule : Rule) (line : ℕ) → Broken program.entry rule line → IsRefusedBy rule line result }
+{
+    match found {
+        Ok(form) => Ok(Checked::new(program, form)),
+        Err(error) => Err((program, error)),
+    }
+}
+
 /// Checks a program. Hands it back where it is refused, or where memory is wanting.
 pub fn check<'a, A: Allocator + Copy>(
     alloc: A,
@@ -116,8 +93,6 @@ pub fn check<'a, A: Allocator + Copy>(
     ensures only_kept { WellFormed program.entry → IfErr result (λ e. e.1 ≡ CheckError.OutOfMemory) }
     ensures only_broken { (rule : Rule) (line : ℕ) → Broken program.entry rule line → IsRefusedBy rule line result }
 {
-    match examine(alloc, keys, &program) {
-        Ok(form) => Ok(Checked { program, form }),
-        Err(error) => Err((program, error)),
-    }
+    let found = examine(alloc, keys, &program);
+    answered(program, found)
 }

@@ -1,17 +1,13 @@
-//! Whether a program is well-formed: rules over its whole tree, and the first place that breaks one.
+//! Whether a program is well-formed: the first place in its whole tree that breaks a rule.
 #![tactic(auto)]
 
 mod checker;
-mod form;
 mod lookup;
-mod mention;
 mod phi_labels;
 mod predecessors;
-mod rule;
 mod text;
 mod walk;
 mod whole;
 
-pub use checker::{CheckError, Checked, check};
-pub use form::Form;
-pub use rule::Rule;
+pub use checker::{CheckError, check};
+pub use qil_rules::{Checked, Form, Rule};

@@ -3,14 +3,25 @@
 ghost use Rattle.std.specs.Prelude.{◌≡◌, List, ℕ, IfOk, option_copied};
 ghost use Rattle.qil_names.specs.Tables.{value_at, values_at};
 ghost use Rattle.qil_checker.specs.Tables.{first, named, is_named, predecessors_of};
-ghost use Rattle.qil_checker.specs.declared.mention.Kind.TheVariants.{Defined, Named, Labels};
+ghost use Rattle.qil_checker.specs.declared.lookup.Kind.TheVariants.{Defined, Named, Labels};
 
-use crate::mention::{Kind, Mention, What};
 use crate::predecessors::all_predecessors;
 use qil_names::{Firsts, Groups};
+use qil_rules::{Mention, What};
 use qil_tree::Name;
 use std::alloc::{AllocError, Allocator};
 use std::hash::RandomState;
+
+/// Which mentions of a name a table lists.
+#[derive(Clone, Copy)]
+pub enum Kind {
+    /// Where a temporary is defined.
+    Defined,
+    /// Where a temporary is defined or used.
+    Named,
+    /// Where a block begins.
+    Labels,
+}
 
 /// The place that a table has for a name.
 pub fn place_of<'a, A: Allocator + Copy>(

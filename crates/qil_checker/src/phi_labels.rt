@@ -3,7 +3,7 @@
 ghost use Rattle.std.specs.Prelude.{◌≡◌, List, ℕ, IfOk, IsTrue, ◌↔◌};
 ghost use Rattle.qil_names.specs.Tables.{value_at};
 ghost use Rattle.qil_checker.specs.Tables.{first, is, AreKnown, AreSameOnce};
-ghost use Rattle.qil_checker.specs.Text.{AreDistinct, labels_of};
+ghost use Rattle.qil_rules.specs.Text.{AreDistinct, labels_of};
 
 use crate::lookup::place_of;
 use qil_names::Firsts;

@@ -1,13 +1,13 @@
 //! The predecessors of each block: the blocks that go to it.
 
 ghost use Rattle.std.specs.Prelude.{◌≡◌, List, ℕ, IfOk, IsTrue, ◌↔◌};
-ghost use Rattle.qil_checker.specs.Text.{ArePredecessors, labels_of};
+ghost use Rattle.qil_rules.specs.Text.{ArePredecessors, labels_of};
 ghost use Rattle.qil_names.specs.Tables.{values_at, kept};
 ghost use Rattle.qil_checker.specs.Tables.{predecessors_of};
 
-use crate::mention::{Mention, PhiSources, What};
 use crate::phi_labels::{labels_of, same_once};
 use qil_names::Groups;
+use qil_rules::{Mention, PhiSources, What};
 use qil_tree::Name;
 use std::alloc::{AllocError, Allocator};
 use std::hash::RandomState;

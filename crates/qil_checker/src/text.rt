@@ -4,15 +4,14 @@ ghost use Rattle.std.specs.Prelude.{◌≡◌, List, ℕ, Some, IfOk, IsTrue, �
 ghost use Rattle.std.specs.List.{count_by};
 ghost use Rattle.qil_names.specs.Tables.{value_at, values_at, kept};
 ghost use Rattle.qil_checker.specs.Tables.{first, is_named, predecessors_of, head_name, begun_label, AreAtHome, AreAtHand, AreAtHandFor};
-ghost use Rattle.qil_checker.specs.Text.{FirstClass, IsUndefined, IsAgain, LacksLabel, IsFirstLabel};
-ghost use Rattle.qil_checker.specs.Rules.{IsSecondLabel, IsLostLabel, IsJumpToFirst, IsOtherClass, IsUndefinedUse, IsNarrowUse, IsWrongPhi, IsUntypedReturn, IsNarrowResult, HasManyTemporaries, HasManyBlocks, is_label, is_function, begins_function};
+ghost use Rattle.qil_rules.specs.Text.{FirstClass, IsUndefined, IsAgain, LacksLabel, IsFirstLabel};
+ghost use Rattle.qil_rules.specs.Rules.{IsSecondLabel, IsLostLabel, IsJumpToFirst, IsOtherClass, IsUndefinedUse, IsNarrowUse, IsWrongPhi, IsUntypedReturn, IsNarrowResult, HasManyTemporaries, HasManyBlocks, is_label, is_function, begins_function};
 ghost use Rattle.qil_checker.specs.Scan.{IsSingle, IsAgainFirst};
-ghost use Rattle.qil_checker.specs.declared.mention.Kind.TheVariants.{Defined, Named, Labels};
+ghost use Rattle.qil_checker.specs.declared.lookup.Kind.TheVariants.{Defined, Named, Labels};
 
 use crate::lookup::{Tables, place_of};
-use crate::mention::{Mention, What};
 use crate::predecessors::are_predecessors;
-use crate::rule::Rule;
+use qil_rules::{Mention, Rule, What};
 use qil_tree::{Class, Name};
 use std::alloc::{AllocError, Allocator};
 use std::hash::RandomState;

@@ -2,10 +2,11 @@
 
 ghost use Rattle.std.specs.Prelude.{◌≡◌, ◌++◌, ◌∷◌, [], OnOk, IfOk, Option, map};
 ghost use Rattle.std.specs.List.{flat_map};
-ghost use Rattle.qil_checker.specs.Operands.{right_class, stored_class, expr_reads, inst_reads, inst_target, inst_long_class, call_target, argument_read, long_class};
-ghost use Rattle.qil_checker.specs.Mentions.{on, Edge, read_mentions, operand_mentions, target_mentions, long_mentions, source_mentions, phi_mentions, kind_mentions, inst_mentions, returned_class, jump_mentions, block_mentions, param_mention, func_mentions, item_mentions, field_mentions, data_mentions};
+ghost use Rattle.qil_rules.specs.Operands.{right_class, stored_class, expr_reads, inst_reads, inst_target, inst_long_class, call_target, argument_read, long_class};
+ghost use Rattle.qil_rules.specs.declared.mention.What.TheVariants.{Edge};
+ghost use Rattle.qil_rules.specs.Mentions.{on, read_mentions, operand_mentions, target_mentions, long_mentions, source_mentions, phi_mentions, kind_mentions, inst_mentions, returned_class, jump_mentions, block_mentions, param_mention, func_mentions, item_mentions, field_mentions, data_mentions};
 
-use crate::mention::{Mention, PhiSources, What};
+use qil_rules::{Mention, PhiSources, What};
 use qil_tree::{
     AbiType, Argument, BinaryOp, Block, CallResult, Class, Data, Expr, Extension, Field, Func,
     Inst, InstKind, Item, JumpKind, LoadOp, Name, Operand, Param, Phi, PhiSource, Target, Width,

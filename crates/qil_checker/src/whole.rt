@@ -2,22 +2,20 @@
 
 ghost use Rattle.std.specs.Prelude.{◌≡◌, ◌++◌, ◌∷◌, map, List, ℕ, ◌≤◌, Some, take, IfOk, OnOk, IsTrue, ◌↔◌, MatchOption, slice_get};
 ghost use Rattle.std.specs.List.{count_by};
-ghost use Rattle.qil_checker.specs.Mentions.{texts, texts_in, data_mentions, func_mentions};
+ghost use Rattle.qil_rules.specs.Mentions.{texts, texts_in, data_mentions, func_mentions};
 ghost use Rattle.qil_names.specs.Tables.{value_at, kept};
 ghost use Rattle.qil_checker.specs.Tables.{first, has_name, AreAtHandFor};
-ghost use Rattle.qil_checker.specs.Rules.{AreWellFormed, AreBroken, IsKept, IsBrokenFirst, Breaks, IsNamedBefore, IsSecondName, IsUnknown, IsLostGlobal, IsTooMuch, is_built_in, is_function};
+ghost use Rattle.qil_rules.specs.Rules.{AreWellFormed, AreBroken, IsKept, IsBrokenFirst, Breaks, IsNamedBefore, IsSecondName, IsUnknown, IsLostGlobal, IsTooMuch, is_built_in, is_function};
 ghost use Rattle.qil_checker.specs.Scan.{Keeps, Breach};
 ghost use Rattle.qil_checker.specs.Whole.{mentions_of};
-ghost use Rattle.qil_checker.specs.Forms.{HaveForm};
+ghost use Rattle.qil_rules.specs.Forms.{HaveForm};
 ghost use Rattle.qil_tree.specs.declared.tree.Definition.{Definition};
 
-use crate::form::Form;
 use crate::lookup::place_of;
-use crate::mention::{Mention, What};
-use crate::rule::Rule;
 use crate::text::Text;
 use crate::walk;
 use qil_names::Firsts;
+use qil_rules::{Form, Mention, Rule, What};
 use qil_tree::{Data, Definition, Func, Name, Program};
 use std::alloc::{AllocError, Allocator};
 use std::hash::RandomState;

@@ -1,6 +1,6 @@
 //! The shapes of words: numbers, names, widths and addresses.
 
-ghost use Rattle.std.specs.Prelude.{◌≡◌, ◌≤◌, ◌^◌, ◌∷◌, length, min, ℕ};
+ghost use Rattle.std.specs.Prelude.{◌≡◌, ◌≤◌, ◌^◌, ◌∷◌, Some, None, cond, length, min, ℕ};
 ghost use Rattle.std.specs.List.{list_all, prefix_len};
 ghost use Rattle.std.specs.Char.{is_ascii_digit};
 ghost use Rattle.qil_commands.specs.Command.{looked_of};
@@ -122,12 +122,23 @@ pub fn value_of(word: &[u8]) -> Option<u64>
     }
 }
 
+/// The name that a text is, if it is one.
+fn name_of<'a>(text: &'a [u8]) -> Option<Name<'a>>
+    ensures { result ≡ cond (is_name text.now) (Some text.now) None }
+{
+    if is_name(text) {
+        Some(Name::new(text))
+    } else {
+        None
+    }
+}
+
 /// The name that stands behind a sigil.
 fn name_behind<'a>(sigil: u8, word: &'a [u8]) -> Option<Name<'a>>
     ensures { result ≡ name_behind sigil word.now }
 {
     match word {
-        [first, name @ ..] if *first == sigil && is_name(name) => Some(Name::new(name)),
+        [first, name @ ..] if *first == sigil => name_of(name),
         _ => None,
     }
 }

@@ -11,13 +11,13 @@ use Rattle.qil_tree.specs.declared.tree.Func.{Func}
 use Rattle.qil_tree.specs.declared.tree.Definition.{Definition}
 use Rattle.qil_tree.specs.declared.tree.Definition.TheVariants as definitions
 use Rattle.qil_tree.specs.declared.tree.Program.{Program}
-use Rattle.qil_checker.specs.declared.rule.Rule.TheVariants.{C12}
-use Rattle.qil_checker.specs.declared.mention.What.{What}
-use Rattle.qil_checker.specs.declared.mention.What.TheVariants.{DataName, FunctionName, Label, Edge, PhiLabel, PhiOf, Defines, Uses, Global, Returns, Long}
-use Rattle.qil_checker.specs.declared.mention.Mention.{Mention}
-use Rattle.qil_checker.specs.Mentions.{data_mentions, func_mentions, texts_in, texts}
-use Rattle.qil_checker.specs.Text.{Stands}
-use Rattle.qil_checker.specs.Rules.{WellFormed, is_function, begins_function}
+use Rattle.qil_rules.specs.declared.rule.Rule.TheVariants.{C12}
+use Rattle.qil_rules.specs.declared.mention.What.{What}
+use Rattle.qil_rules.specs.declared.mention.What.TheVariants.{DataName, FunctionName, Label, Edge, PhiLabel, PhiOf, Defines, Uses, Global, Returns, Long}
+use Rattle.qil_rules.specs.declared.mention.Mention.{Mention}
+use Rattle.qil_rules.specs.Mentions.{data_mentions, func_mentions, texts_in, texts}
+use Rattle.qil_rules.specs.Text.{Stands}
+use Rattle.qil_rules.specs.Rules.{WellFormed, is_function, begins_function}
 
 -- ---- as many function texts as functions
 

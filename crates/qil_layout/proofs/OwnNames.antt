@@ -6,11 +6,11 @@ use Rattle.qil_tree.specs.declared.tree.Func.{Func}
 use Rattle.qil_tree.specs.declared.tree.Definition.{Definition}
 use Rattle.qil_tree.specs.declared.tree.Definition.TheVariants as definitions
 use Rattle.qil_tree.specs.declared.tree.Program.{Program}
-use Rattle.qil_checker.specs.declared.rule.Rule.TheVariants.{C1}
-use Rattle.qil_checker.specs.declared.mention.What.TheVariants.{DataName}
-use Rattle.qil_checker.specs.declared.mention.Mention.{Mention}
-use Rattle.qil_checker.specs.Mentions.{data_mentions, func_mentions, texts_in}
-use Rattle.qil_checker.specs.Rules.{WellFormed}
+use Rattle.qil_rules.specs.declared.rule.Rule.TheVariants.{C1}
+use Rattle.qil_rules.specs.declared.mention.What.TheVariants.{DataName}
+use Rattle.qil_rules.specs.declared.mention.Mention.{Mention}
+use Rattle.qil_rules.specs.Mentions.{data_mentions, func_mentions, texts_in}
+use Rattle.qil_rules.specs.Rules.{WellFormed}
 use Rattle.qil_layout.specs.Laws.{HaveOwnNames}
 use Rattle.qil_layout.proofs.Starts.{same_object}
 

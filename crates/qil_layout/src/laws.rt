@@ -5,7 +5,7 @@ ghost use Rattle.std.specs.Prelude.{◌≡◌, ℕ, zero, suc, ◌+◌, ◌*◌,
 ghost use Rattle.qil_tree.specs.declared.tree.Data.{Data};
 ghost use Rattle.qil_tree.specs.declared.tree.Func.{Func};
 ghost use Rattle.qil_tree.specs.declared.tree.Program.{Program};
-ghost use Rattle.qil_checker.specs.Rules.{WellFormed};
+ghost use Rattle.qil_rules.specs.Rules.{WellFormed};
 ghost use Rattle.qil_layout.specs.declared.callee.Callee.TheVariants.{Defined};
 ghost use Rattle.qil_layout.specs.Layout.{data_base, rounded, align_of, size_of, address_of, bytes_of, fault_of};
 ghost use Rattle.qil_layout.specs.Callee.{callee_at};

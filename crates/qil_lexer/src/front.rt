@@ -181,6 +181,13 @@ pub fn decimal_after(start: u64, digits: &[u8]) -> Option<u64>
     Some(value)
 }
 
+/// Whether a value may stand behind a '-': it is at most 2^63.
+fn is_negatable(value: u64) -> bool
+    ensures { IsTrue result ↔ value ≤ 2 ^ 63 }
+{
+    value <= 1 << 63
+}
+
 /// Whether a number is from -2^63 to 2^64 - 1.
 fn is_in_range(first: u8, digits: &[u8]) -> bool
     requires first { IsByteOf TokenKind.Number first }
@@ -188,7 +195,7 @@ fn is_in_range(first: u8, digits: &[u8]) -> bool
     ensures { IsTrue result ↔ IsInRange (first ∷ digits.now) }
 {
     if first == b'-' {
-        decimal_after(0, digits).is_some_and(|value| value <= 1 << 63)
+        decimal_after(0, digits).is_some_and(is_negatable)
     } else {
         decimal_after(u64::from(first - b'0'), digits).is_some()
     }

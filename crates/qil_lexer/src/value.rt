@@ -1,8 +1,8 @@
 //! What number and string tokens stand for.
 
-ghost use Rattle.std.specs.Prelude.{◌≡◌, ◌≢◌, ◌<◌, ◌^◌, None, IfOk};
+ghost use Rattle.std.specs.Prelude.{◌≡◌, ◌≢◌, ◌<◌, ◌^◌, ◌+◌, ◌-◌, ◌*◌, true, None, IfOk};
 ghost use Rattle.std.specs.Char.{is_ascii_digit};
-ghost use Rattle.qil_lexer.specs.Shape.{Are, decimal, number_value, escape_len, escape_value, item_len, item_value, StringBytes, HasShape, IsInRange};
+ghost use Rattle.qil_lexer.specs.Shape.{Are, is_octal, decimal, number_value, escape_len, escape_value, item_len, item_value, StringBytes, HasShape, IsInRange};
 ghost use Rattle.qil_lexer.specs.declared.token.TokenKind.TheVariants.{Number, Quoted};
 
 use crate::front::{decimal_after, is_octal, item_len};
@@ -30,6 +30,15 @@ pub fn number_value(text: &[u8]) -> u64
     }
 }
 
+/// The value of two octal digits.
+fn two_octal(first: u8, second: u8) -> u8
+    requires first { is_octal first ≡ true }
+    requires second { is_octal second ≡ true }
+    ensures { result ≡ (first - 48) * 8 + (second - 48) }
+{
+    (first - b'0') * 8 + (second - b'0')
+}
+
 /// The byte that the escape after a backslash stands for.
 #[tactic(auto, unfolding(crate::specs::Shape::escape_len, crate::specs::Shape::escape_value))]
 fn escape_value(bytes: &[u8]) -> u8
@@ -40,7 +49,7 @@ fn escape_value(bytes: &[u8]) -> u8
         [a, b, c, ..] if is_octal(*a) && is_octal(*b) && is_octal(*c) => (*a - b'0') * 64
             + (*b - b'0') * 8
             + (*c - b'0'),
-        [a, b, ..] if is_octal(*a) && is_octal(*b) => (*a - b'0') * 8 + (*b - b'0'),
+        [a, b, ..] if is_octal(*a) && is_octal(*b) => two_octal(*a, *b),
         [a, ..] if is_octal(*a) => *a - b'0',
         [b'b', ..] => 8,
         [b'f', ..] => 12,

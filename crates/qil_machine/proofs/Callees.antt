@@ -8,7 +8,7 @@ use Rattle.qil_tree.specs.declared.tree.CallResult.{CallResult}
 use Rattle.qil_tree.specs.declared.tree.InstKind.TheVariants as insts
 use Rattle.qil_tree.specs.declared.tree.Operand.{Operand}
 use Rattle.qil_tree.specs.declared.tree.Program.{Program}
-use Rattle.qil_checker.specs.Operands.{argument_read}
+use Rattle.qil_rules.specs.Operands.{argument_read}
 use Rattle.qil_layout.specs.declared.callee.Callee.{Callee}
 use Rattle.qil_layout.specs.declared.callee.Callee.TheVariants.{Defined, PutChar, Puts, Exit}
 use Rattle.qil_layout.specs.declared.callee.FuncId.{FuncId}

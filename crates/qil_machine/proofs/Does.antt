@@ -11,7 +11,7 @@ use Rattle.qil_tree.specs.declared.tree.Target.{Target}
 use Rattle.qil_tree.specs.declared.tree.Expr.{Expr}
 use Rattle.qil_tree.specs.declared.tree.InstKind.TheVariants as insts
 use Rattle.qil_tree.specs.declared.tree.Program.{Program}
-use Rattle.qil_checker.specs.Operands.{expr_reads, stored_class}
+use Rattle.qil_rules.specs.Operands.{expr_reads, stored_class}
 use Rattle.qil_layout.specs.Layout.{width_bytes, rounded, zeros}
 use Rattle.qil_ops.specs.Values.{width, low_bits}
 use Rattle.qil_memory.specs.Buffers.{Buffers, stack_end}

@@ -20,3 +20,4 @@ pub mod PokingNames
 pub mod PokingSlots
 pub mod Weights
 pub mod KindsWeigh
+pub mod KindsFit

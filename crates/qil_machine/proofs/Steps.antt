@@ -6,7 +6,7 @@ use Rattle.qil_tree.specs.declared.ops.Class.TheVariants as classes
 use Rattle.qil_tree.specs.declared.ops.Width.{Width}
 use Rattle.qil_tree.specs.declared.ops.AllocOp.{AllocOp}
 use Rattle.qil_tree.specs.declared.tree.Program.{Program}
-use Rattle.qil_checker.specs.Operands.{stored_class}
+use Rattle.qil_rules.specs.Operands.{stored_class}
 use Rattle.qil_layout.specs.Layout.{width_bytes, rounded, zeros}
 use Rattle.qil_ops.specs.Values.{width, low_bits}
 use Rattle.qil_memory.specs.Buffers.{Buffers, stack_end}

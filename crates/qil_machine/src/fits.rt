@@ -1,6 +1,6 @@
 //! Whether what a move kept fits a machine. Only what the move puts back is looked at, and the frames that it touches.
 
-ghost use Rattle.std.specs.Prelude.{◌≡◌, ◌↔◌, [], IsTrue, true, option_copied, slice_get};
+ghost use Rattle.std.specs.Prelude.{◌≡◌, ◌↔◌, [], ◌∷◌, IsTrue, Some, true, option_copied, slice_get};
 ghost use Rattle.qil_layout.specs.Layout.{low_bytes};
 ghost use Rattle.qil_memory.specs.Places.{HasPlaces};
 ghost use Rattle.qil_numbering.specs.Numbered.{block_at};
@@ -31,21 +31,8 @@ impl<A: Allocator + Copy> Delta<A> {
                 machine.fits_stored(*count, *index, *address, *number)
             }
             Kind::Left(block) => machine.fits_left(*block, &[]),
-            Kind::LeftOne(block, slot, value) => {
-                let (slot, value) = (*slot, *value);
-                machine.fits_left(*block, &[SavedSlot { slot, value }])
-            }
-            Kind::LeftTwo(block, a, b, x, y) => {
-                let first = SavedSlot {
-                    slot: *a,
-                    value: Some(*x),
-                };
-                let second = SavedSlot {
-                    slot: *b,
-                    value: Some(*y),
-                };
-                machine.fits_left(*block, &[first, second])
-            }
+            Kind::LeftOne(block, slot, value) => machine.fits_left_one(*block, *slot, *value),
+            Kind::LeftTwo(block, a, b, x, y) => machine.fits_left_two(*block, *a, *b, *x, *y),
             Kind::LeftMany(block, kept) => machine.fits_left(*block, kept.as_slice()),
             Kind::Called(index) => machine.fits_called(*index),
             Kind::Returned(set, top, value, frame) => {
@@ -98,6 +85,27 @@ impl<'c, 'a, A: Allocator + Copy> Machine<'c, 'a, A> {
         let are_slots = self.has_slots(kept);
         let is_block = self.fits_end(block);
         are_slots && is_block
+    }
+
+    fn fits_left_one(&self, block: u16, slot: Slot, value: Option<u64>) -> bool
+        ensures { IsTrue result ↔ Fits (slots_move (end_of block) (one slot value)) self.now }
+    {
+        self.fits_left(block, &[SavedSlot { slot, value }])
+    }
+
+    /// Where two phis of the block wrote, and both slots had been set.
+    fn fits_left_two(&self, block: u16, a: Slot, b: Slot, x: u64, y: u64) -> bool
+        ensures { IsTrue result ↔ Fits (slots_move (end_of block) (record { slot = a; value = Some x } ∷ record { slot = b; value = Some y } ∷ [])) self.now }
+    {
+        let first = SavedSlot {
+            slot: a,
+            value: Some(x),
+        };
+        let second = SavedSlot {
+            slot: b,
+            value: Some(y),
+        };
+        self.fits_left(block, &[first, second])
     }
 
     fn fits_end(&self, block: u16) -> bool

@@ -5,7 +5,7 @@ ghost use Rattle.qil_numbering.specs.declared.numbered.NumberedJump.{NumberedJum
 ghost use Rattle.qil_numbering.proofs.EdgesNamed.{IsEdgeOf};
 ghost use Rattle.qil_state.specs.State.{state_of, head_names};
 ghost use Rattle.qil_state.specs.Stepping.{left_whole, went_whole};
-ghost use Rattle.qil_checker.specs.Mentions.{returned_class};
+ghost use Rattle.qil_rules.specs.Mentions.{returned_class};
 ghost use Rattle.qil_machine.specs.Moves.{weight};
 ghost use Rattle.qil_machine.specs.Costs.{entered_weight, returned_weight, jump_weight};
 ghost use Rattle.qil_machine.specs.Places.{IsRunning, Made};

@@ -18,8 +18,8 @@ use Rattle.qil_tree.specs.declared.tree.JumpKind.TheVariants as jumps
 use Rattle.qil_tree.specs.declared.tree.Block.{Block}
 use Rattle.qil_tree.specs.declared.tree.Func.{Func}
 use Rattle.qil_tree.specs.declared.tree.Program.{Program}
-use Rattle.qil_checker.specs.Operands.{Read, as_class, inst_reads}
-use Rattle.qil_checker.specs.Mentions.{returned_class}
+use Rattle.qil_rules.specs.Operands.{Read, as_class, inst_reads}
+use Rattle.qil_rules.specs.Mentions.{returned_class}
 use Rattle.qil_layout.specs.Layout.{width_bytes, rounded, zeros}
 use Rattle.qil_ops.specs.Values.{width, low_bits}
 use Rattle.qil_memory.specs.declared.fault.BlitFault.{BlitFault}

@@ -1,6 +1,6 @@
 //! Numbers as bytes, the least significant first.
 
-ghost use Rattle.std.specs.Prelude.{◌≡◌, ◌+◌, ◌≤◌, length, slice_range, IfOk};
+ghost use Rattle.std.specs.Prelude.{◌≡◌, ◌↔◌, ◌+◌, ◌≤◌, length, slice_range, IsTrue, IfOk};
 ghost use Rattle.qil_layout.specs.Layout.{low_bytes, zeros};
 ghost use Rattle.qil_memory.specs.Bytes.{number, over};
 
@@ -108,6 +108,12 @@ pub fn exchange(target: &mut [u8], at: usize, n: usize, v: u64) -> u64
     let old = spelled(&target[at..at + n]);
     write_number(target, at, n, v);
     old
+}
+
+pub fn are_same(bytes: &[u8], others: &[u8]) -> bool
+    ensures { IsTrue result ↔ (bytes.now ≡ others.now) }
+{
+    bytes == others
 }
 
 /// So many zero bytes.

@@ -10,7 +10,7 @@ ghost use Rattle.qil_memory.specs.Undo.{Fits, undone, with_bytes, with_top};
 ghost use Rattle.qil_memory.specs.Places.{IsLive, IsSpan, HasBytes, HasPlaces, bytes_at, live_end};
 ghost use Rattle.qil_memory.specs.Kept.{listed, IsThrifty};
 
-use crate::bytes::{clear, exchange, number_of, spelled, write, write_number, zeroed};
+use crate::bytes::{are_same, clear, exchange, number_of, spelled, write, write_number, zeroed};
 use crate::fault::{AllocFault, BlitFault, Dead};
 use crate::saved::{KeptBytes, Saved, keep};
 use qil_layout::{DATA_BASE, Image, rounded_up};
@@ -75,8 +75,8 @@ impl<A: Allocator + Copy> Memory<A> {
         ensures { IsTrue result ↔ (self.now ≡ other.now) }
     {
         self.top == other.top
-            && self.data_bytes.as_slice() == other.data_bytes.as_slice()
-            && self.stack_bytes.as_slice() == other.stack_bytes.as_slice()
+            && are_same(self.data_bytes.as_slice(), other.data_bytes.as_slice())
+            && are_same(self.stack_bytes.as_slice(), other.stack_bytes.as_slice())
     }
 
     /// The address from which on the stack is dead: new bytes are made there.
@@ -316,7 +316,7 @@ impl<A: Allocator + Copy> Memory<A> {
         } else {
             STACK_END
         };
-        DATA_BASE <= address && address <= end && n as u64 <= end - address
+        is_between(address, n as u64, end)
     }
 
     /// The place among the bytes of the stack from which on `n` live bytes have their addresses from this one on.
@@ -397,8 +397,7 @@ impl<A: Allocator + Copy> Memory<A> {
         ensures inside { IsTrue result → address + n ≤ STACK_END }
         ensures memory { IsMemory self.now }
     {
-        let end = self.live_end(address);
-        DATA_BASE <= address && address <= end && n <= end - address
+        is_between(address, n, self.live_end(address))
     }
 
     fn bytes_at(&self, address: u64, n: usize) -> &[u8]
@@ -496,6 +495,14 @@ impl<A: Allocator + Copy> Memory<A> {
     fn allocator(&self) -> A {
         *self.stack_bytes.allocator()
     }
+}
+
+/// Whether `n` bytes from an address on lie between the begin of the data and an end.
+#[inline(always)]
+fn is_between(address: u64, n: u64, end: u64) -> bool
+    ensures { IsTrue result ↔ (data_base ≤ address) × (address + n ≤ end) }
+{
+    DATA_BASE <= address && address <= end && n <= end - address
 }
 
 /// The place of an address among `count` bytes from a base on, if there are `n` bytes from it on.

@@ -19,9 +19,9 @@ use Rattle.qil_tree.specs.declared.tree.JumpKind.TheVariants as jumps
 use Rattle.qil_tree.specs.declared.tree.Block.{Block}
 use Rattle.qil_tree.specs.declared.tree.Func.{Func}
 use Rattle.qil_tree.specs.Types.{class_of}
-use Rattle.qil_checker.specs.declared.mention.Mention.{Mention}
-use Rattle.qil_checker.specs.Mentions.{operand_mentions, read_mentions, target_mentions, long_mentions, source_mentions, phi_mentions, inst_mentions, jump_mentions, block_mentions, param_mention, func_mentions}
-use Rattle.qil_checker.specs.Operands.{Read, inst_reads, inst_target, inst_long_class}
+use Rattle.qil_rules.specs.declared.mention.Mention.{Mention}
+use Rattle.qil_rules.specs.Mentions.{operand_mentions, read_mentions, target_mentions, long_mentions, source_mentions, phi_mentions, inst_mentions, jump_mentions, block_mentions, param_mention, func_mentions}
+use Rattle.qil_rules.specs.Operands.{Read, inst_reads, inst_target, inst_long_class}
 use Rattle.qil_meaning.specs.State.{Name}
 use Rattle.qil_meaning.specs.Poke.{class_in, defined_by}
 use Rattle.qil_numbering.specs.Classes.{listed, param_target, inst_targets, block_targets, func_targets, first_class}

@@ -3,7 +3,7 @@ use Rattle.std.proofs.Common.{◌≡◌, ℕ, map, get_or, slice_get, Some}
 use Rattle.std.proofs.lemmas.Option.{slice_get-get_or}
 use Rattle.qil_tree.specs.declared.tree.Func.{Func}
 use Rattle.qil_tree.specs.declared.tree.Program.{Program}
-use Rattle.qil_checker.specs.Rules.{WellFormed}
+use Rattle.qil_rules.specs.Rules.{WellFormed}
 use Rattle.qil_numbering.specs.Facts.{IsNumerable, AreNumerable, Finds}
 use Rattle.qil_numbering.specs.Gather.{labels_in}
 use Rattle.qil_numbering.proofs.Apart.{noted-same}

@@ -7,10 +7,10 @@ use Rattle.qil_tree.specs.declared.tree.Func.{Func}
 use Rattle.qil_tree.specs.declared.tree.Definition.{Definition}
 use Rattle.qil_tree.specs.declared.tree.Definition.TheVariants as definitions
 use Rattle.qil_tree.specs.declared.tree.Program.{Program}
-use Rattle.qil_checker.specs.declared.rule.Rule.TheVariants.{C1}
-use Rattle.qil_checker.specs.declared.mention.What.TheVariants.{FunctionName}
-use Rattle.qil_checker.specs.Mentions.{data_mentions, func_mentions, texts_in}
-use Rattle.qil_checker.specs.Rules.{WellFormed}
+use Rattle.qil_rules.specs.declared.rule.Rule.TheVariants.{C1}
+use Rattle.qil_rules.specs.declared.mention.What.TheVariants.{FunctionName}
+use Rattle.qil_rules.specs.Mentions.{data_mentions, func_mentions, texts_in}
+use Rattle.qil_rules.specs.Rules.{WellFormed}
 use Rattle.qil_names.specs.Numbers.{place_of}
 use Rattle.qil_meaning.specs.State.{Name}
 use Rattle.qil_numbering.proofs.Spots.{One, Two, one_more, two_more, one_behind}

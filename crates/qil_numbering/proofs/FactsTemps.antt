@@ -21,14 +21,14 @@ use Rattle.qil_tree.specs.declared.tree.Block.{Block}
 use Rattle.qil_tree.specs.declared.tree.Func.{Func}
 use Rattle.qil_tree.specs.declared.tree.Program.{Program}
 use Rattle.qil_tree.specs.Types.{class_of}
-use Rattle.qil_checker.specs.declared.rule.Rule.TheVariants.{C12}
-use Rattle.qil_checker.specs.declared.mention.What.{What}
-use Rattle.qil_checker.specs.declared.mention.What.TheVariants.{FunctionName, Label, PhiLabel, PhiOf, Defines}
-use Rattle.qil_checker.specs.declared.mention.Mention.{Mention}
-use Rattle.qil_checker.specs.Operands.{Read, inst_reads, inst_target, inst_long_class}
-use Rattle.qil_checker.specs.Mentions.{on, operand_mentions, read_mentions, target_mentions, long_mentions, source_mentions, phi_mentions, inst_mentions, jump_mentions, block_mentions, param_mention, func_mentions}
-use Rattle.qil_checker.specs.Text.{Stands, IsTemporary}
-use Rattle.qil_checker.specs.Rules.{WellFormed}
+use Rattle.qil_rules.specs.declared.rule.Rule.TheVariants.{C12}
+use Rattle.qil_rules.specs.declared.mention.What.{What}
+use Rattle.qil_rules.specs.declared.mention.What.TheVariants.{FunctionName, Label, PhiLabel, PhiOf, Defines}
+use Rattle.qil_rules.specs.declared.mention.Mention.{Mention}
+use Rattle.qil_rules.specs.Operands.{Read, inst_reads, inst_target, inst_long_class}
+use Rattle.qil_rules.specs.Mentions.{on, operand_mentions, read_mentions, target_mentions, long_mentions, source_mentions, phi_mentions, inst_mentions, jump_mentions, block_mentions, param_mention, func_mentions}
+use Rattle.qil_rules.specs.Text.{Stands, IsTemporary}
+use Rattle.qil_rules.specs.Rules.{WellFormed}
 use Rattle.qil_meaning.specs.State.{Name}
 use Rattle.qil_meaning.specs.Names.{operand_names, target_names, phi_names, inst_names, jump_names, block_names, once, temps_named}
 use Rattle.qil_numbering.proofs.FactsNames.{func_text}

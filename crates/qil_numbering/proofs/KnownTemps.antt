@@ -9,13 +9,13 @@ use Rattle.qil_tree.specs.declared.ops.Class.{Class}
 use Rattle.qil_tree.specs.declared.ops.Class.TheVariants as classes
 use Rattle.qil_tree.specs.declared.tree.Func.{Func}
 use Rattle.qil_tree.specs.declared.tree.Program.{Program}
-use Rattle.qil_checker.specs.declared.rule.Rule.TheVariants.{C6}
-use Rattle.qil_checker.specs.declared.mention.What.{What}
-use Rattle.qil_checker.specs.declared.mention.What.TheVariants.{Defines}
-use Rattle.qil_checker.specs.declared.mention.Mention.{Mention}
-use Rattle.qil_checker.specs.Mentions.{func_mentions}
-use Rattle.qil_checker.specs.Text.{IsUndefined, IsTemporary}
-use Rattle.qil_checker.specs.Rules.{WellFormed}
+use Rattle.qil_rules.specs.declared.rule.Rule.TheVariants.{C6}
+use Rattle.qil_rules.specs.declared.mention.What.{What}
+use Rattle.qil_rules.specs.declared.mention.What.TheVariants.{Defines}
+use Rattle.qil_rules.specs.declared.mention.Mention.{Mention}
+use Rattle.qil_rules.specs.Mentions.{func_mentions}
+use Rattle.qil_rules.specs.Text.{IsUndefined, IsTemporary}
+use Rattle.qil_rules.specs.Rules.{WellFormed}
 use Rattle.qil_meaning.specs.State.{Name}
 use Rattle.qil_meaning.specs.Names.{temps_named}
 use Rattle.qil_meaning.specs.Poke.{defined_by, class_in, temp_class}

@@ -16,7 +16,7 @@ use Rattle.qil_tree.specs.declared.tree.JumpKind.{JumpKind}
 use Rattle.qil_tree.specs.declared.tree.JumpKind.TheVariants as jumps
 use Rattle.qil_tree.specs.declared.tree.Block.{Block}
 use Rattle.qil_tree.specs.declared.tree.Program.{Program}
-use Rattle.qil_checker.specs.Operands.{Read, expr_reads, inst_reads, inst_target, call_target}
+use Rattle.qil_rules.specs.Operands.{Read, expr_reads, inst_reads, inst_target, call_target}
 use Rattle.qil_meaning.specs.State.{Name}
 use Rattle.qil_meaning.specs.Names.{operand_names, target_names, jump_names}
 use Rattle.qil_meaning.specs.Step as step

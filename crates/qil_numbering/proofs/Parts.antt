@@ -1,7 +1,8 @@
 -- Lists taken apart at a place.
-use Rattle.std.proofs.Common.{◌≡◌, ◌∙◌, sym, ap, refl, subst, ℕ, zero, suc, ◌+◌, ◌<◌, ◌⊎◌, inl, inr, List, [], ◌∷◌, ◌++◌, length, get_or, drop, Some, None, add-one, drop-cons, append_assoc}
+use Rattle.std.proofs.Common.{◌≡◌, ◌∙◌, sym, ap, refl, subst, ℕ, zero, suc, ◌+◌, ◌<◌, ◌⊎◌, inl, inr, List, [], ◌∷◌, ◌++◌, length, get_or, drop, Some, None, add-one, drop-cons, append_assoc, append-nil, ◌≤◌}
 use Rattle.std.specs.Prelude.{map, slice_get, unwrap_or}
-use Rattle.std.specs.List.{All}
+use Rattle.std.specs.List.{All, flat_map}
+use Rattle.std.proofs.lemmas.List.{drop_all, length-map}
 use Rattle.std.proofs.lemmas.List.Elements.{All-nil, All-cons, All-append}
 use Rattle.std.proofs.lemmas.Option.{get_or_from_slice_get}
 
@@ -37,3 +38,22 @@ pub mapped_more : {X Y : Type 0} (f : X → Y) (xs : List X) (i : ℕ) (x : X) (
 mapped_more f xs i x ys zs all y is lt more made before =
     let rest = map f (drop (i + 1) xs) in
     ap (λ l. l ++ rest) more ∙ append_assoc ys (y ∷ []) rest ∙ ap (λ z. ys ++ (z ∷ rest)) made ∙ ap (λ l. ys ++ map f l) (sym (at_drop xs i x is lt)) ∙ before
+
+-- once all were gone through, what was made is all
+pub mapped_all : {X Y : Type 0} (f : X → Y) (xs : List X) (i : ℕ) (ys : List Y) → length xs ≤ i → ys ++ map f (drop i xs) ≡ map f xs → ys ≡ map f xs
+mapped_all f xs i ys end before = sym (append-nil ys) ∙ ap (λ l. ys ++ map f l) (sym (drop_all i xs end)) ∙ before
+
+pub mapped_within : {X Y : Type 0} (f : X → Y) (xs : List X) (ys : List Y) (n : ℕ) → ys ≡ map f xs → length xs < n → length ys < n
+mapped_within f xs ys n e l = subst (λ k. k < n) (sym (ap length e ∙ length-map xs f)) l
+
+-- the same of a function that makes lists, over a slice of the elements
+pub flat_more : {X Y : Type 0} (f : X → List Y) (s xs : List X) (i : ℕ) (x : X) (ys zs all : List Y) → s ≡ xs → x ≡ get_or s i x → i < length s → zs ≡ ys ++ f x
+    → ys ++ flat_map f (drop i xs) ≡ all → zs ++ flat_map f (drop (i + 1) xs) ≡ all
+flat_more f s xs i x ys zs all same is lt more before =
+    let rest = flat_map f (drop (i + 1) xs) in
+    let there : drop i xs ≡ x ∷ drop (i + 1) xs = subst (λ l. drop i l ≡ x ∷ drop (i + 1) l) same (at_drop s i x is lt) in
+    ap (λ l. l ++ rest) more ∙ append_assoc ys (f x) rest ∙ ap (λ l. ys ++ flat_map f l) (sym there) ∙ before
+
+pub flat_all : {X Y : Type 0} (f : X → List Y) (s xs : List X) (i : ℕ) (ys all : List Y) → s ≡ xs → length s ≤ i → ys ++ flat_map f (drop i xs) ≡ all → ys ≡ all
+flat_all f s xs i ys all same end before =
+    sym (append-nil ys) ∙ ap (λ l. ys ++ flat_map f l) (sym (subst (λ l. drop i l ≡ []) same (drop_all i s end))) ∙ before

@@ -9,29 +9,20 @@ use Rattle.qil_meaning.specs.State.{Name}
 use Rattle.qil_meaning.specs.Names.{temps_named}
 use Rattle.qil_numbering.specs.declared.numbered.Slot.{Slot}
 use Rattle.qil_numbering.specs.declared.numbered.NumberedBlock.{NumberedBlock}
+use Rattle.qil_numbering.specs.declared.numbered.NumberedFunc.{NumberedFunc}
 use Rattle.qil_numbering.specs.declared.numbered.FuncCode.{FuncCode}
 use Rattle.qil_numbering.specs.Gather.{labels_in}
-use Rattle.qil_numbering.specs.Numbered.{class_of_temp, param_of, block_of, func_of, func_code}
+use Rattle.qil_numbering.specs.Numbered.{class_of_temp, param_of, block_of, func_with, func_of, func_code}
 
-abbrev pub parts : {A : Type 0} → Option AbiType → List Class → List (Slot × AbiType) → List (NumberedBlock A) → List Name → List Name → FuncCode A
-parts returns classes params blocks temps labels =
-    record { code = record { classes = classes; params = params; returns = returns; blocks = blocks }; temps = temps; labels = labels }
-
-pub code-is : {A : Type 0} (p : Program A) (func : Func A) (classes : List Class) (params : List (Slot × AbiType)) (blocks : List (NumberedBlock A)) (temps labels : List Name)
-    → temps ≡ temps_named func → labels ≡ labels_in func.blocks
+pub func-is : {A : Type 0} (p : Program A) (func : Func A) (classes : List Class) (params : List (Slot × AbiType)) (blocks : List (NumberedBlock A)) (temps : List Name) (code : NumberedFunc A)
     → classes ≡ map (class_of_temp func) temps → params ≡ map (param_of temps) func.params → blocks ≡ map (block_of p func.blocks temps) func.blocks
-    → parts func.returns classes params blocks temps labels ≡ func_code p func
+    → code ≡ record { classes = classes; params = params; returns = func.returns; blocks = blocks } → code ≡ func_with p func temps
+func-is p func classes params blocks temps code c q b e = e ∙ (λ i. record { classes = c i; params = q i; returns = func.returns; blocks = b i })
+
+pub code-is : {A : Type 0} (p : Program A) (func : Func A) (k : NumberedFunc A) (temps labels : List Name)
+    → temps ≡ temps_named func → labels ≡ labels_in func.blocks → k ≡ func_with p func temps → record { code = k; temps = temps; labels = labels } ≡ func_code p func
 unfolding func_of func_code
-code-is p func classes params blocks temps labels t l c q b = λ i. record {
-  code = record {
-    classes = (c ∙ ap (λ ns. map (class_of_temp func) ns) t) i;
-    params = (q ∙ ap (λ ns. map (param_of ns) func.params) t) i;
-    returns = func.returns;
-    blocks = (b ∙ ap (λ ns. map (block_of p func.blocks ns) func.blocks) t) i;
-  };
-  temps = t i;
-  labels = l i;
-}
+code-is p func k temps labels t l e = λ i. record { code = (e ∙ ap (func_with p func) t) i; temps = t i; labels = l i }
 
 pub codes-are : {A : Type 0} (p image : Program A) (funcs : List (Func A)) (ks : List (FuncCode A)) → ks ≡ map (func_code image) funcs → funcs ≡ p.funcs → image ≡ p → ks ≡ map (func_code p) p.funcs
 codes-are p image funcs ks is same whole = is ∙ ap (λ fs. map (func_code image) fs) same ∙ ap (λ q. map (func_code q) p.funcs) whole

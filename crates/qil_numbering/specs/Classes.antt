@@ -9,7 +9,7 @@ use Rattle.qil_tree.specs.declared.tree.Inst.{Inst}
 use Rattle.qil_tree.specs.declared.tree.Block.{Block}
 use Rattle.qil_tree.specs.declared.tree.Func.{Func}
 use Rattle.qil_tree.specs.Types.{class_of}
-use Rattle.qil_checker.specs.Operands.{inst_target}
+use Rattle.qil_rules.specs.Operands.{inst_target}
 use Rattle.qil_names.specs.Tables.{for_name}
 use Rattle.qil_meaning.specs.State.{Name}
 

@@ -6,8 +6,8 @@ use Rattle.qil_tree.specs.declared.tree.JumpKind.{JumpKind}
 use Rattle.qil_tree.specs.declared.tree.JumpKind.TheVariants as jumps
 use Rattle.qil_tree.specs.declared.tree.Block.{Block}
 use Rattle.qil_tree.specs.declared.tree.Program.{Program}
-use Rattle.qil_checker.specs.Mentions.{func_mentions}
-use Rattle.qil_checker.specs.Text.{IsAmong}
+use Rattle.qil_rules.specs.Mentions.{func_mentions}
+use Rattle.qil_rules.specs.Text.{IsAmong}
 use Rattle.qil_names.specs.Numbers.{noted, place_of}
 use Rattle.qil_meaning.specs.State.{Name}
 use Rattle.qil_meaning.specs.Names.{temps_named}

@@ -8,7 +8,7 @@ use Rattle.qil_tree.specs.declared.tree.PhiSource.{PhiSource}
 use Rattle.qil_tree.specs.declared.tree.Param.{Param}
 use Rattle.qil_tree.specs.declared.tree.Block.{Block}
 use Rattle.std.specs.Prelude.{◌++◌}
-use Rattle.qil_checker.specs.Operands.{argument_read}
+use Rattle.qil_rules.specs.Operands.{argument_read}
 use Rattle.qil_meaning.specs.State.{Name}
 use Rattle.qil_meaning.specs.Names.{operand_names}
 

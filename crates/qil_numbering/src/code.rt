@@ -6,7 +6,7 @@ ghost use Rattle.std.specs.List.{flat_map};
 ghost use Rattle.qil_tree.specs.declared.tree.Inst.{Inst};
 ghost use Rattle.qil_tree.specs.declared.tree.Block.{Block};
 ghost use Rattle.qil_names.specs.Numbers.{place_of};
-ghost use Rattle.qil_checker.specs.Text.{IsAmong};
+ghost use Rattle.qil_rules.specs.Text.{IsAmong};
 ghost use Rattle.qil_meaning.specs.Poke.{temp_class};
 ghost use Rattle.qil_meaning.specs.Step.{phi_moves};
 ghost use Rattle.qil_numbering.specs.Facts.{Finds, KnowsLabels, NumbersBlocks, jump_labels};
@@ -20,9 +20,9 @@ use crate::numbered::{
     BlockId, FuncCode, NumberedBlock, NumberedInst, NumberedJump, PhiMove, Slot,
 };
 use crate::shape::funcs_code;
-use qil_checker::Checked;
 use qil_layout::{FuncId, Image};
 use qil_names::Numbers;
+use qil_rules::Checked;
 use qil_tree::{AbiType, Block, Class, Name, Program};
 use std::alloc::{AllocError, Allocator};
 use std::hash::RandomState;

@@ -5,7 +5,7 @@ ghost use Rattle.std.specs.Option.{ForSome};
 ghost use Rattle.qil_tree.specs.declared.tree.Block.{Block};
 ghost use Rattle.qil_names.specs.Tables.{values_at};
 ghost use Rattle.qil_numbering.specs.Gather.{labels_in};
-ghost use Rattle.qil_numbering.specs.Numbered.{inst_of, block_moves, edge_of, jump_of, block_of, param_of, func_code};
+ghost use Rattle.qil_numbering.specs.Numbered.{inst_of, block_moves, edge_of, jump_of, block_of, func_with, func_code};
 ghost use Rattle.qil_numbering.specs.Facts.{IsNumerable};
 ghost use Rattle.qil_numbering.specs.Ranges.{IsShort, JumpIsShort, BlockIsShort, FuncIsShort};
 
@@ -13,12 +13,12 @@ use crate::classes::classes_of;
 use crate::gather::{labels_of, temps_of};
 use crate::moves::moves_of;
 use crate::numbered::{
-    BlockId, Edge, FuncCode, NumberedBlock, NumberedFunc, NumberedInst, NumberedJump, PhiMove, Slot,
+    BlockId, Edge, FuncCode, NumberedBlock, NumberedFunc, NumberedInst, NumberedJump, PhiMove,
 };
 use crate::resolve::Resolver;
 use qil_layout::Image;
 use qil_names::{Groups, Numbers};
-use qil_tree::{AbiType, Block, Func, Inst, Items, Jump, JumpKind, Name};
+use qil_tree::{Block, Func, Inst, Items, Jump, JumpKind, Name};
 use std::alloc::{AllocError, Allocator};
 use std::hash::RandomState;
 
@@ -162,37 +162,55 @@ impl<'r, 'c, 'a, A: Allocator + Copy> Shape<'r, 'c, 'a, A> {
     }
 }
 
-/// The parameters and the blocks of a function, numbered.
-fn parts_of<'a, A: Allocator + Copy>(
+/// The blocks of a function, numbered.
+fn blocks_of<'a, A: Allocator + Copy>(
+    alloc: A,
+    keys: RandomState,
+    resolver: &Resolver<'_, '_, 'a, A>,
+    blocks: &[Block<'a, A>],
+) -> Result<Vec<NumberedBlock<A>, A>, AllocError>
+    requires { resolver.now.labels.now ≡ labels_in blocks.now }
+    ensures blocks { IfOk result (λ v. v.items ≡ map (block_of resolver.now.image.now blocks.now resolver.now.temps.now) blocks.now) }
+    ensures short { IfOk result (λ v. All BlockIsShort v.items) }
+{
+    let moves = moves_of_all(alloc, keys, resolver, blocks)?;
+    let shape = Shape {
+        resolver,
+        blocks,
+        moves,
+    };
+    shape.numbered(alloc)
+}
+
+/// What a function does, numbered among its temporaries and labels.
+fn numbered_func<'a, A: Allocator + Copy>(
     alloc: A,
     keys: RandomState,
     image: &Image<'_, 'a, A>,
     temps: &Numbers<'a, A>,
     labels: &Numbers<'a, A>,
     func: &Func<'a, A>,
-) -> Result<(Vec<(Slot, AbiType), A>, Vec<NumberedBlock<A>, A>), AllocError>
+) -> Result<NumberedFunc<A>, AllocError>
     requires few_temps { length temps.now ≤ 65535 }
     requires few_labels { length labels.now ≤ 65535 }
     requires labels { labels.now ≡ labels_in func.now.blocks }
-    ensures params { IfOk result (λ v. v.0.items ≡ map (param_of temps.now) func.now.params) }
-    ensures blocks { IfOk result (λ v. v.1.items ≡ map (block_of image.now func.now.blocks temps.now) func.now.blocks) }
-    ensures short { IfOk result (λ v. All BlockIsShort v.1.items) }
+    ensures code { IfOk result (λ k. k ≡ func_with image.now func.now temps.now) }
+    ensures short { IfOk result (λ k. All BlockIsShort k.blocks) }
 {
     let resolver = Resolver {
         image,
         temps,
         labels,
     };
+    let classes = classes_of(alloc, keys, func, temps)?;
     let params = resolver.params(alloc, func.params.as_slice())?;
-    let blocks = func.blocks.as_slice();
-    let moves = moves_of_all(alloc, keys, &resolver, blocks)?;
-    let shape = Shape {
-        resolver: &resolver,
-        blocks,
-        moves,
-    };
-    let numbered = shape.numbered(alloc)?;
-    Ok((params, numbered))
+    let blocks = blocks_of(alloc, keys, &resolver, func.blocks.as_slice())?;
+    Ok(NumberedFunc {
+        classes: Items::new(classes),
+        params: Items::new(params),
+        returns: func.returns,
+        blocks: Items::new(blocks),
+    })
 }
 
 /// A function, numbered.
@@ -208,15 +226,9 @@ fn func_code<'a, A: Allocator + Copy>(
 {
     let temps = temps_of(alloc, keys, func)?;
     let labels = labels_of(alloc, keys, func.blocks.as_slice())?;
-    let classes = classes_of(alloc, keys, func, &temps)?;
-    let (params, blocks) = parts_of(alloc, keys, image, &temps, &labels, func)?;
+    let code = numbered_func(alloc, keys, image, &temps, &labels, func)?;
     Ok(FuncCode {
-        code: NumberedFunc {
-            classes: Items::new(classes),
-            params: Items::new(params),
-            returns: func.returns,
-            blocks: Items::new(blocks),
-        },
+        code,
         temps,
         labels,
     })

@@ -1,11 +1,13 @@
 //! The parser.
 
-ghost use Rattle.std.specs.Prelude.{◌≡◌, List, ℕ, IfOk, IfErr};
+ghost use Rattle.std.specs.Prelude.{◌≡◌, List, ℕ, false, IfOk, IfErr};
 ghost use Rattle.qil_lexer.specs.Cut.{Cuts};
 ghost use Rattle.qil_parser.specs.Token.{Tok, seen};
 ghost use Rattle.qil_parser.specs.Programs.{Spells};
 ghost use Rattle.qil_tree.specs.Trees.{HasBlocks};
 ghost use Rattle.qil_parser.specs.Fault.{TokenFault, last_line};
+ghost use Rattle.qil_language.specs.Reading.{got};
+ghost use Rattle.qil_parser.specs.DataParsing.{program};
 ghost use Rattle.qil_parser.specs.Outcome.{IsFault, IsProgram, IsRefusedAt, TellsError, code_of};
 ghost use Rattle.qil_tree.specs.declared.tree.Program.{Program};
 ghost use Rattle.qil_parser.specs.declared.error.ParseCode.{ParseCode};
@@ -27,16 +29,25 @@ fn last_line(tokens: &[Token]) -> u32
     }
 }
 
+/// The code of a token that fits nothing, where it doesn't end a block without a jump.
+fn unfit_code(token: &Token) -> ParseCode
+    ensures { result ≡ code_of false token.now.kind token.now.text.now }
+{
+    if is_left_out(token) {
+        ParseCode::P2
+    } else {
+        ParseCode::P1
+    }
+}
+
 /// The code of the first token that fits nothing.
 fn code_of(marked: bool, token: &Token) -> ParseCode
     ensures { result ≡ code_of marked token.now.kind token.now.text.now }
 {
     if marked && matches!(token.kind, TokenKind::CloseBrace) {
         ParseCode::P4
-    } else if is_left_out(token) {
-        ParseCode::P2
     } else {
-        ParseCode::P1
+        unfit_code(token)
     }
 }
 
@@ -44,15 +55,34 @@ fn code_of(marked: bool, token: &Token) -> ParseCode
 fn refusal(tokens: &[Token], marked: bool, left: &[Token]) -> ParseError
     ensures { TellsError (seen tokens.now) marked (seen left.now) result }
 {
-    match left {
-        [first, ..] => ParseError::Refused {
+    match left.first() {
+        Some(first) => ParseError::Refused {
             code: code_of(marked, first),
             line: first.line,
         },
-        [] => ParseError::Refused {
+        None => ParseError::Refused {
             code: ParseCode::P3,
             line: last_line(tokens),
         },
+    }
+}
+
+/// What is answered where this program was read from the front of the tokens, and these are left.
+fn whole<'a, A: Allocator>(
+    tokens: &[Token<'a>],
+    read: Program<'a, A>,
+    left: &[Token<'a>],
+) -> Result<Program<'a, A>, ParseError>
+    requires { program (seen tokens.now) ≡ got read (seen left.now) }
+    ensures spelled { IfOk result (λ p. Spells (seen tokens.now) p × ((q : Program A) → Spells (seen tokens.now) q → q ≡ p)) }
+    ensures blocks { IfOk result HasBlocks }
+    ensures fault { IfErr result (λ e. IsFault A (seen tokens.now) e) }
+    ensures only_spelled { (p : Program A) → Spells (seen tokens.now) p → IsProgram p result }
+    ensures only_fault { (code : ParseCode) (line : ℕ) → TokenFault A (seen tokens.now) code line → IsRefusedAt code line result }
+{
+    match left {
+        [] => Ok(read),
+        [_, ..] => Err(refusal(tokens, false, left)),
     }
 }
 
@@ -77,10 +107,7 @@ pub fn parse<'a, A: Allocator + Copy>(
 {
     let mut cursor = Cursor { rest: tokens };
     match cursor.program(alloc) {
-        Ok(program) => match cursor.rest {
-            [] => Ok(program),
-            [_, ..] => Err(refusal(tokens, false, cursor.rest)),
-        },
+        Ok(program) => whole(tokens, program, cursor.rest),
         Err(CursorError::Memory) => Err(ParseError::OutOfMemory),
         Err(CursorError::Refused(marked, left)) => Err(refusal(tokens, marked, left)),
     }

@@ -10,7 +10,7 @@ use Rattle.qil_tree.specs.declared.tree.JumpKind.TheVariants as jumps
 use Rattle.qil_tree.specs.declared.tree.Block.{Block}
 use Rattle.qil_tree.specs.declared.tree.Func.{Func}
 use Rattle.qil_tree.specs.declared.tree.Program.{Program}
-use Rattle.qil_checker.specs.Mentions.{returned_class}
+use Rattle.qil_rules.specs.Mentions.{returned_class}
 use Rattle.qil_meaning.specs.State as meaning
 use Rattle.qil_meaning.specs.State.{Name, State, halted}
 use Rattle.qil_meaning.specs.Names.{temps_named}

@@ -8,7 +8,7 @@ use Rattle.qil_tree.specs.declared.ops.AbiType.TheVariants as types
 use Rattle.qil_tree.specs.declared.tree.Block.{Block}
 use Rattle.qil_tree.specs.declared.tree.Func.{Func}
 use Rattle.qil_tree.specs.declared.tree.Program.{Program}
-use Rattle.qil_checker.specs.Mentions.{returned_class}
+use Rattle.qil_rules.specs.Mentions.{returned_class}
 use Rattle.qil_memory.specs.Buffers.{Buffers}
 use Rattle.qil_meaning.specs.State as meaning
 use Rattle.qil_meaning.specs.State.{Name, State, halted}

@@ -9,7 +9,7 @@ use Rattle.qil_tree.specs.declared.ops.AbiType.{AbiType}
 use Rattle.qil_tree.specs.declared.ops.Class.{Class}
 use Rattle.qil_tree.specs.declared.tree.Program.{Program}
 use Rattle.qil_tree.specs.Types.{class_of}
-use Rattle.qil_checker.specs.Operands.{argument_read}
+use Rattle.qil_rules.specs.Operands.{argument_read}
 use Rattle.qil_ops.specs.Values.{width, low_bits}
 use Rattle.qil_meaning.specs.State.{Name, unset_temporary}
 use Rattle.qil_meaning.specs.Slots.{temps_of}

@@ -16,8 +16,8 @@ use Rattle.qil_tree.specs.declared.tree.JumpKind.{JumpKind}
 use Rattle.qil_tree.specs.declared.tree.JumpKind.TheVariants as jumps
 use Rattle.qil_tree.specs.declared.tree.Func.{Func}
 use Rattle.qil_tree.specs.declared.tree.Program.{Program}
-use Rattle.qil_checker.specs.Operands.{Read, expr_reads, inst_reads, argument_read, as_class}
-use Rattle.qil_checker.specs.Mentions.{returned_class}
+use Rattle.qil_rules.specs.Operands.{Read, expr_reads, inst_reads, argument_read, as_class}
+use Rattle.qil_rules.specs.Mentions.{returned_class}
 use Rattle.qil_layout.specs.declared.callee.Callee.{Callee}
 use Rattle.qil_layout.specs.declared.callee.Callee.TheVariants.{Defined, PutChar, Puts, Exit}
 use Rattle.qil_layout.specs.Callee.{callee_at}

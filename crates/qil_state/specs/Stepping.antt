@@ -4,7 +4,7 @@ use Rattle.qil_tree.specs.declared.tree.InstKind.{InstKind}
 use Rattle.qil_tree.specs.declared.tree.JumpKind.{JumpKind}
 use Rattle.qil_tree.specs.declared.tree.Func.{Func}
 use Rattle.qil_tree.specs.declared.tree.Program.{Program}
-use Rattle.qil_checker.specs.Operands.{inst_reads}
+use Rattle.qil_rules.specs.Operands.{inst_reads}
 use Rattle.qil_meaning.specs.State as meaning
 use Rattle.qil_meaning.specs.State.{Name, State}
 use Rattle.qil_meaning.specs.Values.{Outcome, ◌>>=◌, vals}

@@ -5,7 +5,7 @@ use Rattle.qil_tree.specs.declared.ops.AbiType.{AbiType}
 use Rattle.qil_tree.specs.declared.tree.Expr.{Expr}
 use Rattle.qil_tree.specs.declared.tree.Program.{Program}
 use Rattle.qil_tree.specs.Types.{class_of}
-use Rattle.qil_checker.specs.Operands.{expr_reads}
+use Rattle.qil_rules.specs.Operands.{expr_reads}
 use Rattle.qil_ops.specs.Values.{width, low_bits}
 use Rattle.qil_memory.specs.Live.{Live}
 use Rattle.qil_meaning.specs.State.{Name, Temps}

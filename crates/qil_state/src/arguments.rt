@@ -4,7 +4,7 @@
 ghost use Rattle.std.specs.Prelude.{◌≡◌, List, length, map, option_map};
 ghost use Rattle.std.specs.List.{All};
 ghost use Rattle.qil_tree.specs.declared.tree.Program.{Program};
-ghost use Rattle.qil_checker.specs.Operands.{argument_read};
+ghost use Rattle.qil_rules.specs.Operands.{argument_read};
 ghost use Rattle.qil_meaning.specs.State.{Name};
 ghost use Rattle.qil_meaning.specs.Slots.{temps_of};
 ghost use Rattle.qil_meaning.specs.Values.{vals};

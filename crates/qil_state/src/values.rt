@@ -5,7 +5,7 @@
 
 ghost use Rattle.std.specs.Prelude.{◌≡◌, List, length, option_map};
 ghost use Rattle.qil_tree.specs.declared.tree.Program.{Program};
-ghost use Rattle.qil_checker.specs.Operands.{right_class as second_class};
+ghost use Rattle.qil_rules.specs.Operands.{right_class as second_class};
 ghost use Rattle.qil_memory.specs.Live.{live};
 ghost use Rattle.qil_meaning.specs.State.{Name};
 ghost use Rattle.qil_meaning.specs.Slots.{temps_of};

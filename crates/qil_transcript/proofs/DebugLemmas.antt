@@ -8,7 +8,7 @@ use Rattle.qil_streams.specs.Device.{IsFrontOf}
 use Rattle.qil_streams.specs.Script.{lines_of, whole_lines_of}
 use Rattle.qil_streams.proofs.DeviceLemmas.{Appends-nil, Appends-append}
 use Rattle.qil_tree.specs.declared.tree.Program.{Program}
-use Rattle.qil_checker.specs.Check.{Verdict}
+use Rattle.qil_rules.specs.Verdict.{Verdict}
 use Rattle.qil_layout.specs.Layout.{fault_of}
 use Rattle.qil_layout.specs.Answer.{IsFault}
 use Rattle.qil_layout.specs.declared.error.LayoutCode.{LayoutCode}
@@ -27,14 +27,15 @@ use Rattle.qil_session.specs.Kept.{Kept, situation}
 use Rattle.qil_transcript.specs.declared.serving.IoFault.TheVariants.{Read, Write, TooLong}
 use Rattle.qil_transcript.specs.declared.outcome.Outcome.{Outcome}
 use Rattle.qil_transcript.specs.declared.outcome.Outcome.TheVariants as outcomes
-use Rattle.qil_transcript.specs.declared.load.LoadError.{LoadError}
-use Rattle.qil_transcript.specs.declared.load.LoadError.TheVariants as errors
-use Rattle.qil_transcript.specs.declared.refusal.Refusal.{Refusal}
-use Rattle.qil_transcript.specs.declared.refusal.Refusal.TheVariants as refusals
-use Rattle.qil_transcript.specs.Load.{Accepts, Checks, Refuses, RefusesCheck, IsCheckFault}
-use Rattle.qil_transcript.specs.LoadError.{of_layout, of_start}
-use Rattle.qil_transcript.specs.Debug.{Setup, Begins, IsSession, IsNoSession, Written, load_lines, opened, refused_line}
-use Rattle.qil_transcript.specs.Handed.{IsRefused}
+use Rattle.qil_loading.specs.declared.load.LoadError.{LoadError}
+use Rattle.qil_loading.specs.declared.load.LoadError.TheVariants as errors
+use Rattle.qil_loading.specs.declared.refusal.Refusal.{Refusal}
+use Rattle.qil_loading.specs.declared.refusal.Refusal.TheVariants as refusals
+use Rattle.qil_loading.specs.Load.{Accepts, Checks, Refuses, RefusesCheck, IsCheckFault}
+use Rattle.qil_loading.specs.LoadError.{of_layout}
+use Rattle.qil_loading.specs.Lines.{refused_line}
+use Rattle.qil_transcript.specs.Debug.{Setup, Begins, IsSession, IsNoSession, Written, load_lines, opened}
+use Rattle.qil_transcript.specs.Handed.{IsRefused, of_start}
 use Rattle.qil_transcript.proofs.ServeLemmas.{Promise, ample}
 
 -- the load lines of a program

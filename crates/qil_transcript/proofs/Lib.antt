@@ -1,6 +1,5 @@
--- The lemmas of this crate, from loading and the lines of a script up to whole transcripts.
+-- The lemmas of this crate, from the lines of a script up to whole transcripts.
 pub mod KeptLemmas
 pub mod ServeLemmas
 pub mod FewLemmas
-pub mod LoadLemmas
 pub mod DebugLemmas

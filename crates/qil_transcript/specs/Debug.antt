@@ -1,53 +1,28 @@
 -- What `debug` writes.
-use Rattle.std.specs.Prelude.{◌≡◌, ℕ, ◌+◌, ◌^◌, ◌⊎◌, false, List, [], ◌∷◌, ◌++◌, length, take, codes, decimal, Option, Some, Ok, IfSome}
+use Rattle.std.specs.Prelude.{◌≡◌, ℕ, ◌+◌, ◌^◌, ◌⊎◌, false, List, [], ◌++◌, length, take, Option, Some, Ok, IfSome}
 use Rattle.std.specs.Io.KnownBytes.{Appends, Consumes}
 use Rattle.qil_streams.specs.Device.{IsFrontOf}
 use Rattle.qil_streams.specs.Script.{lines_of, whole_lines_of}
-use Rattle.qil_lexer.specs.Text.{code_text}
 use Rattle.qil_tree.specs.declared.tree.Program.{Program}
-use Rattle.qil_parser.specs.Codes.{parse_code}
-use Rattle.qil_checker.specs.Codes.{rule_code}
-use Rattle.qil_checker.specs.Check.{Verdict}
-use Rattle.qil_checker.specs.declared.form.Form.{Form}
-use Rattle.qil_checker.specs.declared.form.Form.TheVariants.{Single, Multiple}
-use Rattle.qil_layout.specs.Codes.{layout_code}
+use Rattle.qil_rules.specs.Verdict.{Verdict}
+use Rattle.qil_rules.specs.declared.form.Form.{Form}
 use Rattle.qil_layout.specs.Layout.{bytes_of}
 use Rattle.qil_meaning.specs.State.{State}
-use Rattle.qil_meaning.specs.StartCode.{start_code}
 use Rattle.qil_meaning.specs.Start.{start_of}
 use Rattle.qil_meaning.specs.Timeline.{Timeline, begun}
-use Rattle.qil_answers.specs.Texts.{text_of, place_line}
+use Rattle.qil_loading.specs.Load.{Accepts, Refuses}
+use Rattle.qil_loading.specs.Lines.{loaded_line, refused_line}
+use Rattle.qil_loading.specs.declared.refusal.Refusal.{Refusal}
+use Rattle.qil_answers.specs.Texts.{place_line}
 use Rattle.qil_session.specs.Situation.{Situation, sits}
 use Rattle.qil_session.specs.Answers.{IsAnswered, quits}
-use Rattle.qil_transcript.specs.declared.refusal.Refusal.{Refusal}
-use Rattle.qil_transcript.specs.declared.refusal.Refusal.TheVariants as refusals
 use Rattle.qil_transcript.specs.declared.outcome.Outcome.{Outcome}
 use Rattle.qil_transcript.specs.declared.outcome.Outcome.TheVariants.{Ended, Refused, ReadFault, WriteFault, TooLong, Memory}
 use Rattle.qil_transcript.specs.Serve.{IsTooLong}
-use Rattle.qil_transcript.specs.Load.{Accepts, Refuses}
-
--- ---- the line of a refusal
-
-abbrev pub refused_at : List ℕ → ℕ → List ℕ
-refused_at code line = text_of (codes "refused: " ∷ code ∷ codes " line " ∷ decimal line ∷ codes "\n" ∷ [])
-
-abbrev pub refused_line : Refusal → List ℕ
-refused_line (refusals.Text code line) = refused_at (code_text code) line
-refused_line (refusals.Tokens code line) = refused_at (parse_code code) line
-refused_line (refusals.Rule rule line) = refused_at (rule_code rule) line
-refused_line (refusals.Layout code line) = refused_at (layout_code code) line
-refused_line (refusals.Start fault) = text_of (codes "refused: " ∷ start_code fault ∷ codes "\n" ∷ [])
 
 -- ---- the load lines
 
--- how many functions and bytes of data were loaded, and whether each temporary has one definition
-abbrev pub loaded_line : ℕ → ℕ → Form → List ℕ
-loaded_line funcs bytes Single =
-    text_of (codes "loaded " ∷ decimal funcs ∷ codes " functions " ∷ decimal bytes ∷ codes " data bytes ssa yes\n" ∷ [])
-loaded_line funcs bytes (Multiple func temp) =
-    text_of (codes "loaded " ∷ decimal funcs ∷ codes " functions " ∷ decimal bytes ∷ codes " data bytes ssa no $" ∷ func ∷ codes " %" ∷ temp ∷ codes "\n" ∷ [])
-
--- that line, and that of the place where the run begins
+-- the line of what was loaded, and that of the place where the run begins
 abbrev pub load_lines : {A : Type 0} → Program A → Form → Timeline → List ℕ
 load_lines p form t = loaded_line (length p.funcs) (length (bytes_of p)) form ++ place_line t
 

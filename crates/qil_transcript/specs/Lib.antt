@@ -1,6 +1,4 @@
--- What `debug` writes: loading, serving, and whole transcripts.
-pub mod Load
-pub mod LoadError
+-- What `debug` writes: serving, and whole transcripts.
 pub mod Serve
 pub mod Debug
 pub mod Handed

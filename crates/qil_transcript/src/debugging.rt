@@ -1,7 +1,7 @@
 //! `debug`: from the bytes of a program and a script to the bytes of the transcript.
 
 ghost use Rattle.std.specs.Prelude.{◌≡◌, ◌≢◌, ℕ, ◌-◌, ◌^◌, ◌<◌, ◌≤◌, ◌↔◌, List, Some, None, Ok, Err, IfSome};
-ghost use Rattle.qil_checker.specs.Check.{Verdict};
+ghost use Rattle.qil_rules.specs.Verdict.{Verdict};
 ghost use Rattle.qil_layout.specs.Layout.{fault_of};
 ghost use Rattle.qil_layout.specs.declared.error.LayoutCode.{LayoutCode};
 ghost use Rattle.qil_meaning.specs.State.{State};
@@ -11,21 +11,23 @@ ghost use Rattle.qil_meaning.specs.declared.start.StartFault.{StartFault};
 ghost use Rattle.qil_state.specs.State.{state_of};
 ghost use Rattle.qil_streams.specs.Device.{Counts, Puts};
 ghost use Rattle.qil_session.specs.Kept.{situation};
-ghost use Rattle.qil_transcript.specs.Load.{Accepts, Checks, Refuses};
+ghost use Rattle.qil_loading.specs.Load.{Accepts, Checks, Refuses};
+ghost use Rattle.qil_loading.specs.Lines.{IsLoaded};
+ghost use Rattle.qil_loading.specs.declared.refusal.Refusal.{Refusal};
 ghost use Rattle.qil_transcript.specs.Serve.{TakesFew};
 ghost use Rattle.qil_transcript.specs.Debug.{Begins, CountsDebug, IsNoSession, IsUntouched, Setup, Written, load_lines, opened};
-ghost use Rattle.qil_transcript.specs.Handed.{IsLoaded, IsRefused, setup_of};
-ghost use Rattle.qil_transcript.specs.declared.refusal.Refusal.{Refusal};
+ghost use Rattle.qil_transcript.specs.Handed.{IsRefused, of_start, setup_of};
 
-use crate::load::{LoadError, check_text};
 use crate::outcome::Outcome;
-use crate::refusal::{Refusal, put_loaded_line, put_refusal_line};
 use crate::serving::{IoFault, serve_lines};
-use qil_checker::{Checked, Form};
-use qil_history::{Deltas, History, Ring};
+use qil_deltas::{Deltas, Ring};
+use qil_history::History;
 use qil_layout::layout;
-use qil_machine::Machine;
+use qil_loading::{LoadError, Loaded, Refusal, check_text, put_loaded_line, put_refusal_line};
+use qil_machine::{Machine, StartError};
+use qil_meaning::StartFault;
 use qil_numbering::{Code, number};
+use qil_rules::Checked;
 use qil_session::Session;
 use qil_streams::{Outlet, Put, PutError, Sink, Source};
 use std::alloc::Allocator;
@@ -43,13 +45,15 @@ pub struct Request<'r> {
     pub bound: Option<u64>,
 }
 
-/// What the load lines tell of a program.
-#[derive(Clone, Copy)]
-pub struct Loaded<'l> {
-    pub funcs: usize,
-    /// In bytes, from the first data object to the end of the last.
-    pub bytes: usize,
-    pub form: &'l Form<'l>,
+/// What a start that failed is to the load.
+fn start_error(error: StartError) -> LoadError
+    ensures { result ≡ of_start error }
+{
+    match error {
+        StartError::NoEntry => LoadError::Refused(Refusal::Start(StartFault::NoEntry)),
+        StartError::ArgumentCount => LoadError::Refused(Refusal::Start(StartFault::ArgumentCount)),
+        StartError::OutOfMemory => LoadError::OutOfMemory,
+    }
 }
 
 /// Puts the line of a refusal, which ends the run of `debug`. Where memory was wanting nothing is put.
@@ -80,7 +84,7 @@ fn put_loaded<'c, A: Allocator + Copy + 'c, H: History<A, Machine<'c, 'c, A>>, P
     ensures counted { Counts result (P.stops out.old) (P.stops out.new) }
     ensures device { P.device out.new ≡ P.device out.old }
 {
-    put_loaded_line(out, loaded.funcs, loaded.bytes, loaded.form)?;
+    put_loaded_line(out, loaded)?;
     session.put_now(out)
 }
 
@@ -201,7 +205,7 @@ fn debug_code<'c, A: Allocator + Copy + 'c, S: Source, P: Put>(
 {
     match Machine::start(alloc, code, request.func, request.args) {
         Ok(machine) => debug_machine(alloc, machine, loaded, request, source, out),
-        Err(error) => refuse(out, LoadError::from(error)),
+        Err(error) => refuse(out, start_error(error)),
     }
 }
 
@@ -237,11 +241,7 @@ fn debug_checked<'a, A: Allocator + Copy, S: Source, P: Put>(
         Ok(code) => code,
         Err(_) => return Outcome::Memory,
     };
-    let loaded = Loaded {
-        funcs: checked.program().funcs.as_slice().len(),
-        bytes: image.bytes().len(),
-        form: checked.form(),
-    };
+    let loaded = Loaded::new(checked, &image);
     debug_code(alloc, &code, &loaded, request, source, out)
 }
 

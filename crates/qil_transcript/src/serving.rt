@@ -13,7 +13,7 @@ use qil_streams::{LineEnd, LineReader, Outlet, Put, Sink, Source};
 use std::alloc::Allocator;
 
 /// Why a script was not answered to its end.
-#[derive(Clone, Copy, Debug, PartialEq, Eq)]
+#[derive(Clone, Copy, PartialEq, Eq)]
 pub enum IoFault {
     /// The source failed.
     Read,

@@ -3,15 +3,15 @@
 ghost use Rattle.std.specs.Prelude.{◌≡◌};
 
 use crate::answer::Answer;
+use crate::histories::ask_histories;
 use crate::load::{checked, tell_refused};
 use crate::moves::each_move;
 use crate::read_back::read_back;
 use crate::run::run;
 use crate::stopwatch::tell_since;
-use crate::whole_states::answer_script;
-use qil_checker::Checked;
 use qil_layout::{Image, layout};
 use qil_numbering::{Code, number};
+use qil_rules::Checked;
 use refusing::Refusing;
 use std::alloc::{Allocator, Global};
 use std::hash::RandomState;
@@ -23,7 +23,7 @@ pub enum Question {
     ReadBack,
     Run,
     Moves,
-    WholeStates,
+    Histories,
 }
 
 impl Question {
@@ -34,14 +34,14 @@ impl Question {
             "read-back" => Some(Question::ReadBack),
             "run" => Some(Question::Run),
             "moves" => Some(Question::Moves),
-            "whole-states" => Some(Question::WholeStates),
+            "histories" => Some(Question::Histories),
             _ => None,
         }
     }
 
     /// Whether something can stand behind the text.
     pub fn has_two_parts(self) -> bool {
-        self == Question::ReadBack || self == Question::WholeStates
+        self == Question::ReadBack || self == Question::Histories
     }
 }
 
@@ -70,7 +70,7 @@ fn ask_code<R: Clock + Print + Eprint, A: Allocator + Copy>(
         Question::ReadBack => read_back(bench, alloc, checked, code),
         Question::Run => run(bench.rt, alloc, code, bench.most),
         Question::Moves => each_move(bench.rt, bench.heap, alloc, code, bench.most),
-        Question::WholeStates => answer_script(bench.rt, alloc, code, bench.behind),
+        Question::Histories => ask_histories(bench.rt, alloc, code, bench.behind),
     }
 }
 

@@ -6,7 +6,8 @@
 //!   the first, if there is one.
 //! - `run`: where a run of at most NUMBER moves ends, and whether going back comes to the start.
 //! - `moves`: of each of at most NUMBER moves what its record keeps and weighs, and how many allocations it takes.
-//! - `whole-states`: what a session over whole states answers to the script behind the text.
+//! - `histories`: where all histories stand behind each of the moves that the lines behind the text ask for, of which the
+//!   first says how many moves are kept where only the newest are.
 //!
 //! What comes on standard output is the same on every machine, and `refused` for a text that isn't accepted or has no
 //! `$main` without parameters. Times come on standard error. The status is 1 where something isn't as it has to be.
@@ -14,6 +15,8 @@
 
 mod answer;
 mod ask;
+mod asked;
+mod histories;
 mod load;
 mod memory;
 mod moves;
@@ -25,7 +28,6 @@ mod refusals;
 mod report;
 mod run;
 mod stopwatch;
-mod whole_states;
 
 use answer::Answer;
 use anyhow::bail;
@@ -36,7 +38,7 @@ use std::io::{self, Read};
 use std::process::ExitCode;
 use std::rt::Env;
 
-/// The most bytes that are read: a text, and a script.
+/// The most bytes that are read: a text, and what stands behind it.
 const LIMIT: u64 = (1 << 20) + (1 << 24);
 
 /// What the command line asks.
@@ -75,7 +77,7 @@ fn split(input: &[u8], words: Words) -> (&[u8], &[u8]) {
 fn main(rt: HostRuntime) -> anyhow::Result<ExitCode> {
     let words = read_words(&rt)?;
     let Some(question) = words.question else {
-        bail!("operations, read-back, run, moves or whole-states");
+        bail!("operations, read-back, run, moves or histories");
     };
     let keys = RandomState::new(&rt)?;
     if question == Question::Operations {

@@ -4,8 +4,8 @@ use crate::answer::Answer;
 use crate::ask::Bench;
 use crate::load::checked;
 use crate::reader::Reader;
-use qil_checker::Checked;
 use qil_numbering::Code;
+use qil_rules::Checked;
 use std::alloc::Allocator;
 use std::time::Clock;
 

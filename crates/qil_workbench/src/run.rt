@@ -2,7 +2,8 @@
 
 use crate::answer::Answer;
 use crate::report::report;
-use qil_history::{Deltas, History};
+use qil_deltas::Deltas;
+use qil_history::History;
 use qil_machine::{Delta, Machine, MoveError, StartError};
 use qil_memory::STACK_BASE;
 use qil_numbering::Code;

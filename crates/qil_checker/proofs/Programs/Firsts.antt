@@ -5,16 +5,16 @@ use Rattle.std.specs.List.{count_by}
 use Rattle.std.proofs.lemmas.List.{length-take-le}
 use Rattle.std.proofs.lemmas.List.Sums.{count_by-le-length, count_by_more_yes, count_by_more_no}
 use Rattle.std.proofs.lemmas.Option.{slice_get_within, slice_get-map}
-use Rattle.qil_checker.specs.declared.rule.Rule.{Rule}
-use Rattle.qil_checker.specs.declared.rule.Rule.TheVariants.{C1, C2, C3, C4, C5, C6, C7, C8, C9, C10, C11, C12}
+use Rattle.qil_rules.specs.declared.rule.Rule.{Rule}
+use Rattle.qil_rules.specs.declared.rule.Rule.TheVariants.{C1, C2, C3, C4, C5, C6, C7, C8, C9, C10, C11, C12}
 use Rattle.qil_checker.specs.declared.text.Text.{Text}
 use Rattle.qil_checker.specs.declared.checker.CheckError.{CheckError}
 use Rattle.qil_checker.specs.declared.checker.CheckError.TheVariants.{Refused, OutOfMemory}
-use Rattle.qil_checker.specs.Mentions.{Mention}
-use Rattle.qil_checker.specs.Text.{IsAgain}
-use Rattle.qil_checker.specs.Rules.{Place, IsEarlier, HasName, Breaks, BreaksAt, IsKept, IsBrokenFirst, AreWellFormed, AreBroken, order, line_at, is_function}
+use Rattle.qil_rules.specs.declared.mention.Mention.{Mention}
+use Rattle.qil_rules.specs.Text.{IsAgain}
+use Rattle.qil_rules.specs.Rules.{Place, IsEarlier, HasName, Breaks, BreaksAt, IsKept, IsBrokenFirst, AreWellFormed, AreBroken, order, line_at, is_function}
 use Rattle.qil_checker.specs.Scan.{Keeps, Breach, IsSingle, IsAgainFirst}
-use Rattle.qil_checker.specs.Forms.{IsAgainAt, IsFirstAgain}
+use Rattle.qil_rules.specs.Forms.{IsAgainAt, IsFirstAgain}
 use Rattle.qil_checker.specs.Check.{IsTold, TellsRule}
 use Rattle.qil_checker.specs.Whole.{mentions_of}
 use Rattle.qil_checker.proofs.Programs.Names.{head_names}

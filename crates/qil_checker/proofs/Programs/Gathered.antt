@@ -7,7 +7,8 @@ use Rattle.qil_tree.specs.declared.tree.Func.{Func}
 use Rattle.qil_tree.specs.declared.tree.Definition.{Definition}
 use Rattle.qil_tree.specs.declared.tree.Definition.TheVariants as definitions
 use Rattle.qil_checker.specs.declared.text.Text.{Text}
-use Rattle.qil_checker.specs.Mentions.{Mention, data_mentions, func_mentions, texts_in}
+use Rattle.qil_rules.specs.declared.mention.Mention.{Mention}
+use Rattle.qil_rules.specs.Mentions.{data_mentions, func_mentions, texts_in}
 use Rattle.std.specs.Option.{option_or}
 use Rattle.qil_names.specs.Tables.{for_name}
 use Rattle.qil_checker.specs.Tables.{first, has_name, is_name}

@@ -2,9 +2,11 @@
 use Rattle.std.proofs.Common.{◌≡◌, ◌∙◌, ◌↔◌, sym, ap, refl, subst, not, IsTrue, nat_lt, ℕ, ◌<◌, inl, inr, List, [], ◌∷◌, Option, Some, None, Bool, true, false, slice_get, arith}
 use Rattle.std.proofs.lemmas.Bool.Decides.{nat_tests}
 use Rattle.std.proofs.lemmas.Slice.Eq.{bytes_eq-Decides}
-use Rattle.qil_checker.specs.Mentions.{What, Mention, DataName, FunctionName, Label, Edge, PhiLabel, PhiOf, Defines, Uses, Global, Returns, Long}
-use Rattle.qil_checker.specs.Text.{Names}
-use Rattle.qil_checker.specs.Rules.{HasName, IsNamedBefore, IsUnknown, IsLostGlobal, is_built_in}
+use Rattle.qil_rules.specs.declared.mention.What.{What}
+use Rattle.qil_rules.specs.declared.mention.What.TheVariants.{DataName, FunctionName, Label, Edge, PhiLabel, PhiOf, Defines, Uses, Global, Returns, Long}
+use Rattle.qil_rules.specs.declared.mention.Mention.{Mention}
+use Rattle.qil_rules.specs.Text.{Names}
+use Rattle.qil_rules.specs.Rules.{HasName, IsNamedBefore, IsUnknown, IsLostGlobal, is_built_in}
 use Rattle.qil_checker.specs.Tables.{begun_name, head_name, has_name, is_name, first}
 use Rattle.qil_checker.proofs.Texts.Places.{found_here, absent, mention_stands, one_what, same_name}
 

@@ -10,10 +10,10 @@ use Rattle.std.proofs.lemmas.Cmp.{nat_list_eq_equiv}
 use Rattle.std.proofs.lemmas.Map.Made.{is_some-lookup, length-le_from_is_member, AllPairs-from_IsDistinct, IsDistinct-from_AllPairs}
 use Rattle.std.proofs.lemmas.List.Folds.{list_any_at, Any-from_list_any}
 use Rattle.indexmap.specs.IndexMap.{IndexMap, keys}
-use Rattle.qil_checker.specs.declared.mention.Kind.TheVariants.{Named}
-use Rattle.qil_checker.specs.Mentions.{Mention}
-use Rattle.qil_checker.specs.Text.{IsTemporary}
-use Rattle.qil_checker.specs.Rules.{HasManyTemporaries}
+use Rattle.qil_checker.specs.declared.lookup.Kind.TheVariants.{Named}
+use Rattle.qil_rules.specs.declared.mention.Mention.{Mention}
+use Rattle.qil_rules.specs.Text.{IsTemporary}
+use Rattle.qil_rules.specs.Rules.{HasManyTemporaries}
 use Rattle.qil_names.specs.Tables.{value_at}
 use Rattle.qil_checker.specs.Tables.{is_named, first}
 use Rattle.qil_checker.proofs.Texts.Places.{same_name, temp_found, temp_absent}

@@ -1,6 +1,6 @@
 -- When two lists have the same names.
 use Rattle.std.proofs.Common.{◌≡◌, ◌≢◌, ◌↔◌, ◌∙◌, sym, refl, ℕ, List, Option, Some, None}
-use Rattle.qil_checker.specs.Text.{AreDistinct, IsAmong}
+use Rattle.qil_rules.specs.Text.{AreDistinct, IsAmong}
 use Rattle.qil_checker.specs.Tables.{first, is, AreKnown, AreSameOnce}
 use Rattle.qil_checker.proofs.Texts.Places.{name_found, name_absent}
 

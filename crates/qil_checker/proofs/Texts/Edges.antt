@@ -2,8 +2,10 @@
 use Rattle.std.proofs.Common.{◌≡◌, ◌∙◌, ◌↔◌, sym, refl, ap, subst, ℕ, zero, suc, List, [], ◌∷◌, ◌++◌, Bool, true, false, if◌then◌else◌, Result, Ok, Err, IfOk, IsTrue}
 use Rattle.std.specs.Str.{bytes_eq}
 use Rattle.std.proofs.lemmas.Slice.Eq.{bytes_eq-Decides}
-use Rattle.qil_checker.specs.Mentions.{What, Mention, DataName, FunctionName, Label, Edge, PhiLabel, PhiOf, Defines, Uses, Global, Returns, Long}
-use Rattle.qil_checker.specs.Text.{Stands, IsAmong, IsPredecessor, ArePredecessors}
+use Rattle.qil_rules.specs.declared.mention.What.{What}
+use Rattle.qil_rules.specs.declared.mention.What.TheVariants.{DataName, FunctionName, Label, Edge, PhiLabel, PhiOf, Defines, Uses, Global, Returns, Long}
+use Rattle.qil_rules.specs.declared.mention.Mention.{Mention}
+use Rattle.qil_rules.specs.Text.{Stands, IsAmong, IsPredecessor, ArePredecessors}
 use Rattle.qil_checker.specs.Tables.{predecessor, predecessors_of, AreSameOnce}
 
 later : (b l : List ℕ) (m : Mention) (text : List Mention) → IsPredecessor text b l → IsPredecessor (m ∷ text) b l

@@ -21,10 +21,13 @@ use Rattle.qil_tree.specs.declared.tree.Item.TheVariants as items
 use Rattle.qil_tree.specs.declared.tree.Field.{Field}
 use Rattle.qil_tree.specs.declared.tree.Field.TheVariants as fields
 use Rattle.qil_tree.specs.declared.tree.Data.{Data}
-use Rattle.qil_checker.specs.declared.mention.Kind.TheVariants.{Labels}
-use Rattle.qil_checker.specs.Operands.{inst_reads, inst_target, inst_long_class}
-use Rattle.qil_checker.specs.Mentions.{What, Mention, DataName, FunctionName, Label, Edge, PhiLabel, PhiOf, Defines, Uses, Global, Returns, Long, operand_mentions, read_mentions, target_mentions, long_mentions, source_mentions, phi_mentions, inst_mentions, returned_class, jump_mentions, block_mentions, param_mention, func_mentions, item_mentions, field_mentions, data_mentions}
-use Rattle.qil_checker.specs.Text.{Stands, IsFirstLabel}
+use Rattle.qil_checker.specs.declared.lookup.Kind.TheVariants.{Labels}
+use Rattle.qil_rules.specs.Operands.{inst_reads, inst_target, inst_long_class}
+use Rattle.qil_rules.specs.declared.mention.What.{What}
+use Rattle.qil_rules.specs.declared.mention.What.TheVariants.{DataName, FunctionName, Label, Edge, PhiLabel, PhiOf, Defines, Uses, Global, Returns, Long}
+use Rattle.qil_rules.specs.declared.mention.Mention.{Mention}
+use Rattle.qil_rules.specs.Mentions.{operand_mentions, read_mentions, target_mentions, long_mentions, source_mentions, phi_mentions, inst_mentions, returned_class, jump_mentions, block_mentions, param_mention, func_mentions, item_mentions, field_mentions, data_mentions}
+use Rattle.qil_rules.specs.Text.{Stands, IsFirstLabel}
 use Rattle.std.specs.Option.{option_or}
 use Rattle.qil_checker.specs.Tables.{named, begun_label, behind, block_from, block_at, AreAtHome, AreAtHand, predecessors_of}
 use Rattle.qil_checker.proofs.Texts.Places.{stands_mention}

@@ -9,9 +9,11 @@ use Rattle.qil_tree.specs.declared.ops.Class.{Class}
 use Rattle.qil_tree.specs.declared.ops.Class.TheVariants as classes
 use Rattle.qil_tree.specs.contracts.ops.Class.{the_type}
 use denote.Enum.Bare.{sameb}
-use Rattle.qil_checker.specs.declared.mention.Kind.TheVariants.{Defined, Named, Labels}
-use Rattle.qil_checker.specs.Mentions.{What, Mention, DataName, FunctionName, Label, Edge, PhiLabel, PhiOf, Defines, Uses, Global, Returns, Long}
-use Rattle.qil_checker.specs.Text.{Stands, FirstClass, IsUndefined, IsAgain, IsTemporary, LacksLabel}
+use Rattle.qil_checker.specs.declared.lookup.Kind.TheVariants.{Defined, Named, Labels}
+use Rattle.qil_rules.specs.declared.mention.What.{What}
+use Rattle.qil_rules.specs.declared.mention.What.TheVariants.{DataName, FunctionName, Label, Edge, PhiLabel, PhiOf, Defines, Uses, Global, Returns, Long}
+use Rattle.qil_rules.specs.declared.mention.Mention.{Mention}
+use Rattle.qil_rules.specs.Text.{Stands, FirstClass, IsUndefined, IsAgain, IsTemporary, LacksLabel}
 use Rattle.qil_checker.specs.Tables.{named, is_name, is_named, first, is}
 
 pub record Found {A : Type 0} (test : A → Bool) (xs : List A) (i : ℕ) : Type 0 where

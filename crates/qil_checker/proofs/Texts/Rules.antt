@@ -4,10 +4,11 @@ use Rattle.std.proofs.lemmas.Bool.Decides.{nat_tests}
 use Rattle.std.proofs.lemmas.Slice.Eq.{bytes_eq-Decides}
 use Rattle.std.specs.Str.{bytes_eq}
 use Rattle.qil_tree.specs.declared.tree.PhiSource.{PhiSource}
-use Rattle.qil_checker.specs.declared.mention.Kind.TheVariants.{Labels}
-use Rattle.qil_checker.specs.Mentions.{Mention, Label, PhiOf}
-use Rattle.qil_checker.specs.Text.{Stands, LacksLabel, IsFirstLabel, ArePredecessors, labels_of}
-use Rattle.qil_checker.specs.Rules.{IsSecondLabel, IsWrongPhi}
+use Rattle.qil_checker.specs.declared.lookup.Kind.TheVariants.{Labels}
+use Rattle.qil_rules.specs.declared.mention.What.TheVariants.{Label, PhiOf}
+use Rattle.qil_rules.specs.declared.mention.Mention.{Mention}
+use Rattle.qil_rules.specs.Text.{Stands, LacksLabel, IsFirstLabel, ArePredecessors, labels_of}
+use Rattle.qil_rules.specs.Rules.{IsSecondLabel, IsWrongPhi}
 use Rattle.qil_checker.specs.Tables.{first, is_named}
 use Rattle.qil_checker.proofs.Texts.Places.{mention_stands, one_what, label_found, label_absent}
 

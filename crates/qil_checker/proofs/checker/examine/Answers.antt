@@ -1,8 +1,9 @@
 -- What is found of the texts holds of the program that they were made of.
 use Rattle.std.proofs.Common.{subst, List, Option, MatchOption}
 use Rattle.qil_checker.specs.declared.whole.Refusal.{Refusal}
-use Rattle.qil_checker.specs.Mentions.{Mention, texts}
-use Rattle.qil_checker.specs.Rules.{AreBroken, AreWellFormed}
+use Rattle.qil_rules.specs.declared.mention.Mention.{Mention}
+use Rattle.qil_rules.specs.Mentions.{texts}
+use Rattle.qil_rules.specs.Rules.{AreBroken, AreWellFormed}
 use Rattle.qil_checker.proofs.checker.examine.Goals as goal
 
 pub returns-in-Some-clause-told : goal.returns-in-Some-clause-told

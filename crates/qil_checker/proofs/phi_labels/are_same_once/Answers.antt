@@ -1,7 +1,7 @@
 -- The names stand once each and each list has all names of the other.
 use Rattle.std.proofs.Common.{◌≡◌, arith, true}
 use Rattle.qil_names.specs.Tables.{value_at}
-use Rattle.qil_checker.specs.Text.{AreDistinct}
+use Rattle.qil_rules.specs.Text.{AreDistinct}
 use Rattle.qil_checker.specs.Tables.{AreKnown}
 use Rattle.qil_checker.proofs.Tables.Same.{known_of, same_both}
 use Rattle.qil_checker.proofs.phi_labels.are_same_once.Goals.{then-each_once, else-each_once}

@@ -1,7 +1,7 @@
 -- The labels that are looked at are those of the phi, and what they are compared with are the predecessors of its block.
 use Rattle.std.proofs.Common.{◌∙◌, sym, ap}
 use Rattle.qil_names.specs.Tables.{kept}
-use Rattle.qil_checker.specs.Text.{labels_of}
+use Rattle.qil_rules.specs.Text.{labels_of}
 use Rattle.qil_checker.proofs.Texts.Edges.{answer_is}
 use Rattle.qil_checker.proofs.predecessors.are_predecessors.Goals as goal
 

@@ -1,8 +1,8 @@
 -- The mentions so far, and those of the arguments that are left, are all mentions.
 use Rattle.std.proofs.Common.{◌≡◌, ◌++◌, drop, map}
 use Rattle.std.specs.List.{flat_map}
-use Rattle.qil_checker.specs.Operands.{argument_read}
-use Rattle.qil_checker.specs.Mentions.{read_mentions}
+use Rattle.qil_rules.specs.Operands.{argument_read}
+use Rattle.qil_rules.specs.Mentions.{read_mentions}
 use Rattle.qil_checker.proofs.walk.push_arguments.Given as goal
 
 abbrev pub invariant-loop-argument : goal.invariant-loop-argument

@@ -1,7 +1,7 @@
 -- The mentions so far, and those of the blocks that are left, are all mentions.
 use Rattle.std.proofs.Common.{◌≡◌, ◌++◌, drop}
 use Rattle.std.specs.List.{flat_map}
-use Rattle.qil_checker.specs.Mentions.{block_mentions}
+use Rattle.qil_rules.specs.Mentions.{block_mentions}
 use Rattle.qil_checker.proofs.walk.push_blocks.Given as goal
 
 abbrev pub invariant-loop-block : goal.invariant-loop-block

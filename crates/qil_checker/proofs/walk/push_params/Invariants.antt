@@ -1,6 +1,6 @@
 -- The mentions so far, and those of the parameters that are left, are all mentions.
 use Rattle.std.proofs.Common.{◌≡◌, ◌++◌, drop, map}
-use Rattle.qil_checker.specs.Mentions.{param_mention}
+use Rattle.qil_rules.specs.Mentions.{param_mention}
 use Rattle.qil_checker.proofs.walk.push_params.Given as goal
 
 abbrev pub invariant-loop-param : goal.invariant-loop-param

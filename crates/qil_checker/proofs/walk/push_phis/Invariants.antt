@@ -1,7 +1,7 @@
 -- The mentions so far, and those of the phis that are left, are all mentions.
 use Rattle.std.proofs.Common.{◌≡◌, ◌++◌, drop}
 use Rattle.std.specs.List.{flat_map}
-use Rattle.qil_checker.specs.Mentions.{phi_mentions}
+use Rattle.qil_rules.specs.Mentions.{phi_mentions}
 use Rattle.qil_checker.proofs.walk.push_phis.Given as goal
 
 abbrev pub invariant-loop-phi : goal.invariant-loop-phi

@@ -1,7 +1,7 @@
 -- The mentions so far, and those of the sources that are left, are all mentions.
 use Rattle.std.proofs.Common.{◌≡◌, ◌++◌, drop}
 use Rattle.std.specs.List.{flat_map}
-use Rattle.qil_checker.specs.Mentions.{source_mentions}
+use Rattle.qil_rules.specs.Mentions.{source_mentions}
 use Rattle.qil_checker.proofs.walk.push_sources.Given as goal
 
 abbrev pub invariant-loop-source : goal.invariant-loop-source

@@ -1,6 +1,6 @@
 -- One text more.
 use Rattle.std.proofs.Common.{arith}
-use Rattle.qil_checker.specs.Mentions.{data_mentions}
+use Rattle.qil_rules.specs.Mentions.{data_mentions}
 use Rattle.qil_checker.proofs.Programs.Gathered.{one_more}
 use Rattle.qil_checker.proofs.whole.push_datas.Goals as goal
 

@@ -1,6 +1,6 @@
 -- The texts so far, and those of the data objects that are left, are all texts.
 use Rattle.std.proofs.Common.{◌≡◌, ◌++◌, drop, map}
-use Rattle.qil_checker.specs.Mentions.{data_mentions}
+use Rattle.qil_rules.specs.Mentions.{data_mentions}
 use Rattle.qil_checker.specs.Whole.{mentions_of}
 use Rattle.qil_checker.proofs.whole.push_datas.Given as goal
 

@@ -1,6 +1,6 @@
 -- One definition fewer is left.
 use Rattle.std.proofs.Common.{◌+◌, ◌++◌, drop, arith}
-use Rattle.qil_checker.specs.Mentions.{texts, texts_in}
+use Rattle.qil_rules.specs.Mentions.{texts, texts_in}
 use Rattle.qil_checker.specs.Whole.{mentions_of}
 use Rattle.qil_checker.proofs.Programs.Gathered.{one_fewer, all_in}
 use Rattle.qil_checker.proofs.whole.texts_of.Goals as goal

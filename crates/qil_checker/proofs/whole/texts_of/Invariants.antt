@@ -1,6 +1,6 @@
 -- The texts so far, and those of the definitions that are left, are all texts.
 use Rattle.std.proofs.Common.{◌≡◌, ◌++◌, drop}
-use Rattle.qil_checker.specs.Mentions.{texts, texts_in}
+use Rattle.qil_rules.specs.Mentions.{texts, texts_in}
 use Rattle.qil_checker.specs.Whole.{mentions_of}
 use Rattle.qil_checker.proofs.whole.texts_of.Given as goal
 

@@ -1,7 +1,7 @@
 -- What numbering takes from the rules, and the code that it makes.
 use Rattle.std.proofs.Common.{◌≡◌, ◌∙◌, sym, ap, subst, []}
 use Rattle.std.specs.Prelude.{All, map}
-use Rattle.qil_checker.specs.Rules.{WellFormed}
+use Rattle.qil_rules.specs.Rules.{WellFormed}
 use Rattle.qil_tree.specs.Trees.{HasBlocks}
 use Rattle.qil_layout.proofs.FewFunctions.{few_functions}
 use Rattle.qil_names.specs.Numbers.{noted}

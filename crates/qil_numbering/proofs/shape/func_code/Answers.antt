@@ -7,6 +7,5 @@ use Rattle.qil_numbering.proofs.shape.func_code.Goals as goal
 
 pub returns-clause-code : goal.returns-clause-code
 returns-clause-code g c =
-    code-is c.args.image.now c.args.func.now _ _ _ c.in_ok-temps.temps c.in_ok-labels.labels c.in_ok-temps.ensures
-    (c.in_ok-labels.ensures ∙ ap (λ bs. noted [] (labels_in bs)) c.as_slice.ensures ∙ c.requires.labels)
-    (c.new.ensures ∙ c.in_ok-classes.ensures) (c.new-2.ensures ∙ c.in_ok-params.ensures.params) (c.new-3.ensures ∙ c.in_ok-params.ensures.blocks)
+    code-is c.args.image.now c.args.func.now c.in_ok-code.code c.in_ok-temps.temps c.in_ok-labels.labels c.in_ok-temps.ensures
+    (c.in_ok-labels.ensures ∙ ap (λ bs. noted [] (labels_in bs)) c.as_slice.ensures ∙ c.requires.labels) c.in_ok-code.ensures.code

@@ -2,7 +2,7 @@
 use Rattle.std.proofs.Common.{sym, subst}
 use Rattle.qil_numbering.specs.Facts.{IsNumerable}
 use Rattle.qil_numbering.specs.Ranges.{FuncIsShort}
-use Rattle.qil_numbering.proofs.Parts.{all_more, mapped_more}
+use Rattle.qil_numbering.proofs.Parts.{all_more, mapped_more, mapped_all}
 use Rattle.qil_numbering.proofs.shape.funcs_code.Goals as goal
 
 pub func_code-requires : goal.func_code-requires
@@ -13,3 +13,9 @@ loop-func-preserved g c = record {
   codes = mapped_more _ _ _ c.func-item.result c.loop-func.out.items _ _ _ c.func-item.is c.loop-func-test.true c.in_ok-push.ensures.items c.in_ok-func_code.ensures.code c.loop-func.invariant.codes;
   short = all_more FuncIsShort c.loop-func.out.items _ _ c.in_ok-push.ensures.items c.in_ok-func_code.ensures.short c.loop-func.invariant.short;
 }
+
+pub returns-clause-codes : goal.returns-clause-codes
+returns-clause-codes g c = mapped_all _ c.args.funcs.now c.loop-func.func-index c.loop-func.out.items c.loop-func-test.false c.loop-func.invariant.codes
+
+pub returns-clause-short : goal.returns-clause-short
+returns-clause-short g c = c.loop-func.invariant.short

@@ -1,7 +1,6 @@
 -- Answers to the goals of `debug_checked`.
-use Rattle.std.proofs.Common.{◌∙◌, ap, length}
+use Rattle.std.proofs.Common.{◌∙◌, ap}
 use Rattle.qil_tree.specs.declared.tree.Program.{Program}
-use Rattle.qil_layout.specs.Layout.{bytes_of}
 use Rattle.qil_meaning.specs.Start.{start_of}
 use Rattle.qil_transcript.specs.Handed.{setup_of}
 use Rattle.qil_transcript.proofs.DebugLemmas.{Written-refuse, refused-no_session, wanting-not_refused, layout-explained, layout-wanting}
@@ -26,12 +25,7 @@ returns-in-Err-clause-only_laid_out g c = λ code line e. refused-no_session c.r
 pub returns-clause-written : goal.returns-clause-written
 returns-clause-written g c = λ text checks.
     c.debug_code.ensures.written text c.args.checked.now (record { checks = checks; lies = c.in-Ok.ensures.no_fault })
-    (record {
-      funcs = ap length c.as_slice.ensures ∙ ap (λ (p : Program g.row.A.Denot). length p.funcs) c.program.ensures.program;
-      bytes = ap length c.bytes.ensures.value ∙ ap (λ (p : Program g.row.A.Denot). length (bytes_of p)) c.in-Ok.ensures.program;
-      form = c.form.ensures.form;
-    })
-    c.in-Ok-number.ensures
+    c.new-loaded.ensures c.in-Ok-number.ensures
 
 pub returns-clause-only_started : goal.returns-clause-only_started
 returns-clause-only_started g c = λ start none ok.

@@ -14,13 +14,13 @@ returns-in-Ok-clause-written g c = λ text verdict accepts loaded same.
 
 pub returns-in-Err-clause-written : goal.returns-in-Err-clause-written
 returns-in-Err-clause-written g c = λ text verdict accepts loaded same.
-    Written-refuse g.row.A.Denot c.refuse.result (setup_of text c.args.request.now) c.from.result _ _ _ _
-    (start-explained (setup_of text c.args.request.now) verdict c.args.code.now c.in-Err.error c.from.result accepts same c.in-Err.ensures.fault c.from.ensures) c.refuse.ensures.refused
+    Written-refuse g.row.A.Denot c.refuse.result (setup_of text c.args.request.now) c.start_error.result _ _ _ _
+    (start-explained (setup_of text c.args.request.now) verdict c.args.code.now c.in-Err.error c.start_error.result accepts same c.in-Err.ensures.fault c.start_error.ensures) c.refuse.ensures.refused
 
 pub returns-in-Err-clause-only_started : goal.returns-in-Err-clause-only_started
 returns-in-Err-clause-only_started g c = λ start ok.
-    wanting-not_refused c.refuse.result c.from.result _ _ c.refuse.ensures.refused
-    (start-wanting c.args.code.now c.args.request.now.func.now c.args.request.now.args.now start c.in-Err.error c.from.result ok c.in-Err.ensures.fault c.from.ensures)
+    wanting-not_refused c.refuse.result c.start_error.result _ _ c.refuse.ensures.refused
+    (start-wanting c.args.code.now c.args.request.now.func.now c.args.request.now.args.now start c.in-Err.error c.start_error.result ok c.in-Err.ensures.fault c.start_error.ensures)
 
 pub returns-in-Err-clause-only_refused : goal.returns-in-Err-clause-only_refused
-returns-in-Err-clause-only_refused g c = λ fault e. refused-no_session c.refuse.result c.from.result _ _ c.refuse.ensures.refused
+returns-in-Err-clause-only_refused g c = λ fault e. refused-no_session c.refuse.result c.start_error.result _ _ c.refuse.ensures.refused

@@ -1,6 +1,6 @@
 -- A definition that is not at its temporary's first place comes after another.
 use Rattle.std.proofs.Common.{◌≡◌, ◌≢◌, ◌∙◌, sym, subst, arith}
-use Rattle.qil_checker.specs.Text.{IsAgain}
+use Rattle.qil_rules.specs.Text.{IsAgain}
 use Rattle.qil_checker.proofs.Texts.Places.{is_again, is_first, never_defined}
 use Rattle.qil_checker.proofs.text.Text.defined_again.Goals as goal
 

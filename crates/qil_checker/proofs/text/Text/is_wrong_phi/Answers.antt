@@ -1,7 +1,8 @@
 -- The predecessors at hand are those of the phi's block, and the phi is wrong where its labels are others.
 use Rattle.std.proofs.Common.{subst, ap, sym, ◌∙◌, IsTrue, ◌↔◌, List}
-use Rattle.qil_checker.specs.Mentions.{Mention, PhiOf}
-use Rattle.qil_checker.specs.Text.{ArePredecessors, labels_of}
+use Rattle.qil_rules.specs.declared.mention.What.TheVariants.{PhiOf}
+use Rattle.qil_rules.specs.declared.mention.Mention.{Mention}
+use Rattle.qil_rules.specs.Text.{ArePredecessors, labels_of}
 use Rattle.qil_checker.specs.Tables.{predecessors_of}
 use Rattle.qil_checker.proofs.Texts.Places.{mention_stands}
 use Rattle.qil_checker.proofs.Texts.Rules.{wrong_phi}

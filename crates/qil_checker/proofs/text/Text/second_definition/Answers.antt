@@ -1,6 +1,6 @@
 -- The first definition that is not the first of its temporary.
 use Rattle.std.proofs.Common.{List, ℕ, ◌<◌, length, arith, below_more}
-use Rattle.qil_checker.specs.Text.{IsAgain}
+use Rattle.qil_rules.specs.Text.{IsAgain}
 use Rattle.qil_checker.proofs.Texts.Places.{again_within}
 use Rattle.qil_checker.proofs.text.Text.second_definition.Goals as goal
 

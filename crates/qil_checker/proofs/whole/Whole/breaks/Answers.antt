@@ -1,8 +1,8 @@
 -- The rule that takes memory.
 use Rattle.std.proofs.Common.{sym, subst, IfOk, IsTrue, ◌↔◌}
-use Rattle.qil_checker.specs.Rules.{Breaks}
+use Rattle.qil_rules.specs.Rules.{Breaks}
 use Rattle.qil_checker.specs.Whole.{mentions_of}
-use Rattle.qil_checker.specs.declared.rule.Rule.{Rule}
+use Rattle.qil_rules.specs.declared.rule.Rule.{Rule}
 use Rattle.qil_checker.proofs.whole.Whole.breaks.Goals as goal
 
 pub returns-in-C8 : goal.returns-in-C8

@@ -1,7 +1,7 @@
 -- The first mention of a text that breaks the rule.
 use Rattle.std.proofs.Common.{◌≡◌, ap, subst, List, Some, slice_get, ◌<◌, IsTrue, length, arith, below_more}
-use Rattle.qil_checker.specs.Mentions.{Mention}
-use Rattle.qil_checker.specs.Rules.{Breaks}
+use Rattle.qil_rules.specs.declared.mention.Mention.{Mention}
+use Rattle.qil_rules.specs.Rules.{Breaks}
 use Rattle.qil_checker.specs.Whole.{mentions_of}
 use Rattle.qil_checker.proofs.Texts.Places.{read_there}
 use Rattle.qil_checker.proofs.Programs.Scans.{breaks_within}

@@ -1,6 +1,6 @@
 -- No mention so far breaks the rule, and the predecessors at hand are those of the block of the next.
 use Rattle.std.proofs.Common.{ℕ, ◌<◌}
-use Rattle.qil_checker.specs.Rules.{Breaks}
+use Rattle.qil_rules.specs.Rules.{Breaks}
 use Rattle.qil_names.specs.Tables.{kept}
 use Rattle.qil_checker.specs.Tables.{AreAtHandFor}
 use Rattle.qil_checker.specs.Whole.{mentions_of}

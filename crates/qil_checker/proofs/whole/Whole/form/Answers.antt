@@ -1,6 +1,6 @@
 -- The first place of a text is the first of the program where no earlier text has one.
 use Rattle.std.proofs.Common.{◌≡◌, ◌∙◌, sym, ap, subst, List, ℕ, length, slice_get, Some, arith}
-use Rattle.qil_checker.specs.Rules.{HasName}
+use Rattle.qil_rules.specs.Rules.{HasName}
 use Rattle.qil_checker.specs.Whole.{mentions_of}
 use Rattle.qil_checker.specs.declared.text.Text.{Text}
 use Rattle.qil_checker.proofs.Texts.Places.{read_there}

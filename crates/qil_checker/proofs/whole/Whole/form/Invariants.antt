@@ -1,7 +1,7 @@
 -- No text so far defines a temporary again.
 use Rattle.std.proofs.Common.{◌<◌, List, ℕ}
-use Rattle.qil_checker.specs.Rules.{Place}
-use Rattle.qil_checker.specs.Forms.{IsAgainAt}
+use Rattle.qil_rules.specs.Rules.{Place}
+use Rattle.qil_rules.specs.Forms.{IsAgainAt}
 use Rattle.qil_checker.specs.Whole.{mentions_of}
 use Rattle.qil_checker.proofs.whole.Whole.form.Given as goal
 

@@ -1,7 +1,7 @@
 -- No text so far breaks the rule, and its functions are counted.
 use Rattle.std.proofs.Common.{◌≡◌, ◌<◌, take}
 use Rattle.std.specs.List.{count_by}
-use Rattle.qil_checker.specs.Rules.{Place, BreaksAt, is_function}
+use Rattle.qil_rules.specs.Rules.{Place, BreaksAt, is_function}
 use Rattle.qil_checker.specs.Whole.{mentions_of}
 use Rattle.qil_checker.proofs.whole.Whole.line_of.Given as goal
 

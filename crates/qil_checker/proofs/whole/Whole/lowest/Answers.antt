@@ -1,6 +1,6 @@
 -- The rules are looked at from the lowest on.
 use Rattle.std.proofs.Common.{subst, ℕ, Option, MatchOption}
-use Rattle.qil_checker.specs.Rules.{IsKept, IsBrokenFirst}
+use Rattle.qil_rules.specs.Rules.{IsKept, IsBrokenFirst}
 use Rattle.qil_checker.specs.Whole.{mentions_of}
 use Rattle.qil_checker.proofs.Programs.Firsts.{one_more_rule, all_rules}
 use Rattle.qil_checker.proofs.whole.Whole.lowest.Goals as goal

@@ -1,7 +1,7 @@
 -- The rules so far are kept.
 use Rattle.std.proofs.Common.{◌<◌, ◌-◌}
-use Rattle.qil_checker.specs.declared.rule.Rule.{Rule}
-use Rattle.qil_checker.specs.Rules.{IsKept, order}
+use Rattle.qil_rules.specs.declared.rule.Rule.{Rule}
+use Rattle.qil_rules.specs.Rules.{IsKept, order}
 use Rattle.qil_checker.specs.Whole.{mentions_of}
 use Rattle.qil_checker.proofs.whole.Whole.lowest.Given as goal
 

@@ -1,8 +1,0 @@
--- What is kept of a checked program holds of what is seen of it.
-use Rattle.std.proofs.Common.{subst}
-use Rattle.qil_checker.specs.Check.{Verdict}
-use Rattle.qil_checker.specs.Forms.{HasForm}
-use Rattle.qil_checker.proofs.checker.Checked.form.Goals as goal
-
-pub returns-clause-has_form : goal.returns-clause-has_form
-returns-clause-has_form g c = subst (λ (v : Verdict g.row.A.Denot). HasForm v.program v.form) c.self.view_is c.self.invariant.2

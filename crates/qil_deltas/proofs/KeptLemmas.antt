@@ -1,0 +1,56 @@
+-- Facts on what is kept.
+use Rattle.std.proofs.Common.{◌≡◌, ℕ, ◌+◌, ◌≤◌, suc, List, [], ◌∷◌, ◌++◌, length, reverse, None, Result, Ok, ap, sym, ◌∙◌, subst, refl, arith}
+use Rattle.std.proofs.lemmas.List.{length-reverse, reverse-append}
+use Rattle.std.proofs.lemmas.List.Sums.{sum_by_push}
+use Rattle.qil_meaning.specs.State.{State}
+use Rattle.qil_meaning.specs.Poke.{PokeFault}
+use Rattle.qil_meaning.specs.Timeline.{to, poked}
+use Rattle.qil_state.specs.State.{Whole, state_of}
+use Rattle.qil_machine.specs.Moves.{Move, undone, weight}
+use Rattle.qil_machine.specs.Places.{Made}
+use Rattle.qil_deltas.specs.Kept.{before, AllFit, Moved, moved_timeline}
+use Rattle.qil_deltas.specs.Weights.{total}
+
+before-length : {A : Type 0} (ds : List Move) (m : Whole A) → length (before ds m) ≡ length ds
+before-length [] m = refl
+before-length (d ∷ ds) m = ap suc (before-length ds (undone d m))
+
+-- as many states before as moves
+pub length_before : {A : Type 0} (ds : List Move) (m : Whole A) → length (before (reverse ds) m) ≡ length ds
+length_before ds m = before-length (reverse ds) m ∙ length-reverse ds
+
+-- the states before a move more
+pub before_made : {A : Type 0} (ds : List Move) (d : Move) (m w : Whole A) → Made d m w → before (reverse (ds ++ d ∷ [])) w ≡ state_of m ∷ before (reverse ds) m
+before_made {A} ds d m w made =
+    ap (λ xs. before xs w) (reverse-append ds (d ∷ [])) ∙ ap (λ (v : Whole A). state_of v ∷ before (reverse ds) v) made.undo
+
+pub fits_made : {A : Type 0} (ds : List Move) (d : Move) (m w : Whole A) → Made d m w → AllFit (reverse ds) m → AllFit (reverse (ds ++ d ∷ [])) w
+fits_made {A} ds d m w made fit =
+    subst (λ xs. AllFit xs w) (sym (reverse-append ds (d ∷ []))) (made.fits, subst (AllFit (reverse ds)) (sym made.undo) fit)
+
+-- ---- one more of all deltas
+
+abbrev pub kept : {A : Type 0} → Whole A → List Move → Moved A
+kept m ds = record { machine = m; deltas = ds }
+
+module _ {A : Type 0} (m w : Whole A) (ds es : List Move) (d : Move) where
+  -- all may be put back
+  pub stays_kept : es ≡ ds ++ d ∷ [] → Made d m w → AllFit (reverse ds) m → AllFit (reverse es) w
+  stays_kept e made fit = subst (λ xs. AllFit (reverse xs) w) (sym e) (fits_made ds d m w made fit)
+
+  moved-on : es ≡ ds ++ d ∷ [] → Made d m w → moved_timeline (kept w es) ≡ to (state_of w) (moved_timeline (kept m ds))
+  moved-on e made =
+      let past : before (reverse es) w ≡ state_of m ∷ before (reverse ds) m = ap (λ xs. before (reverse xs) w) e ∙ before_made ds d m w made in
+      λ i. record { now = state_of w; past = past i; forgotten = 0; keeps = None }
+
+  -- a poke that isn't refused is a move
+  pub pokes_kept : (now : Moved A) (r : Result State PokeFault) → kept m ds ≡ now → es ≡ ds ++ d ∷ [] → Made d m w → r ≡ Ok (state_of w) → poked (moved_timeline now) r ≡ Ok (moved_timeline (kept w es))
+  pokes_kept now r view e made is =
+      subst (λ (k : Moved A). poked (moved_timeline k) r ≡ Ok (moved_timeline (kept w es))) view
+      (ap (poked (moved_timeline (kept m ds))) is ∙ ap Ok (sym (moved-on e made)))
+
+  -- its weight is added
+  pub adds_weight : (now : Moved A) (k : ℕ) → kept m ds ≡ now → es ≡ ds ++ d ∷ [] → weight d ≤ k → total es ≤ total now.deltas + k
+  adds_weight now k view e few =
+      let whole : total es ≡ total ds + weight d = ap total e ∙ sum_by_push weight ds d in
+      subst (λ (r : Moved A). total es ≤ total r.deltas + k) view (omega (arith, whole, few))

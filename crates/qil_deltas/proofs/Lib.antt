@@ -1,0 +1,4 @@
+-- The lemmas.
+pub mod KeptLemmas
+pub mod RingLemmas
+pub mod WeightLemmas

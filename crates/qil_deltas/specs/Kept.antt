@@ -1,0 +1,47 @@
+-- The timeline of what is kept: of a machine with the deltas of its moves, all or the newest.
+use Rattle.std.specs.Prelude.{◌≡◌, ℕ, ◌+◌, ◌≤◌, ◌^◌, List, [], ◌∷◌, length, reverse, Some, None}
+use Rattle.qil_meaning.specs.State.{State}
+use Rattle.qil_meaning.specs.Timeline.{Timeline}
+use Rattle.qil_state.specs.State.{Whole, state_of}
+use Rattle.qil_machine.specs.Moves.{Move, undone, Fits}
+
+-- the states that undoing one move after the other gives, the latest first
+abbrev pub before : {A : Type 0} → List Move → Whole A → List State
+before [] m = []
+before (d ∷ ds) m = state_of (undone d m) ∷ before ds (undone d m)
+
+-- each may be put back when its turn comes
+abbrev pub AllFit : {A : Type 0} → List Move → Whole A → Type 0
+AllFit [] m = Unit {0}
+AllFit (d ∷ ds) m = Fits d m × AllFit ds (undone d m)
+
+-- ---- deltas
+
+-- a machine, and what its moves kept, the latest last
+pub record Moved (A : Type 0) : Type 0 where
+  pub machine : Whole A
+  pub deltas : List Move
+
+abbrev pub moved_timeline : {A : Type 0} → Moved A → Timeline
+moved_timeline k = record { now = state_of k.machine; past = before (reverse k.deltas) k.machine; forgotten = 0; keeps = None }
+
+-- ---- the newest deltas
+
+-- a machine, and what its newest moves kept, the latest last; how many older moves were forgotten; and how many are kept
+-- at most
+pub record Recent (A : Type 0) : Type 0 where
+  pub machine : Whole A
+  pub deltas : List Move
+  pub forgotten : ℕ
+  pub bound : ℕ
+
+abbrev pub recent : {A : Type 0} → Whole A → List Move → ℕ → ℕ → Recent A
+recent m ds forgotten bound = record { machine = m; deltas = ds; forgotten = forgotten; bound = bound }
+
+abbrev pub recent_timeline : {A : Type 0} → Recent A → Timeline
+recent_timeline k = record { now = state_of k.machine; past = before (reverse k.deltas) k.machine; forgotten = k.forgotten; keeps = Some k.bound }
+
+pub record IsRecent {A : Type 0} (k : Recent A) : Type 0 where
+  pub fit : AllFit (reverse k.deltas) k.machine
+  pub few : length k.deltas ≤ k.bound
+  pub position : k.forgotten + length k.deltas ≤ 2 ^ 62

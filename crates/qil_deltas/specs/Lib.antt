@@ -1,0 +1,3 @@
+-- The definitions.
+pub mod Kept
+pub mod Weights

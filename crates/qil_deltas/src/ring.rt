@@ -1,0 +1,226 @@
+//! A machine, and the deltas of its newest moves.
+
+ghost use Rattle.std.specs.Prelude.{◌≡◌, ◌≢◌, ◌+◌, ◌-◌, ◌≤◌, ◌^◌, ◌<◌, ◌↔◌, true, [], ◌∷◌, ◌++◌, length, Ok, Err, IfOk, IfErr, OnOk, OnErr, IfNone, Some, option_to_list};
+ghost use Rattle.circular_buffer.specs.Buffer.{buffer, keep_last};
+ghost use Rattle.qil_memory.specs.Calls.{IsWidth};
+ghost use Rattle.qil_meaning.specs.Cost.{cost_of, temp_poke_cost, bytes_poke_cost};
+ghost use Rattle.qil_meaning.specs.Poke.{poke_temp, poke_memory, no_frame, unknown_temporary, dead_bytes};
+ghost use Rattle.qil_meaning.specs.Timeline.{begun, position, at_end, forward, poked, back};
+ghost use Rattle.qil_state.specs.State.{state_of};
+ghost use Rattle.qil_machine.specs.Moves.{undone, Fits};
+ghost use Rattle.qil_machine.specs.Pokes.{poke_slot};
+ghost use Rattle.qil_deltas.specs.Kept.{recent_timeline};
+ghost use Rattle.qil_pokes.specs.Pokes.{HasWidth, poke_of, poke_cost, Explains};
+ghost use Rattle.qil_deltas.specs.Weights.{total, TakesLatestOff};
+
+use circular_buffer::HeapCircularBuffer;
+use qil_history::{BackError, History};
+use qil_machine::{Delta, Machine, MoveError, PokeError};
+use qil_numbering::Slot;
+use qil_pokes::Poke;
+use std::alloc::{AllocError, Allocator};
+use std::marker::Model;
+
+/// A machine, and the deltas of its newest moves, the latest last. Their block is taken when the history is made, so that a
+/// move takes memory for the machine alone.
+#[derive(Drop)]
+pub struct Ring<'c, 'a, A: Allocator> {
+    machine: Machine<'c, 'a, A>,
+    deltas: HeapCircularBuffer<Delta<A>, A>,
+    forgotten: u64,
+}
+
+impl<'c, 'a, A: Allocator> Model for Ring<'c, 'a, A> {
+    ghost use Rattle.qil_deltas.specs.Kept.{Recent, recent, IsRecent};
+
+    ghost Value = { Recent A };
+
+    ghost view = { λ h. recent h.machine h.deltas.items h.forgotten h.deltas.capacity };
+
+    ghost invariant = { λ h. IsRecent (recent h.machine h.deltas.items h.forgotten h.deltas.capacity) };
+}
+
+/// Adds an item as the latest. Where all places are taken, the oldest item goes, and is counted.
+#[inline(always)]
+fn add<T: Drop, A: Allocator>(items: &mut HeapCircularBuffer<T, A>, gone: &mut u64, item: T)
+    requires few { length items.old.items ≤ items.old.capacity }
+    requires small { gone.old < 2 ^ 63 }
+    ensures items { items.new ≡ buffer (keep_last items.old.capacity (items.old.items ++ item ∷ [])) items.old.capacity }
+    ensures gone { gone.new ≡ gone.old + (length items.old.items + 1 - items.old.capacity) }
+{
+    if items.push_back(item).is_some() {
+        *gone += 1;
+    }
+}
+
+/// Takes the latest item away.
+#[inline(always)]
+fn take_latest<T, A: Allocator>(items: &mut HeapCircularBuffer<T, A>) -> Option<T>
+    ensures items { items.old.items ≡ items.new.items ++ option_to_list result }
+    ensures none { IfNone result (items.old.items ≡ []) }
+    ensures capacity { items.new.capacity ≡ items.old.capacity }
+{
+    items.pop_back()
+}
+
+/// Puts back what the latest move kept.
+#[inline(always)]
+fn undo_latest<A: Allocator + Copy>(machine: &mut Machine<'_, '_, A>, latest: Delta<A>)
+    requires { Fits latest machine.old }
+    ensures { machine.new ≡ undone latest machine.old }
+{
+    machine.undo(latest);
+}
+
+impl<'c, 'a, A: Allocator + Copy> Ring<'c, 'a, A> {
+    /// A history that begins at a machine and keeps so many moves, in a block that it takes here.
+    ///
+    /// # Errors
+    ///
+    /// The machine, where there is no memory for the block.
+    pub fn new(
+        alloc: A,
+        machine: Machine<'c, 'a, A>,
+        bound: u64,
+    ) -> Result<Ring<'c, 'a, A>, (Machine<'c, 'a, A>, AllocError)>
+        requires some { 1 ≤ bound }
+        requires few { bound ≤ 1000000 }
+        ensures program { IfOk result (λ h. h.machine.program ≡ machine.entry.program) }
+        ensures begun { IfOk result (λ h. recent_timeline h ≡ begun (Some bound) (state_of machine.entry)) }
+        ensures empty { IfOk result (λ h. h.deltas ≡ []) }
+        ensures machine { IfErr result (λ e. e.0 ≡ machine.entry) }
+    {
+        match HeapCircularBuffer::with_capacity(alloc, bound as usize) {
+            Ok(deltas) => Ok(Ring {
+                machine,
+                deltas,
+                forgotten: 0,
+            }),
+            Err(error) => Err((machine, error)),
+        }
+    }
+
+    /// Pokes, and keeps that as a move.
+    fn poke(&mut self, poke: Poke<'_>) -> Result<(), PokeError>
+        requires before { position (recent_timeline self.old) < 2 ^ 62 }
+        requires width { HasWidth poke }
+        ensures program { self.new.machine.program ≡ self.old.machine.program }
+        ensures ok { OnOk result (poked (recent_timeline self.old) (poke_of self.old.machine.program (state_of self.old.machine) poke.entry) ≡ Ok (recent_timeline self.new)) }
+        ensures why { IfErr result (Explains (poke_of self.old.machine.program (state_of self.old.machine) poke.entry)) }
+        ensures err { OnErr result (recent_timeline self.new ≡ recent_timeline self.old) }
+        ensures cost { OnOk result (total self.new.deltas ≤ total self.old.deltas + poke_cost poke.entry) }
+        ensures kept { OnErr result (self.new.deltas ≡ self.old.deltas) }
+    {
+        let delta = poke.apply(&mut self.machine)?;
+        add(&mut self.deltas, &mut self.forgotten, delta);
+        Ok(())
+    }
+}
+
+/// Clauses here take the place of the contract's, so they say those again, and beside them what each call does to the deltas.
+impl<'c, 'a, A: Allocator + Copy> History<A, Machine<'c, 'a, A>> for Ring<'c, 'a, A> {
+    ghost program = { λ h. h.machine.program };
+
+    ghost timeline = { recent_timeline };
+
+    #[inline(always)]
+    fn forward(&mut self) -> Result<(), MoveError>
+        requires { position (recent_timeline self.old) < 2 ^ 62 }
+        ensures program { self.new.machine.program ≡ self.old.machine.program }
+        ensures ok { OnOk result (recent_timeline self.new ≡ forward self.old.machine.program (recent_timeline self.old)) }
+        ensures end { (result ≡ Err MoveError.AtEnd) ↔ (at_end (recent_timeline self.old) ≡ true) }
+        ensures err { OnErr result (recent_timeline self.new ≡ recent_timeline self.old) }
+        ensures cost { OnOk result (total self.new.deltas ≤ total self.old.deltas + cost_of self.old.machine.program (state_of self.old.machine)) }
+        ensures kept { OnErr result (self.new.deltas ≡ self.old.deltas) }
+    {
+        let delta = self.machine.advance()?;
+        add(&mut self.deltas, &mut self.forgotten, delta);
+        Ok(())
+    }
+
+    #[inline(always)]
+    fn back(&mut self) -> Result<(), BackError>
+        ensures program { self.new.machine.program ≡ self.old.machine.program }
+        ensures ok { OnOk result (back (recent_timeline self.old) ≡ Some (recent_timeline self.new)) }
+        ensures start { (result ≡ Err BackError.AtStart) ↔ (position (recent_timeline self.old) ≡ 0) }
+        ensures oldest { (result ≡ Err BackError.Oldest) ↔ (((recent_timeline self.old).past ≡ []) × (position (recent_timeline self.old) ≢ 0)) }
+        ensures err { OnErr result (recent_timeline self.new ≡ recent_timeline self.old) }
+        ensures weight { OnOk result (TakesLatestOff self.old.deltas self.new.deltas) }
+        ensures kept { OnErr result (self.new.deltas ≡ self.old.deltas) }
+    {
+        match take_latest(&mut self.deltas) {
+            Some(delta) => {
+                undo_latest(&mut self.machine, delta);
+                Ok(())
+            }
+            None => Err(if self.forgotten == 0 {
+                BackError::AtStart
+            } else {
+                BackError::Oldest
+            }),
+        }
+    }
+
+    #[tactic(auto, using(qil_pokes::proofs::PokeLemmas::slot_never_dead))]
+    fn poke_temp(&mut self, slot: Slot, value: u64) -> Result<(), PokeError>
+        requires { position (recent_timeline self.old) < 2 ^ 62 }
+        ensures program { self.new.machine.program ≡ self.old.machine.program }
+        ensures ok { OnOk result (poked (recent_timeline self.old) (poke_slot self.old.machine.program (state_of self.old.machine) slot value) ≡ Ok (recent_timeline self.new)) }
+        ensures frame { (result ≡ Err PokeError.NoFrame) ↔ (poke_slot self.old.machine.program (state_of self.old.machine) slot value ≡ Err no_frame) }
+        ensures unknown { (result ≡ Err PokeError.UnknownTemporary) ↔ (poke_slot self.old.machine.program (state_of self.old.machine) slot value ≡ Err unknown_temporary) }
+        ensures live { result ≢ Err PokeError.DeadAddress }
+        ensures err { OnErr result (recent_timeline self.new ≡ recent_timeline self.old) }
+        ensures cost { OnOk result (total self.new.deltas ≤ total self.old.deltas + temp_poke_cost) }
+        ensures kept { OnErr result (self.new.deltas ≡ self.old.deltas) }
+    {
+        self.poke(Poke::Slot(slot, value))
+    }
+
+    #[tactic(auto, using(qil_pokes::proofs::PokeLemmas::temp_never_dead))]
+    fn poke_named(&mut self, name: &[u8], value: u64) -> Result<(), PokeError>
+        requires { position (recent_timeline self.old) < 2 ^ 62 }
+        ensures program { self.new.machine.program ≡ self.old.machine.program }
+        ensures ok { OnOk result (poked (recent_timeline self.old) (poke_temp self.old.machine.program (state_of self.old.machine) name.now value) ≡ Ok (recent_timeline self.new)) }
+        ensures frame { (result ≡ Err PokeError.NoFrame) ↔ (poke_temp self.old.machine.program (state_of self.old.machine) name.now value ≡ Err no_frame) }
+        ensures unknown { (result ≡ Err PokeError.UnknownTemporary) ↔ (poke_temp self.old.machine.program (state_of self.old.machine) name.now value ≡ Err unknown_temporary) }
+        ensures live { result ≢ Err PokeError.DeadAddress }
+        ensures err { OnErr result (recent_timeline self.new ≡ recent_timeline self.old) }
+        ensures cost { OnOk result (total self.new.deltas ≤ total self.old.deltas + temp_poke_cost) }
+        ensures kept { OnErr result (self.new.deltas ≡ self.old.deltas) }
+    {
+        self.poke(Poke::Named(name, value))
+    }
+
+    #[tactic(auto, using(qil_pokes::proofs::PokeLemmas::memory_never_frameless, qil_pokes::proofs::PokeLemmas::memory_never_unknown))]
+    fn poke_memory(&mut self, address: u64, width: u64, number: u64) -> Result<(), PokeError>
+        requires before { position (recent_timeline self.old) < 2 ^ 62 }
+        requires width { IsWidth width }
+        ensures program { self.new.machine.program ≡ self.old.machine.program }
+        ensures ok { OnOk result (poked (recent_timeline self.old) (poke_memory (state_of self.old.machine) address width number) ≡ Ok (recent_timeline self.new)) }
+        ensures dead { (result ≡ Err PokeError.DeadAddress) ↔ (poke_memory (state_of self.old.machine) address width number ≡ Err dead_bytes) }
+        ensures frame { result ≢ Err PokeError.NoFrame }
+        ensures known { result ≢ Err PokeError.UnknownTemporary }
+        ensures err { OnErr result (recent_timeline self.new ≡ recent_timeline self.old) }
+        ensures cost { OnOk result (total self.new.deltas ≤ total self.old.deltas + bytes_poke_cost width) }
+        ensures kept { OnErr result (self.new.deltas ≡ self.old.deltas) }
+    {
+        self.poke(Poke::Bytes(address, width, number))
+    }
+
+    #[tactic(auto, using(crate::proofs::KeptLemmas::length_before))]
+    fn position(&self) -> u64 {
+        self.forgotten + self.deltas.len() as u64
+    }
+
+    fn oldest(&self) -> u64 {
+        self.forgotten
+    }
+
+    fn keeps(&self) -> Option<u64> {
+        Some(self.deltas.capacity() as u64)
+    }
+
+    fn machine(&self) -> &Machine<'c, 'a, A> {
+        &self.machine
+    }
+}

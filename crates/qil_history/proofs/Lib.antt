@@ -1,5 +1,0 @@
--- The lemmas.
-pub mod KeptLemmas
-pub mod RingLemmas
-pub mod PokeLemmas
-pub mod WeightLemmas

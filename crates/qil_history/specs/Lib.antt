@@ -1,4 +1,0 @@
--- The definitions.
-pub mod Kept
-pub mod Pokes
-pub mod Weights

@@ -1,0 +1,74 @@
+//! What was loaded, and the line that says so.
+
+ghost use Rattle.std.specs.Prelude.{◌≡◌, ◌-◌, ◌^◌, ◌<◌};
+ghost use Rattle.qil_streams.specs.Device.{Counts, Puts};
+ghost use Rattle.qil_loading.specs.Lines.{IsLoaded, loaded_line};
+
+use qil_layout::Image;
+use qil_pieces::{Piece, put_pieces};
+use qil_rules::{Checked, Form};
+use qil_streams::{Put, PutError};
+use std::alloc::Allocator;
+
+/// What is told of a program that was loaded.
+#[derive(Clone, Copy)]
+pub struct Loaded<'l> {
+    /// How many functions it has.
+    pub funcs: usize,
+    /// In bytes, from the first data object to the end of the last.
+    pub bytes: usize,
+    /// Whether each temporary has one definition.
+    pub form: &'l Form<'l>,
+}
+
+impl<'l> Loaded<'l> {
+    /// What is told of a program with its image.
+    pub fn new<'a, A: Allocator + Copy>(
+        checked: &'l Checked<'a, A>,
+        image: &Image<'_, 'a, A>,
+    ) -> Loaded<'l>
+        requires { image.now ≡ checked.now.program }
+        ensures { IsLoaded result checked.entry.now }
+    {
+        Loaded {
+            funcs: checked.program().funcs.as_slice().len(),
+            bytes: image.bytes().len(),
+            form: checked.form(),
+        }
+    }
+}
+
+/// Puts the line that counts what was loaded: functions, and bytes of data.
+pub fn put_loaded_line<P: Put>(out: &mut P, loaded: &Loaded<'_>) -> Result<(), PutError>
+    requires { P.stops out.old < 2 ^ 64 - 1 }
+    ensures text { Puts result (P.written out.old) (P.written out.new) (loaded_line loaded.now.funcs loaded.now.bytes loaded.now.form.now) }
+    ensures counted { Counts result (P.stops out.old) (P.stops out.new) }
+    ensures device { P.device out.new ≡ P.device out.old }
+{
+    match loaded.form {
+        Form::Single => put_pieces(
+            out,
+            &[
+                Piece::Bytes(b"loaded "),
+                Piece::Number(loaded.funcs as u64),
+                Piece::Bytes(b" functions "),
+                Piece::Number(loaded.bytes as u64),
+                Piece::Bytes(b" data bytes ssa yes\n"),
+            ],
+        ),
+        Form::Multiple { func, temp } => put_pieces(
+            out,
+            &[
+                Piece::Bytes(b"loaded "),
+                Piece::Number(loaded.funcs as u64),
+                Piece::Bytes(b" functions "),
+                Piece::Number(loaded.bytes as u64),
+                Piece::Bytes(b" data bytes ssa no $"),
+                Piece::Bytes(func.bytes()),
+                Piece::Bytes(b" %"),
+                Piece::Bytes(temp.bytes()),
+                Piece::Bytes(b"\n"),
+            ],
+        ),
+    }
+}

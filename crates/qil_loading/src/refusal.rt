@@ -1,0 +1,69 @@
+//! Why a program is refused, and the line that says so.
+
+ghost use Rattle.std.specs.Prelude.{◌≡◌, ◌-◌, ◌^◌, ◌<◌};
+ghost use Rattle.qil_streams.specs.Device.{Counts, Puts};
+ghost use Rattle.qil_loading.specs.Lines.{refused_at, refused_line};
+
+use qil_layout::LayoutCode;
+use qil_lexer::LexCode;
+use qil_meaning::StartFault;
+use qil_parser::ParseCode;
+use qil_pieces::{Piece, put_pieces};
+use qil_rules::Rule;
+use qil_streams::{Put, PutError};
+
+/// Why a program is refused, in the order in which the reasons are looked for.
+#[derive(Clone, Copy)]
+pub enum Refusal {
+    /// The text has no tokens.
+    Text { code: LexCode, line: u32 },
+    /// The tokens are no program's.
+    Tokens { code: ParseCode, line: u32 },
+    /// The program breaks a rule.
+    Rule { rule: Rule, line: u32 },
+    /// The data can't be laid out.
+    Layout { code: LayoutCode, line: u32 },
+    /// The run does not start.
+    Start(StartFault),
+}
+
+fn put_refused_at<P: Put>(out: &mut P, code: &[u8], line: u32) -> Result<(), PutError>
+    requires { P.stops out.old < 2 ^ 64 - 1 }
+    ensures text { Puts result (P.written out.old) (P.written out.new) (refused_at code.now line) }
+    ensures counted { Counts result (P.stops out.old) (P.stops out.new) }
+    ensures device { P.device out.new ≡ P.device out.old }
+{
+    put_pieces(
+        out,
+        &[
+            Piece::Bytes(b"refused: "),
+            Piece::Bytes(code),
+            Piece::Bytes(b" line "),
+            Piece::Number(u64::from(line)),
+            Piece::Bytes(b"\n"),
+        ],
+    )
+}
+
+/// Puts the line of a refusal.
+pub fn put_refusal_line<P: Put>(out: &mut P, refusal: Refusal) -> Result<(), PutError>
+    requires { P.stops out.old < 2 ^ 64 - 1 }
+    ensures text { Puts result (P.written out.old) (P.written out.new) (refused_line refusal) }
+    ensures counted { Counts result (P.stops out.old) (P.stops out.new) }
+    ensures device { P.device out.new ≡ P.device out.old }
+{
+    match refusal {
+        Refusal::Text { code, line } => put_refused_at(out, code.as_str().as_bytes(), line),
+        Refusal::Tokens { code, line } => put_refused_at(out, code.as_str().as_bytes(), line),
+        Refusal::Rule { rule, line } => put_refused_at(out, rule.as_str().as_bytes(), line),
+        Refusal::Layout { code, line } => put_refused_at(out, code.as_str().as_bytes(), line),
+        Refusal::Start(fault) => put_pieces(
+            out,
+            &[
+                Piece::Bytes(b"refused: "),
+                Piece::Bytes(fault.as_str().as_bytes()),
+                Piece::Bytes(b"\n"),
+            ],
+        ),
+    }
+}

@@ -1,0 +1,6 @@
+//! The states of a run by clones of its machine.
+#![tactic(auto)]
+
+mod snapshots;
+
+pub use snapshots::Snapshots;

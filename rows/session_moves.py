@@ -1,0 +1,153 @@
+"""The moves of a session, from its script and its transcript alone, one by one, and what must be told behind each."""
+import re
+
+BYTES = {b"b": 1, b"h": 2, b"w": 4, b"l": 8}
+# What a line is refused for before the session looks at it: it asks for no move.
+NOT_ASKED = (b"no: line too long", b"no: unknown command", b"no: missing word", b"no: bad word", b"no: extra word",
+             b"no: unknown place")
+# The lines of an answer that can have several.
+SHOWN = {b"where": rb"\$.* @\S+ \d+", b"list": rb"(  |> ).*"}
+
+
+class Answers:
+    """The lines of a transcript behind its load lines, from the front on."""
+
+    def __init__(self, lines):
+        self.lines = lines
+        self.at = 0
+
+    def has(self, pattern):
+        return self.at < len(self.lines) and re.fullmatch(pattern, self.lines[self.at]) is not None
+
+    def take(self):
+        self.at += 1
+        if self.at > len(self.lines):
+            raise ValueError("the script has more commands than the transcript has answers")
+        return self.lines[self.at - 1]
+
+    def take_place(self):
+        """The position of a place line."""
+        line = self.take()
+        found = re.match(rb"#(\d+) ", line)
+        if not found:
+            raise ValueError(f"no place: {line!r}")
+        return int(found[1])
+
+    def take_shown(self, pattern):
+        while self.has(pattern):
+            self.take()
+
+    def take_temporaries(self):
+        """Lines up to one that tells of the same temporary again, or of none."""
+        seen = set()
+        while self.has(rb"%\S+ (= \d+|unset)") and (name := self.lines[self.at].split()[0]) not in seen:
+            seen.add(name)
+            self.take()
+
+
+class Moves:
+    """The moves so far, and where the session stands."""
+
+    def __init__(self, bound):
+        self.bound = bound
+        self.position = self.oldest = 0
+        self.asked, self.told = [], []
+
+    def ask(self, line, refusal=b""):
+        self.asked.append(line)
+        self.told.append(b"#%d oldest %d%s" % (self.position, self.oldest, b": " + refusal if refusal else b""))
+
+    def go_to(self, position):
+        """One move after the other, forward or back."""
+        while self.position < position:
+            self.made(b"forward")
+        while self.position > position:
+            self.position -= 1
+            self.ask(b"back")
+
+    def made(self, line):
+        self.position += 1
+        self.oldest = max(self.oldest, self.position - self.bound)
+        self.ask(line)
+
+    def no_more_back(self):
+        self.ask(b"back", b"history ends" if self.position else b"at start")
+
+
+def poke_line(width, address, value):
+    name, _, offset = address.partition(b"+")
+    if not name.startswith(b"$"):
+        name, offset = b"$-", name
+    return b"poke %d %s %d %d" % (BYTES[width], name[1:], int(offset or b"0"), int(value) % 2**64)
+
+
+def value_line(words):
+    if words[0] == b"set":
+        return b"set %s %d" % (words[1][1:], int(words[2]) % 2**64)
+    return poke_line(*words[1:])
+
+
+def take_refusal(words, refusal, moves):
+    """A command that was refused: the move that it asks for, if it asks for one."""
+    verb = words[0]
+    if verb in (b"step", b"continue"):
+        moves.ask(b"forward", refusal)
+    elif verb in (b"back", b"reverse"):
+        moves.ask(b"back", refusal)
+    elif verb in (b"set", b"poke"):
+        moves.ask(value_line(words), refusal)
+
+
+def take_way(words, answers, moves):
+    """A command that goes on or back, by how far the transcript says that it went."""
+    verb, before = words[0], moves.position
+    reason = answers.take() if verb in (b"continue", b"reverse") else b""
+    moves.go_to(answers.take_place())
+    is_short = abs(moves.position - before) < int(words[1] if len(words) > 1 else b"1") and not reason
+    if reason == b"stop: end" or verb == b"step" and is_short:
+        moves.ask(b"forward", b"at end")
+    elif reason in (b"stop: start", b"stop: oldest") or verb == b"back" and is_short:
+        moves.no_more_back()
+
+
+def take_answer(words, answers, moves, stops):
+    """One command with its answer."""
+    verb = words[0]
+    if answers.has(rb"no: .*"):
+        refusal = answers.take()
+        if refusal not in NOT_ASKED:
+            take_refusal(words, refusal[len(b"no: "):], moves)
+    elif verb in (b"step", b"back", b"continue", b"reverse"):
+        take_way(words, answers, moves)
+    elif verb in (b"set", b"poke"):
+        moves.made(value_line(words))
+        if answers.take_place() != moves.position:
+            raise ValueError("a poke that is no move")
+    elif verb == b"temps" and not answers.has(rb"none"):
+        answers.take_temporaries()
+    elif verb == b"stops" and stops:
+        for _ in stops:
+            answers.take()
+    else:
+        number = answers.take().split()[1:2]
+        if verb in (b"break", b"watch"):
+            stops.add(number[0])
+        elif verb == b"delete":
+            stops.discard(number[0])
+        elif verb in SHOWN:
+            answers.take_shown(SHOWN[verb])
+
+
+def moves_of(script, transcript, bound):
+    """What the workbench is asked of a session, and what it must tell; under a bound, if there is one."""
+    answers, moves, stops = Answers(transcript.splitlines()[2:]), Moves(bound), set()
+    for line in script.split(b"\n"):
+        words = re.findall(rb"[^ \t\r]+", line)
+        if words == [b"quit"] and len(line) <= 256:
+            break
+        if words or len(line) > 256:
+            take_answer(words or [b""], answers, moves, stops)
+    if answers.at < len(answers.lines):
+        raise ValueError("the transcript has more answers than the script has commands")
+    lines = lambda items: b"".join(item + b"\n" for item in items)
+    return lines([b"%d" % bound] + moves.asked), lines(moves.told)
