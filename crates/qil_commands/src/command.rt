@@ -3,7 +3,6 @@
 ghost use Rattle.std.specs.Prelude.{◌≡◌};
 
 use qil_tree::Width;
-use std::fmt;
 use std::marker::Model;
 
 /// A name without its sigil: a part of the line.
@@ -137,17 +136,4 @@ pub enum Refused {
     BadWord,
     /// There are more words than the command takes.
     ExtraWord,
-}
-
-impl fmt::Display for Refused {
-    fn fmt<W: fmt::Write>(&self, f: &mut fmt::Formatter<W>) -> fmt::Result {
-        let text = match *self {
-            Refused::LineTooLong => "line too long",
-            Refused::UnknownCommand => "unknown command",
-            Refused::MissingWord => "missing word",
-            Refused::BadWord => "bad word",
-            Refused::ExtraWord => "extra word",
-        };
-        write!(f, "{text}")
-    }
 }

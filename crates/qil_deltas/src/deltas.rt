@@ -19,7 +19,8 @@ use std::alloc::Allocator;
 use std::marker::Model;
 
 /// A machine, and the delta of each of its moves, the latest last. The list grows by doubling, so that nearly no move takes
-/// memory for it.
+/// memory for it; each step and each poke may be out of memory there, a step also where the machine's own may. A move back
+/// never is.
 #[derive(Drop)]
 pub struct Deltas<'c, 'a, A: Allocator> {
     machine: Machine<'c, 'a, A>,

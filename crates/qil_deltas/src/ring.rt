@@ -9,6 +9,7 @@ ghost use Rattle.qil_meaning.specs.Timeline.{begun, position, at_end, forward, p
 ghost use Rattle.qil_state.specs.State.{state_of};
 ghost use Rattle.qil_machine.specs.Moves.{undone, Fits};
 ghost use Rattle.qil_machine.specs.Pokes.{poke_slot};
+ghost use Rattle.qil_machine.specs.Steps.{StepTakes};
 ghost use Rattle.qil_deltas.specs.Kept.{recent_timeline};
 ghost use Rattle.qil_pokes.specs.Pokes.{HasWidth, poke_of, poke_cost, Explains};
 ghost use Rattle.qil_deltas.specs.Weights.{total, TakesLatestOff};
@@ -21,8 +22,8 @@ use qil_pokes::Poke;
 use std::alloc::{AllocError, Allocator};
 use std::marker::Model;
 
-/// A machine, and the deltas of its newest moves, the latest last. Their block is taken when the history is made, so that a
-/// move takes memory for the machine alone.
+/// A machine, and the deltas of its newest moves, the latest last. Their block is taken when the history is made: a step may
+/// be out of memory where the machine's own may, a poke and a move back never.
 #[derive(Drop)]
 pub struct Ring<'c, 'a, A: Allocator> {
     machine: Machine<'c, 'a, A>,
@@ -100,7 +101,7 @@ impl<'c, 'a, A: Allocator + Copy> Ring<'c, 'a, A> {
         }
     }
 
-    /// Pokes, and keeps that as a move.
+    /// Pokes, and keeps that as a move. It takes no memory.
     fn poke(&mut self, poke: Poke<'_>) -> Result<(), PokeError>
         requires before { position (recent_timeline self.old) < 2 ^ 62 }
         requires width { HasWidth poke }
@@ -108,6 +109,7 @@ impl<'c, 'a, A: Allocator + Copy> Ring<'c, 'a, A> {
         ensures ok { OnOk result (poked (recent_timeline self.old) (poke_of self.old.machine.program (state_of self.old.machine) poke.entry) ≡ Ok (recent_timeline self.new)) }
         ensures why { IfErr result (Explains (poke_of self.old.machine.program (state_of self.old.machine) poke.entry)) }
         ensures err { OnErr result (recent_timeline self.new ≡ recent_timeline self.old) }
+        ensures memory { result ≢ Err PokeError.OutOfMemory }
         ensures cost { OnOk result (total self.new.deltas ≤ total self.old.deltas + poke_cost poke.entry) }
         ensures kept { OnErr result (self.new.deltas ≡ self.old.deltas) }
     {
@@ -130,6 +132,7 @@ impl<'c, 'a, A: Allocator + Copy> History<A, Machine<'c, 'a, A>> for Ring<'c, 'a
         ensures ok { OnOk result (recent_timeline self.new ≡ forward self.old.machine.program (recent_timeline self.old)) }
         ensures end { (result ≡ Err MoveError.AtEnd) ↔ (at_end (recent_timeline self.old) ≡ true) }
         ensures err { OnErr result (recent_timeline self.new ≡ recent_timeline self.old) }
+        ensures memory { (result ≡ Err MoveError.OutOfMemory) → StepTakes self.old.machine.program self.old.machine.frames }
         ensures cost { OnOk result (total self.new.deltas ≤ total self.old.deltas + cost_of self.old.machine.program (state_of self.old.machine)) }
         ensures kept { OnErr result (self.new.deltas ≡ self.old.deltas) }
     {
@@ -170,6 +173,7 @@ impl<'c, 'a, A: Allocator + Copy> History<A, Machine<'c, 'a, A>> for Ring<'c, 'a
         ensures unknown { (result ≡ Err PokeError.UnknownTemporary) ↔ (poke_slot self.old.machine.program (state_of self.old.machine) slot value ≡ Err unknown_temporary) }
         ensures live { result ≢ Err PokeError.DeadAddress }
         ensures err { OnErr result (recent_timeline self.new ≡ recent_timeline self.old) }
+        ensures memory { result ≢ Err PokeError.OutOfMemory }
         ensures cost { OnOk result (total self.new.deltas ≤ total self.old.deltas + temp_poke_cost) }
         ensures kept { OnErr result (self.new.deltas ≡ self.old.deltas) }
     {
@@ -185,6 +189,7 @@ impl<'c, 'a, A: Allocator + Copy> History<A, Machine<'c, 'a, A>> for Ring<'c, 'a
         ensures unknown { (result ≡ Err PokeError.UnknownTemporary) ↔ (poke_temp self.old.machine.program (state_of self.old.machine) name.now value ≡ Err unknown_temporary) }
         ensures live { result ≢ Err PokeError.DeadAddress }
         ensures err { OnErr result (recent_timeline self.new ≡ recent_timeline self.old) }
+        ensures memory { result ≢ Err PokeError.OutOfMemory }
         ensures cost { OnOk result (total self.new.deltas ≤ total self.old.deltas + temp_poke_cost) }
         ensures kept { OnErr result (self.new.deltas ≡ self.old.deltas) }
     {
@@ -201,6 +206,7 @@ impl<'c, 'a, A: Allocator + Copy> History<A, Machine<'c, 'a, A>> for Ring<'c, 'a
         ensures frame { result ≢ Err PokeError.NoFrame }
         ensures known { result ≢ Err PokeError.UnknownTemporary }
         ensures err { OnErr result (recent_timeline self.new ≡ recent_timeline self.old) }
+        ensures memory { result ≢ Err PokeError.OutOfMemory }
         ensures cost { OnOk result (total self.new.deltas ≤ total self.old.deltas + bytes_poke_cost width) }
         ensures kept { OnErr result (self.new.deltas ≡ self.old.deltas) }
     {

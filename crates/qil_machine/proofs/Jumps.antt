@@ -1,8 +1,9 @@
 -- Jumps, from the parts of a machine to the step by names.
-use Rattle.std.proofs.Common.{◌≡◌, refl, sym, ap, ◌∙◌, subst, ℕ, zero, suc, ◌<◌, ◌≤◌, List, [], ◌∷◌, length, Option, Some, None, Result, Ok, Err, IsOk, arith, ◌==◌, if◌then◌else◌, false}
+use Rattle.std.proofs.Common.{◌≡◌, refl, sym, ap, ◌∙◌, subst, ℕ, zero, suc, ◌<◌, ◌≤◌, List, [], ◌∷◌, length, Option, Some, None, Result, Ok, Err, IsOk, arith, ⊎_elim, ◌==◌, if◌then◌else◌, false}
 use Rattle.std.specs.Prelude.{slice_get, option_map, unwrap_or}
 use Rattle.std.specs.List.{All}
 use Rattle.std.proofs.lemmas.List.{length-map}
+use Rattle.std.proofs.lemmas.Bool.{cases_lt}
 use Rattle.std.proofs.lemmas.Bool.Decides.{nat_tests}
 use Rattle.qil_tree.specs.declared.ops.Class.{Class}
 use Rattle.qil_tree.specs.declared.ops.Class.TheVariants as classes
@@ -38,7 +39,7 @@ use Rattle.qil_state.specs.declared.status.Status.TheVariants.{Running}
 use Rattle.qil_state.specs.Faults.{fault_of, status_of}
 use Rattle.qil_state.specs.State.{Whole, whole, state_of, frame_state, frames_state, head_names, result_of, FrameFits, FramesFit, ReceiverFits, PlaceFits, FramesFor, IsMachine}
 use Rattle.qil_state.specs.Stepping.{left_whole, went_whole, returned_whole}
-use Rattle.qil_state.proofs.Place.{BlockHere, block_here, block_at_here}
+use Rattle.qil_state.proofs.Place.{none_some, some_same, BlockHere, block_here, block_at_here}
 use Rattle.qil_state.proofs.Reading.{are_slots, slot_written}
 use Rattle.qil_state.proofs.EdgeHere.{entered_fits}
 use Rattle.qil_state.proofs.Leaving.{Went, went_along, edge_in_range, hlt_left, bare_ret_left, ret_left, jmp_left, jnz_left, IsRead}
@@ -47,7 +48,7 @@ use Rattle.qil_machine.specs.declared.error.StepError.TheVariants as errors
 use Rattle.qil_machine.specs.Moves.{inst_count}
 use Rattle.qil_machine.specs.Places.{IsRunning, IsLeaving}
 use Rattle.qil_machine.specs.Results.{gives, status_after, without_innermost, Explains, PhisExplain}
-use Rattle.qil_machine.specs.Steps.{StandsIn, IsHere, HasReturned}
+use Rattle.qil_machine.specs.Steps.{StandsIn, IsHere, HasReturned, EdgeTakes, ReadTakes, BranchTakes}
 use Rattle.qil_machine.proofs.Steps.{ReadIn}
 
 -- ---- before a jump along an edge
@@ -226,6 +227,29 @@ branched_zero {A} m now fr vs a e g v same ok at of read is = branched m now fr 
 pub branched_set : {A : Type 0} (m now : Whole A) (fr : SlotFrame) (vs : List (Option ℕ)) (a : Source) (e g : Edge A) (v : ℕ) → m ≡ now → IsMachine m → slice_get m.frames 0 ≡ Some fr → vs ≡ fr.slots → ReadIn A vs classes.W a (Ok v) → 0 < v
     → left_whole now (jumps.Jnz a e g) ≡ went_whole now e
 branched_set {A} m now fr vs a e g v same ok at of read is = branched m now fr vs a e g v same ok at of read ∙ rw (positive_test v is) refl
+
+-- an edge that may take memory has several moves
+several : (n : ℕ) (P : Type 0) → (n ≤ 1 → P → ⊥) → P → 1 < n
+several n P few p = ⊎_elim (λ lt. lt) (λ ge. absurd (few ge p)) (cases_lt 1 n)
+
+takes_at : {A : Type 0} (p : Program A) (fs : List SlotFrame) (fr : SlotFrame) (a : Source) (e g : Edge A) (v : ℕ) → FramesFit p fs → slice_get fs 0 ≡ Some fr → IsRead p fr classes.W a (Ok v) → EdgeTakes (if v == 0 then g else e) → BranchTakes p fs a e g
+takes_at p [] fr a e g v fits at read takes = none_some at
+takes_at {A} p (f ∷ fs) fr a e g v fits at read takes =
+    let of_f : IsRead p f classes.W a (Ok v) = subst (λ (h : SlotFrame). IsRead p h classes.W a (Ok v)) (sym (some_same f fr at)) read in
+    subst (λ o. ReadTakes o e g) (of_f (names_of p f.func) (are_slots p f fits.0)) takes
+
+takes : {A : Type 0} (m now : Whole A) (fr : SlotFrame) (vs : List (Option ℕ)) (a : Source) (e g : Edge A) (v : ℕ) → m ≡ now → IsMachine m → slice_get m.frames 0 ≡ Some fr → vs ≡ fr.slots → ReadIn A vs classes.W a (Ok v)
+    → EdgeTakes (if v == 0 then g else e) → BranchTakes now.program now.frames a e g
+takes {A} m now fr vs a e g v same ok at of read much =
+    subst (λ (x : Whole A). BranchTakes x.program x.frames a e g) same (takes_at m.program m.frames fr a e g v ok.frames at (reads_by m.program fr vs classes.W a (Ok v) of read) much)
+
+pub takes_zero : {A : Type 0} (m now : Whole A) (fr : SlotFrame) (vs : List (Option ℕ)) (a : Source) (e g : Edge A) (v : ℕ) (P : Type 0) → m ≡ now → IsMachine m → slice_get m.frames 0 ≡ Some fr → vs ≡ fr.slots → ReadIn A vs classes.W a (Ok v) → v ≡ 0
+    → (length g.moves ≤ 1 → P → ⊥) → P → BranchTakes now.program now.frames a e g
+takes_zero m now fr vs a e g v P same ok at of read is few p = takes m now fr vs a e g v same ok at of read (rw is (several (length g.moves) P few p))
+
+pub takes_set : {A : Type 0} (m now : Whole A) (fr : SlotFrame) (vs : List (Option ℕ)) (a : Source) (e g : Edge A) (v : ℕ) (P : Type 0) → m ≡ now → IsMachine m → slice_get m.frames 0 ≡ Some fr → vs ≡ fr.slots → ReadIn A vs classes.W a (Ok v) → 0 < v
+    → (length e.moves ≤ 1 → P → ⊥) → P → BranchTakes now.program now.frames a e g
+takes_set m now fr vs a e g v P same ok at of read is few p = takes m now fr vs a e g v same ok at of read (rw (positive_test v is) (several (length e.moves) P few p))
 
 pub jmp_is : {A : Type 0} (m now : Whole A) (fr : SlotFrame) (e : Edge A) → m ≡ now → IsMachine m → slice_get m.frames 0 ≡ Some fr → left_whole now (jumps.Jmp e) ≡ went_whole now e
 jmp_is {A} m now fr e same ok at = subst (λ (x : Whole A). left_whole x (jumps.Jmp e) ≡ went_whole x e) same (jmp_left m m.program m.frames m.memory m.output m.status fr e refl ok.frames at)

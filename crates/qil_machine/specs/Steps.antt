@@ -1,13 +1,18 @@
 -- What a step finds at the place of the innermost frame.
-use Rattle.std.specs.Prelude.{◌≡◌, ◌⊎◌, ◌<◌, ℕ, List, [], ◌∷◌, length, Option, Some, None, slice_get}
+use Rattle.std.specs.Prelude.{◌≡◌, ◌<◌, ◌==◌, if◌then◌else◌, ℕ, List, [], ◌∷◌, length, Option, Some, None, Ok, Err, slice_get}
+use Rattle.qil_tree.specs.declared.ops.Class.TheVariants as classes
 use Rattle.qil_tree.specs.declared.tree.Program.{Program}
+use Rattle.qil_meaning.specs.Values.{Outcome, val}
+use Rattle.qil_meaning.specs.Slots.{temps_of}
 use Rattle.qil_numbering.specs.declared.numbered.NumberedInst.{NumberedInst}
 use Rattle.qil_numbering.specs.declared.numbered.NumberedInst.TheVariants as insts
 use Rattle.qil_numbering.specs.declared.numbered.NumberedJump.{NumberedJump}
 use Rattle.qil_numbering.specs.declared.numbered.NumberedJump.TheVariants as jumps
 use Rattle.qil_numbering.specs.declared.numbered.NumberedBlock.{NumberedBlock}
+use Rattle.qil_numbering.specs.declared.numbered.Edge.{Edge}
 use Rattle.qil_numbering.specs.declared.numbered.Source.{Source}
 use Rattle.qil_numbering.specs.Ranges.{InRange, InstInRange, BlockInRange}
+use Rattle.qil_numbering.specs.Named.{named_source}
 use Rattle.qil_numbering.specs.Numbered.{names_of}
 use Rattle.qil_numbering.specs.Reading.{block_code_at, labels_at}
 use Rattle.qil_numbering.specs.Facts.{Finds, KnowsLabels}
@@ -46,22 +51,39 @@ InstTakes (insts.Assign c s e) = ⊥
 InstTakes (insts.Store width a b) = ⊥
 InstTakes inst = Unit {0}
 
--- a jump to a block with several phis
-abbrev pub JumpTakes : {A : Type 0} → NumberedJump A → Type 0
-JumpTakes (jumps.Jmp e) = 1 < length e.moves
-JumpTakes (jumps.Jnz a e f) = (1 < length e.moves) ⊎ (1 < length f.moves)
-JumpTakes (jumps.Ret a) = ⊥
-JumpTakes jumps.Hlt = ⊥
+-- an edge to a block with several phis
+abbrev pub EdgeTakes : {A : Type 0} → Edge A → Type 0
+EdgeTakes e = 1 < length e.moves
 
-abbrev pub TakesAt : {A : Type 0} → NumberedBlock A → Option (NumberedInst A) → Type 0
-TakesAt block (Some inst) = InstTakes inst
-TakesAt block None = JumpTakes block.jump
+-- by what is read, the edge that is taken: the first unless the low 32 bits are zero
+abbrev pub ReadTakes : {A : Type 0} → Outcome ℕ → Edge A → Edge A → Type 0
+ReadTakes (Ok v) e g = EdgeTakes (if v == 0 then g else e)
+ReadTakes (Err fault) e g = ⊥
 
-abbrev pub TakesIn : {A : Type 0} → Option (NumberedBlock A) → ℕ → Type 0
-TakesIn None k = ⊥
-TakesIn (Some block) k = TakesAt block (slice_get block.insts k)
+-- what an operand of class `w` is in a frame
+abbrev pub word_in : {A : Type 0} → Program A → SlotFrame → Source → Outcome ℕ
+word_in p f a = val p (temps_of (names_of p f.func) f.slots) classes.W (named_source (names_of p f.func) a)
 
--- the next step is a call, an allocation, a copy of bytes, or a jump to a block with several phis
+abbrev pub BranchTakes : {A : Type 0} → Program A → List SlotFrame → Source → Edge A → Edge A → Type 0
+BranchTakes p [] a e g = ⊥
+BranchTakes p (f ∷ fs) a e g = ReadTakes (word_in p f a) e g
+
+-- a jump that goes along such an edge
+abbrev pub JumpTakes : {A : Type 0} → Program A → List SlotFrame → NumberedJump A → Type 0
+JumpTakes p fs (jumps.Jmp e) = EdgeTakes e
+JumpTakes p fs (jumps.Jnz a e g) = BranchTakes p fs a e g
+JumpTakes p fs (jumps.Ret a) = ⊥
+JumpTakes p fs jumps.Hlt = ⊥
+
+abbrev pub TakesAt : {A : Type 0} → Program A → List SlotFrame → NumberedBlock A → Option (NumberedInst A) → Type 0
+TakesAt p fs block (Some inst) = InstTakes inst
+TakesAt p fs block None = JumpTakes p fs block.jump
+
+abbrev pub TakesIn : {A : Type 0} → Program A → List SlotFrame → Option (NumberedBlock A) → ℕ → Type 0
+TakesIn p fs None k = ⊥
+TakesIn p fs (Some block) k = TakesAt p fs block (slice_get block.insts k)
+
+-- the next step is a call, an allocation, a copy of bytes, or a jump that goes to a block with several phis
 abbrev pub StepTakes : {A : Type 0} → Program A → List SlotFrame → Type 0
 StepTakes p [] = ⊥
-StepTakes p (f ∷ fs) = TakesIn (block_code_at p f.func f.block) f.index
+StepTakes p (f ∷ fs) = TakesIn p (f ∷ fs) (block_code_at p f.func f.block) f.index

@@ -10,7 +10,7 @@ ghost use Rattle.qil_machine.specs.Moves.{weight};
 ghost use Rattle.qil_machine.specs.Costs.{entered_weight, returned_weight, jump_weight};
 ghost use Rattle.qil_machine.specs.Places.{IsRunning, Made};
 ghost use Rattle.qil_machine.specs.Results.{Explains};
-ghost use Rattle.qil_machine.specs.Steps.{IsHere, HasSource, HasReturned, JumpTakes};
+ghost use Rattle.qil_machine.specs.Steps.{IsHere, HasSource, HasReturned, BranchTakes, JumpTakes};
 
 use crate::delta::Delta;
 use crate::error::StepError;
@@ -68,7 +68,7 @@ impl<'c, 'a, A: Allocator + Copy> Machine<'c, 'a, A> {
         ensures made { IfOk result (λ d. Made d self.old self.new) }
         ensures weighs { IfOk result (λ d. weight d ≡ entered_weight self.old self.new) }
         ensures fault { IfErr result (Explains (head_names self.old.program self.old.frames) (left_whole self.old block.now.jump)) }
-        ensures few { length if_set.now.moves ≤ 1 → length if_zero.now.moves ≤ 1 → result ≢ Err StepError.OutOfMemory }
+        ensures memory { (result ≡ Err StepError.OutOfMemory) → BranchTakes self.old.program self.old.frames source if_set.now if_zero.now }
         ensures err { OnErr result (self.new ≡ self.old) }
     {
         let value = match value::<A>(self.frames.innermost().slots(), Class::W, source) {
@@ -136,7 +136,7 @@ impl<'c, 'a, A: Allocator + Copy> Machine<'c, 'a, A> {
         ensures made { IfOk result (λ d. Made d self.old self.new) }
         ensures weighs { IfOk result (λ d. weight d ≡ jump_weight self.old self.new block.now.jump) }
         ensures fault { IfErr result (Explains (head_names self.old.program self.old.frames) (left_whole self.old block.now.jump)) }
-        ensures memory { (result ≡ Err StepError.OutOfMemory) → JumpTakes block.now.jump }
+        ensures memory { (result ≡ Err StepError.OutOfMemory) → JumpTakes self.old.program self.old.frames block.now.jump }
         ensures err { OnErr result (self.new ≡ self.old) }
     {
         let _ = self.frames.innermost();

@@ -9,12 +9,14 @@ use Rattle.qil_tree.specs.declared.ops.AllocOp.TheVariants as allocs
 use Rattle.qil_tree.specs.declared.tree.Expr.TheVariants as exprs
 use Rattle.qil_tree.specs.declared.tree.InstKind.TheVariants as insts
 use Rattle.qil_tree.specs.declared.tree.JumpKind.TheVariants as jumps
+use Rattle.qil_tree.specs.declared.tree.Item.TheVariants as items
+use Rattle.qil_tree.specs.declared.tree.Field.TheVariants as fields
 use Rattle.qil_tree.specs.declared.tree.Program.{Program}
 use Rattle.qil_ops.specs.declared.division.DivFault.TheVariants.{Zero, Overflow}
 use Rattle.qil_meaning.specs.declared.start.StartFault.TheVariants.{NoEntry, ArgumentCount}
 use Rattle.qil_meaning.specs.State.{running, done, exited, faulted, division, dead_address, unset_temporary, overlapping_blit, stack_full, no_function, call_shape}
 use Rattle.qil_meaning.specs.Start.{start_of}
-use Rattle.qil_meaning.proofs.Programs.{A0, n, %, $, w, l, inst, arg, call, result, block, param, func, prog, of_start, values_in, temps_after, status_after, straight, runs}
+use Rattle.qil_meaning.proofs.Programs.{A0, n, %, $, w, l, inst, arg, call, result, block, param, func, prog, of_start, values_in, temps_after, status_after, straight, data_, runs}
 
 -- ---- types narrower than a word: each as parameter, argument, return type and type at the call
 
@@ -24,6 +26,22 @@ narrow = prog [] ((func None (codes "main") [] ((block (codes "start") [] ((call
 narrow-values : temps_after narrow 32 (codes "t0" ∷ codes "t1" ∷ codes "t2" ∷ codes "t3" ∷ codes "t4" ∷ codes "t5" ∷ codes "t6" ∷ codes "t7" ∷ codes "t8" ∷ codes "t9" ∷ codes "t10" ∷ codes "t11" ∷ codes "t12" ∷ codes "t13" ∷ codes "t14" ∷ codes "t15" ∷ []) ≡ Some (Some 132 ∷ Some 4294967295 ∷ Some 200 ∷ Some 128 ∷ Some 4294967172 ∷ Some 255 ∷ Some 200 ∷ Some 128 ∷ Some 132 ∷ Some 511 ∷ Some 4294967240 ∷ Some 32896 ∷ Some 4294967172 ∷ Some 65535 ∷ Some 200 ∷ Some 4294967168 ∷ [])
 unfolding runs
 narrow-values = refl
+
+-- of two parameters of one name the later counts
+abbrev parameters : Program A0
+parameters = prog [] ((func None (codes "main") [] ((block (codes "start") [] ((call (result (codes "r") types.W) ($ (codes "f")) (arg types.W (n 1) ∷ arg types.W (n 2) ∷ [])) ∷ []) (jumps.Ret None)) ∷ [])) ∷ (func (Some types.W) (codes "f") (param types.W (codes "a") ∷ param types.W (codes "a") ∷ []) ((block (codes "s") [] [] (jumps.Ret (Some (% (codes "a"))))) ∷ [])) ∷ [])
+
+parameters-later : temps_after parameters 2 (codes "r" ∷ []) ≡ Some (Some 2 ∷ [])
+unfolding runs
+parameters-later = refl
+
+-- data that takes a built-in's name is meant where that name stands
+abbrev taken_name : Program A0
+taken_name = prog ((data_ (codes "putchar") None ((fields.Values widths.B ((items.Number 7) ∷ [])) ∷ [])) ∷ []) ((func None (codes "main") [] ((block (codes "start") [] ((call None ($ (codes "putchar")) (arg types.W (n 65) ∷ [])) ∷ []) (jumps.Ret None)) ∷ [])) ∷ [])
+
+taken_name-no_function : status_after taken_name 1 ≡ Some (faulted (no_function 65536))
+unfolding runs
+taken_name-no_function = refl
 
 abbrev entry : Program A0
 entry = prog [] ((func None (codes "main") (param types.Sb (codes "p0") ∷ param types.Ub (codes "p1") ∷ param types.Sh (codes "p2") ∷ param types.Uh (codes "p3") ∷ param types.W (codes "p4") ∷ param types.L (codes "p5") ∷ []) ((block (codes "s") [] [] (jumps.Ret None)) ∷ [])) ∷ [])
@@ -108,6 +126,33 @@ overlap = refl
 beside : status_after (straight ((inst (insts.Alloc (l (codes "p")) allocs.Four (n 8))) ∷ (inst (insts.Blit (n 16777216) (n 16777220) 4)) ∷ [])) 2 ≡ Some (running)
 unfolding runs
 beside = refl
+
+-- the same with the target below the source: one byte shared, none, and a byte between
+overlap_below : status_after (straight ((inst (insts.Alloc (l (codes "p")) allocs.Four (n 12))) ∷ (inst (insts.Blit (n 16777219) (n 16777216) 4)) ∷ [])) 2 ≡ Some (faulted overlapping_blit)
+unfolding runs
+overlap_below = refl
+
+beside_below : status_after (straight ((inst (insts.Alloc (l (codes "p")) allocs.Four (n 12))) ∷ (inst (insts.Blit (n 16777220) (n 16777216) 4)) ∷ [])) 2 ≡ Some (running)
+unfolding runs
+beside_below = refl
+
+apart_below : status_after (straight ((inst (insts.Alloc (l (codes "p")) allocs.Four (n 12))) ∷ (inst (insts.Blit (n 16777221) (n 16777216) 4)) ∷ [])) 2 ≡ Some (running)
+unfolding runs
+apart_below = refl
+
+-- and a byte between, with the target above
+apart_above : status_after (straight ((inst (insts.Alloc (l (codes "p")) allocs.Four (n 12))) ∷ (inst (insts.Blit (n 16777216) (n 16777221) 4)) ∷ [])) 2 ≡ Some (running)
+unfolding runs
+apart_above = refl
+
+-- all bytes shared but one, on both sides
+nearly_the_same_below : status_after (straight ((inst (insts.Alloc (l (codes "p")) allocs.Four (n 12))) ∷ (inst (insts.Blit (n 16777217) (n 16777216) 4)) ∷ [])) 2 ≡ Some (faulted overlapping_blit)
+unfolding runs
+nearly_the_same_below = refl
+
+nearly_the_same_above : status_after (straight ((inst (insts.Alloc (l (codes "p")) allocs.Four (n 12))) ∷ (inst (insts.Blit (n 16777216) (n 16777217) 4)) ∷ [])) 2 ≡ Some (faulted overlapping_blit)
+unfolding runs
+nearly_the_same_above = refl
 
 -- of two operands that are unset the left one is told, also where the right one would be a dead address
 unset_left : status_after (straight ((inst (insts.Store widths.W (% (codes "u")) (% (codes "v")))) ∷ [])) 1 ≡ Some (faulted (unset_temporary (codes "u")))

@@ -11,7 +11,7 @@ ghost use Rattle.qil_layout.specs.Callee.{callee_at};
 ghost use Rattle.qil_memory.specs.Buffers.{stack_end};
 ghost use Rattle.qil_memory.specs.Live.{Live};
 ghost use Rattle.qil_meaning.specs.State.{Name, Frame, State, running, dead_address, no_function, call_shape, calls_too_deep, output_full};
-ghost use Rattle.qil_meaning.specs.Calls.{shape_of, is_in_shape, call, call_defined, next, takes, depth_limit, output_limit, writes, text_at};
+ghost use Rattle.qil_meaning.specs.Calls.{shape_of, is_in_shape, call, call_defined, next, takes, depth_limit, output_limit, writes, text_at, puts};
 ghost use Rattle.qil_meaning.specs.Step.{step_of};
 ghost use Rattle.qil_meaning.specs.Timeline.{Timeline, at_end};
 ghost use Rattle.qil_meaning.specs.Moves.{forward_by};
@@ -51,4 +51,9 @@ pub fn phis_swap<A>()
 pub fn text_is_up_to_zero()
     ensures text { (m : Live) (a : ℕ) (bytes : List ℕ) → length bytes ≤ stack_end → IsText m a bytes → text_at m a ≡ Ok bytes }
     ensures dead { (m : Live) (a : ℕ) (k : ℕ) → k ≤ stack_end → IsCutAfter m a k → text_at m a ≡ Err (dead_address (a + k)) }
+{}
+
+/// Of the faults of `$puts` the dead byte comes before the full output, however much was written.
+pub fn dead_byte_comes_before_full_output()
+    ensures { (s : State) (f : Frame) (fs : List Frame) (to : Option CallResult) (a : ℕ) (k : ℕ) → k ≤ stack_end → IsCutAfter s.memory a k → puts s f fs to a ≡ Err (dead_address (a + k)) }
 {}

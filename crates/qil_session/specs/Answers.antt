@@ -200,9 +200,21 @@ AreLawful s (line ∷ lines) (want ∷ wants) =
     let one = answer s (command_of line) want in
     IsLawful s (command_of line) want × MatchBool one.goes (AreLawful one.left lines wants) (wants ≡ [])
 
+-- the session that these answers leave
+abbrev pub left_by : {A : Type 0} → Situation A → List (List ℕ) → List (Option ℕ) → Situation A
+left_by s [] wants = s
+left_by s (line ∷ lines) [] = s
+left_by s (line ∷ lines) (want ∷ wants) =
+    let one = answer s (command_of line) want in
+    cond one.goes (left_by one.left lines wants) one.left
+
 -- the lines may be answered by this text
 abbrev pub IsAnswered : {A : Type 0} → Situation A → List (List ℕ) → List ℕ → Type 0
 IsAnswered s lines text = (wants : List (Option ℕ)) × AreLawful s lines wants × (text ≡ answers s lines wants)
+
+-- the lines may be answered by this text, and the session be left so
+abbrev pub IsAnsweredTo : {A : Type 0} → Situation A → List (List ℕ) → List ℕ → Situation A → Type 0
+IsAnsweredTo s lines text left = (wants : List (Option ℕ)) × AreLawful s lines wants × (text ≡ answers s lines wants) × (left ≡ left_by s lines wants)
 
 -- whether what a line says ends the session
 abbrev pub is_quit : Result (Option Command) Refused → Bool
@@ -222,8 +234,8 @@ made_text p (Err stop_errors.UnknownPlace) kind = line (codes "no: unknown place
 made_text p (Err stop_errors.TooMany) kind = line (codes "no: too many stops")
 made_text p (Err stop_errors.NoSuchStop) kind = line (codes "no: no such stop")
 
--- what `answer_line` did: one line was answered, or it was a `quit`
+-- what `answer_line` did: one line was answered, or it was a `quit`, at which the session stays
 abbrev pub AnswersLine : {A E : Type 0} → Result Next E → Situation A → Situation A → Result (Option Command) Refused → Option (List ℕ) → Option (List ℕ) → Type 0
-AnswersLine {A} {E} (Ok Quit) old new said before after = (is_quit said ≡ true) × (after ≡ before)
+AnswersLine {A} {E} (Ok Quit) old new said before after = (is_quit said ≡ true) × (after ≡ before) × (new ≡ old)
 AnswersLine {A} {E} (Ok Go) old new said before after = (is_quit said ≡ false) × Answers {T = Next} {E = E} old new said (Ok Go) before after
 AnswersLine {A} {E} (Err e) old new said before after = (is_quit said ≡ false) × Answers {T = Next} {E = E} old new said (Err e) before after

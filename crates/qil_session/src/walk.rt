@@ -9,6 +9,7 @@ use qil_machine::MoveError;
 use std::alloc::Allocator;
 
 /// Moves forward up to so many times, and not past the end. Where memory is wanting, answers how many moves were made.
+#[inline(never)]
 pub fn step_by<A: Allocator, M: Stands<A>, H: History<A, M>>(
     history: &mut H,
     count: u32,
@@ -31,6 +32,7 @@ pub fn step_by<A: Allocator, M: Stands<A>, H: History<A, M>>(
 }
 
 /// Moves back up to so many times, and not past the oldest state that is kept.
+#[inline(never)]
 pub fn back_by<A: Allocator, M: Stands<A>, H: History<A, M>>(history: &mut H, count: u32)
     ensures program { H.program history.new ≡ H.program history.old }
     ensures near { position (H.timeline history.new) ≤ position (H.timeline history.old) }

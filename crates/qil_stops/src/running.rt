@@ -41,6 +41,7 @@ pub fn run<'c, A: Allocator + Copy + 'c, H: History<A, Machine<'c, 'c, A>>>(
 }
 
 /// Moves forward where there are no stops.
+#[inline(never)]
 fn run_freely<'c, A: Allocator + Copy + 'c, H: History<A, Machine<'c, 'c, A>>>(
     history: &mut H,
     limit: u64,
@@ -60,6 +61,7 @@ fn run_freely<'c, A: Allocator + Copy + 'c, H: History<A, Machine<'c, 'c, A>>>(
 }
 
 /// Moves forward, and looks for a stop after each move.
+#[inline(never)]
 fn run_watching<'c, A: Allocator + Copy + 'c, H: History<A, Machine<'c, 'c, A>>>(
     history: &mut H,
     list: &[Stop],
@@ -137,6 +139,7 @@ pub fn run_back<'c, A: Allocator + Copy + 'c, H: History<A, Machine<'c, 'c, A>>>
 }
 
 /// Moves back where there are no stops.
+#[inline(never)]
 fn back_freely<'c, A: Allocator + Copy + 'c, H: History<A, Machine<'c, 'c, A>>>(
     history: &mut H,
     limit: u64,
@@ -155,6 +158,7 @@ fn back_freely<'c, A: Allocator + Copy + 'c, H: History<A, Machine<'c, 'c, A>>>(
 }
 
 /// Moves back, and looks for a stop after each move.
+#[inline(never)]
 fn back_watching<'c, A: Allocator + Copy + 'c, H: History<A, Machine<'c, 'c, A>>>(
     history: &mut H,
     list: &[Stop],

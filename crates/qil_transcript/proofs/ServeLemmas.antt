@@ -18,7 +18,7 @@ use Rattle.qil_meaning.specs.Timeline.{position, at_end}
 use Rattle.qil_stops.specs.Listed.{is_listed}
 use Rattle.qil_stops.specs.declared.stop.StopKind.{StopKind}
 use Rattle.qil_session.specs.Situation.{Situation, has_kind, is_full}
-use Rattle.qil_session.specs.Answers.{Answer, AnswersLine, answer, answers, AreLawful, IsLawful, IsAnswered, is_quit, quits, if_back, poke_answer, poke_at, stop_answer}
+use Rattle.qil_session.specs.Answers.{Answer, AnswersLine, answer, answers, left_by, AreLawful, IsLawful, IsAnswered, IsAnsweredTo, is_quit, quits, if_back, poke_answer, poke_at, stop_answer}
 use Rattle.std.specs.Prelude.{IfSome}
 use Rattle.std.specs.Io.KnownBytes.{Consumes, Appends, IsAtEnd, prepend_known}
 use Rattle.qil_transcript.specs.declared.serving.IoFault.{IoFault}
@@ -29,7 +29,7 @@ use Rattle.qil_streams.specs.Device.{IsFrontOf}
 use Rattle.std.proofs.Common.{subst}
 use Rattle.std.proofs.Math.Seq.{take-append_seam, take-append-add}
 use Rattle.qil_session.specs.declared.session.Next.{Next}
-use Rattle.qil_transcript.specs.Serve.{IsServed, IsTooLong}
+use Rattle.qil_transcript.specs.Serve.{IsServed, IsCutShort, IsTooLong}
 use Rattle.qil_streams.proofs.ScriptLemmas.{Cut, Cut-nil, Cut-line, Cut-whole_part, Cut-end, Cut-last}
 use Rattle.qil_transcript.proofs.KeptLemmas.{command_of-kept}
 
@@ -38,9 +38,10 @@ pub record Told {A : Type 0} (first : Situation A) (before : List (List ℕ)) (w
   pub goes : quits before ≡ false
   pub lawful : (rest : List (List ℕ)) (more : List (Option ℕ)) → AreLawful now rest more → AreLawful first (before ++ rest) (wants ++ more)
   pub text : (rest : List (List ℕ)) (more : List (Option ℕ)) → answers first (before ++ rest) (wants ++ more) ≡ told ++ answers now rest more
+  pub left : (rest : List (List ℕ)) (more : List (Option ℕ)) → left_by first (before ++ rest) (wants ++ more) ≡ left_by now rest more
 
 pub Told-nil : {A : Type 0} (first : Situation A) → Told first [] [] [] first
-Told-nil first = record { goes = refl; lawful = λ rest more h. h; text = λ rest more. refl }
+Told-nil first = record { goes = refl; lawful = λ rest more h. h; text = λ rest more. refl; left = λ rest more. refl }
 
 cond_goes : {A : Type 0} (b : Bool) (x y : Answer A) → x.goes ≡ true → y.goes ≡ true → (cond b x y).goes ≡ true
 cond_goes true x y p q = p
@@ -100,6 +101,7 @@ Told-line first before wants told now line want text next r no_quit lawful is_te
       goes = list_any-append _ before (line ∷ []) ∙ rw (r.goes, no_quit) refl;
       lawful = λ rest more h. simp append_assoc (r.lawful (line ∷ rest) (want ∷ more) (lawful, rw goes (rw (← is_next) h)));
       text = λ rest more. simp append_assoc (r.text (line ∷ rest) (want ∷ more) ∙ rw (goes, is_text, is_next) refl);
+      left = λ rest more. simp append_assoc (r.left (line ∷ rest) (want ∷ more) ∙ rw (goes, is_next) refl);
     }
 
 -- no want is lawful
@@ -120,9 +122,13 @@ ample s (line ∷ lines) =
     (None ∷ rest.0, (none_lawful s (command_of line), rest.1))
 
 -- what was told answers the lines so far
-pub Told-answered : {A : Type 0} (first : Situation A) (before : List (List ℕ)) (wants : List (Option ℕ)) (told : List ℕ) (now : Situation A) → Told first before wants told now → IsAnswered first before told
-Told-answered first before wants told now r =
-    (wants ++ [], rw (append-nil before) at (r.lawful [] [] refl), sym (rw (append-nil before, append-nil told) at (r.text [] [])))
+pub Told-answered : {A : Type 0} (first : Situation A) (before : List (List ℕ)) (wants : List (Option ℕ)) (told : List ℕ) (now : Situation A) → Told first before wants told now → IsAnsweredTo first before told now
+Told-answered first before wants told now r = (
+  wants ++ [],
+  rw (append-nil before) at (r.lawful [] [] refl),
+  sym (rw (append-nil before, append-nil told) at (r.text [] [])),
+  sym (rw (append-nil before) at (r.left [] [])),
+)
 
 -- a line that ends the session says `quit`
 quit_is : (said : Result (Option Command) Refused) → is_quit said ≡ true → said ≡ Ok (Some commands.Quit)
@@ -155,12 +161,17 @@ quit_text : {A : Type 0} (now : Situation A) (said : Result (Option Command) Ref
 unfolding answer
 quit_text now said h = rw (quit_is said h) refl
 
+quit_left : {A : Type 0} (now : Situation A) (said : Result (Option Command) Refused) → is_quit said ≡ true → (answer now said None).left ≡ now
+unfolding answer
+quit_left now said h = rw (quit_is said h) refl
+
 -- and, with a `quit` after them, any lines that follow
-pub Told-quit : {A : Type 0} (first : Situation A) (before : List (List ℕ)) (wants : List (Option ℕ)) (told : List ℕ) (now : Situation A) (line : List ℕ) (rest : List (List ℕ)) → Told first before wants told now → is_quit (command_of line) ≡ true → IsAnswered first (before ++ line ∷ rest) told
+pub Told-quit : {A : Type 0} (first : Situation A) (before : List (List ℕ)) (wants : List (Option ℕ)) (told : List ℕ) (now : Situation A) (line : List ℕ) (rest : List (List ℕ)) → Told first before wants told now → is_quit (command_of line) ≡ true → IsAnsweredTo first (before ++ line ∷ rest) told now
 Told-quit first before wants told now line rest r quit = (
   wants ++ None ∷ [],
   r.lawful (line ∷ rest) (None ∷ []) (none_lawful now (command_of line), rw (quit_goes now (command_of line) quit) refl),
   sym (r.text (line ∷ rest) (None ∷ []) ∙ rw (quit_goes now (command_of line) quit, quit_text now (command_of line) quit) (append-nil told)),
+  sym (r.left (line ∷ rest) (None ∷ []) ∙ rw (quit_goes now (command_of line) quit) (quit_left now (command_of line) quit)),
 )
 
 -- what is left of the text of a line, and of the answers to any lines that follow
@@ -177,6 +188,28 @@ Told-front first before wants told now line rest want front r lawful is_front =
         rw is_front.1 (simp append_assoc),
       ),
     )
+
+-- where that was, and how the session is left
+pub Told-cut : {A : Type 0} (first : Situation A) (before : List (List ℕ)) (wants : List (Option ℕ)) (told : List ℕ) (now : Situation A) (line : List ℕ) (rest : List (List ℕ)) (want : Option ℕ) (front : List ℕ) (next : Situation A) (lines : List (List ℕ))
+    → lines ≡ before ++ line ∷ rest → Told first before wants told now → IsLawful now (command_of line) want → IsFrontOf front (answer now (command_of line) want).text
+    → next ≡ (answer now (command_of line) want).left
+    → IsCutShort first lines (told ++ front) next
+Told-cut first before wants told now line rest want front next lines are r lawful is_front is_next = record {
+  before = before;
+  line = line;
+  after = rest;
+  lines_are = are;
+  goes = r.goes;
+  told = told;
+  there = now;
+  answered = Told-answered first before wants told now r;
+  want = want;
+  lawful = lawful;
+  front = front;
+  is_front = is_front;
+  text_is = refl;
+  now_is = is_next;
+}
 
 -- After the bytes `done`, which are whole lines, `told` was answered and the session is `now`.
 pub record Reached {A : Type 0} (first : Situation A) (done told : List ℕ) (now : Situation A) : Type 0 where
@@ -209,8 +242,8 @@ pub record Standing {A : Type 0} (first : Situation A) (known rest : Option (Lis
   pub wrote : Appends w0 w1 told
 
 -- what `serve` promises
-abbrev pub Promise : {A T : Type 0} → Result T IoFault → Situation A → Option (List ℕ) → Option (List ℕ) → Option (List ℕ) → Option (List ℕ) → Type 0
-Promise r first known left w0 w1 = IfSome known (λ script. (text : List ℕ) × Appends w0 w1 text × IsServed r first script left text)
+abbrev pub Promise : {A T : Type 0} → Result T IoFault → Situation A → Option (List ℕ) → Option (List ℕ) → Option (List ℕ) → Option (List ℕ) → Situation A → Type 0
+Promise r first known left w0 w1 now = IfSome known (λ script. (text : List ℕ) × Appends w0 w1 text × IsServed r first script left text now)
 
 consumed_all : (script done : List ℕ) (rest : Option (List ℕ)) → Consumes (Some script) rest done → IsAtEnd rest → script ≡ done
 consumed_all script done None p e = absurd p
@@ -249,7 +282,7 @@ Standing-line first known rest rest' w0 w1 w2 now next given given' line want s 
 -- the end of the script
 pub Promise-end : {A T : Type 0} (v : T) (first : Situation A) (known rest rest' left w0 w1 : Option (List ℕ)) (now : Situation A) (given given' : ℕ)
     → Standing first known rest w0 w1 now given → Consumes rest rest' [] → IsAtEnd rest' → given' ≡ given → given' ≤ 2 ^ 24
-    → Promise (Ok v) first known left w0 w1
+    → Promise (Ok v) first known left w0 w1 now
 Promise-end v first None rest rest' left w0 w1 now given given' s taken end same le = tt
 Promise-end v first (Some script) rest rest' left w0 w1 now given given' s taken end same le =
     let all = Consumes-append (Some script) rest rest' s.done [] s.taken taken in
@@ -268,7 +301,7 @@ pub Promise-last : {A T : Type 0} (v : T) (first : Situation A) (known rest rest
     → Standing first known rest w0 w1 now given → IsLine line → 0 < length line → Consumes rest rest' line → IsAtEnd rest' → given' ≡ given + length line → given' ≤ 2 ^ 24
     → is_quit (command_of line) ≡ false → IsLawful now (command_of line) want → Appends w1 w2 (answer now (command_of line) want).text
     → next ≡ (answer now (command_of line) want).left
-    → Promise (Ok v) first known left w0 w2
+    → Promise (Ok v) first known left w0 w2 next
 Promise-last v first None rest rest' left w0 w1 w2 now next given given' line want s is_line some taken end given_is le no_quit lawful wrote is_next = tt
 Promise-last v first (Some script) rest rest' left w0 w1 w2 now next given given' line want s is_line some taken end given_is le no_quit lawful wrote is_next =
     let text = (answer now (command_of line) want).text in
@@ -289,7 +322,7 @@ Promise-last v first (Some script) rest rest' left w0 w1 w2 now next given given
 pub Promise-last_quit : {A T : Type 0} (v : T) (first : Situation A) (known rest rest' left w0 w1 : Option (List ℕ)) (now : Situation A) (given given' : ℕ) (line : List ℕ)
     → Standing first known rest w0 w1 now given → IsLine line → 0 < length line → Consumes rest rest' line → IsAtEnd rest' → given' ≡ given + length line → given' ≤ 2 ^ 24
     → is_quit (command_of line) ≡ true
-    → Promise (Ok v) first known left w0 w1
+    → Promise (Ok v) first known left w0 w1 now
 Promise-last_quit v first None rest rest' left w0 w1 now given given' line s is_line some taken end given_is le quit = tt
 Promise-last_quit v first (Some script) rest rest' left w0 w1 now given given' line s is_line some taken end given_is le quit =
     let r = s.reached in
@@ -310,7 +343,7 @@ prepend_none pending (Some xs) e = rw e refl
 -- a reading that failed
 pub Promise-read : {A : Type 0} (T : Type 0) (first : Situation A) (known rest left w0 w1 : Option (List ℕ)) (pending : List ℕ) (now : Situation A) (given : ℕ) (line : List ℕ)
     → Standing first known rest w0 w1 now given → IsLine line → Consumes rest (prepend_known pending left) line → pending ≡ []
-    → Promise {T = T} (Err Read) first known left w0 w1
+    → Promise {T = T} (Err Read) first known left w0 w1 now
 Promise-read T first None rest left w0 w1 pending now given line s is_line taken none = tt
 Promise-read T first (Some script) rest left w0 w1 pending now given line s is_line taken none =
     let r = s.reached in
@@ -344,7 +377,7 @@ take_over n xs ys le =
 -- a script that is too long
 pub Promise-too_long : {A : Type 0} (T : Type 0) (first : Situation A) (known rest after left w0 w1 : Option (List ℕ)) (now : Situation A) (given : ℕ) (line : List ℕ)
     → Standing first known rest w0 w1 now given → IsLine line → Consumes rest after line → HasMore after → given + length line ≡ 2 ^ 24
-    → Promise {T = T} (Err TooLong) first known left w0 w1
+    → Promise {T = T} (Err TooLong) first known left w0 w1 now
 Promise-too_long T first None rest after left w0 w1 now given line s is_line taken more full = tt
 Promise-too_long T first (Some script) rest after left w0 w1 now given line s is_line taken more full =
     let r = s.reached in
@@ -356,7 +389,7 @@ Promise-too_long T first (Some script) rest after left w0 w1 now given line s is
       s.told,
       s.wrote,
       (
-        subst (λ lines. IsAnswered first lines s.told) (sym whole) (Told-answered first r.before r.wants s.told now r.so_far),
+        subst (λ lines. IsAnsweredTo first lines s.told now) (sym whole) (Told-answered first r.before r.wants s.told now r.so_far),
         (long, ap (λ lines. quits lines) whole ∙ r.so_far.goes),
       ),
     )
@@ -368,7 +401,7 @@ quits_there before line after e f = list_any-append _ before (line ∷ after) �
 pub Promise-quit : {A T : Type 0} (v : T) (first : Situation A) (known rest rest' left w0 w1 : Option (List ℕ)) (now : Situation A) (given given' : ℕ) (line : List ℕ)
     → Standing first known rest w0 w1 now given → IsLine line → Consumes rest rest' (line ++ 10 ∷ []) → given' ≡ given + (length line + 1) → given' ≤ 2 ^ 24
     → is_quit (command_of line) ≡ true
-    → Promise (Ok v) first known left w0 w1
+    → Promise (Ok v) first known left w0 w1 now
 Promise-quit v first None rest rest' left w0 w1 now given given' line s is_line taken given_is le quit = tt
 Promise-quit v first (Some script) rest rest' left w0 w1 now given given' line s is_line taken given_is le quit =
     let r = s.reached in
@@ -384,18 +417,19 @@ Promise-quit v first (Some script) rest rest' left w0 w1 now given given' line s
       s.told,
       s.wrote,
       (
-        subst (λ lines. IsAnswered first lines s.told) (sym all) (Told-quit first r.before r.wants s.told now line (lines_of ys) r.so_far quit),
+        subst (λ lines. IsAnsweredTo first lines s.told now) (sym all) (Told-quit first r.before r.wants s.told now line (lines_of ys) r.so_far quit),
         λ t. true≢false (sym ends ∙ t.1),
       ),
     )
 
 -- a writing that failed at a line
-pub Promise-write : {A : Type 0} (T : Type 0) (first : Situation A) (known rest rest' left w0 w1 w2 : Option (List ℕ)) (now : Situation A) (given : ℕ) (line : List ℕ) (want : Option ℕ)
+pub Promise-write : {A : Type 0} (T : Type 0) (first : Situation A) (known rest rest' left w0 w1 w2 : Option (List ℕ)) (now next : Situation A) (given : ℕ) (line : List ℕ) (want : Option ℕ)
     → Standing first known rest w0 w1 now given → IsLine line → Consumes rest rest' (line ++ 10 ∷ []) → IsLawful now (command_of line) want
     → ((front : List ℕ) × IsFrontOf front (answer now (command_of line) want).text × Appends w1 w2 front)
-    → Promise {T = T} (Err Write) first known left w0 w2
-Promise-write T first None rest rest' left w0 w1 w2 now given line want s is_line taken lawful wrote = tt
-Promise-write T first (Some script) rest rest' left w0 w1 w2 now given line want s is_line taken lawful wrote =
+    → next ≡ (answer now (command_of line) want).left
+    → Promise {T = T} (Err Write) first known left w0 w2 next
+Promise-write T first None rest rest' left w0 w1 w2 now next given line want s is_line taken lawful wrote is_next = tt
+Promise-write T first (Some script) rest rest' left w0 w1 w2 now next given line want s is_line taken lawful wrote is_next =
     let r = s.reached in
     let bytes = s.done ++ (line ++ 10 ∷ []) in
     let cut = Cut-line s.done r.before line r.cut is_line in
@@ -404,23 +438,24 @@ Promise-write T first (Some script) rest rest' left w0 w1 w2 now given line want
     let told = Told-front first r.before r.wants s.told now line (lines_of ys) want wrote.0 r.so_far lawful wrote.1 in (
       s.told ++ wrote.0,
       Appends-append w0 w1 w2 s.told wrote.0 s.wrote wrote.2,
-      (told.0, subst (λ lines. IsAnswered first lines told.0) (sym all) told.1, told.2),
+      (told.0, subst (λ lines. IsAnswered first lines told.0) (sym all) told.1, told.2, Told-cut first r.before r.wants s.told now line (lines_of ys) want wrote.0 next _ all r.so_far lawful wrote.1 is_next),
     )
 
 -- a writing that failed at a last line without byte 10
-pub Promise-write_last : {A : Type 0} (T : Type 0) (first : Situation A) (known rest rest' left w0 w1 w2 : Option (List ℕ)) (now : Situation A) (given : ℕ) (line : List ℕ) (want : Option ℕ)
+pub Promise-write_last : {A : Type 0} (T : Type 0) (first : Situation A) (known rest rest' left w0 w1 w2 : Option (List ℕ)) (now next : Situation A) (given : ℕ) (line : List ℕ) (want : Option ℕ)
     → Standing first known rest w0 w1 now given → IsLine line → 0 < length line → Consumes rest rest' line → IsAtEnd rest' → IsLawful now (command_of line) want
     → ((front : List ℕ) × IsFrontOf front (answer now (command_of line) want).text × Appends w1 w2 front)
-    → Promise {T = T} (Err Write) first known left w0 w2
-Promise-write_last T first None rest rest' left w0 w1 w2 now given line want s is_line some taken end lawful wrote = tt
-Promise-write_last T first (Some script) rest rest' left w0 w1 w2 now given line want s is_line some taken end lawful wrote =
+    → next ≡ (answer now (command_of line) want).left
+    → Promise {T = T} (Err Write) first known left w0 w2 next
+Promise-write_last T first None rest rest' left w0 w1 w2 now next given line want s is_line some taken end lawful wrote is_next = tt
+Promise-write_last T first (Some script) rest rest' left w0 w1 w2 now next given line want s is_line some taken end lawful wrote is_next =
     let r = s.reached in
     let is : script ≡ s.done ++ line = consumed_all script (s.done ++ line) rest' (Consumes-append (Some script) rest rest' s.done line s.taken taken) end in
     let all : lines_of script ≡ r.before ++ line ∷ [] = ap (λ v. lines_of v) is ∙ Cut-last s.done r.before line r.cut is_line some in
     let told = Told-front first r.before r.wants s.told now line [] want wrote.0 r.so_far lawful wrote.1 in (
       s.told ++ wrote.0,
       Appends-append w0 w1 w2 s.told wrote.0 s.wrote wrote.2,
-      (told.0, subst (λ lines. IsAnswered first lines told.0) (sym all) told.1, told.2),
+      (told.0, subst (λ lines. IsAnswered first lines told.0) (sym all) told.1, told.2, Told-cut first r.before r.wants s.told now line [] want wrote.0 next _ all r.so_far lawful wrote.1 is_next),
     )
 
 -- what is kept of a line says what it says

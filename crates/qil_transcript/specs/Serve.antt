@@ -1,10 +1,11 @@
 -- What `serve` has written when it returns.
-use Rattle.std.specs.Prelude.{◌≡◌, ℕ, ◌+◌, ◌<◌, ◌^◌, List, length, take, false, Option, Some, Result, Ok, Err}
+use Rattle.std.specs.Prelude.{◌≡◌, ℕ, ◌+◌, ◌<◌, ◌^◌, List, ◌∷◌, ◌++◌, length, take, false, Option, Some, Result, Ok, Err}
 use Rattle.std.specs.Io.KnownBytes.{Consumes}
 use Rattle.qil_streams.specs.Device.{IsFrontOf}
 use Rattle.qil_streams.specs.Script.{lines_of, whole_lines_of}
+use Rattle.qil_commands.specs.Command.{command_of}
 use Rattle.qil_session.specs.Situation.{Situation}
-use Rattle.qil_session.specs.Answers.{IsAnswered, quits}
+use Rattle.qil_session.specs.Answers.{answer, IsLawful, IsAnswered, IsAnsweredTo, quits}
 use Rattle.qil_transcript.specs.declared.serving.IoFault.{IoFault}
 use Rattle.qil_transcript.specs.declared.serving.IoFault.TheVariants.{Read, Write, TooLong}
 
@@ -12,17 +13,45 @@ use Rattle.qil_transcript.specs.declared.serving.IoFault.TheVariants.{Read, Writ
 abbrev pub IsTooLong : List ℕ → Type 0
 IsTooLong script = (2 ^ 24 < length script) × (quits (whole_lines_of (take (2 ^ 24) script)) ≡ false)
 
--- What was written of the answers to a script, by what `serve` returns. `left` is what the source has left.
-abbrev pub IsServed : {A T : Type 0} → Result T IoFault → Situation A → List ℕ → Option (List ℕ) → List ℕ → Type 0
+-- A writing failed in the answer to one of the lines: those before it were answered, a part of its own answer was written,
+-- and the session is left as that answer leaves it.
+pub record IsCutShort {A : Type 0} (s : Situation A) (lines : List (List ℕ)) (text : List ℕ) (now : Situation A) : Type 0 where
+  pub before : List (List ℕ)
+  pub line : List ℕ
+  pub after : List (List ℕ)
+  pub lines_are : lines ≡ before ++ line ∷ after
+  pub goes : quits before ≡ false
+  pub told : List ℕ
+  pub there : Situation A
+  pub answered : IsAnsweredTo s before told there
+  pub want : Option ℕ
+  pub lawful : IsLawful there (command_of line) want
+  pub front : List ℕ
+  pub is_front : IsFrontOf front (answer there (command_of line) want).text
+  pub text_is : text ≡ told ++ front
+  pub now_is : now ≡ (answer there (command_of line) want).left
+
+-- What was written of the answers to a script, and how the session was left, by what `serve` returns. `left` is what the
+-- source has left.
+abbrev pub IsServed : {A T : Type 0} → Result T IoFault → Situation A → List ℕ → Option (List ℕ) → List ℕ → Situation A → Type 0
 -- all answers
-IsServed (Ok x) s script left text = IsAnswered s (lines_of script) text × ¬ IsTooLong script
+IsServed (Ok x) s script left text now = IsAnsweredTo s (lines_of script) text now × ¬ IsTooLong script
 -- a front of them
-IsServed (Err Write) s script left text = (all : List ℕ) × IsAnswered s (lines_of script) all × IsFrontOf text all
+IsServed (Err Write) s script left text now = (all : List ℕ) × IsAnswered s (lines_of script) all × IsFrontOf text all × IsCutShort s (lines_of script) text now
 -- those to the whole lines that were read, none of which quits: behind a `quit` no read is made
-IsServed (Err Read) s script left text =
-    (read : List ℕ) × Consumes (Some script) left read × IsAnswered s (whole_lines_of read) text × (quits (whole_lines_of read) ≡ false)
+IsServed (Err Read) s script left text now =
+    (read : List ℕ) × Consumes (Some script) left read × IsAnsweredTo s (whole_lines_of read) text now × (quits (whole_lines_of read) ≡ false)
 -- those to the lines that end among the first 2^24 bytes
-IsServed (Err TooLong) s script left text = IsAnswered s (whole_lines_of (take (2 ^ 24) script)) text × IsTooLong script
+IsServed (Err TooLong) s script left text now = IsAnsweredTo s (whole_lines_of (take (2 ^ 24) script)) text now × IsTooLong script
+
+-- Two scripts were answered one after the other: the second where the first left the session.
+pub record AreServed {A : Type 0} (s : Situation A) (one two : List ℕ) (text : List ℕ) (now : Situation A) : Type 0 where
+  pub there : Situation A
+  pub first : List ℕ
+  pub second : List ℕ
+  pub one_is : IsAnsweredTo s (lines_of one) first there
+  pub two_is : IsAnsweredTo there (lines_of two) second now
+  pub text_is : text ≡ first ++ second
 
 -- which device's faults rose, and by how much
 abbrev pub CountsServe : {T : Type 0} → Result T IoFault → ℕ → ℕ → ℕ → ℕ → Type 0

@@ -13,4 +13,4 @@ pub use outcome::Outcome;
 pub use qil_loading::Refusal;
 pub use qil_session::{Next, Session};
 pub use qil_streams::{DeviceFault, FromReader, IntoWriter, Sink, Source};
-pub use serving::{IoFault, serve};
+pub use serving::{IoFault, serve, serve_in_turn};

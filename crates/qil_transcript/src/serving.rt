@@ -1,10 +1,10 @@
 //! A script is served: its lines are read and answered one after the other.
 
-ghost use Rattle.std.specs.Prelude.{◌≡◌, ℕ, ◌-◌, ◌^◌, ◌<◌, ◌≤◌, ◌↔◌, List, Err, IfSome};
+ghost use Rattle.std.specs.Prelude.{◌≡◌, ℕ, ◌+◌, ◌-◌, ◌^◌, ◌<◌, ◌≤◌, ◌↔◌, List, Err, OnOk, IfSome};
 ghost use Rattle.std.specs.Io.KnownBytes.{Appends};
 ghost use Rattle.qil_meaning.specs.Timeline.{position};
 ghost use Rattle.qil_session.specs.Kept.{situation};
-ghost use Rattle.qil_transcript.specs.Serve.{IsServed, CountsServe, TakesFew};
+ghost use Rattle.qil_transcript.specs.Serve.{AreServed, IsServed, CountsServe, TakesFew};
 
 use qil_history::History;
 use qil_machine::Machine;
@@ -37,9 +37,11 @@ pub fn serve_lines<
     requires limit { session.old.limit ≤ 4294967295 }
     ensures served { IfSome (S.remaining source.old) (λ script. (text : List ℕ)
         × Appends (P.written out.old) (P.written out.new) text
-        × IsServed result (situation H.program H.timeline session.old) script (S.remaining source.new) text) }
+        × IsServed result (situation H.program H.timeline session.old) script (S.remaining source.new) text (situation H.program H.timeline session.new)) }
     ensures few { IfSome (S.remaining source.old) (λ script. TakesFew script (S.remaining source.new)) }
     ensures counted { CountsServe result (S.failures source.old) (S.failures source.new) (P.stops out.old) (P.stops out.new) }
+    ensures near { position (H.timeline session.new.history) ≤ position (H.timeline session.old.history) + 2 ^ 57 }
+    ensures limit { session.new.limit ≡ session.old.limit }
     ensures device { P.device out.new ≡ P.device out.old }
 {
     let mut reader = LineReader::new();
@@ -82,14 +84,45 @@ pub fn serve<'c, A: Allocator + Copy + 'c, H: History<A, Machine<'c, 'c, A>>, S:
     requires limit { session.old.limit ≤ 4294967295 }
     ensures served { IfSome (S.remaining source.old) (λ script. (text : List ℕ)
         × Appends (W.contents sink.old) (W.contents sink.new) text
-        × IsServed result (situation H.program H.timeline session.old) script (S.remaining source.new) text) }
+        × IsServed result (situation H.program H.timeline session.old) script (S.remaining source.new) text (situation H.program H.timeline session.new)) }
     ensures few { IfSome (S.remaining source.old) (λ script. TakesFew script (S.remaining source.new)) }
     ensures read_fault { (result ≡ Err IoFault.Read) ↔ (S.failures source.old < S.failures source.new) }
     ensures write_fault { (result ≡ Err IoFault.Write) ↔ (W.failures sink.old < W.failures sink.new) }
     ensures counted { CountsServe result (S.failures source.old) (S.failures source.new) (W.failures sink.old) (W.failures sink.new) }
+    ensures near { position (H.timeline session.new.history) ≤ position (H.timeline session.old.history) + 2 ^ 57 }
+    ensures limit { session.new.limit ≡ session.old.limit }
 {
     let mut out = Outlet { sink };
     let served = serve_lines(session, source, &mut out);
     let Outlet { sink: _ } = out;
     served
+}
+
+/// Serves one script and then another, as a debugger does that reads a file of commands before its user's: the second goes
+/// on where the first left the session. A `quit` ends its own script alone.
+///
+/// # Errors
+///
+/// Those of `serve`. Where the first script was not answered to its end, nothing is read of the second.
+pub fn serve_in_turn<
+    'c,
+    A: Allocator + Copy + 'c,
+    H: History<A, Machine<'c, 'c, A>>,
+    S: Source,
+    T: Source,
+    W: Sink,
+>(session: &mut Session<A, H>, first: &mut S, second: &mut T, sink: &mut W) -> Result<(), IoFault>
+    requires first { S.failures first.old < 2 ^ 64 - 1 }
+    requires second { T.failures second.old < 2 ^ 64 - 1 }
+    requires writes { W.failures sink.old < 2 ^ 64 - 1 }
+    requires before { position (H.timeline session.old.history) < 2 ^ 59 }
+    requires limit { session.old.limit ≤ 4294967295 }
+    ensures served { OnOk result (IfSome (S.remaining first.old) (λ one. IfSome (T.remaining second.old) (λ two. (text : List ℕ)
+        × Appends (W.contents sink.old) (W.contents sink.new) text
+        × AreServed (situation H.program H.timeline session.old) one two text (situation H.program H.timeline session.new)))) }
+    ensures near { position (H.timeline session.new.history) ≤ position (H.timeline session.old.history) + 2 ^ 58 }
+    ensures limit { session.new.limit ≡ session.old.limit }
+{
+    serve(session, first, sink)?;
+    serve(session, second, sink)
 }

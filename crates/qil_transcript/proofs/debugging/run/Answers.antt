@@ -12,22 +12,22 @@ returns-in-Err-clause-written g c = λ s verdict start begins loaded e.
 pub returns-in-Ok-serve_lines-clause-written : goal.returns-in-Ok-serve_lines-clause-written
 returns-in-Ok-serve_lines-clause-written g c = λ s verdict start begins loaded e.
     let first = situation g.H.History.program g.H.History.timeline c.args.session in
-    Written-ended {T = Unit {0}} tt s verdict start first _ None _ _ _ (opened_with s verdict start first _ _ begins e (c.in-Ok.ensures.text verdict loaded)) c.in-Ok-serve_lines.ensures.served
+    Written-ended {T = Unit {0}} tt s verdict start first _ None _ _ _ _ (opened_with s verdict start first _ _ begins e (c.in-Ok.ensures.text verdict loaded)) c.in-Ok-serve_lines.ensures.served
 
 pub returns-in-Err-Read-clause-written : goal.returns-in-Err-Read-clause-written
 returns-in-Err-Read-clause-written g c = λ s verdict start begins loaded e.
     let first = situation g.H.History.program g.H.History.timeline c.args.session in
-    Written-read (Unit {0}) s verdict start first _ _ _ _ _ (opened_with s verdict start first _ _ begins e (c.in-Ok.ensures.text verdict loaded))
+    Written-read (Unit {0}) s verdict start first _ _ _ _ _ _ (opened_with s verdict start first _ _ begins e (c.in-Ok.ensures.text verdict loaded))
     (rw c.in-Err-Read.field-0-is at c.in-Err-Read.ensures.served)
 
 pub returns-in-Err-Write-clause-written : goal.returns-in-Err-Write-clause-written
 returns-in-Err-Write-clause-written g c = λ s verdict start begins loaded e.
     let first = situation g.H.History.program g.H.History.timeline c.args.session in
-    Written-write (Unit {0}) s verdict start first _ None _ _ _ (opened_with s verdict start first _ _ begins e (c.in-Ok.ensures.text verdict loaded))
+    Written-write (Unit {0}) s verdict start first _ None _ _ _ _ (opened_with s verdict start first _ _ begins e (c.in-Ok.ensures.text verdict loaded))
     (rw c.in-Err-Write.field-0-is at c.in-Err-Write.ensures.served)
 
 pub returns-clause-written : goal.returns-clause-written
 returns-clause-written g c = λ s verdict start begins loaded e.
     let first = situation g.H.History.program g.H.History.timeline c.args.session in
-    Written-too_long (Unit {0}) s verdict start first _ None _ _ _ (opened_with s verdict start first _ _ begins e (c.in-Ok.ensures.text verdict loaded))
+    Written-too_long (Unit {0}) s verdict start first _ None _ _ _ _ (opened_with s verdict start first _ _ begins e (c.in-Ok.ensures.text verdict loaded))
     (rw c.in-Err-TooLong.field-0-is at c.in-Err-TooLong.ensures.served)

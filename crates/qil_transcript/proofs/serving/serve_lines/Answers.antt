@@ -55,15 +55,15 @@ pub returns-in-Ok-Quit-clause-served : goal.returns-in-Ok-Quit-clause-served
 returns-in-Ok-Quit-clause-served g c =
     let (line, is_line, takes) = c.in-Ok.ensures.line in
     let end = rw c.in-Newline.is at takes in
-    let said = line_said {E = Unit {0}} (Ok Quit) (situation g.H.History.program g.H.History.timeline c.args.session.now) (situation g.H.History.program g.H.History.timeline c.args.session.now) _ _ line _ _ c.as_slice.ensures end.1 (rw c.in-Ok-Quit.field-0-is at c.in-Ok-Quit.ensures.answered) in
-    rw said.1 (Promise-quit {T = Unit {0}} tt _ _ _ _ None _ _ _ _ _ line c.loop-end.invariant.standing is_line end.0 end.2 end.3 said.0)
+    let said = line_said {E = Unit {0}} (Ok Quit) _ _ _ _ line _ _ c.as_slice.ensures end.1 (rw c.in-Ok-Quit.field-0-is at c.in-Ok-Quit.ensures.answered) in
+    rw (said.1, said.2) (Promise-quit {T = Unit {0}} tt _ _ _ _ None _ _ _ _ _ line c.loop-end.invariant.standing is_line end.0 end.2 end.3 said.0)
 
 pub returns-in-Err-clause-served : goal.returns-in-Err-clause-served
 returns-in-Err-clause-served g c =
     let (line, is_line, takes) = c.in-Ok.ensures.line in
     let end = rw c.in-Newline.is at takes in
     let said = line_said (Err c.in-Err.field-0) _ _ _ _ line _ _ c.as_slice.ensures end.1 c.in-Err.ensures.answered in
-    Promise-write (Unit {0}) _ _ _ _ None _ _ _ _ _ line said.1.want c.loop-end.invariant.standing is_line end.0 said.1.lawful said.1.text
+    Promise-write (Unit {0}) _ _ _ _ None _ _ _ _ _ _ line said.1.want c.loop-end.invariant.standing is_line end.0 said.1.lawful said.1.text said.1.left
 
 pub returns-in-Ok-Go-answer_line-clause-served : goal.returns-in-Ok-Go-answer_line-clause-served
 returns-in-Ok-Go-answer_line-clause-served g c =
@@ -76,15 +76,15 @@ pub returns-in-Ok-Quit-answer_line-clause-served : goal.returns-in-Ok-Quit-answe
 returns-in-Ok-Quit-answer_line-clause-served g c =
     let (line, is_line, takes) = c.in-Ok.ensures.line in
     let end = rw c.in-Last.is at takes in
-    let said = line_said {E = Unit {0}} (Ok Quit) (situation g.H.History.program g.H.History.timeline c.args.session.now) (situation g.H.History.program g.H.History.timeline c.args.session.now) _ _ line _ _ c.as_slice-in-Last.ensures end.1 (rw c.in-Ok-Quit-answer_line.field-0-is at c.in-Ok-Quit-answer_line.ensures.answered) in
-    rw said.1 (Promise-last_quit {T = Unit {0}} tt _ _ _ _ None _ _ _ _ _ line c.loop-end.invariant.standing is_line end.2 end.0 end.3 end.4 end.5 said.0)
+    let said = line_said {E = Unit {0}} (Ok Quit) _ _ _ _ line _ _ c.as_slice-in-Last.ensures end.1 (rw c.in-Ok-Quit-answer_line.field-0-is at c.in-Ok-Quit-answer_line.ensures.answered) in
+    rw (said.1, said.2) (Promise-last_quit {T = Unit {0}} tt _ _ _ _ None _ _ _ _ _ line c.loop-end.invariant.standing is_line end.2 end.0 end.3 end.4 end.5 said.0)
 
 pub returns-in-Err-answer_line-clause-served : goal.returns-in-Err-answer_line-clause-served
 returns-in-Err-answer_line-clause-served g c =
     let (line, is_line, takes) = c.in-Ok.ensures.line in
     let end = rw c.in-Last.is at takes in
     let said = line_said (Err c.in-Err-answer_line.field-0) _ _ _ _ line _ _ c.as_slice-in-Last.ensures end.1 c.in-Err-answer_line.ensures.answered in
-    Promise-write_last (Unit {0}) _ _ _ _ None _ _ _ _ _ line said.1.want c.loop-end.invariant.standing is_line end.2 end.0 end.3 said.1.lawful said.1.text
+    Promise-write_last (Unit {0}) _ _ _ _ None _ _ _ _ _ _ line said.1.want c.loop-end.invariant.standing is_line end.2 end.0 end.3 said.1.lawful said.1.text said.1.left
 
 pub returns-in_default-clause-few : goal.returns-in_default-clause-few
 returns-in_default-clause-few g c = few_read c.loop-end.reader.bytes _ _ _ _ c.loop-end.invariant.reads c.in_default.ensures.reads c.in_default.ensures.within

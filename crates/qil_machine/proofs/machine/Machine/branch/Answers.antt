@@ -2,7 +2,7 @@ use Rattle.std.proofs.Common.{◌≡◌, ◌∙◌, ap, sym, subst, Ok, OnOk, If
 use Rattle.qil_state.specs.State.{state_of, head_names}
 use Rattle.qil_state.specs.Stepping.{left_whole}
 use Rattle.qil_machine.specs.Results.{Explains}
-use Rattle.qil_machine.proofs.Jumps.{branch_fails, branched_zero, branched_set}
+use Rattle.qil_machine.proofs.Jumps.{branch_fails, branched_zero, branched_set, takes_zero, takes_set}
 use Rattle.qil_machine.proofs.machine.Machine.branch.Goals as goal
 
 pub returns-in-Err-clause-fault : goal.returns-in-Err-clause-fault
@@ -37,3 +37,11 @@ returns-clause-fault g c =
     (sym (ap (left_whole c.args.self.now) c.requires.jump
     ∙ branched_set _ c.args.self.now c.innermost.result.now c.slots.result.now c.args.source c.args.if_set.now c.args.if_zero.now c.in-Ok.value c.self.view_is c.self.invariant c.innermost.ensures c.slots.ensures.value c.in-Ok.ensures (omega (arith, c.if-value-eq0.false))))
     c.go_along-2.ensures.fault
+
+pub returns-then-value-eq0-clause-memory : goal.returns-then-value-eq0-clause-memory
+returns-then-value-eq0-clause-memory g c =
+    takes_zero _ c.args.self.now c.innermost.result.now c.slots.result.now c.args.source c.args.if_set.now c.args.if_zero.now c.in-Ok.value _ c.self.view_is c.self.invariant c.innermost.ensures c.slots.ensures.value c.in-Ok.ensures c.if-value-eq0.true c.go_along.ensures.few
+
+pub returns-clause-memory : goal.returns-clause-memory
+returns-clause-memory g c =
+    takes_set _ c.args.self.now c.innermost.result.now c.slots.result.now c.args.source c.args.if_set.now c.args.if_zero.now c.in-Ok.value _ c.self.view_is c.self.invariant c.innermost.ensures c.slots.ensures.value c.in-Ok.ensures (omega (arith, c.if-value-eq0.false)) c.go_along-2.ensures.few
