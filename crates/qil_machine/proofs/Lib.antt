@@ -21,3 +21,4 @@ pub mod PokingSlots
 pub mod Weights
 pub mod KindsWeigh
 pub mod KindsFit
+pub mod Placing

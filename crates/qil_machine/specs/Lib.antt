@@ -11,3 +11,4 @@ pub mod Calls
 pub mod Pokes
 pub mod Readings
 pub mod Costs
+pub mod Placed

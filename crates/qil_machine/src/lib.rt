@@ -10,6 +10,7 @@ mod jump;
 mod log;
 mod machine;
 mod output;
+mod placed;
 mod poke;
 mod readers;
 mod same;
