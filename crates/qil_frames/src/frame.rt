@@ -288,6 +288,14 @@ impl<A: Allocator> Frame<A> {
     }
 }
 
+/// Whether two slots hold the same.
+#[inline(always)]
+fn is_same(one: Option<u64>, other: Option<u64>) -> bool
+    ensures { IsTrue result ↔ (one ≡ other) }
+{
+    one == other
+}
+
 fn same_slots(left: &[Option<u64>], right: &[Option<u64>]) -> bool
     ensures { IsTrue result ↔ (left.now ≡ right.now) }
 {
@@ -295,7 +303,7 @@ fn same_slots(left: &[Option<u64>], right: &[Option<u64>]) -> bool
         return false;
     }
     for (i, value) in left.iter().enumerate() {
-        if *value != right[i] {
+        if !is_same(*value, right[i]) {
             return false;
         }
     }

@@ -92,6 +92,14 @@ impl<'c, 'a, A: Allocator + Copy> Image<'c, 'a, A> {
         }
     }
 
+    /// How many functions there are.
+    fn func_count(&self) -> u64
+        ensures count { result ≡ length self.now.funcs }
+        ensures few { result ≤ 1000 }
+    {
+        self.program.funcs.as_slice().len() as u64
+    }
+
     fn func_at(&self, address: u64) -> Option<u64>
         ensures value { result ≡ func_at self.now address }
         ensures few { IfSome result (λ i. i < 1000) }
@@ -100,8 +108,7 @@ impl<'c, 'a, A: Allocator + Copy> Image<'c, 'a, A> {
             return None;
         }
         let index = (address - FUNC_BASE) / FUNC_STRIDE;
-        let count = self.program.funcs.as_slice().len() as u64;
-        if (address - FUNC_BASE) % FUNC_STRIDE == 0 && index < count {
+        if (address - FUNC_BASE) % FUNC_STRIDE == 0 && index < self.func_count() {
             Some(index)
         } else {
             None

@@ -1,7 +1,7 @@
 //! Where one object stands behind another, or why it can't.
 
-ghost use Rattle.std.specs.Prelude.{◌≡◌, ◌+◌, ◌^◌, ◌<◌, ◌≤◌, Some, None, IfOk, IfErr};
-ghost use Rattle.qil_layout.specs.Layout.{rounded, is_alignment, align_of, start_of, end_of, object_fault};
+ghost use Rattle.std.specs.Prelude.{◌≡◌, ◌+◌, ◌-◌, ◌^◌, ◌<◌, ◌≤◌, nat_lt, if◌then◌else◌, Some, None, IfOk, IfErr};
+ghost use Rattle.qil_layout.specs.Layout.{rounded, is_alignment, align_of, start_of, end_of, data_limit, object_fault};
 
 use crate::error::LayoutCode;
 use crate::room::after_fields;
@@ -58,6 +58,17 @@ pub struct Span {
     pub end: u64,
 }
 
+/// How many bytes there are from an address to the end of all data, if it isn't behind that.
+fn room_from(start: u64) -> Option<u64>
+    ensures { result ≡ if nat_lt data_limit start then None else Some (data_limit - start) }
+{
+    if start > DATA_LIMIT {
+        None
+    } else {
+        Some(DATA_LIMIT - start)
+    }
+}
+
 /// Where an object stands that comes at an address or behind it, or why it can't.
 pub fn span_of<A: Allocator>(at: u64, object: &Data<'_, A>) -> Result<Span, LayoutCode>
     requires { at ≤ 1114112 }
@@ -72,10 +83,10 @@ pub fn span_of<A: Allocator>(at: u64, object: &Data<'_, A>) -> Result<Span, Layo
         return Err(LayoutCode::Y2);
     }
     let start = rounded_up(align, at);
-    if start > DATA_LIMIT {
+    let Some(room) = room_from(start) else {
         return Err(LayoutCode::Y1);
-    }
-    match after_fields(DATA_LIMIT - start, object.fields.as_slice()) {
+    };
+    match after_fields(room, object.fields.as_slice()) {
         Some(left) => Ok(Span {
             start,
             end: DATA_LIMIT - left,

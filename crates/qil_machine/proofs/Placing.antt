@@ -5,7 +5,6 @@ use Rattle.qil_tree.specs.declared.tree.Block.{Block}
 use Rattle.qil_tree.specs.declared.tree.Func.{Func}
 use Rattle.qil_tree.specs.declared.tree.Program.{Program}
 use Rattle.qil_meaning.specs.State as meaning
-
 use Rattle.qil_meaning.specs.Step.{func_named, block_labelled}
 use Rattle.qil_numbering.specs.Facts.{Finds, KnowsLabels, jump_labels}
 use Rattle.qil_numbering.specs.Numbered.{func_at, block_in, block_at}

@@ -3,7 +3,15 @@
 ghost use Rattle.std.specs.Prelude.{◌≡◌, ◌↔◌, IsTrue, IfOk};
 
 use crate::machine::Machine;
+use qil_state::Status;
 use std::alloc::{AllocError, Allocator};
+
+/// Whether two runs go on, or have ended in the same way.
+fn is_same(one: Status, other: Status) -> bool
+    ensures { IsTrue result ↔ (one ≡ other) }
+{
+    one == other
+}
 
 impl<'c, 'a, A: Allocator + Copy> Machine<'c, 'a, A> {
     /// Whether two machines of one program are equal in all that they hold, dead bytes of memory too. It takes no memory.
@@ -11,7 +19,7 @@ impl<'c, 'a, A: Allocator + Copy> Machine<'c, 'a, A> {
         requires { self.now.program ≡ other.now.program }
         ensures { IsTrue result ↔ (self.now ≡ other.now) }
     {
-        self.status == other.status
+        is_same(self.status, other.status)
             && self.output.as_slice() == other.output.as_slice()
             && self.frames.same(&other.frames)
             && self.memory.same(&other.memory)
