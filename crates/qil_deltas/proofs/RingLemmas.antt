@@ -1,8 +1,9 @@
 -- Facts on the newest of what is kept.
-use Rattle.std.proofs.Common.{◌≡◌, ℕ, zero, suc, ◌+◌, ◌-◌, ◌<◌, ◌≤◌, ◌^◌, List, [], ◌∷◌, ◌++◌, length, get_or, reverse, take, drop, Option, Some, None, Result, Ok, ap, sym, ◌∙◌, subst, refl, arith, take-append-drop, take_all, ⊎_elim}
-use Rattle.std.specs.Prelude.{slice_get, unwrap_or, option_to_list, IfNone}
+use Rattle.std.proofs.Common.{◌≡◌, ℕ, zero, suc, ◌+◌, ◌-◌, ◌<◌, ◌≤◌, ◌^◌, List, [], ◌∷◌, ◌++◌, length, get_or, reverse, take, drop, Option, Some, None, Result, Ok, ap, sym, ◌∙◌, subst, refl, arith, take-append-drop, take_all, ⊎_elim, true, nat_lt, if◌then◌else◌}
+use Rattle.std.specs.Prelude.{slice_get, unwrap_or, option_to_list, IfNone, is_some}
 use Rattle.std.proofs.lemmas.List.{length-reverse, length-drop, length-append, reverse-append}
-use Rattle.std.proofs.lemmas.Bool.{cases_lt}
+use Rattle.std.proofs.lemmas.Bool.{cases_lt, false≢true}
+use Rattle.std.proofs.lemmas.Bool.Decides.{nat_tests}
 use Rattle.std.proofs.lemmas.Option.{none-some, slice_get-get_or}
 use Rattle.std.proofs.Math.Seq.{take-append_seam}
 use Rattle.circular_buffer.specs.Buffer.{Buffer, buffer, keep_last, last_item}
@@ -162,3 +163,13 @@ module _ {A : Type 0} (m w : Whole A) (ds es : List Move) (d : Move) (o : Option
       subst (λ (r : Recent A). back (recent_timeline r) ≡ Some (recent_timeline (recent w es f k))) view
       (ap (λ xs. back_to (recent_timeline (recent m ds f n)) (before xs m)) (reverse-was e is)
       ∙ (ap (λ v. Some (recent_timeline (recent v es f n))) (sym ew) ∙ ap (λ j. Some (recent_timeline (recent w es f j))) (sym ek)))
+
+less : (n cap : ℕ) → n < cap → nat_lt n cap ≡ true
+less n cap lt = grind (arith, nat_tests)
+
+-- where an item went, all places were taken, and one more was forgotten
+pub counted : {T : Type 0} (r x : Option T) (n cap gone : ℕ) → n ≤ cap → is_some r ≡ true → r ≡ (if nat_lt n cap then None else x) → gone + 1 ≡ gone + (n + 1 - cap)
+counted {T} r x n cap gone few some is = ⊎_elim
+    (λ lt. absurd (false≢true (sym (ap (λ (o : Option T). is_some o) (is ∙ ap (λ t. if t then None else x) (less n cap lt))) ∙ some)))
+    (λ ge. omega (arith, ge, few))
+    (cases_lt n cap)
