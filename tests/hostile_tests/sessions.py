@@ -1,12 +1,12 @@
-"""Scripts: long ones, and random ones on random programs against the model of rows/reference."""
+"""Scripts: long ones, and random ones on random programs against the model of tests/reference."""
 from random import Random
 
+from harness.running import FIRST, LOADED, TOP, Case
 import reference
 from reference.session import lines_of
 
 from . import single_lines
 from .programs import random_program
-from .running import FIRST, LOADED, TOP, Case
 from .scripts import random_script
 
 SEEDS = 600

@@ -1,7 +1,7 @@
 """Lines of a script, one session each: the shapes of words, their number, the order of refusals, and what separates words.
 
 Lines that a folder of rows/ has already are left out."""
-from .running import Case
+from harness.running import Case
 
 TEXT = b"""data $c = { l -1 -1 }
 data $c.1$ = { b 4 5 6 7 }

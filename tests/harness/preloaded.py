@@ -22,7 +22,7 @@ def library(source="refusing.c"):
         for compiler in compilers():
             # What the library takes of the C library is there in the program that it is preloaded to.
             line = [*compiler, "-shared", "-fPIC", "-O1", "-fno-builtin", "-nostdlib", "-o", made,
-                    str(HERE.parent / source)]
+                    str(HERE / source)]
             if subprocess.run(line, stderr=subprocess.DEVNULL).returncode == 0:
                 yield made
                 return

@@ -1,8 +1,8 @@
 """How many allocations moves and commands take, and how many bytes, counted by a library that is preloaded (refusing.c)."""
 import tempfile
 
-from .preloaded import Run, library
-from .running import FIRST, LOADED, LOOP, Case, difference
+from harness.preloaded import Run, library
+from harness.running import FIRST, LOADED, LOOP, Case, difference
 
 # A copy of 64 bytes is the third step, an allocation the fourth. Then there is no end, and steps take no memory.
 MOVES = b"""data $d = { z 192 }

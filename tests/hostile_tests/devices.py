@@ -10,8 +10,8 @@ import tempfile
 import termios
 import time
 
-from .preloaded import library
-from .running import FIRST, LOADED, TOP, Case, difference, quoted
+from harness.preloaded import library
+from harness.running import FIRST, LOADED, TOP, Case, difference, quoted
 
 EXAMPLE = TOP / "examples" / "squares.ssa"
 SCRIPT = (TOP / "examples" / "squares.script").read_bytes()

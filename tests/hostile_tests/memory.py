@@ -2,12 +2,12 @@
 import subprocess
 import tempfile
 
+from harness.preloaded import Run, library
+from harness.running import FIRST, LOADED, LOOP, Case, quoted
 import reference
 from reference.session import No, lines_of, read_command
 
 from . import counts
-from .preloaded import Run, library
-from .running import FIRST, LOADED, LOOP, Case, quoted
 
 MOST = 20_000  # refused allocations that are tried before a run must meet none
 

@@ -1,5 +1,5 @@
 """Loads and stores at the edges of live memory, the data and the part of the stack that was made; calls of addresses."""
-from .running import Case
+from harness.running import Case
 
 # The bytes 1 to 24 as data, and as many on the stack, which starts at 16,777,216.
 TEXT = """data $d = {{ b 1 2 3 4 5 6 7 8 9 10 11 12 13 14 15 16 17 18 19 20 21 22 23 24 }}

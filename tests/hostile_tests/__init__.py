@@ -1,16 +1,14 @@
-"""Hostile use of the built program, from outside; rows/hostile runs these.
+"""Hostile use of the built program, from outside; tests/hostile runs these.
 
-    running.py       runs the program, and compares what it did; the texts that several modules use
     programs.py      random programs
     scripts.py       random scripts
     texts.py         texts: of one byte, cut, changed, long
     long_texts.py    texts at each limit, and long in two ways at once
     operations.py    each operation at edge values
-    sessions.py      scripts: long ones, and random ones against the model of rows/reference
+    sessions.py      scripts: long ones, and random ones against the model of tests/reference
     single_lines.py  scripts of a line or two: the shapes of words, and how many there are
     edges.py         loads and stores at the edges of live memory, and calls of each kind of address
     devices.py       standard input and output that are slow, closed or fail
     memory.py        each allocation refused in turn
     counts.py        how many allocations moves and commands take
-    preloaded.py     libraries that are preloaded to a run, as the one that refuses and counts allocations
 """

@@ -1,11 +1,11 @@
 """Texts: one byte, cut after each byte, each byte at each place, changed in a few places, and long ones."""
 from random import Random
 
+from harness.running import FIRST, Case
 import reference
 
 from .long_texts import TABLES
 from .programs import changed, random_program
-from .running import FIRST, Case
 
 CHANGED = 1500  # random programs that are changed
 

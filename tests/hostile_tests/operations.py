@@ -3,7 +3,7 @@ import itertools
 import math
 from fractions import Fraction
 
-from .running import Case
+from harness.running import Case
 
 BITS = {"w": 32, "l": 64}
 
