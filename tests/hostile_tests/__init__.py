@@ -4,6 +4,7 @@
     scripts.py       random scripts
     texts.py         texts: of one byte, cut, changed, long
     long_texts.py    texts at each limit, and long in two ways at once
+    names.py         names that are made to collide, beside names at random
     operations.py    each operation at edge values
     sessions.py      scripts: long ones, and random ones against the model of tests/reference
     single_lines.py  scripts of a line or two: the shapes of words, and how many there are

@@ -69,7 +69,7 @@ no: at start
 no: at start
 no: unknown command
 """)
-REVERSED = (b"break $main @start 1\nstep 2\n", b"reverse\nreverse\n",
+REVERSED = (b"break $main @start 1\nstep 2\n", b"reverse\nreverse\nquit\n",
             LOADED + b"break 1 $main @start 1\n#2 done 5\nstop: break 1\n#1 $main @start 1\nstop: start\n#0 $main @start 0\n")
 QUIET = {"what only looks": LOOKED, "a run back": REVERSED}
 
