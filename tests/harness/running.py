@@ -1,0 +1,106 @@
+"""Which program is asked, a run of it, what it did otherwise than it must, and the count of what passed."""
+import itertools
+import pathlib
+import subprocess
+import sys
+import tempfile
+from typing import NamedTuple
+
+TOP = pathlib.Path(__file__).resolve().parent.parent.parent
+EXAMPLES = TOP / "examples"
+ROWS = TOP / "rows"
+BUILT = TOP / "crates" / "qrev" / "out" / "qrev"
+RELEASED = TOP / "release" / "qrev-x86_64-linux"
+
+# The first example, its load lines, which are those of the loop as well, and a loop without an end.
+FIRST = b"function w $main() {\n@start\n\t%x =w add 2, 3\n\tret %x\n}\n"
+LOADED = b"loaded 1 functions 0 data bytes ssa yes\n#0 $main @start 0\n"
+LOOP = b"function $main() {\n@start\n\tjmp @l\n@l\n\tjmp @l\n}\n"
+
+
+def add_program_option(options):
+    options.add_argument("--program", metavar="PATH",
+                         help="the program that is asked; else the released one where it fits, or the one that is built")
+
+
+def program_of(given):
+    """The program that is asked, by the options of a test."""
+    if given.program:
+        return str(pathlib.Path(given.program).resolve())
+    if subprocess.run([str(TOP / "release" / "fits")], stdout=subprocess.DEVNULL).returncode == 0:
+        return str(RELEASED)
+    # The script at the top builds it where it has to.
+    if subprocess.run([str(TOP / "qrev"), "--built", "--help"], stdout=subprocess.DEVNULL).returncode != 0:
+        sys.exit("the program does not run")
+    return str(BUILT)
+
+
+class Case(NamedTuple):
+    """A test: `function(running, *arguments)` gives what is wrong, or None."""
+
+    name: str
+    function: object
+    arguments: tuple = ()
+
+
+class Running(NamedTuple):
+    program: str
+    seconds: float
+
+    def run(self, text, script=b"", words=(), **given):
+        """What the program writes to standard output and error for a text, and its exit status; None without an end."""
+        with tempfile.NamedTemporaryFile(prefix="hostile-", suffix=".ssa") as file:
+            file.write(text)
+            file.flush()
+            try:
+                run = subprocess.run([self.program, file.name, *words], input=script, capture_output=True,
+                                     timeout=self.seconds, **given)
+            except subprocess.TimeoutExpired:
+                return None
+        return run.stdout, run.stderr, run.returncode
+
+    def fault(self, text, script, words, transcript, status):
+        """What the program does otherwise than it must, or None. Nothing may come on standard error."""
+        run = self.run(text, script, words)
+        if run is None:
+            return f"no end after {self.seconds} seconds"
+        return difference(transcript, run[0]) or (
+            f"status {run[2]} in place of {status}" if run[2] != status else
+            f"standard error: {quoted(run[1])}" if run[1] else None)
+
+
+def quoted(line):
+    if line is None:
+        return "the end"
+    text = repr(line)[1:]
+    return text if len(text) < 100 else text[:96] + " .."
+
+
+def difference(wanted, given):
+    """The first line where two texts differ, or None."""
+    if wanted == given:
+        return None
+    pairs = itertools.zip_longest(wanted.split(b"\n"), given.split(b"\n"))
+    for number, (want, give) in enumerate(pairs, 1):
+        if want != give:
+            return f"line {number}: {quoted(give)} in place of {quoted(want)}"
+    return None
+
+
+class Tally:
+    """How many cases passed and failed. A failing one has a line."""
+
+    def __init__(self):
+        self.passed = self.failed = 0
+
+    def add(self, name, fault):
+        if fault:
+            self.failed += 1
+            print(f"{name}: {fault}", flush=True)
+        else:
+            self.passed += 1
+
+    def end(self):
+        """Prints the last line, and gives the exit status."""
+        print(f"{self.passed} passed, {self.failed} failed")
+        return 1 if self.failed or not self.passed else 0

@@ -1,0 +1,186 @@
+"""How many allocations moves and commands take, and how many bytes, counted by a library that is preloaded (refusing.c)."""
+import tempfile
+
+from harness.preloaded import Run, library
+from harness.running import FIRST, LOADED, LOOP, Case, difference
+
+# A copy of 64 bytes is the third step, an allocation the fourth. Then there is no end, and steps take no memory.
+MOVES = b"""data $d = { z 192 }
+function $main() {
+@s
+	%x =w copy 1
+	%p =l add $d, 64
+	blit $d, %p, 64
+	%q =l alloc16 4096
+	jmp @l
+@l
+	jmp @l
+}
+"""
+
+# How many steps come first, what is asked for then, and how many allocations that takes: the first move makes the list of
+# records, and copies and allocations keep what they overwrite in two blocks of their own.
+ASKED = [(0, b"step", 1), (0, b"set %x 9", 1), (0, b"poke l 65536 9", 1), (1, b"step", 0), (1, b"set %x 9", 0),
+         (1, b"poke l 65536 9", 0), (2, b"step", 2), (3, b"step", 2)]
+
+# Moves forward and back of which none takes memory of its own.
+PLAIN = b"data $d = { l 5 }\nfunction $main() {\n@s\n\t%x =w copy 1\n\tstorel 1, $d\n\tjmp @l\n@l\n\tjmp @l\n}\n"
+ROUND = b"step\nset %x 1\nset %x 2\npoke l $d 3\nback\nstep\nstep\nback\nback\nstep\nstep\nstep\n"
+ROUND_SAID = b"""loaded 1 functions 8 data bytes ssa yes
+#0 $main @s 0
+#1 $main @s 1
+#2 $main @s 1
+#3 $main @s 1
+#4 $main @s 1
+#3 $main @s 1
+#4 $main @s 2
+#5 $main @l 0
+#4 $main @s 2
+#3 $main @s 1
+#4 $main @s 2
+#5 $main @l 0
+#6 $main @l 0
+"""
+
+# Lines that take no memory, behind others; and what is said to all of them.
+LOOKED = (b"break $main @start 1\nstep\n",
+          b"print %x\ntemps\nmem 65536 2\nwhere\nlist\nout\nbreak $main\nwatch b 65536\nwatch $main %x\nstops\ndelete 2\n"
+          b"back\nback\nreverse\nfly\n",
+          LOADED + b"""break 1 $main @start 1
+#1 $main @start 1
+%x = 5
+%x = 5
+-- --
+$main @start 1
+$main @start
+  0 %x =w add 2, 3
+> 1 ret %x
+out 0 ""
+break 2 $main @start 0
+watch 3 b 65536
+watch 4 $main %x
+break 1 $main @start 1
+break 2 $main @start 0
+watch 3 b 65536
+watch 4 $main %x
+deleted 2
+#0 $main @start 0
+no: at start
+no: at start
+no: unknown command
+""")
+REVERSED = (b"break $main @start 1\nstep 2\n", b"reverse\nreverse\nquit\n",
+            LOADED + b"break 1 $main @start 1\n#2 done 5\nstop: break 1\n#1 $main @start 1\nstop: start\n#0 $main @start 0\n")
+QUIET = {"what only looks": LOOKED, "a run back": REVERSED}
+
+# A loop beside as many data as there may be.
+GREATEST = b"data $z = { z 1048576 }\n" + LOOP
+GREATEST_LOADED = LOADED.replace(b"0 data", b"1048576 data")
+
+
+class Counting:
+    """Counts what runs of a program's text take."""
+
+    def __init__(self, running, made, text, history):
+        self.running, self.made, self.text = running, made, text
+        self.words = [] if history is None else ["--history", str(history)]
+
+    def run(self, script):
+        with tempfile.NamedTemporaryFile(prefix="counts-", suffix=".ssa") as file:
+            file.write(self.text)
+            file.flush()
+            run = Run(self.running, self.made, 0, [file.name, *self.words], script)
+        if run.status or run.errors or not run.allocations:
+            raise ValueError(f"status {run.status}, {run.allocations} allocations, standard error: {run.errors}")
+        return run
+
+    def more(self, script, behind):
+        """How many allocations the lines behind a script take."""
+        return self.run(script + behind).allocations - self.run(script).allocations
+
+
+def steps(count):
+    return b"step %d\n" % count if count else b""
+
+
+def quiet(running, name, history):
+    """Lines that look, set stops or go back take no memory."""
+    before, lines, said = QUIET[name]
+    with library() as made:
+        counting = Counting(running, made, FIRST, history)
+        taken = counting.more(before, lines)
+        return difference(said, counting.run(before + lines).written) or (f"{taken} allocations" if taken else None)
+
+
+def of_each_move(running, history):
+    """Each kind of move takes the allocations that it is to; with a bound none for the list."""
+    with library() as made:
+        counting = Counting(running, made, MOVES, history)
+        for count, line, wanted in ASKED:
+            if history is not None and count == 0:
+                wanted = 0
+            taken = counting.more(steps(count), line + b"\n")
+            if taken != wanted:
+                return f"{taken} allocations of {line} behind {count} steps in place of {wanted}"
+    return None
+
+
+def growths(running):
+    """From five moves to forty the list grows three times: to more than 8, 16 and 32."""
+    with library() as made:
+        counting = Counting(running, made, MOVES, None)
+        for count in range(5, 40):
+            line = b"step\n" if count % 2 == 0 else b"set %%x %d\n" % count
+            taken, wanted = counting.more(steps(count), line), 1 if count in (8, 16, 32) else 0
+            if taken != wanted:
+                return f"{taken} allocations of {line} behind {count} steps in place of {wanted}"
+    return None
+
+
+def long_run(running, history, most):
+    """3,000 moves take so many allocations at most, and a way back over them none."""
+    with library() as made:
+        counting = Counting(running, made, LOOP, history)
+        taken, back = counting.more(b"", b"step 3000\n"), counting.more(b"step 3000\n", b"back 3000\n")
+        return difference(LOADED + b"#3000 $main @l 0\n", counting.run(b"step 3000\n").written) or (
+            f"{taken} allocations, and {back} of the way back" if taken > most or back else None)
+
+
+def ring(running):
+    """A bound takes its room for the load, 24 bytes for each move that is kept, in a block, however many these are."""
+    with library() as made:
+        few, many = (Counting(running, made, PLAIN, history).run(b"") for history in (100, 900))
+        more = many.allocations - few.allocations, many.bytes - few.bytes
+        return f"{more[0]} allocations of {more[1]} bytes more for 800 moves" if more != (0, 800 * 24) else None
+
+
+def ring_moves(running):
+    """Then moves that need no memory of their own take none."""
+    with library() as made:
+        counting = Counting(running, made, PLAIN, 3)
+        taken = counting.more(b"", ROUND)
+        return difference(ROUND_SAID, counting.run(ROUND).written) or (f"{taken} allocations" if taken else None)
+
+
+def records(running):
+    """1,000 moves over 2^20 bytes of data take 24 bytes each, in lists of 4, 8 and so on to 1,024 records."""
+    with library() as made:
+        counting = Counting(running, made, GREATEST, None)
+        run, most = counting.run(b"step 1000\n"), 24 * sum(2**n for n in range(2, 11))
+        taken = run.bytes - counting.run(b"").bytes
+        return difference(GREATEST_LOADED + b"#1000 $main @l 0\n", run.written) or (
+            f"{taken} bytes, more than {most}" if taken > most else None)
+
+
+def cases():
+    for name in QUIET:
+        for history in (None, 3):
+            yield Case(f"{name} takes no memory, --history {history}", quiet, (name, history))
+    for history in (None, 3):
+        yield Case(f"what each kind of move takes, --history {history}", of_each_move, (history,))
+    yield Case("growths of the list of records", growths)
+    yield Case("3,000 moves take few allocations", long_run, (None, 20))
+    yield Case("3,000 moves with --history 3 take none", long_run, (3, 0))
+    yield Case("the room of a bound", ring)
+    yield Case("moves to and fro with --history 3 take no memory", ring_moves)
+    yield Case("a move keeps a record and nothing beside it", records)

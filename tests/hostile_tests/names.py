@@ -1,0 +1,74 @@
+"""Names that are made to collide take no longer than names at random, in one run.
+
+The file colliding-names has names of seven letters that agree in the place and in the tag which a table gives them under a
+fixed seed, as a text's author could search for them. The tables hash with keys that are drawn when the program starts, so
+that here they are names like any other; under the fixed seed the time of such a text grew with the square of its names.
+"""
+import os
+import pathlib
+import string
+import subprocess
+import tempfile
+from random import Random
+
+from harness.running import Case
+
+NAMES = (pathlib.Path(__file__).resolve().parent / "colliding-names").read_text().split()
+ROUNDS = 5
+# How much longer the load of the colliding names may take, as a factor and in seconds besides, of a busy machine.
+FACTOR, SLACK = 3, 0.03
+LOW_BITS, PLACE_AND_TAG = 2**64 - 1, 0xff001fff
+
+TEXTS = {
+    "labels": lambda names: "function $main() {\n" + "".join(f"@{name}\n" for name in names) + "ret\n}\n",
+    "temporaries": lambda names: "function $main() {\n@s\n" + "".join(f"%{name} =w copy 1\n" for name in names) + "ret\n}\n",
+    "data": lambda names: "".join(f"data ${name} = {{ }}\n" for name in names) + "function $main() {\n@s\nret\n}\n",
+}
+
+
+def folded(a, b):
+    product = a * b
+    return (product & LOW_BITS) ^ (product >> 64)
+
+
+def hashed(name):
+    """The hash of a name of seven letters under the fixed seed."""
+    step = 0x9e3779b97f4a7c15
+    state = folded(0x243f6a8885a308d3 ^ len(name), step ^ 16)
+    for byte in name.encode():
+        state = folded(state ^ byte * 0x10101, step ^ 2)
+    return (state ^ state >> 32) & 0xffffffff
+
+
+def do_collide(_running):
+    """Under the fixed seed all names have one place and one tag, and none stands twice."""
+    places = {hashed(name) & PLACE_AND_TAG for name in NAMES}
+    return None if len(places) == 1 and len(set(NAMES)) == len(NAMES) > 7000 else f"{len(NAMES)} names, {len(places)} places"
+
+
+def loaded_in(running, text):
+    """The processor's seconds that a load takes."""
+    with tempfile.NamedTemporaryFile("w", prefix="names-", suffix=".ssa") as file:
+        file.write(text)
+        file.flush()
+        process = subprocess.Popen([running.program, file.name], stdin=subprocess.DEVNULL, stdout=subprocess.DEVNULL)
+        _, status, used = os.wait4(process.pid, 0)
+        process.returncode = os.waitstatus_to_exitcode(status)
+    if process.returncode != 0:
+        raise ValueError(f"status {process.returncode}")
+    return used.ru_utime + used.ru_stime
+
+
+def take_no_longer(running, kind):
+    random = Random(7)
+    others = ["".join(random.choices(string.ascii_letters, k=7)) for _ in NAMES]
+    colliding, plain = TEXTS[kind](NAMES), TEXTS[kind](others)
+    times = [(loaded_in(running, colliding), loaded_in(running, plain)) for _ in range(ROUNDS)]
+    taken, beside = min(one for one, _ in times), min(other for _, other in times)
+    return None if taken <= FACTOR * beside + SLACK else f"{taken:.3f} seconds, and {beside:.3f} for names at random"
+
+
+def cases():
+    yield Case("names that collide under a fixed seed", do_collide)
+    for kind in TEXTS:
+        yield Case(f"names made to collide, as {kind}", take_no_longer, (kind,))
