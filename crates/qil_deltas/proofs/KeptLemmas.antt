@@ -54,3 +54,10 @@ module _ {A : Type 0} (m w : Whole A) (ds es : List Move) (d : Move) where
   adds_weight now k view e few =
       let whole : total es ≡ total ds + weight d = ap total e ∙ sum_by_push weight ds d in
       subst (λ (r : Moved A). total es ≤ total r.deltas + k) view (omega (arith, whole, few))
+
+abbrev moved : {A : Type 0} → Whole A → List Move → Moved A
+moved m ds = record { machine = m; deltas = ds }
+
+-- where the list is the same and the machine too, so is the timeline
+pub kept_moves : {A : Type 0} (m : Whole A) (ds es : List Move) (k : Moved A) → ds ≡ es → moved m es ≡ k → moved_timeline (moved m ds) ≡ moved_timeline k
+kept_moves {A} m ds es k e is = ap (λ (xs : List Move). moved_timeline (moved m xs)) e ∙ ap (λ (x : Moved A). moved_timeline x) is
