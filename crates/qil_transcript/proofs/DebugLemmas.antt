@@ -22,7 +22,7 @@ use Rattle.qil_meaning.specs.Start.{start_of}
 use Rattle.qil_meaning.specs.Timeline.{Timeline, begun}
 use Rattle.qil_meaning.specs.declared.start.StartFault.{StartFault}
 use Rattle.qil_session.specs.Situation.{Situation}
-use Rattle.qil_session.specs.Answers.{IsAnswered, IsAnsweredTo, answers}
+use Rattle.qil_session.specs.Answers.{IsAnswered, answers}
 use Rattle.qil_session.specs.Kept.{Kept, situation}
 use Rattle.qil_transcript.specs.declared.serving.IoFault.TheVariants.{Read, Write, TooLong}
 use Rattle.qil_transcript.specs.declared.outcome.Outcome.{Outcome}
@@ -86,9 +86,6 @@ is_session {A} s verdict start first lines told begins first_is answered = recor
   written_is = refl;
 }
 
-told_alone : {A : Type 0} {s left : Situation A} {lines : List (List ℕ)} {text : List ℕ} → IsAnsweredTo s lines text left → IsAnswered s lines text
-told_alone a = (a.0, a.1, a.2)
-
 pub Written-ended : {A T : Type 0} (v : T) (s : Setup) (verdict : Verdict A) (start : State) (first : Situation A) (known left w0 w1 w2 : Option (List ℕ)) (now : Situation A)
     → Opened s verdict start first w0 w1 → Promise (Ok v) first known left w1 w2 now
     → Written A outcomes.Ended s known left w0 w2
@@ -96,7 +93,7 @@ Written-ended v s verdict start first None left w0 w1 w2 now o p = tt
 Written-ended v s verdict start first (Some script) left w0 w1 w2 now o p = (
   heading s verdict start ++ p.0,
   Appends-append w0 w1 w2 (heading s verdict start) p.0 o.told p.1,
-  (is_session s verdict start first (lines_of script) p.0 o.begins o.first_is (told_alone p.2.0), p.2.1),
+  (is_session s verdict start first (lines_of script) p.0 o.begins o.first_is (p.2.0.0, p.2.0.1, p.2.0.2), p.2.1),
 )
 
 pub Written-too_long : {A : Type 0} (T : Type 0) (s : Setup) (verdict : Verdict A) (start : State) (first : Situation A) (known left w0 w1 w2 : Option (List ℕ)) (now : Situation A)
@@ -106,7 +103,7 @@ Written-too_long T s verdict start first None left w0 w1 w2 now o p = tt
 Written-too_long T s verdict start first (Some script) left w0 w1 w2 now o p = (
   heading s verdict start ++ p.0,
   Appends-append w0 w1 w2 (heading s verdict start) p.0 o.told p.1,
-  (is_session s verdict start first (whole_lines_of (take (2 ^ 24) script)) p.0 o.begins o.first_is (told_alone p.2.0), p.2.1),
+  (is_session s verdict start first (whole_lines_of (take (2 ^ 24) script)) p.0 o.begins o.first_is (p.2.0.0, p.2.0.1, p.2.0.2), p.2.1),
 )
 
 pub Written-read : {A : Type 0} (T : Type 0) (s : Setup) (verdict : Verdict A) (start : State) (first : Situation A) (known left w0 w1 w2 : Option (List ℕ)) (now : Situation A)
@@ -117,7 +114,7 @@ Written-read T s verdict start first (Some script) left w0 w1 w2 now o p =
     let (read, taken, answered, goes) = p.2 in (
       heading s verdict start ++ p.0,
       Appends-append w0 w1 w2 (heading s verdict start) p.0 o.told p.1,
-      (read, taken, is_session s verdict start first (whole_lines_of read) p.0 o.begins o.first_is (told_alone answered), goes),
+      (read, taken, is_session s verdict start first (whole_lines_of read) p.0 o.begins o.first_is (answered.0, answered.1, answered.2), goes),
     )
 
 pub Written-write : {A : Type 0} (T : Type 0) (s : Setup) (verdict : Verdict A) (start : State) (first : Situation A) (known left w0 w1 w2 : Option (List ℕ)) (now : Situation A)

@@ -19,7 +19,7 @@ use Rattle.qil_stops.specs.Listed.{is_listed}
 use Rattle.qil_stops.specs.declared.stop.StopKind.{StopKind}
 use Rattle.qil_session.specs.Situation.{Situation, has_kind, is_full}
 use Rattle.qil_session.specs.Answers.{Answer, AnswersLine, answer, answers, left_by, AreLawful, IsLawful, IsAnswered, IsAnsweredTo, is_quit, quits, if_back, poke_answer, poke_at, stop_answer}
-use Rattle.std.specs.Prelude.{IfSome}
+use Rattle.std.specs.Prelude.{IfSome, OnOk}
 use Rattle.std.specs.Io.KnownBytes.{Consumes, Appends, IsAtEnd, prepend_known}
 use Rattle.qil_transcript.specs.declared.serving.IoFault.{IoFault}
 use Rattle.qil_transcript.specs.declared.serving.IoFault.TheVariants.{Read, Write, TooLong}
@@ -29,7 +29,7 @@ use Rattle.qil_streams.specs.Device.{IsFrontOf}
 use Rattle.std.proofs.Common.{subst}
 use Rattle.std.proofs.Math.Seq.{take-append_seam, take-append-add}
 use Rattle.qil_session.specs.declared.session.Next.{Next}
-use Rattle.qil_transcript.specs.Serve.{IsServed, IsCutShort, IsTooLong}
+use Rattle.qil_transcript.specs.Serve.{AreServed, IsServed, IsCutShort, IsTooLong}
 use Rattle.qil_streams.proofs.ScriptLemmas.{Cut, Cut-nil, Cut-line, Cut-whole_part, Cut-end, Cut-last}
 use Rattle.qil_transcript.proofs.KeptLemmas.{command_of-kept}
 
@@ -463,3 +463,13 @@ pub line_said : {A E : Type 0} (r : Result Next E) (old new : Situation A) (slic
     → slice ≡ kept → kept ≡ take 257 line → AnswersLine r old new (command_of slice) before after → AnswersLine r old new (command_of line) before after
 line_said r old new slice kept line before after e f h =
     subst (λ said. AnswersLine r old new said before after) (ap (λ v. command_of v) (e ∙ f) ∙ command_of-kept line) h
+
+-- two scripts, the second from where the first left the session
+pub in_turn : {A T U : Type 0} (r : Result T IoFault) (first there now : Situation A) (one two left left' w0 w1 w2 : Option (List ℕ)) (v : U)
+    → Promise (Ok v) first one left w0 w1 there → Promise r there two left' w1 w2 now
+    → OnOk r (IfSome one (λ script. IfSome two (λ more. (text : List ℕ) × Appends w0 w2 text × AreServed first script more text now)))
+in_turn (Err e) first there now one two left left' w0 w1 w2 v p q = tt
+in_turn (Ok x) first there now None two left left' w0 w1 w2 v p q = tt
+in_turn (Ok x) first there now (Some script) None left left' w0 w1 w2 v p q = tt
+in_turn (Ok x) first there now (Some script) (Some more) left left' w0 w1 w2 v p q =
+    (p.0 ++ q.0, Appends-append w0 w1 w2 p.0 q.0 p.1 q.1, record { there = there; first = p.0; second = q.0; one_is = p.2.0; two_is = q.2.0; text_is = refl })

@@ -2,7 +2,6 @@
 use Rattle.std.proofs.Common.{◌∙◌, arith, refl, None, Ok, Err}
 use Rattle.qil_session.specs.declared.session.Next.TheVariants.{Go, Quit}
 use Rattle.qil_streams.proofs.ReaderLemmas.{Reads-append}
-use Rattle.qil_session.specs.Kept.{situation}
 use Rattle.qil_transcript.proofs.FewLemmas.{unread, Reads-start, few_read}
 use Rattle.qil_transcript.proofs.ServeLemmas.{Standing-start, Standing-line, Promise-end, Promise-last, Promise-last_quit, Promise-read, Promise-too_long, Promise-quit, Promise-write, Promise-write_last, line_said, prepend_none}
 use Rattle.qil_transcript.proofs.serving.serve_lines.Goals as goal
