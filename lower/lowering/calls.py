@@ -152,7 +152,7 @@ class CallWriter:
         count = len(signature.parameters)
         for index, kind in enumerate(signature.parameters):
             if index < len(call.arguments):
-                written.append(self.fitted(*call.arguments[index], kind, index + 1, name))
+                written.append(self.fitted(*call.arguments[index], kind, index + 1, target))
             else:
                 written.append(f"{CARRIED[class_of(kind)]} 0")
                 self.note(f"{name} wants {count} arguments, and the call gives {len(call.arguments)}: 0", Weight.OTHER)
@@ -164,10 +164,12 @@ class CallWriter:
             self.report.count("calls with arguments that the function doesn't take")
         return written
 
-    def fitted(self, kind: str, value: Value, wanted: str, number: int, name: str) -> str:
+    def fitted(self, kind: str, value: Value, wanted: str, number: int, target: Symbol) -> str:
         """An argument in the class of its parameter."""
+        name = target.name
         have, want = carried_class(kind), carried_class(wanted)
-        if is_float(kind) != is_float(wanted) or kind.startswith(":") != wanted.startswith(":"):
+        if is_float(kind) != is_float(wanted) or \
+                kind.startswith(":") != wanted.startswith(":") and not target.is_of_runtime():
             self.note(f"argument {number} of {name} is a {kind} for a {wanted}", Weight.OTHER)
         elif have != want:
             self.note(f"argument {number} of {name} is a {kind} for a {wanted}: "

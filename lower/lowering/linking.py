@@ -166,7 +166,7 @@ class Program:
             symbol.name = self.names.give(symbol.raw)
             if symbol.name != symbol.raw:
                 self.report.count("names that were changed")
-                if symbol.unit is not None and not symbol.unit.is_runtime:
+                if symbol.unit is not None and not symbol.is_of_runtime():
                     self.report.note(symbol.unit.text.path, symbol.definition.line,
                                      f"{symbol.raw} is written as {symbol.name}")
 
@@ -192,7 +192,7 @@ class Program:
             if not symbol.is_outside() or symbol.raw.startswith("$fault."):
                 continue
             self.report.count("functions from outside, which halt")
-            users = [user for user in self.kept if user.unit is not None and not user.unit.is_runtime
+            users = [user for user in self.kept if user.unit is not None and not user.is_of_runtime()
                      and symbol in self.references_of(user)]
             for user in users[:1]:
                 weight = Weight.HALTS if symbol in reached else Weight.OTHER
@@ -205,7 +205,7 @@ def name_order(symbol: Symbol, program: Program) -> int:
     runtime's."""
     if symbol.is_outside() or program.exported.get(symbol.raw) is symbol:
         return 0
-    return 2 if symbol.unit is not None and symbol.unit.is_runtime else 1
+    return 2 if symbol.is_of_runtime() else 1
 
 
 def is_common(symbol: Symbol) -> bool:

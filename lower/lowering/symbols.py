@@ -57,14 +57,15 @@ class Symbol:
     is_built_in: bool = False
     # The name in the text that is written, with its sigil.
     name: str = ""
-    # Where an outside function is used first.
-    first_use: tuple[str, int] = ("", 0)
 
     def is_function(self) -> bool:
         return not self.is_data()
 
     def is_data(self) -> bool:
         return self.definition is not None and not isinstance(self.definition, Function)
+
+    def is_of_runtime(self) -> bool:
+        return self.unit is not None and self.unit.is_runtime
 
     def is_outside(self) -> bool:
         return self.definition is None and not self.is_built_in

@@ -106,7 +106,7 @@ class ProgramWriter:
 
     def fit_heap(self) -> None:
         """Makes the heap smaller where the data wouldn't fit otherwise."""
-        heap = next((symbol for symbol in self.data if symbol.raw == HEAP and symbol.unit.is_runtime), None)
+        heap = next((symbol for symbol in self.data if symbol.raw == HEAP and symbol.is_of_runtime()), None)
         if heap is None:
             return
         others = self.data_end([symbol for symbol in self.data if symbol is not heap]) - FIRST_DATA
