@@ -1,10 +1,12 @@
 """Writes data in the language of qrev, an object on a line."""
+import re
+
 from .tree import Data, Item
 
 SIZES = {"b": 1, "h": 2, "w": 4, "l": 8}
 ESCAPES = {"\n": "\\n", "\t": "\\t", "\r": "\\r", "\\": "\\\\", '"': '\\"'}
-ESCAPES |= {chr(byte): f"\\{byte:03o}" for byte in (*range(32), 127) if chr(byte) not in ESCAPES}
-TABLE = str.maketrans(ESCAPES)
+# A byte that isn't shown, and whether an octal digit follows, which would be read with it.
+ESCAPED = re.compile(r'[\x00-\x1f\x7f"\\](?=([0-7])?)')
 # So many zeros on end are told by their count.
 FEWEST_ZEROS = 8
 WHOLE = (1 << 64) - 1
@@ -45,10 +47,15 @@ def fields_of(items: list[Item]) -> list[tuple[str, list[Item]]]:
     return fields
 
 
+def escape(match: re.Match) -> str:
+    byte = match.group()
+    return ESCAPES.get(byte) or (f"\\{ord(byte):03o}" if match.group(1) else f"\\{ord(byte):o}")
+
+
 def written_item(item: Item, name_of, address_of) -> str:
     """An item. The language has addresses of 8 bytes: a shorter one is written as its number."""
     if not item.is_global:
-        return str(item.value) if type(item.value) is int else f'"{item.value.translate(TABLE)}"'
+        return str(item.value) if type(item.value) is int else f'"{ESCAPED.sub(escape, item.value)}"'
     if item.letter != "l":
         mask = (1 << 8 * SIZES[item.letter]) - 1
         return str(address_of(item.value) + item.offset & mask)
