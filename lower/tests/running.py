@@ -7,6 +7,10 @@ import tempfile
 from collections.abc import Iterator
 from typing import NamedTuple
 
+from lowering.command import Lowering
+from lowering.reader import TextReader
+from lowering.refusals import Refused
+
 FOLDER = pathlib.Path(__file__).resolve().parent.parent
 TOP = FOLDER.parent
 LOWER = FOLDER / "qrev-lower"
@@ -72,6 +76,13 @@ class Running:
             return Lowered(run.returncode, (folder / "out.ssa").read_bytes().decode("latin-1"),
                            run.stderr.decode("latin-1"),
                            beside.read_bytes().decode("latin-1") if beside.exists() else "")
+
+    def lower_here(self, text: str, entry: str = "main", is_linked: bool = True) -> Lowering | str:
+        """Lowers a text in this process; a refusal is what it says."""
+        try:
+            return Lowering([TextReader(text, "a.ssa").read()], entry, is_linked)
+        except Refused as refused:
+            return str(refused)
 
     def run(self, text: str, script: str = "continue\nout\n", words: tuple[str, ...] = (),
             keeps_history: bool = False) -> Run:
