@@ -124,14 +124,16 @@ class Program:
             return []
         return [self.resolve(symbol.unit, raw) for raw in sorted(references(symbol.definition))]
 
-    def reached_from(self, symbols: Iterable[Symbol]) -> dict[Symbol, None]:
+    def reached_from(self, symbols: Iterable[Symbol], beside: Iterable[Symbol] = ()) -> dict[Symbol, None]:
+        """What these name, and what that names, and so on; not by way of those beside."""
         reached = dict.fromkeys(symbols)
         todo = list(reached)
         while todo:
             for symbol in self.references_of(todo.pop()):
                 if symbol not in reached:
                     reached[symbol] = None
-                    todo.append(symbol)
+                    if symbol not in beside:
+                        todo.append(symbol)
         return reached
 
     def keep(self, symbols: Iterable[Symbol]) -> None:
@@ -160,8 +162,8 @@ class Program:
     def give_names(self) -> None:
         """Names for all that is kept and has none: first those that can't be had otherwise."""
         nameless = [symbol for symbol in self.kept if not symbol.name]
-        if not nameless:
-            return
+        # What the runtime calls as built in can't be hidden by a definition of the same name.
+        self.names.taken.update(symbol.name for symbol in self.kept if symbol.is_built_in)
         for symbol in sorted(nameless, key=lambda symbol: name_order(symbol, self)):
             symbol.name = self.names.give(symbol.raw)
             if symbol.name != symbol.raw:
@@ -175,7 +177,8 @@ class Program:
     def replace_those_that_halt(self) -> None:
         """A function of a text that needs the system is replaced by the runtime's of its name, where there is one."""
         candidates = [symbol for symbol in self.exported.values() if symbol.raw in self.runtime.places]
-        halting = [symbol for symbol in candidates if any(other.is_outside() for other in self.reached_from([symbol]))]
+        halting = [symbol for symbol in candidates
+                   if any(other.is_outside() for other in self.reached_from([symbol], set(candidates)))]
         for symbol in halting:
             self.replaced[symbol] = self.runtime.symbol(symbol.raw)
             self.report.count("functions that need the system, replaced by the runtime's")
