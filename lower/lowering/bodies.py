@@ -286,12 +286,18 @@ class BodyReader:
         self.at += 1
         self.moved_in = block
         self.count("debug lines")
-        line = self.expect("number", "the line")
+        line = self.read_place_number("the line")
         column = 0
         if self.kinds[self.at] == ",":
             self.at += 1
-            column = self.expect("number", "the column")
+            column = self.read_place_number("the column")
         self.place = Place(self.file, line, column)
+
+    def read_place_number(self, what: str) -> int:
+        number = self.expect("number", what)
+        if not 0 <= number < 1 << 29:
+            self.refuse(f"{what} is too large", self.lines[self.at - 1])
+        return number
 
     def read_jump(self, block: Block, word: str) -> Jump:
         line = self.lines[self.at]

@@ -104,7 +104,7 @@ def write_all(lowering: Lowering, output: str | None, map_path: str | None) -> N
     else:
         pathlib.Path(output).write_bytes(text)
     if map_path is not None:
-        pathlib.Path(map_path).write_bytes(lowering.map.encode(ENCODING, "replace"))
+        pathlib.Path(map_path).write_bytes(lowering.map.encode(ENCODING))
 
 
 def main(words: list[str]) -> int:

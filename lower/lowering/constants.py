@@ -5,7 +5,9 @@ from typing import NamedTuple
 
 HEXADECIMAL = re.compile(r"0x([0-9a-f]*)\.?([0-9a-f]*)(?:p([+-]?[0-9]+))?")
 DECIMAL = re.compile(r"([0-9]*)\.?([0-9]*)(?:e([+-]?[0-9]+))?")
-MOST_DIGITS = 5000
+# So many digits decide a rounding; of those behind them only whether one isn't zero counts.
+MOST_DIGITS = 1000
+MOST_POWER = 1 << 20
 
 
 class Format(NamedTuple):
@@ -48,15 +50,39 @@ def rounded(numerator: int, denominator: int, target: Format) -> int:
     return min((field << target.precision - 1) + quotient, target.infinity)
 
 
-def decimal_fraction(whole: str, part: str, exponent: int) -> Fraction:
+def shortened(digits: str, base: int) -> tuple[int, int]:
+    """Digits as a number, and how many were left out behind it: it ends in a 1 for all that follow and aren't zero."""
+    digits = digits.lstrip("0") or "0"
+    front, rest = digits[:MOST_DIGITS], digits[MOST_DIGITS:]
+    if not rest.strip("0"):
+        return int(front, base), len(rest)
+    return int(front + "1", base), len(rest) - 1
+
+
+def power_of(text: str | None) -> int:
+    """An exponent; one that is far out of range stays so."""
+    digits = (text or "0").lstrip("+-").lstrip("0")
+    power = int(digits or "0") if len(digits) < 10 else MOST_POWER
+    return -min(power, MOST_POWER) if text and text[0] == "-" else min(power, MOST_POWER)
+
+
+def decimal_fraction(whole: str, part: str, power: int) -> Fraction:
     """A decimal; one that is far out of range stays so, without its thousands of digits."""
-    digits = (whole + part).lstrip("0") or "0"
-    exponent -= len(part)
-    if digits == "0" or len(digits) + exponent < -MOST_DIGITS:
+    number, left_out = shortened(whole + part, 10)
+    power += left_out - len(part)
+    length = len(str(number)) + power
+    if number == 0 or length < -MOST_DIGITS:
         return Fraction(0)
-    if len(digits) + exponent > MOST_DIGITS:
-        return Fraction(1 << 2000)
-    return Fraction(int(digits)) * Fraction(10) ** exponent
+    return Fraction(number) * Fraction(10) ** power if length < MOST_DIGITS else Fraction(1 << 2000)
+
+
+def hexadecimal_fraction(whole: str, part: str, power: int) -> Fraction:
+    number, left_out = shortened(whole + part, 16)
+    power += 4 * (left_out - len(part))
+    length = number.bit_length() + power
+    if number == 0 or length < -2000:
+        return Fraction(0)
+    return Fraction(number) * Fraction(2) ** power if length < 2000 else Fraction(1 << 2000)
 
 
 def constant_bits(text: str) -> int:
@@ -68,12 +94,9 @@ def constant_bits(text: str) -> int:
         return sign | target.infinity
     if body.startswith("nan"):
         return sign | target.infinity | 1 << target.precision - 2
-    match = HEXADECIMAL.fullmatch(body)
-    if match:
-        whole, part, power = match.groups()
-        power = min(max(int(power or "0"), -1 << 16), 1 << 16) - 4 * len(part)
-        value = Fraction(int(whole + part, 16)) * Fraction(2) ** power
-    else:
-        whole, part, power = DECIMAL.fullmatch(body).groups()
-        value = decimal_fraction(whole, part, int(power or "0"))
+    match, fraction_of = HEXADECIMAL.fullmatch(body), hexadecimal_fraction
+    if not match:
+        match, fraction_of = DECIMAL.fullmatch(body), decimal_fraction
+    whole, part, power = match.groups()
+    value = fraction_of(whole, part, power_of(power))
     return sign | rounded(value.numerator, value.denominator, target)

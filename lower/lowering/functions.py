@@ -5,7 +5,7 @@ What a line needs in front of all others, such as memory for a result, stands at
 from .adapters import Adapters
 from .calls import CallWriter
 from .checks import reachable
-from .instructions import CARRIED, CLASSES, FLOAT_COMPARISONS, FLOATS, INTEGERS, SMALL_LOADS, WITH_RESULT
+from .instructions import CARRIED, CLASSES, FLOAT_COMPARISONS, FLOATS, INTEGERS, SMALL_LOADS, SUBWORDS, WITH_RESULT
 from .linking import Program
 from .report import Report, Weight
 from .symbols import CELLS, Symbol
@@ -109,6 +109,8 @@ class FunctionWriter(CallWriter):
             self.cells = self.fresh(CELLS[1:])
             parameters.append(f"l {self.cells}")
             self.report.count("functions with dots, which take the address of cells")
+        if not self.symbol.is_of_runtime() and {function.returns, *(kind for kind, _ in function.parameters)} & set(SUBWORDS):
+            self.report.count("functions with sub-word types, whose values are extended (native code leaves the upper bits)")
         gives = self.symbol.signature.carried_result()
         if gives is not None:
             gives = CARRIED[function.returns]

@@ -1,5 +1,6 @@
 """Leads places of a lowered text back to the text that was lowered, and to the source that its debug lines tell."""
 import functools
+import os
 import pathlib
 import re
 from typing import NamedTuple
@@ -32,6 +33,10 @@ class Origin(NamedTuple):
 
     def __str__(self) -> str:
         return ": ".join(part for part in (f"{self.path}:{self.line}", self.source, self.text()) if part)
+
+
+def path_of(field: str) -> str:
+    return os.fsdecode(unescaped(field).encode(ENCODING))
 
 
 def unescaped(path: str) -> str:
@@ -70,7 +75,7 @@ class Places:
         source = ""
         if len(fields) == 5:
             source = f"{unescaped(fields[2])}:{fields[3]}" + (f":{fields[4]}" if fields[4] != "0" else "")
-        return Origin(unescaped(fields[0]), int(fields[1]), source)
+        return Origin(path_of(fields[0]), int(fields[1]), source)
 
     def origin(self, place: str) -> Origin | None:
         line = self.line_of(place)

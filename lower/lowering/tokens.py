@@ -31,6 +31,8 @@ SHAPES = [
 ]
 TOKEN = re.compile(r"[ \t]*(?:" + "|".join(f"({shape})" for _, shape in SHAPES) + ")", re.DOTALL)
 KINDS = [None] + [kind for kind, _ in SHAPES]
+LONG = (1 << 64) - 1
+DIGITS_AT_ONCE = 40
 LETTERS = {"b": "\b", "f": "\f", "n": "\n", "r": "\r", "t": "\t", "v": "\v"}
 ESCAPE = re.compile(r"\\([0-9]{1,3}|[xX][0-9a-fA-F]*|.)", re.DOTALL)
 
@@ -63,11 +65,19 @@ def string_value(text: str) -> str:
     return ESCAPE.sub(escaped, body) if "\\" in body else body
 
 
-def signed(number: int) -> int:
-    """An integer modulo 2^64, as it is read when it has a sign; those that fit anyway are as they are."""
-    if -(1 << 63) <= number < 1 << 64:
-        return number
-    return number & (1 << 64) - 1
+def number_value(text: str) -> tuple[int, bool]:
+    """An integer of 64 bits, with its sign where it fits so, and whether it was cut for that."""
+    if len(text) < DIGITS_AT_ONCE:
+        number = int(text)
+        fits = -(1 << 63) <= number < 1 << 64
+        return number if fits else number & LONG, not fits
+    digits, number, is_cut = text.lstrip("-"), 0, False
+    for begin in range(0, len(digits), DIGITS_AT_ONCE):
+        part = digits[begin:begin + DIGITS_AT_ONCE]
+        number = number * 10 ** len(part) + int(part)
+        is_cut = is_cut or number > LONG
+        number &= LONG
+    return (-number & LONG if text.startswith("-") else number), is_cut
 
 
 def bad_token(text: str, at: int, path: str, line: int) -> Refused:
@@ -99,9 +109,8 @@ def tokens_of(text: str, path: str) -> Tokens:
             elif value not in KEYWORDS:
                 raise Refused(path, line, f"`{value}` is no word of the language")
         elif kind == "number":
-            number = int(value)
-            value = signed(number)
-            if value != number:
+            value, is_cut = number_value(value)
+            if is_cut:
                 cut_numbers.append(line)
         elif kind == "float":
             value = constant_bits(value)

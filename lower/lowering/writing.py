@@ -1,4 +1,5 @@
 """Writes a program: the text that qrev runs, and beside it the map that says where each of its lines comes from."""
+import os
 from dataclasses import dataclass
 
 from .adapters import Adapters
@@ -6,6 +7,7 @@ from .data import DEFAULT_ALIGNMENT, size_of_data, written_data
 from .functions import FunctionWriter
 from .linking import Program
 from .report import Report
+from .runtime import ENCODING
 from .symbols import Signature, Symbol, carried_class
 from .tree import Data, Item, Place
 
@@ -154,7 +156,8 @@ def text_of(chunks: list[Chunk]) -> str:
     return "".join("\n".join(chunk.texts) + "\n" for chunk in chunks)
 
 
-def escaped(path: str) -> str:
+def escape(path: str) -> str:
+    """A path without a tabulator and a newline in it."""
     return path.replace("\\", "\\\\").replace("\t", "\\t").replace("\n", "\\n")
 
 
@@ -163,12 +166,13 @@ def map_of(chunks: list[Chunk]) -> str:
     the column of the source that the debug lines tell, each behind a tabulator. A line without an origin is empty."""
     lines = []
     for chunk in chunks:
-        path = escaped(chunk.path)
+        # A path as its bytes, each a character, as the text itself is.
+        path = escape(os.fsencode(chunk.path).decode(ENCODING))
         for line, place in chunk.origins:
             if line == 0:
                 lines.append("")
             elif place is None:
                 lines.append(f"{path}\t{line}")
             else:
-                lines.append(f"{path}\t{line}\t{escaped(place.file)}\t{place.line}\t{place.column}")
+                lines.append(f"{path}\t{line}\t{escape(place.file)}\t{place.line}\t{place.column}")
     return "\n".join(lines) + "\n" if lines else ""

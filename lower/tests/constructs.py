@@ -1,7 +1,7 @@
 """Each construct of QBE's reference that the language of qrev lacks, with the value worked out by hand."""
 from typing import NamedTuple
 
-from .running import Results, Running, differ
+from .running import TOP, Results, Running, differ
 
 
 class Case(NamedTuple):
@@ -610,6 +610,17 @@ def fault(running: Running, case: Case) -> str | None:
     return differ("end", case.end, run.end) or differ("output", case.output, run.output)
 
 
+def same_fault(running: Running, text: str, script: str) -> str | None:
+    """A text of the language of qrev stays the program that it is: the same session, to the byte."""
+    lowered = running.lower_here(text, is_linked=False)
+    if isinstance(lowered, str):
+        return lowered
+    return differ("transcript", running.run(text, script, keeps_history=True).lines,
+                  running.run(lowered.text, script, keeps_history=True).lines)
+
+
 def results(running: Running) -> Results:
+    for path in sorted((TOP / "examples").glob("*.ssa")):
+        yield f"constructs/{path.name} stays", same_fault(running, path.read_text(), path.with_suffix(".script").read_text())
     for case in CASES:
         yield f"constructs/{case.name}", fault(running, case)
