@@ -1,0 +1,1 @@
+"""Commands that ask about causes, and about the whole run."""
