@@ -6,6 +6,7 @@ import sys
 from dataclasses import dataclass
 from typing import Callable
 
+from .causes import Cause, Causes
 from .expressions import Node, Unset, Value, Wrong, evaluate, parse
 from .frames import Frames
 from .pipe import Ended
@@ -13,6 +14,7 @@ from .runs import Outcome, Runs
 from .scratch import SLICE, Launch
 from .screen import Screen
 from .session import Refused, Session
+from .timeline import Timeline
 from .values import FORMATS, formatted, remarks, unsigned
 from .waiting import Interrupted, Waiting
 
@@ -87,10 +89,12 @@ class Shell:
         self.frames = Frames(self.session.program, self.session.names, self.session.scratch)
         self.runs = Runs(self.session, self.frames, budget)
         self.screen = Screen(self.session, self.frames, file)
+        self.causes = Causes(self.session.program, self.session.names, self.frames, self.session.scratch,
+                             self.screen.map.place)
         self.memory_told = memory_told * MEGABYTE
         self.displays: dict[int, tuple[str, str]] = {}
-        self.checkpoints: dict[str, object] = {}
-        self.chain: list = []
+        self.checkpoints: dict[str, Timeline] = {}
+        self.chain: list[Cause] = []
         self.line_shown = 0
         self.examined, self.unit, self.format = 0, "w", "x"
         self.last = ""
