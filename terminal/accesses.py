@@ -11,14 +11,14 @@ from typing import Iterator
 
 from .answers import read_bytes, read_value
 from .scratch import MOST_BYTES, Scratch
-from .text import BUILT_IN, LOADED, STORED, Instruction, Program
+from .text import BUILT_IN, LOADED, STORED, Instruction, Operand, Program
 from .timeline import Timeline
 
 MOST_STOPS = 60
 FIRST_BLOCK, MOST_BLOCK = 32, 8192
 
 
-@dataclass(frozen=True)
+@dataclass(frozen=True, eq=False)
 class Site:
     """An instruction that touches memory, with its place in the text."""
     function: str
@@ -27,12 +27,11 @@ class Site:
     instruction: Instruction
 
 
-@dataclass(frozen=True)
+@dataclass
 class Access:
-    """A move that touched memory: from which position on, by which instruction, with which operands, which bytes."""
+    """A move that touched memory: from which position on, by which instruction, which bytes."""
     position: int
     site: Site
-    values: tuple[int | None, ...]
     address: int
     count: int
 
@@ -96,38 +95,44 @@ class Accesses:
             high, size = high.at(block[-1][0]), min(MOST_BLOCK, 4 * size)
 
     def looked_at(self, block: list[tuple[int, Site]], is_write: bool, run: Timeline) -> Iterator[Access]:
-        """The operands' values and the bytes of each move of a block."""
+        """The bytes that each move of a block touched, by the operands' values that tell the address."""
         if not block:
             return
         self.scratch.go(run.at(block[0][0]))
         lines, at = [], block[0][0]
+        asked = {site: telling(site, is_write) for site in {site for _, site in block}}
         for position, site in block:
-            lines += [f"back {at - position}"] if at > position else []
-            lines += [f"print {operand.text}" for operand in site.instruction.operands if operand.is_temporary]
+            if at > position:
+                lines.append(f"back {at - position}")
+            lines += [f"print {operand.text}" for operand in asked[site] if operand.is_temporary]
             at = position
-        answers = iter(self.scratch.ask(*lines))
-        at = block[0][0]
+        answers = self.scratch.ask(*lines)
+        index, at, moved = 0, block[0][0], None
         read = []
         for position, site in block:
             if at > position:
-                self.scratch.after(next(answers), "back")
-            at = position
-            values = tuple(read_value(next(answers)[0]) if operand.is_temporary else self.constant(operand.text)
-                           for operand in site.instruction.operands)
+                moved, index, at = answers[index], index + 1, position
+            values = []
+            for operand in asked[site]:
+                if operand.is_temporary:
+                    values.append(read_value(answers[index][0]))
+                    index += 1
+                else:
+                    values.append(self.constant(operand.text))
             read.append((position, site, values))
+        if moved:
+            self.scratch.after(moved, "back")
         for position, site, values in read:
-            yield from self.access(position, site, values, is_write, run)
+            yield from self.access(position, site, values, run)
 
-    def access(self, position: int, site: Site, values: tuple[int | None, ...], is_write: bool,
-               run: Timeline) -> Iterator[Access]:
-        instruction = site.instruction
-        if instruction.operation == "call":
-            if values[0] == BUILT_IN["$puts"] and "$puts" in self.program.built_in and len(values) == 2:
-                yield Access(position, site, values, values[1], self.text_size(values[1], run.at(position)))
+    def access(self, position: int, site: Site, values: list[int | None], run: Timeline) -> Iterator[Access]:
+        address = values[-1]
+        if address is None:
             return
-        address = values[1 if is_write else 0]
-        if address is not None:
-            yield Access(position, site, values, address, size_of(instruction))
+        if site.instruction.operation != "call":
+            yield Access(position, site, address, size_of(site.instruction))
+        elif values[0] == BUILT_IN["$puts"] and "$puts" in self.program.built_in and len(values) == 2:
+            yield Access(position, site, address, self.text_size(address, run.at(position)))
 
     def text_size(self, address: int, at: Timeline) -> int:
         """How many bytes `$puts` reads there: up to the zero byte."""
@@ -140,6 +145,12 @@ class Accesses:
                 self.scratch.go(here)
                 return size + end + 1
             size += MOST_BYTES
+
+
+def telling(site: Site, is_write: bool) -> tuple[Operand, ...]:
+    """The operands that tell which bytes are touched: the address, or what is called and its argument."""
+    operands = site.instruction.operands
+    return operands[:2] if site.instruction.operation == "call" else (operands[1 if is_write else 0],)
 
 
 def size_of(instruction: Instruction) -> int:

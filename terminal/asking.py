@@ -11,6 +11,7 @@ from .expressions import Unset, Wrong, evaluate, parts_of, temporaries_of
 from .pipe import Pipe
 from .session import MOVES, Refused
 from .shell import Shell, command
+from .scratch import frames_of
 from .stops import Answered, FixedState, questions_of
 from .timeline import Timeline, common
 from .values import BYTES, brief
@@ -34,14 +35,17 @@ def why(shell: Shell, rest: str) -> None:
         shell.chain.append(shell.causes.of(question_numbered(shell, int(words[0].strip("[]")))))
     else:
         shell.chain = [asked(shell, words, rest)]
-    shell.say(*map(shell.screen.cut, shell.chain[-1].shown()))
+    shell.say(*shell.chain[-1].shown())
 
 
 def question_numbered(shell: Shell, number: int) -> Question:
-    questions = shell.chain[-1].questions if shell.chain else []
+    if not shell.chain:
+        raise Refused(f"{number}: nothing was asked yet; why, why %x or why WIDTH ADDRESS comes first")
+    questions = shell.chain[-1].questions
+    if not questions:
+        raise Refused("there is nothing more to ask about here; `why back` comes back to the cause before")
     if not 1 <= number <= len(questions):
-        known = f"a number from 1 to {len(questions)}" if questions else "first a question: why %x, why w ADDRESS"
-        raise Wrong(f"{number}: {known} was expected")
+        raise Wrong(f"{number}: a number from 1 to {len(questions)} was expected")
     return questions[number - 1]
 
 
@@ -98,26 +102,28 @@ def accesses(shell: Shell, rest: str, is_write: bool) -> None:
     count = BYTES.get(width) or int(width or 1)
     run = whole_run(shell)
     found = sorted(shell.causes.accesses.touching(is_write, run, 0, address, count), key=lambda access: access.position)
-    lines = {access.position: access_told(shell, access) for access in found[:MOST_SHOWN]}
+    lines = {access.position: access_told(shell, access, run) for access in found[:MOST_SHOWN]}
     if is_write:
         lines.update({poke.position: f"#{poke.position} by hand: {poke.line}" for poke in run.pokes
                       if poke.line.startswith("poke")})
-    shell.say(*map(shell.screen.cut, (lines[position] for position in sorted(lines))))
+    shell.say(*(lines[position] for position in sorted(lines)))
     more = f" ({MOST_SHOWN} are shown)" if len(found) > MOST_SHOWN else ""
     shell.say(f"{len(found)} {'writes' if is_write else 'reads'}{more} {told_bounds(shell, run)}")
 
 
-def access_told(shell: Shell, access: Access) -> str:
+def access_told(shell: Shell, access: Access, run: Timeline) -> str:
     """A line for a load or a store, with its operands' values."""
     site, instruction = access.site, access.site.instruction
-    classes = shell.session.program.functions[site.function].temporaries()
-    values = dict(zip(instruction.operands, access.values))
+    classes = shell.session.program.functions[site.function].temporaries
+    names = [operand.text for operand in instruction.operands if operand.is_temporary]
+    values = dict(zip(names, shell.session.scratch.go(run.at(access.position)).values(*names)))
 
     def shown(operand) -> str:
         if not operand.is_temporary:
             return operand.text
-        name = shell.session.names.of(values[operand]) if classes[operand.text] == "l" and values[operand] is not None else None
-        return f"{operand.text}={brief(values[operand], classes[operand.text], name)}"
+        value, width = values[operand.text], classes[operand.text]
+        name = shell.session.names.of(value) if width == "l" and value is not None else None
+        return f"{operand.text}={brief(value, width, name)}"
     return (f"#{access.position} {site.function} {site.label} {site.index}  line {instruction.line}: "
             f"{instruction.written(shown)}")
 
@@ -140,8 +146,8 @@ def when(shell: Shell, rest: str) -> None:
     to. Of a recursive function the innermost frame counts. Where a value is unset or dead it doesn't hold."""
     node = shell.parsed(rest)
     program, frames = shell.session.program, shell.session.frames()
-    asked_there = questions_of(node, program)
-    if asked_there is None or any(part.kind == "word" for part in parts_of(node)):
+    known = questions_of(node, program)
+    if known is None or any(part.kind == "word" for part in parts_of(node)):
         raise Wrong(f"{rest}: addresses that are fixed, and no depth or position, were expected")
     names = temporaries_of(node)
     if names and not frames:
@@ -154,7 +160,7 @@ def when(shell: Shell, rest: str) -> None:
     if not stops:
         raise Wrong(f"{rest}: a condition of temporaries or memory was expected")
     run = whole_run(shell)
-    spans = held_spans(shell, run, stops, asked_there, node, function if names else "")
+    spans = held_spans(shell, run, stops, ["where", *known], node, function if names else "")
     for begin, end in spans[:MOST_SHOWN]:
         shell.say(f"holds from #{begin}" + (f", no longer from #{end}" if end is not None else " on"))
     shell.say(f"{len(spans)} times {told_bounds(shell, run)}")
@@ -195,11 +201,12 @@ class Readings:
     def holds(self, place, answers: list[list[str]]) -> bool:
         known = dict(zip(self.questions, answers))
         state = Answered(self.shell.session.program, place, known, self.shell.session.scratch.ask)
-        if self.function:
-            index = next((index for index, frame in enumerate(state.frames) if frame.function == self.function), None)
+        if self.function and place.function != self.function:
+            frames = frames_of(known["where"])
+            index = next((index for index, frame in enumerate(frames) if frame.function == self.function), None)
             if index is None:
                 return False
-            if index:
+            if index or place.end:
                 return self.in_caller(index, place, known)
         return self.value(state)
 

@@ -5,11 +5,13 @@ asked move by move. A question is about a state of the run, in which the frame t
 """
 from __future__ import annotations
 
+from collections import Counter
 from dataclasses import dataclass, field
 
 from .accesses import MOST_STOPS, Accesses, Site, size_of
 from .answers import Place, read_output
 from .frames import Frames
+from .levels import own_hits
 from .scratch import Scratch
 from .text import ALLOCATIONS, BUILT_IN, LOADED, STORED, Instruction, Program
 from .timeline import Timeline
@@ -17,16 +19,17 @@ from .values import Names, is_stack, remarks, shown_bytes
 
 MOST_BYTES_ASKED = 48
 # How many stores of the same value are looked for before `why` is content with the last change.
-MOST_STORES, MOST_SITES = 20_000, 240
+MOST_STORES, MOST_SITES = 8_000, 240
 WIDTHS = {1: "b", 2: "h", 4: "w", 8: "l"}
 
 
 @dataclass(frozen=True)
 class Question:
-    """What can be asked of a state: `of` is temporary, memory, control, or call."""
+    """What can be asked of a state: `of` is temporary, memory, control, or call; the note says what it is in the list."""
     of: str
     at: Timeline
     text: str = ""
+    note: str = ""
     name: str = ""
     address: int = 0
     count: int = 0
@@ -43,7 +46,8 @@ class Cause:
         found, number = [], 0
         for line in self.lines:
             if line == ASKED:
-                found.append(f"  [{number + 1}] {self.questions[number].text}")
+                question = self.questions[number]
+                found.append(f"  [{number + 1}] {question.text}" + (f"  {question.note}" if question.note else ""))
                 number += 1
             else:
                 found.append(line)
@@ -93,12 +97,12 @@ class Causes:
         return f"{text} = {value}" + (f" ({', '.join(found)})" if found else "")
 
     def class_of(self, function: str, name: str) -> str:
-        return self.program.functions[function].temporaries()[name]
+        return self.program.functions[function].temporaries[name]
 
-    def temporary(self, name: str, at: Timeline, more: str = "") -> Question:
+    def temporary(self, name: str, at: Timeline, note: str = "") -> Question:
         function = self.frames.where(at)[0].function
         value = self.scratch.go(at).values(name)[0]
-        return Question("temporary", at, self.valued(name, value, self.class_of(function, name), at) + more, name)
+        return Question("temporary", at, self.valued(name, value, self.class_of(function, name), at), note, name)
 
     def memory(self, address: int, count: int, at: Timeline) -> Question:
         return Question("memory", at, self.bytes_told(address, count, at), address=address, count=count)
@@ -133,7 +137,7 @@ class Causes:
         callee = self.program.functions.get(instruction.operands[0].text) if instruction.operation == "call" else None
         if not callee or not 1 <= index <= len(callee.parameters):
             return ""
-        return f"  -> {callee.parameters[index - 1][1]} of {callee.name}"
+        return f"-> {callee.parameters[index - 1][1]} of {callee.name}"
 
     def bytes_read(self, at: Timeline, instruction: Instruction, wanted: tuple[int, int] | None) -> list[Question]:
         """What a load or a blit takes from memory, where that is live."""
@@ -178,7 +182,8 @@ class Causes:
         if setter.kind == "result":
             return self.of_result(question, there)
         cause = self.executed(there, f"{question.text} was set by")
-        cause.lines += self.stale(there, at, setter.instruction)
+        self.add_stale(cause, at, setter.instruction)
+        self.add_before(cause, name, function)
         return cause
 
     def setter(self, name: str, function: str, at: Timeline) -> Setter:
@@ -236,21 +241,12 @@ class Causes:
     def searched(self, name: str, function: str, at: Timeline, depth: int, roles: dict) -> Setter:
         """Goes back to the last place at which the temporary was set in this frame, or to the frame's beginning."""
         first = (self.program.functions[function].first, 0)
-        places = list(dict.fromkeys([*roles, first]))
-        is_again = function in self.program.again
-        stops = [f"break {function} {label} {index}" for label, index in places]
-        hits = self.scratch.go(at).hits(False, stops, ["where"] if is_again else [])
-        for hit in hits:
-            if hit.stop is None:
-                break
-            if is_again and len(hit.answers[0]) != depth:
-                continue
-            there = at.at(hit.position)
-            found = self.role_at(places[hit.stop], roles, at, hit.position)
+        for position, place in own_hits(self.program, self.scratch, at, function, list(roles)):
+            found = self.role_at(place, roles, at, position)
             if found:
                 return found
-            if places[hit.stop] == first:
-                return self.begun(name, function, there, depth)
+            if place == first:
+                return self.begun(name, function, at.at(position), depth)
         return self.begun(name, function, at.at(0), depth)
 
     def unset(self, name: str, function: str, at: Timeline) -> Cause:
@@ -286,43 +282,46 @@ class Causes:
             return self.executed(at, f"{question.text} was given back by the built-in of")
         return self.executed(at, f"{question.text} was given back by")
 
-    def stale(self, at: Timeline, asked: Timeline, instruction: Instruction) -> list[str]:
-        """Whether what was loaded was changed in memory since, before the value was used."""
+    def add_stale(self, cause: Cause, asked: Timeline, instruction: Instruction) -> None:
+        """Where what was loaded was changed in memory since, before the value was used: says so, and by what."""
         if instruction.operation not in LOADED:
-            return []
+            return
+        at = cause.at
         address, count = self.operand_value(instruction.operands[0].text, at), size_of(instruction)
         before = self.scratch.go(at).memory(address, count)
         after = self.scratch.go(asked).memory(address, count)
         if before == after or None in after:
-            return []
+            return
         stops = [f"watch {WIDTHS[count]} {address}"]
         hit = next(self.scratch.go(asked).hits(False, stops, most=1, last=at.position), None)
         if not hit or hit.stop is None or hit.position < at.position:
-            return []
-        there = asked.at(hit.position)
-        told = self.bytes_told(address, count, asked)
-        if asked.poke_at(there.position):
-            return [f"  since then it was changed by hand, and at #{asked.position} there is {told}:",
-                    f"  #{there.position} {asked.poke_at(there.position).line}"]
-        place, writer = self.innermost(there)
-        return [f"  since then it was changed in memory, and at #{asked.position} there is {told}:",
-                self.line_told(there, place, writer)]
+            return
+        there, poke = asked.at(hit.position), asked.poke_at(hit.position)
+        cause.lines.append(f"  but memory was changed since, before #{asked.position}, by" + (" hand" if poke else ""))
+        cause.lines += [f"  #{there.position} {poke.line}"] if poke else [self.line_told(there, *self.innermost(there))]
+        cause.lines.append(ASKED)
+        cause.questions.append(self.memory(address, count, asked))
+
+    def add_before(self, cause: Cause, name: str, function: str) -> None:
+        """Of a temporary that the text sets at several places: the value that was there before."""
+        if len(self.program.functions[function].definitions(name)) < 2:
+            return
+        before = self.temporary(name, cause.at, f"before #{cause.at.position}, when it was set again")
+        if not before.text.endswith(" unset"):
+            cause.lines.append(ASKED)
+            cause.questions.append(before)
 
     # Control.
 
     def of_control(self, question: Question) -> Cause:
         """The jump by which control came to the block."""
         at = self.frames.before_end(question.at)
-        frames = self.frames.where(at)
-        place, depth = frames[0], len(frames)
+        place = self.frames.where(at)[0]
         if place.label == self.program.functions[place.function].first:
             return self.of_call(question)
         position = at.position
         if place.index:
-            is_again = place.function in self.program.again
-            stops = [f"break {place.function} {place.label} 0"]
-            hits = self.scratch.go(at).hits(False, stops, ["where"] if is_again else [])
-            position = next(hit.position for hit in hits if not is_again or len(hit.answers[0]) == depth)
+            position, _ = next(own_hits(self.program, self.scratch, at, place.function, [(place.label, 0)]))
         there = at.at(self.came_by(at, position))
         return self.executed(there, f"control came to {place.label} by")
 
@@ -357,19 +356,12 @@ class Causes:
 
     def stack_told(self, at: Timeline) -> list[str]:
         """Which allocs of the innermost frame took how much of the stack."""
-        function, depth = self.frames.where(at)[0].function, len(self.frames.where(at))
-        entry = self.frames.entry(at).position
-        sites = [(label, index, instruction) for label, index, instruction in self.program.functions[function].places()
-                 if instruction.operation in ALLOCATIONS]
-        is_again = function in self.program.again
-        counts = [0] * len(sites)
-        stops = [f"break {function} {label} {index}" for label, index, _ in sites]
-        for hit in self.scratch.go(at).hits(False, stops, ["where"] if is_again else [], last=entry):
-            if hit.stop is None or hit.position < entry:
-                break
-            counts[hit.stop] += not is_again or len(hit.answers[0]) == depth
-        return [f"  this call of {function} has made by line {site[2].line}: {site[2].written()}: {count}"
-                for site, count in zip(sites, counts)]
+        function = self.frames.where(at)[0].function
+        sites = {(label, index): instruction for label, index, instruction in self.program.functions[function].places()
+                 if instruction.operation in ALLOCATIONS}
+        counts = Counter(place for _, place in own_hits(self.program, self.scratch, at, function, list(sites)))
+        return [f"  this call of {function} has made by line {instruction.line}: {instruction.written()}: {counts[place]}"
+                for place, instruction in sites.items()]
 
     def of_output(self, number: int, at: Timeline) -> Cause:
         """The call that wrote a byte of the output; the first byte is 0."""
@@ -488,7 +480,7 @@ class Causes:
                 made.questions += cause.questions
         if left:
             made = made or Cause(question.at.at(0))
-            made.lines.append(f"{question.text}{self.which(question, left)} is so since the start: "
+            made.lines.append(f"{self.which(question, left)}{question.text} stands so since the start: "
                               f"{self.data_told(question.address + min(left))}")
         return made
 
@@ -496,8 +488,8 @@ class Causes:
         """Which of the bytes are meant, where it isn't all."""
         if len(span) == question.count:
             return ""
-        low, high = min(span), max(span)
-        return f", byte {low}" if low == high else f", bytes {low} to {high}"
+        runs = ", ".join(str(offset) for offset in sorted(span))
+        return f"{'byte' if len(span) == 1 else 'bytes'} {runs} of "
 
     def data_told(self, address: int) -> str:
         data = self.program.object_at(address)
@@ -506,13 +498,13 @@ class Causes:
     def writer_told(self, question: Question, position: int, span: set[int]) -> Cause:
         at = question.at.at(position)
         poke = question.at.poke_at(position)
-        head = f"{question.text}{self.which(question, span)}"
+        head = f"{self.which(question, span)}{question.text}"
         if poke:
-            return Cause(at, [f"{head} was written by hand: #{position} {poke.line}"])
+            return Cause(at, [f"{head} by hand: #{position} {poke.line}"])
         _, instruction = self.innermost(at)
         if instruction.operation in ALLOCATIONS:
-            return self.executed(at, f"{head} was made, as zeros, by")
+            return self.executed(at, f"{head}: made, as zeros, by")
         if instruction.operation == "ret":
-            return self.executed(at, f"{head} was given back by")
-        return self.executed(at, f"{head} was stored by", (question.address + min(span), len(span)))
+            return self.executed(at, f"{head}: given back by")
+        return self.executed(at, f"{head}: stored by", (question.address + min(span), len(span)))
 

@@ -6,6 +6,7 @@ scratch process goes to.
 from __future__ import annotations
 
 from .answers import Place
+from .levels import own_hits
 from .scratch import Scratch
 from .text import ALLOCATIONS, STACK, Program
 from .timeline import Timeline
@@ -45,9 +46,7 @@ class Frames:
         name, first = frames[0].function, self.program.functions[frames[0].function].first
         found = at.position
         if (frames[0].label, frames[0].index) != (first, 0):
-            is_again = name in self.program.again
-            hits = self.scratch.hits(False, [f"break {name} {first} 0"], ["where"] if is_again else [])
-            found = next(hit.position for hit in hits if not is_again or len(hit.answers[0]) == len(frames))
+            found, _ = next(own_hits(self.program, self.scratch, at, name, []))
         while at.poke_at(found - 1):
             found -= 1
         return found
@@ -86,18 +85,14 @@ class Frames:
 
     def earlier_allocation(self, function: str, names: list[str], address: int, at: Timeline) -> tuple[str, int] | None:
         """As above, for an alloc that was made again since: by going back along all allocs of the frame."""
-        places = {name: place[:2] for name in names for place in self.program.functions[function].definitions(name)
-                  if place[2].operation in ALLOCATIONS}
-        depth = len(self.where(at))
-        asked = ["where", "step", *(f"print {name}" for name in names), "back"]
-        stops = [f"break {function} {label} {index}" for label, index in places.values()]
-        for hit in self.scratch.hits(False, stops, asked):
-            if hit.stop is None or len(hit.answers[0]) < depth:
-                return None
-            name = names[hit.stop]
-            value = hit.answers[2 + hit.stop][0].partition(" = ")[2]
-            if len(hit.answers[0]) == depth and value and int(value) <= address:
-                return name, address - int(value)
+        sites = {place[:2]: name for name in names for place in self.program.functions[function].definitions(name)
+                 if place[2].operation in ALLOCATIONS}
+        found = [(position, sites[place]) for position, place in
+                 own_hits(self.program, self.scratch, at, function, list(sites)) if place in sites]
+        for position, name in found:
+            value = self.scratch.go(at.at(position + 1)).values(name)[0]
+            if value is not None and value <= address:
+                return name, address - value
         return None
 
     def name(self, value: int, width: str, at: Timeline | None) -> str | None:

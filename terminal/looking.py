@@ -55,8 +55,10 @@ def examine(shell: Shell, rest: str) -> None:
             piece = found[at * size:(at + 1) * size]
             shown.append("--" if None in piece else unit_shown(shell, piece, unit, letter))
         there = address + first * size
-        shell.say(shell.screen.cut(f"{named(shell, there)}: {'  '.join(shown)}"))
+        shell.say(f"{named(shell, there)}: {'  '.join(shown)}")
     shell.examined = address + count * size
+    # An empty line goes on from there.
+    shell.last = f"x/{letters}"
 
 
 def read_format(shell: Shell, letters: str) -> tuple[int, str, str]:
@@ -155,8 +157,8 @@ def backtrace(shell: Shell, rest: str) -> None:
         mark = ">" if index == shell.session.selected else " "
         source = shell.screen.map.place(line)
         text = shell.session.program.functions[place.function].at(place.label, at).written()
-        shell.say(shell.screen.cut(f"{mark} {index}  {place.function} {place.label} {place.index}  line {line}: {text}"
-                                   + (f"  ({source})" if source else "")))
+        shell.say(f"{mark} {index}  {place.function} {place.label} {place.index}  line {line}: {text}"
+                  + (f"  ({source})" if source else ""))
 
 
 def select(shell: Shell, index: int) -> None:
@@ -207,7 +209,7 @@ def temps(shell: Shell, rest: str) -> None:
     if not values:
         shell.say("none")
     for name, value in values.items():
-        shell.say(shell.screen.cut(f"{name} unset" if value is None else shell.shown(name, "")))
+        shell.say(f"{name} unset" if value is None else shell.shown(name, ""))
 
 
 @command("list l", "list [LINE | $f | @b]", "place")
@@ -303,11 +305,11 @@ def help_(shell: Shell, rest: str) -> None:
     if rest:
         found = shell.command_named(rest)
         names = f"   also: {', '.join(found.names[1:])}" if len(found.names) > 1 else ""
-        shell.say(found.usage + names, "    " + found.help)
+        shell.say(found.usage + names, *shell.screen.filled(found.help, "    "))
         return
     for title, names in TOPICS.items():
-        shell.say(f"{title}: " + ", ".join(short(name) for name in names.split()))
-    shell.say("An empty line repeats. `help COMMAND` tells more; Ctrl-C stops a run; docs/TERMINAL.md has it all.")
+        shell.say(*shell.screen.filled(f"{title}: " + ", ".join(short(name) for name in names.split()), "  "))
+    shell.say(*shell.screen.filled(HELP, ""))
 
 
 def short(name: str) -> str:
@@ -316,6 +318,7 @@ def short(name: str) -> str:
     return f"{name} ({others[0]})" if others else name
 
 
+HELP = "An empty line repeats. `help COMMAND` tells more; Ctrl-C stops a run; docs/TERMINAL.md has it all."
 TOPICS = {
     "move": "step next finish continue run back reverse-next reverse-finish reverse goto checkpoint restart",
     "look": "print x display undisplay bt up down frame temps list mem out info",

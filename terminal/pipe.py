@@ -9,10 +9,15 @@ from __future__ import annotations
 import os
 import select
 import subprocess
-from typing import Callable, Iterable
+from typing import Callable
 
 MARK = b"?\n"
-MARKED = b"no: unknown command\n"
+MARKED_LINE = "no: unknown command"
+MARKED = MARKED_LINE.encode() + b"\n"
+# Commands whose answers have as many lines as there are frames, temporaries, instructions or stops.
+UNBOUNDED = frozenset(("where", "temps", "list", "stops"))
+# The debugger reads so many bytes of a script and no more (docs/DEBUGGER.md).
+MOST_SENT = 1 << 24
 PIECE = 1 << 16
 PULSE = 0.1
 
@@ -32,7 +37,7 @@ class Pipe:
         self.process = subprocess.Popen(["qrev", *words[1:]], executable=words[0], stdin=subprocess.PIPE,
                                         stdout=subprocess.PIPE, start_new_session=True)
         os.set_blocking(self.process.stdin.fileno(), False)
-        self.pulse = pulse
+        self.pulse, self.sent = pulse, 0
         try:
             self.loaded = self.exchange(MARK, 1)[:-len(MARKED)].decode("latin-1").splitlines()
         except Ended as end:
@@ -44,7 +49,8 @@ class Pipe:
     def exchange(self, sent: bytes, marks: int) -> bytes:
         """Writes all of it while it reads, until the answer to a mark came so many times. Other threads don't come here."""
         source, sink = self.process.stdout.fileno(), self.process.stdin.fileno()
-        left, self.rest, seen = memoryview(sent), bytearray(), 0
+        left, self.rest = memoryview(sent), bytearray()
+        self.sent += len(sent)
         while marks:
             ready, room, _ = select.select([source], [sink] if left else [], [], PULSE)
             self.pulse()
@@ -57,23 +63,37 @@ class Pipe:
                 piece = os.read(source, PIECE)
                 if not piece:
                     raise Ended(self.process.wait())
+                # A mark may have begun in the piece before, but can't have been whole there.
+                begin = max(0, len(self.rest) - len(MARKED) + 1)
                 self.rest += piece
-                count = self.rest.count(MARKED, seen)
-                if count:
-                    marks -= count
-                    seen = self.rest.rfind(MARKED) + len(MARKED)
+                marks -= self.rest.count(MARKED, begin)
         return bytes(self.rest)
 
     def ask(self, *lines: str) -> list[list[str]]:
-        """The lines of the answer to each command."""
-        sent = b"".join(line.encode("latin-1", "replace") + b"\n" + MARK for line in lines)
-        answers = self.exchange(sent, len(lines)).decode("latin-1").split(MARKED.decode())
-        return [answer.split("\n")[:-1] for answer in answers[:-1]]
+        """The lines of the answer to each command.
 
-    def ask_all(self, lines: Iterable[str]) -> list[str]:
-        """The lines of all answers together, for commands whose answers tell themselves where they end."""
-        sent = "".join(line + "\n" for line in lines).encode("latin-1")
-        return self.exchange(sent + MARK, 1)[:-len(MARKED)].decode("latin-1").split("\n")[:-1]
+        Most answers tell by their first line how many there are; a mark is needed behind the others, and at the end.
+        """
+        if not lines:
+            return []
+        sent = "".join(line + ("\n?\n" if line in UNBOUNDED else "\n") for line in lines).encode("latin-1", "replace")
+        marks = 1 + sum(line in UNBOUNDED for line in lines)
+        told = self.exchange(sent + MARK, marks).decode("latin-1").split("\n")
+        answers, at = [], 0
+        for line in lines:
+            if line in UNBOUNDED:
+                behind = told.index(MARKED_LINE, at)
+                answers.append(told[at:behind])
+                at = behind + 1
+            else:
+                behind = at + (2 if told[at].startswith("stop: ") else 1)
+                answers.append(told[at:behind])
+                at = behind
+        return answers
+
+    def has_room(self, lines: tuple[str, ...]) -> bool:
+        """Whether so much more may be sent."""
+        return self.sent + sum(map(len, lines)) + 3 * len(lines) + len(MARK) < MOST_SENT
 
     def memory(self) -> int:
         """How many bytes of memory the process holds, or 0 where the system doesn't tell."""

@@ -33,7 +33,7 @@ def candidates(shell: Shell, line: str, begun: str) -> Iterator[str]:
         yield from (data.name for data in program.data)
         named = next((each for each in reversed(before) if each in program.functions), function)
         if named:
-            yield from program.functions[named].temporaries()
+            yield from program.functions[named].temporaries
             yield from program.functions[named].blocks
         yield from EXPRESSION_WORDS
         yield "if"

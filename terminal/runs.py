@@ -9,28 +9,55 @@ from dataclasses import dataclass
 
 from .answers import Place
 from .frames import Frames
+from .levels import MOST_STOPS, Levels, stop_line
 from .scratch import Hit
 from .session import Refused, Session
-from .stops import Answered, Filter, Stop
+from .stops import FRAME_OVER, Answered, Filter, FrameWatch, Stop
+from .text import Program
 from .waiting import Interrupted
 
 STOPPED = "stopped by Ctrl-C"
 
 
-@dataclass(frozen=True)
 class Target:
-    """A place, in a frame at a depth, at which a run ends."""
-    function: str
-    label: str
-    index: int
-    depth: int
+    """A place, in a frame at a depth, at which a run ends.
+
+    A function that doesn't call itself has one frame there. Of another one its calls are counted along the run, where that
+    can be done, or else the frames at each hit.
+    """
+
+    def __init__(self, program: Program, function: str, label: str, index: int, depth: int):
+        self.place, self.depth = (function, label, index), depth
+        self.is_again = function in program.again
+        self.levels = Levels(program, function)
+
+    def begin(self, session: Session, is_forward: bool, lines: list[str]) -> list[str]:
+        """The lines of a run to it, behind those that there are already."""
+        own = [stop_line(self.place)]
+        counted = own + [stop_line(place) for place in self.levels.places if place != self.place]
+        self.is_counted = (self.is_again and self.levels.is_counted and not session.timeline.pokes
+                           and len(lines) + len(counted) <= MOST_STOPS)
+        if not self.is_counted:
+            return own
+        frames = session.frames()
+        inside = frames[:len(frames) - self.depth]
+        self.levels.level = sum(frame.function == self.place[0] for frame in inside)
+        if not is_forward:
+            self.levels.back((session.place.function, session.place.label, session.place.index))
+        return counted
 
     @property
-    def line(self) -> str:
-        return f"break {self.function} {self.label} {self.index}"
+    def questions(self) -> list[str]:
+        return ["where"] if self.is_again and not self.is_counted else []
 
-    def is_at(self, place: Place, depth: int) -> bool:
-        return (self.function, self.label, self.index, self.depth) == (place.function, place.label, place.index, depth)
+    def is_at(self, place: Place, is_forward: bool, frames: list[str] | None) -> bool:
+        """Whether a hit is there; each hit of the run is to be asked about."""
+        here, level = (place.function, place.label, place.index), 0
+        if self.is_counted:
+            level = self.levels.forward(here) if is_forward else self.levels.back(here)
+        elif frames is not None:
+            level = len(frames) - self.depth
+        return here == self.place and level == 0
 
 
 @dataclass(frozen=True)
@@ -56,7 +83,7 @@ class Runs:
         stop = outcome.stop
         if stop:
             stop.hits += 1
-            if stop.is_once or outcome.reason.endswith("its frame is over"):
+            if stop.is_once or outcome.reason.endswith(FRAME_OVER):
                 self.delete(stop)
         return outcome
 
@@ -91,8 +118,8 @@ class Runs:
         here = self.session.timeline
         filter = Filter(self.stops, self.session.program, is_forward)
         self.look_at_watches()
-        lines = filter.lines + ([target.line] if target else [])
-        questions, is_known = filter.questions()
+        lines = filter.lines + (target.begin(self.session, is_forward, filter.lines) if target else [])
+        questions, is_known = filter.questions(target.questions if target else [])
         last = here.position + (self.budget if is_forward else -self.budget) if self.budget else None
         try:
             hits = self.scratch.go(here).hits(is_forward, lines, questions, last=last, **({} if is_known else {"most": 1}))
@@ -119,11 +146,12 @@ class Runs:
         if hit.stop is None:
             return Outcome("end" if is_forward else "start")
         state = Answered(self.session.program, hit.place, dict(zip(questions, hit.answers)), self.scratch.ask)
-        stop, said = filter.chosen(hit, state)
+        is_there = target and target.is_at(state.place, is_forward, state.answers.get("where"))
+        stop, said = filter.chosen(hit.stop, state)
         if stop:
             kind = "break" if stop.place else "watch"
             return Outcome(f"{kind} {stop.number}, {stop.what}" + (f": {said}" if said else ""), stop)
-        return Outcome() if target and target.is_at(hit.place, len(state.frames)) else None
+        return Outcome() if is_there else None
 
     def look_at_watches(self) -> None:
         """What the watches of frames and of stack bytes read where the run begins."""
@@ -133,9 +161,17 @@ class Runs:
                 found = session.memory(stop.memory.address, stop.memory.count)
                 if None not in found or not stop.memory.is_on_stack:
                     stop.memory.value = found
-            elif stop.frame and len(session.frames()) >= stop.frame.depth:
-                there = self.frames.frame(session.timeline, len(session.frames()) - stop.frame.depth)
-                stop.frame.value = self.scratch.go(there).values(stop.frame.temporary)[0]
+            elif stop.frame:
+                self.look_at_frame(stop.frame)
+
+    def look_at_frame(self, watch: FrameWatch) -> None:
+        """Whether the run is inside the frame of a watch, and what the temporary is there."""
+        here, frames = self.session.timeline, self.session.frames()
+        watch.is_over = here.position >= watch.entry
+        if len(frames) >= watch.depth and frames[-watch.depth].function == watch.function:
+            there = self.frames.frame(here, len(frames) - watch.depth)
+            if self.frames.entry(there).position == watch.entry:
+                watch.is_over, watch.value = False, self.scratch.go(there).values(watch.temporary)[0]
 
     # Stops.
 
@@ -173,7 +209,7 @@ class Runs:
         place = self.session.place
         if place.end or not self.enters(place, place.index):
             return self.stepped("step")
-        return self.run(True, Target(place.function, place.label, place.index + 1, self.depth()))
+        return self.run(True, Target(self.session.program, place.function, place.label, place.index + 1, self.depth()))
 
     def back_over(self) -> Outcome:
         """A step back, or back over a whole call."""
@@ -181,7 +217,7 @@ class Runs:
         is_poke = self.session.timeline.poke_at(place.position - 1)
         if place.end or is_poke or not self.enters(place, place.index - 1):
             return self.stepped("back")
-        return self.run(False, Target(place.function, place.label, place.index - 1, self.depth()))
+        return self.run(False, Target(self.session.program, place.function, place.label, place.index - 1, self.depth()))
 
     def stepped(self, line: str) -> Outcome:
         moved = self.session.move(line)
@@ -195,7 +231,7 @@ class Runs:
         if index + 1 >= len(frames):
             return self.run(True)
         caller = frames[index + 1]
-        return self.run(True, Target(caller.function, caller.label, caller.index, len(frames) - index - 1))
+        return self.run(True, Target(self.session.program, caller.function, caller.label, caller.index, len(frames) - index - 1))
 
     def finish_back(self, index: int) -> Outcome:
         """Goes back to before the call that made a frame."""

@@ -7,7 +7,7 @@ from __future__ import annotations
 
 import time
 from dataclasses import dataclass
-from typing import Iterator
+from typing import Iterator, NamedTuple
 
 from .answers import Moved, Place, read_bytes, read_moved, read_place, read_value
 from .pipe import Ended, Pipe
@@ -35,16 +35,16 @@ class Launch:
         return [self.debugger, self.file, *self.words, "--limit", str(self.limit), *bound]
 
 
-@dataclass(frozen=True)
-class Hit:
+class Hit(NamedTuple):
     """A stop of a run: where, which of the lines that were given (or None where the run is over), and what was answered."""
-    place: Place
+    position: int
     stop: int | None
+    line: str
     answers: list[list[str]]
 
     @property
-    def position(self) -> int:
-        return self.place.position
+    def place(self) -> Place:
+        return read_place(self.line)
 
 
 class Scratch:
@@ -52,7 +52,8 @@ class Scratch:
         self.launch, self.waiting = launch, waiting
         self.pipe: Pipe | None = None
         self.timeline, self.place = Timeline(), Place(0)
-        self.numbers: list[int] = []
+        self.stops: list[str] = []
+        self.numbers: dict[int, int] = {}
 
     @property
     def history(self) -> int | None:
@@ -62,7 +63,7 @@ class Scratch:
     def drop(self) -> None:
         if self.pipe:
             self.pipe.close()
-        self.pipe, self.timeline, self.numbers = None, Timeline(), []
+        self.pipe, self.timeline, self.numbers = None, Timeline(), {}
 
     def start(self) -> None:
         self.drop()
@@ -75,6 +76,8 @@ class Scratch:
         """Answers of the process that is there; where it is broken off it is gone, and the next question begins another."""
         if not self.pipe:
             self.start()
+        if not self.pipe.has_room(lines):
+            self.begin_anew()
         try:
             return self.pipe.ask(*lines)
         except (Interrupted, Ended):
@@ -127,16 +130,14 @@ class Scratch:
 
     # Runs.
 
-    def set_stops(self, lines: list[str]) -> dict[int, int]:
-        """Takes all stops away and sets others: the number of each, and its place in the list."""
-        answers = self.ask(*(f"delete {number}" for number in self.numbers), *lines)[len(self.numbers):]
-        found = {}
+    def set_stops(self, lines: list[str]) -> None:
+        """Takes all stops away and sets others, of which it keeps the number of each."""
+        answers = self.ask(*(f"delete {number}" for number in self.numbers), *lines)[-len(lines):] if lines else []
+        self.stops, self.numbers = lines, {}
         for index, answer in enumerate(answers):
             if answer[0].startswith("no: "):
                 raise ValueError(f"{lines[index]}: {answer[0][4:]}")
-            found[int(answer[0].split(" ")[1])] = index
-        self.numbers = list(found)
-        return found
+            self.numbers[int(answer[0].split(" ")[1])] = index
 
     def hits(self, is_forward: bool, stops: list[str], questions: list[str] = [], most: int = MOST_AT_ONCE,
              last: int | None = None) -> Iterator[Hit]:
@@ -145,45 +146,46 @@ class Scratch:
         Where `last` is given the run doesn't go on past that position, though hits behind it may still come.
         While they are taken the process may be further on: whoever goes on asking goes to where he wants to be first.
         """
-        numbers = self.set_stops(stops)
+        self.set_stops(stops)
         command = "continue" if is_forward else "reverse"
-        size = 1
+        size, width = 1, 1 + len(questions)
         while True:
             begun = time.monotonic()
             answers = self.ask(*[command, *questions] * size)
-            groups = [answers[at:at + 1 + len(questions)] for at in range(0, len(answers), 1 + len(questions))]
-            moves = [read_moved(group[0]) for group in groups]
-            if not self.followed(moves, command):
+            if not self.followed(answers[::width], command):
                 return
-            for moved, group in zip(moves, groups):
-                if moved.reason in ("end", "start", "memory"):
-                    yield Hit(moved.place, None, group[1:])
+            for at in range(0, len(answers), width):
+                reason = answers[at][0]
+                if reason[6:11] in ("break", "watch"):
+                    line = answers[at][1]
+                    stop = self.numbers[int(reason[12:])]
+                    yield Hit(int(line[1:line.index(" ")]), stop, line, answers[at + 1:at + width])
+                elif reason in ("stop: end", "stop: start", "stop: memory"):
+                    line = answers[at][1]
+                    yield Hit(int(line[1:line.index(" ")]), None, line, answers[at + 1:at + width])
                     return
-                if moved.place and moved.reason.split(" ")[0] in ("break", "watch"):
-                    yield Hit(moved.place, numbers[int(moved.reason.split(" ")[1])], group[1:])
             if last is not None and (self.timeline.position >= last) == is_forward:
                 return
             self.waiting.stop_if_pressed()
             self.waiting.tell(self.timeline.position)
-            if any(moved.reason == "oldest" or moved.refusal == "history ends" for moved in moves):
-                numbers = self.begin_anew(stops)
-            short = time.monotonic() - begun < SHORT
-            size = min(most, size * 4) if short else max(1, size // 2)
+            if answers[-width][0] in ("stop: oldest", "no: history ends"):
+                self.begin_anew()
+            size = min(most, size * 4) if time.monotonic() - begun < SHORT else max(1, size // 2)
 
-    def followed(self, moves: list[Moved], command: str) -> bool:
+    def followed(self, answers: list[list[str]], command: str) -> bool:
         """Keeps where the process is behind these moves; False where none was made at the end or the start."""
-        places = [moved.place for moved in moves if moved.place]
-        if places:
-            self.place = places[-1]
+        last = next((answer for answer in reversed(answers) if len(answer) == 2), None)
+        if last:
+            self.place = read_place(last[1])
             self.timeline = self.timeline.moved(self.place.position, command)
-        return bool(places) or moves[0].refusal == "history ends"
+        return last is not None or answers[0] == ["no: history ends"]
 
-    def begin_anew(self, stops: list[str]) -> dict[int, int]:
-        """From the start to here, so that the moves before are kept again."""
-        here = self.timeline
+    def begin_anew(self) -> None:
+        """Another process that leads to here: where this one keeps no earlier moves, or was sent as much as it reads."""
+        here, stops = self.timeline, self.stops
         self.start()
         self.go(here)
-        return self.set_stops(stops)
+        self.set_stops(stops)
 
 
 def frames_of(answer: list[str]) -> list[Place]:

@@ -4,6 +4,7 @@ from __future__ import annotations
 import pathlib
 import shutil
 import sys
+import textwrap
 from typing import Iterator
 
 from .answers import Place
@@ -14,6 +15,7 @@ from .values import brief, is_stack
 
 AROUND = 2
 TAB = 4
+WIDTH = 100
 GAP = "    "
 # Beyond so many moves the frames of callers aren't looked for at each stop: that goes back along all of them.
 MOST_MOVES = 1_000_000
@@ -48,6 +50,12 @@ class Screen:
         width = self.width
         return line if width is None or len(line) <= width else line[:width - 2] + ".."
 
+    def filled(self, text: str, indent: str) -> list[str]:
+        """A text in lines as wide as the terminal."""
+        first = indent if indent.isspace() and len(indent) > 2 else ""
+        return textwrap.wrap(text, self.width or WIDTH, initial_indent=first, subsequent_indent=indent,
+                             break_on_hyphens=False)
+
     # Values.
 
     def name(self, value: int, width: str) -> str | None:
@@ -62,9 +70,9 @@ class Screen:
         return self.own_allocation(value)
 
     def short_owner(self, value: int) -> str | None:
-        """The alloc that an address belongs to, without its frame where that is the innermost one."""
+        """The alloc that an address belongs to, as its temporary alone where the frame is the innermost one."""
         owner = self.frames.owner(value, self.session.timeline)
-        return owner and (owner.split(" ", 3)[3] if owner.startswith("frame 0 ") else owner)
+        return owner and (owner.split(" ")[-1] if owner.startswith("frame 0 ") else owner)
 
     def own_allocation(self, value: int) -> str | None:
         """As above, of the innermost frame alone, which needs no move."""
@@ -74,12 +82,12 @@ class Screen:
         for name, size in allocations_of(self.session.program, frames[0].function).items():
             begin = self.session.value(name)
             if begin is not None and begin <= value < begin + size < 1 << 63:
-                return f"alloc {name}+{value - begin}"
+                return f"{name}+{value - begin}"
         return None
 
     def operands(self, function: str, instruction: Instruction) -> list[str]:
         """Each temporary that an instruction reads, with its value, as `%x=5`."""
-        classes = self.session.program.functions[function].temporaries()
+        classes = self.session.program.functions[function].temporaries
         found = []
         for operand in instruction.operands:
             if operand.is_temporary:
@@ -135,7 +143,7 @@ class Screen:
             return
         yield self.cut(line)
         for value in beside:
-            yield self.cut(GAP + value)
+            yield GAP + value
 
     def place_lines(self, place: Place | None = None) -> list[str]:
         """The text around a place; without one around that where the session stands, with the values of operands."""
@@ -149,6 +157,6 @@ class Screen:
         instruction = self.session.program.functions[place.function].at(place.label, place.index)
         beside = self.operands(place.function, instruction) + self.jump_said(place, instruction) if is_here else []
         source = self.map.place(instruction.line)
-        lines = [self.cut(f"  source: {source}")] if source else []
+        lines = [f"  source: {source}"] if source else []
         return lines + list(self.text_lines(instruction.line - AROUND, instruction.line + AROUND, instruction.line, beside))
 

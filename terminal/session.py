@@ -68,20 +68,22 @@ class Session:
                 raise Refused(f"the session keeps its last {self.launch.history} moves only, back to #{self.place.position}")
 
     def send(self, line: str) -> list[str]:
+        if not self.pipe.has_room((line,)):
+            self.begin_anew()
         try:
             return self.pipe.ask(line)[0]
         except Ended as end:
-            self.begin_anew(end)
+            self.begin_anew()
+            self.news.append(f"the debugger ended ({end}); the session's {len(self.lines)} lines were played again")
             return self.pipe.ask(line)[0]
 
-    def begin_anew(self, end: Ended) -> None:
-        """After the process broke: another one, which the kept lines lead to the same state."""
+    def begin_anew(self) -> None:
+        """Another process, which the kept lines lead to the same state: where one broke, or was sent as much as it reads."""
         self.pipe.close()
         self.pipe = Pipe(self.launch.command(self.launch.history))
         if self.pipe.refused:
             raise self.pipe.refused
         self.pipe.ask(*self.lines)
-        self.news.append(f"the debugger ended ({end}); the session's {len(self.lines)} lines were played again")
 
     # Questions about where it stands.
 

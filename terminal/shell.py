@@ -151,7 +151,7 @@ class Shell:
             shown = self.shown(text, letters)
         except (Wrong, Unset, Refused) as error:
             shown = f"{text}: {error}"
-        self.say(self.screen.cut(f"{number}: {shown}"))
+        self.say(f"{number}: {shown}")
 
     def outcome(self, outcome: Outcome) -> None:
         """Shows how a run ended; where it made no move, says why."""
@@ -177,7 +177,7 @@ class Shell:
         if not frames:
             raise Refused("the run is over and no frame is left; `back` goes to before the last return")
         function = frames[self.session.selected].function
-        classes = self.session.program.functions[function].temporaries()
+        classes = self.session.program.functions[function].temporaries
         if name not in classes:
             raise Wrong(f"{name}: {function} has no such temporary")
         if self.session.selected == 0:

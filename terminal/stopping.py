@@ -61,7 +61,7 @@ def add_breakpoint(shell: Shell, rest: str, is_once: bool) -> None:
     what, condition, text = with_condition(shell, rest)
     place = place_of(shell, what)
     if condition:
-        known = shell.session.program.functions[place[0]].temporaries()
+        known = shell.session.program.functions[place[0]].temporaries
         for name in temporaries_of(condition):
             if name not in known:
                 raise Wrong(f"{name}: {place[0]} has no such temporary")
@@ -112,7 +112,8 @@ def frame_watch(shell: Shell, name: str) -> Stop:
     back = frames[1] if len(frames) > 1 else None
     first = shell.session.program.functions[function].first
     stop = Stop(f"{name} of this call of {function}", [f"watch {function} {name}"], [])
-    stop.frame = FrameWatch(name, function, len(frames), back, first, value)
+    entry = shell.frames.entry(shell.frames.frame(shell.session.timeline, shell.session.selected)).position
+    stop.frame = FrameWatch(name, function, len(frames), back, first, entry, value)
     return stop
 
 

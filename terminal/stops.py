@@ -6,10 +6,11 @@ from typing import Callable
 
 from .answers import Place, read_bytes, read_value
 from .expressions import Node, Unset, evaluate, is_fixed, parts_of, temporaries_of
-from .scratch import Hit, frames_of
+from .scratch import frames_of
 from .text import STACK, Program
 from .values import BYTES
 
+FRAME_OVER = "its frame is over"
 # Bytes that are shown as one number.
 MOST_NUMBER = 8
 
@@ -53,13 +54,18 @@ class Stop:
 
 @dataclass
 class FrameWatch:
-    """A temporary of one frame: the depth of the frame, and the place to which it returns."""
+    """A temporary of one frame: the depth of the frame, the place to which it returns, and the position at which it began.
+
+    Whether a run begins inside the frame, before it or behind it is looked at each time.
+    """
     temporary: str
     function: str
     depth: int
     back: Place | None
     first: str
+    entry: int
     value: int | None = None
+    is_over: bool = False
 
 
 @dataclass
@@ -87,15 +93,15 @@ class Answered:
     ask: Callable[..., list[list[str]]]
 
     @property
-    def frames(self) -> list[Place]:
-        return frames_of(self.answers["where"])
+    def depth(self) -> int:
+        return len(frames_of(self.answers["where"]))
 
     def temporary(self, name: str) -> tuple[int, str]:
         answer = self.answers[f"print {name}"][0]
         value = None if answer.startswith("no: ") else read_value(answer)
         if value is None:
             raise Unset(name)
-        return value, self.program.functions[self.frames[0].function].temporaries()[name]
+        return value, self.program.functions[self.place.function].temporaries[name]
 
     def bytes(self, address: int, count: int) -> int:
         line = f"mem {address} {count}"
@@ -110,7 +116,7 @@ class Answered:
         return self.program.addresses[name]
 
     def word(self, name: str) -> int:
-        return len(self.frames) if name == "depth" else self.place.position
+        return self.depth if name == "depth" else self.place.position
 
 
 class FixedState:
@@ -125,7 +131,8 @@ class FixedState:
 
 def questions_of(node: Node, program: Program) -> list[str] | None:
     """What is to be asked at a hit for a condition, or None where an address in it depends on the state."""
-    asked = ["where"] + [f"print {name}" for name in temporaries_of(node)]
+    asked = [f"print {name}" for name in temporaries_of(node)]
+    asked += ["where"] if any(part.text == "depth" for part in parts_of(node)) else []
     for part in parts_of(node):
         if part.kind == "memory":
             if not is_fixed(part.parts[0]):
@@ -159,23 +166,23 @@ class Filter:
             return [f"break {frame.function} {frame.first} 0"]
         return [f"break {frame.back.function} {frame.back.label} {frame.back.index}"] if frame.back else []
 
-    def questions(self) -> tuple[list[str], bool]:
-        """What is asked at each hit, and whether that can be known before."""
-        asked, is_known = ["where"], True
+    def questions(self, more: list[str]) -> tuple[list[str], bool]:
+        """What is asked at each hit besides, and whether all of it can be known before."""
+        asked, is_known = list(more), True
         for stop in self.stops:
             found = questions_of(stop.condition, self.program) if stop.condition else []
             is_known = is_known and found is not None
             asked += found or [f"print {name}" for name in temporaries_of(stop.condition)] if stop.condition else []
             asked += [stop.memory.question] if stop.memory else []
-            asked += [f"print {stop.frame.temporary}"] if stop.frame else []
+            asked += ["where", f"print {stop.frame.temporary}"] if stop.frame else []
         return list(dict.fromkeys(asked)), is_known
 
-    def chosen(self, hit: Hit, state: Answered) -> tuple[Stop | None, str]:
-        """The stop that counts at a hit, with what there is to say of it."""
-        told = self.owners[hit.stop] if hit.stop < len(self.owners) else None
+    def chosen(self, index: int, state: Answered) -> tuple[Stop | None, str]:
+        """The stop that counts at a hit of the line with that index, with what there is to say of it."""
+        told = self.owners[index] if index < len(self.owners) else None
+        here = (state.place.function, state.place.label, state.place.index)
         for stop in self.stops:
-            here = stop.place == (hit.place.function, hit.place.label, hit.place.index)
-            said = self.looked_at(stop, stop is told or bool(here), state)
+            said = self.looked_at(stop, stop is told or stop.place == here, state)
             if said is not None and self.holds(stop, state):
                 return stop, said
         return None, ""
@@ -189,9 +196,11 @@ class Filter:
         return "" if is_told else None
 
     def frame_said(self, frame: FrameWatch, state: Answered) -> str | None:
-        depth = len(state.frames)
+        if frame.is_over or state.place.position < frame.entry:
+            return None
+        depth = state.depth
         if depth < frame.depth:
-            return "its frame is over"
+            return FRAME_OVER
         if depth > frame.depth:
             return None
         answer = state.answers[f"print {frame.temporary}"][0]
@@ -200,8 +209,7 @@ class Filter:
             said = self.change(shown(frame.value), shown(value))
             frame.value = value
             return said
-        is_first = (state.place.label, state.place.index) == (frame.first, 0)
-        return "its frame begins here" if is_first and not self.is_forward else None
+        return "its frame begins here" if state.place.position == frame.entry and not self.is_forward else None
 
     def memory_said(self, watch: MemoryWatch, state: Answered) -> str | None:
         """A change of live bytes: one to dead bytes, and back to what they were, is none."""

@@ -6,6 +6,7 @@ from __future__ import annotations
 
 import string
 from dataclasses import dataclass, field
+from functools import cached_property
 from typing import Iterator
 
 NAME = frozenset(string.ascii_letters + string.digits + "._$")
@@ -134,6 +135,7 @@ class Function:
     def definitions(self, name: str) -> list[tuple[str, int, Instruction]]:
         return [place for place in self.places() if place[2].result == name]
 
+    @cached_property
     def temporaries(self) -> dict[str, str]:
         """Each temporary with its class."""
         classes = {name: "l" if type == "l" else "w" for type, name in self.parameters}
@@ -349,7 +351,7 @@ class Program:
 
     def reentered(self) -> set[str]:
         """The functions of which a call may run while another one isn't over."""
-        taken = set(self.functions) if self.calls_by_address() else set()
+        taken = set(self.functions) if self.calls_by_address else set()
         callees = {name: {self.called(instruction) or "" for _, _, instruction in function.places()
                           if instruction.operation == "call"} for name, function in self.functions.items()}
         found = set()
@@ -365,7 +367,9 @@ class Program:
                 found.add(name)
         return found
 
+    @cached_property
     def calls_by_address(self) -> bool:
+        """Whether a call is by a value that only a run tells."""
         return any(instruction.operation == "call" and not self.called(instruction)
                    for function in self.functions.values() for _, _, instruction in function.places())
 

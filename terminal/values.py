@@ -33,9 +33,11 @@ def shown_bytes(text: bytes) -> str:
 
 
 def as_text(value: int) -> str | None:
-    """The text that a value of three bytes and more is, the first byte the least significant; or None."""
+    """The text that a value is, the first byte the least significant; or None. Of three bytes it must be a word, since
+    many numbers are three bytes of some signs; shorter ones are never a text."""
     text = value.to_bytes(8, "little").rstrip(b"\0")
-    return shown_bytes(text) if len(text) >= 3 and all(map(is_readable, text)) else None
+    is_text = len(text) > 3 and all(map(is_readable, text)) or len(text) == 3 and text.isalpha()
+    return shown_bytes(text) if is_text else None
 
 
 def as_float(value: int, width: str) -> str:
@@ -76,22 +78,24 @@ def is_stack(value: int) -> bool:
     return STACK <= value <= STACK + STACK_BYTES
 
 
+def is_near_zero(value: int, width: str) -> bool:
+    """Whether a value is a small negative number, if it has a sign."""
+    return -NEAR_ZERO <= signed(value, width) < 0
+
+
 def remarks(value: int, width: str, address: str | None) -> list[str]:
     """What a value also is: a name, a small negative number, a text."""
     found = [address] if address else []
-    if -NEAR_ZERO <= signed(value, width) < 0:
+    if is_near_zero(value, width):
         found.append(str(signed(value, width)))
     text = as_text(value) if not found else None
     return found + ([f"0x{value:x} {text}"] if text else [])
 
 
 def brief(value: int | None, width: str, address: str | None) -> str:
-    """A value in one word."""
+    """A value in one word: a name before a small negative number before a text."""
     if value is None:
         return "unset"
-    found = remarks(value, width, address)
-    return found[0].split(" ", 1)[-1] if found else str(value)
-
-
-__all__ = ["BITS", "BUILT_IN", "BYTES", "FORMATS", "Names", "as_text", "brief", "formatted", "is_stack", "remarks",
-           "shown_bytes", "signed", "unsigned"]
+    if address:
+        return address
+    return str(signed(value, width)) if is_near_zero(value, width) else as_text(value) or str(value)
