@@ -5,7 +5,7 @@ import pathlib
 from itertools import zip_longest
 
 from .accesses import Access
-from .answers import COMMANDS as LANGUAGE, read_place
+from .answers import COMMANDS as LANGUAGE, Place, read_place
 from .causes import MOST_BYTES_ASKED, Cause, Question
 from .expressions import Unset, Wrong, evaluate, parts_of, temporaries_of
 from .pipe import Pipe
@@ -174,61 +174,53 @@ def held_spans(shell: Shell, run: Timeline, stops: list[str], questions: list[st
                function: str) -> list[tuple[int, int | None]]:
     """The spans of positions in which a condition holds, by going back along the changes of what it is about."""
     scratch = shell.session.scratch.go(run)
-    readings = Readings(shell, node, questions, function)
-    is_held = readings.holds(scratch.place, scratch.ask(*questions))
+    readings = Readings(shell, node, questions, function, run)
+    changes = [(run.position, readings.holds(scratch.place, scratch.ask(*questions)))]
+    changes += [(hit.position, readings.holds(hit.place, hit.answers)) for hit in scratch.hits(False, stops, questions)]
     spans: list[tuple[int, int | None]] = []
     end: int | None = None
-    for hit in scratch.hits(False, stops, questions):
-        now = readings.holds(hit.place, hit.answers)
-        changed = hit.position + 1
-        if is_held and not now:
-            spans.append((changed, end))
-        elif now and not is_held:
-            end = changed
-        is_held = now
-        if hit.stop is None and is_held:
-            spans.append((0, end))
-    return spans[::-1]
+    was_held = False
+    for position, known in changes:
+        is_held = readings.in_caller(position) if known is None else known
+        if was_held and not is_held:
+            spans.append((position + 1, end))
+        elif is_held and not was_held:
+            end = None if position == run.position else position + 1
+        was_held = is_held
+    return (spans + [(0, end)] * was_held)[::-1]
 
 
 class Readings:
-    """Whether a condition holds at the changes of what it is about, going back: a temporary of a function reads what it was
-    in the innermost frame of that function, which needn't be the innermost frame of all."""
+    """Whether a condition holds at the changes of what it is about: a temporary of a function reads what it is in the
+    innermost frame of that function, which needn't be the innermost frame of all."""
 
-    def __init__(self, shell: Shell, node, questions: list[str], function: str):
-        self.shell, self.node, self.questions, self.function = shell, node, questions, function
+    def __init__(self, shell: Shell, node, questions: list[str], function: str, run: Timeline):
+        self.shell, self.node, self.questions, self.function, self.run = shell, node, questions, function, run
+        self.scratch, self.program = shell.session.scratch, shell.session.program
 
-    def holds(self, place, answers: list[list[str]]) -> bool:
+    def holds(self, place, answers: list[list[str]]) -> bool | None:
+        """Of a state whose answers are known; None where the frame that is meant has called another one, or it is an end."""
         known = dict(zip(self.questions, answers))
-        state = Answered(self.shell.session.program, place, known, self.shell.session.scratch.ask)
         if self.function and place.function != self.function:
             frames = frames_of(known["where"])
-            index = next((index for index, frame in enumerate(frames) if frame.function == self.function), None)
-            if index is None:
-                return False
-            if index or place.end:
-                return self.in_caller(index, place, known)
-        return self.value(state)
+            return None if any(frame.function == self.function for frame in frames) else False
+        return self.value(place, known)
 
-    def value(self, state: Answered) -> bool:
+    def value(self, place: Place, known: dict[str, list[str]]) -> bool:
         try:
-            return evaluate(self.node, state).number != 0
+            return evaluate(self.node, Answered(self.program, place, known, self.scratch.ask)).number != 0
         except Unset:
             return False
 
-    def in_caller(self, index: int, place, known: dict[str, list[str]]) -> bool:
-        """A function is called by the one that is meant: its temporaries are those of the state before the call."""
-        scratch = self.shell.session.scratch
-        here = scratch.timeline
-        there = self.shell.frames.frame(self.run_at(place.position), index)
+    def in_caller(self, position: int) -> bool:
+        """The temporaries of a frame that isn't the innermost are those of the state before its call."""
+        at = self.run.at(position)
+        frames = self.scratch.go(at).where()
+        known = dict(zip(self.questions, self.scratch.ask(*self.questions)))
+        index = next(index for index, frame in enumerate(frames) if frame.function == self.function)
         names = [f"print {name}" for name in temporaries_of(self.node)]
-        known.update(zip(names, scratch.go(there).ask(*names)))
-        known["where"] = known["where"][index:]
-        scratch.go(here)
-        return self.value(Answered(self.shell.session.program, place, known, scratch.ask))
-
-    def run_at(self, position: int) -> Timeline:
-        return self.shell.session.timeline.at(position)
+        known.update(zip(names, self.scratch.go(self.shell.frames.frame(at, index)).ask(*names)))
+        return self.value(Place(position, self.function), known)
 
 
 @command("compare", "compare FILE", "file", is_repeated=False)

@@ -338,7 +338,7 @@ class Causes:
     def of_end(self, at: Timeline) -> Cause:
         end = self.scratch.go(at).place.end
         there = self.frames.before_end(at)
-        cause = self.executed(there, f"#{at.position} {end} comes of")
+        cause = self.executed(there, f"{end}, at #{at.position}, comes of")
         if end == "fault stack full":
             cause.lines[2:2] = self.stack_told(there)
         elif end.startswith("fault dead address"):

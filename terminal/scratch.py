@@ -85,8 +85,8 @@ class Scratch:
             raise
 
     def go(self, there: Timeline) -> Scratch:
-        """Goes to another state of the session's run."""
-        if not self.pipe:
+        """Goes to another state of the session's run; where the process was ended meanwhile, with another one."""
+        if not self.pipe or self.pipe.process.poll() is not None:
             self.start()
         if self.timeline != there and not self.move(there):
             self.start()

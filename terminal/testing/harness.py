@@ -15,7 +15,7 @@ import tempfile
 import termios
 import time
 
-FOLDER = pathlib.Path(__file__).resolve().parent
+FOLDER = pathlib.Path(__file__).resolve().parent.parent
 TOP = FOLDER.parent
 PROMPT = "(qrev) "
 PLACE = re.compile(r"#\d+ (?:[$]\S+ @\S+ \d+|done.*|exit.*|fault.*)")
@@ -28,16 +28,19 @@ class Silent(Exception):
 class Terminal:
     """A command at a terminal of its own."""
 
-    def __init__(self, words: list[str], columns: int = 200, seconds: float = 20, **environment: str):
+    def __init__(self, words: list[str], columns: int = 200, seconds: float = 30, folder: str = ".", **environment: str):
         self.seconds, self.shown = seconds, ""
         self.home = tempfile.TemporaryDirectory(prefix="terminal-")
+        variables = {**os.environ, "HOME": self.home.name, "TERM": "dumb", "INPUTRC": "/dev/null",
+                     "PYTHONDONTWRITEBYTECODE": "1", **environment}
+        variables.pop("COLUMNS", None)
+        size = struct.pack("HHHH", 40, columns, 0, 0)
+        # Tests run in threads: behind the fork nothing is done that could wait for one.
         self.child, self.device = pty.fork()
         if self.child == 0:
-            fcntl.ioctl(0, termios.TIOCSWINSZ, struct.pack("HHHH", 40, columns, 0, 0))
-            os.environ.update({"HOME": self.home.name, "TERM": "dumb", "INPUTRC": "/dev/null",
-                               "PYTHONDONTWRITEBYTECODE": "1", **environment})
-            os.environ.pop("COLUMNS", None)
-            os.execvp(words[0], words)
+            fcntl.ioctl(0, termios.TIOCSWINSZ, size)
+            os.chdir(folder)
+            os.execvpe(words[0], words, variables)
 
     def wait_for(self, text: str) -> str:
         """What came up to the text, without the text itself."""
@@ -80,10 +83,11 @@ class Terminal:
 class Held(Terminal):
     """A session of the front end: lines are typed, and what each shows is kept."""
 
-    def __init__(self, program: str, *words: str, columns: int = 200, memory: int = 512, **environment: str):
+    def __init__(self, program: str, *words: str, columns: int = 200, memory: int = 512, folder: str = ".",
+                 **environment: str):
         super().__init__([sys.executable, str(FOLDER / "main"), "--debugger", program, "--memory", str(memory), "--", *words],
-                         columns, **environment)
-        self.program, self.words = program, words
+                         columns, folder=folder, **environment)
+        self.program, self.words, self.folder = program, words, folder
         self.told = self.wait_for(PROMPT)
         self.place = last_place(self.told)
 
@@ -100,7 +104,7 @@ class Held(Terminal):
         self.do(f"save {script}")
         asked = "where\ntemps\nout\n"
         run = subprocess.run([self.program, *self.words], input=script.read_text() + asked, capture_output=True, text=True,
-                             timeout=self.seconds)
+                             timeout=self.seconds, cwd=self.folder)
         told = run.stdout.split("\n")
         place = [line for line in told if PLACE.fullmatch(line)][-1]
         if place != self.place:
