@@ -95,6 +95,10 @@ def told_bounds(shell: Shell, run: Timeline) -> str:
     return f"in the run from #0 to {scratch.place}" + ("" if scratch.place.end else ", which goes on")
 
 
+def counted(number: int, what: str) -> str:
+    return f"{number} {what}" + ("" if number == 1 else "s")
+
+
 def accesses(shell: Shell, rest: str, is_write: bool) -> None:
     words = rest.split()
     width = words[0] if len(words) > 1 and (words[0] in BYTES or words[0].isdigit()) else ""
@@ -108,7 +112,7 @@ def accesses(shell: Shell, rest: str, is_write: bool) -> None:
                       if poke.line.startswith("poke")})
     shell.say(*(lines[position] for position in sorted(lines)))
     more = f" ({MOST_SHOWN} are shown)" if len(found) > MOST_SHOWN else ""
-    shell.say(f"{len(found)} {'writes' if is_write else 'reads'}{more} {told_bounds(shell, run)}")
+    shell.say(f"{counted(len(found), 'write' if is_write else 'read')}{more} {told_bounds(shell, run)}")
 
 
 def access_told(shell: Shell, access: Access, run: Timeline) -> str:
@@ -163,7 +167,7 @@ def when(shell: Shell, rest: str) -> None:
     spans = held_spans(shell, run, stops, ["where", *known], node, function if names else "")
     for begin, end in spans[:MOST_SHOWN]:
         shell.say(f"holds from #{begin}" + (f", no longer from #{end}" if end is not None else " on"))
-    shell.say(f"{len(spans)} times {told_bounds(shell, run)}")
+    shell.say(f"{counted(len(spans), 'time')} {told_bounds(shell, run)}")
 
 
 def fixed_address(part, program) -> int:

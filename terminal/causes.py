@@ -19,7 +19,7 @@ from .values import Names, is_stack, remarks, shown_bytes
 
 MOST_BYTES_ASKED = 48
 # How many stores of the same value are looked for before `why` is content with the last change.
-MOST_STORES, MOST_SITES = 8_000, 240
+MOST_STORES, MOST_SITES = 4_000, 240
 WIDTHS = {1: "b", 2: "h", 4: "w", 8: "l"}
 
 

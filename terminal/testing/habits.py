@@ -18,11 +18,11 @@ from .sessions import EXAMPLES, SQUARES
 ENDLESS = "export function w $main() {\n@start\n\tjmp @loop\n@loop\n\t%i =l phi @start 0, @loop %j\n\t%j =l add %i, 1\n\tjmp @loop\n}\n"
 # What is typed for a run of so many moves, and how many seconds `why` may take behind it.
 SPEEDS = ((1_000_000, 1.0), (10_000_000, 5.0))
-# Rounds of the loop below take eight moves.
+# A round of the loop below takes eight moves, and stores at an address that only the run tells.
 LONG = """data $first = align 4 {{ w 0 }}
-data $sum = align 8 {{ l 0 }}
 export function w $main() {{
 @start
+	%sum =l alloc8 8
 	storew 7, $first
 	jmp @loop
 @loop
@@ -30,9 +30,9 @@ export function w $main() {{
 	%more =w csltl %i, {rounds}
 	jnz %more, @body, @end
 @body
-	%old =l loadl $sum
+	%old =l loadl %sum
 	%new =l add %old, 1
-	storel %new, $sum
+	storel %new, %sum
 	%next =l add %i, 1
 	%same =w loadw $first
 	jmp @loop
@@ -256,7 +256,7 @@ def bounded(program: str) -> str | None:
         session = Held(program, written(folder, "long.ssa", LONG.format(rounds=200_000)), "--history", "10")
         try:
             fault = missing(session.do("c"), "done 7") or missing(session.do("why"), "[1] %r = 7")
-            fault = fault or missing(session.do("why w $first"), "line 5: storew 7, $first", "#0 $main @start 0")
+            fault = fault or missing(session.do("why w $first"), "line 5: storew 7, $first", "#1 $main @start 1")
             return fault or missing(session.do("goto 5"), "keeps its last 10 moves only")
         finally:
             session.close()
@@ -272,7 +272,8 @@ def fast(program: str) -> str | None:
                 if fault or int(session.place[1:].split()[0]) < moves:
                     return fault or f"{session.place} is before #{moves}"
                 for line, wanted in (("why", "[1] %r = 7"), ("why 1", "[1] w $first+0 = 7"), ("why 1", "line 5: storew 7, $first"),
-                                     ("why l $sum", "storel %new, $sum")):
+                                     ("back", "%r=7"), ("why l %sum", "storel %new, %sum"), ("why %i", "for @body"),
+                                     ("why %sum", "line 4: %sum =l alloc8 8"), ("why w $first", "line 5: storew 7, $first")):
                     begun = time.monotonic()
                     fault = missing(session.do(line), wanted)
                     taken = time.monotonic() - begun

@@ -102,6 +102,7 @@ class Held(Terminal):
         """What the session's saved script leads to otherwise than to where it stands, or None."""
         script = pathlib.Path(self.home.name) / "saved.script"
         self.do(f"save {script}")
+        self.do("frame 0")
         asked = "where\ntemps\nout\n"
         run = subprocess.run([self.program, *self.words], input=script.read_text() + asked, capture_output=True, text=True,
                              timeout=self.seconds, cwd=self.folder)

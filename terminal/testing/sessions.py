@@ -96,7 +96,7 @@ ASKED: Lines = [
                             "6 writes in the run from #0 to #47 done 300"]),
     ("readers $balance", ["#32 $pay @start 0", "#45 $main @end 0", "7 reads in the run from #0 to #47 done 300"]),
     ("goto 38", ["#38 $pay @start 2"]), ("when %amount == 100", ["3 times in the run from #0 to #47 done 300"]),
-    ("when w[$balance] == 199", ["holds from #37, no longer from #40", "1 times"]), ("p %t1", ["%t1 = 200"]),
+    ("when w[$balance] == 199", ["holds from #37, no longer from #40", "1 time in the run"]), ("p %t1", ["%t1 = 200"]),
     ("why", ["$pay was called by", "line 31: call $pay(w 100)"]), ("why call", ["$pay was called by"]),
     ("why jump", ["$pay was called by"]), ("why 4 $balance", ["w $balance+0 = 199: stored by", "#36 $charge @start 2"]),
     ("why w $balance", ["#36 $charge @start 2"]), ("why 1", ["%t2 = 199 was set by"]), ("why back", ["#36 $charge @start 2"]),
