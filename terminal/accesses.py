@@ -63,9 +63,6 @@ class Accesses:
             for block in self.blocks(sites[first:first + MOST_STOPS], high, low):
                 yield from (access for access in self.looked_at(block, is_write, high) if access.meets(address, count))
 
-    def number_of_sites(self, is_write: bool, address: int, count: int) -> int:
-        return sum(self.may_touch(site, is_write, address, count) for site in self.sites(is_write))
-
     def may_touch(self, site: Site, is_write: bool, address: int, count: int) -> bool:
         """False where the text alone says that an instruction touches other bytes."""
         instruction = site.instruction

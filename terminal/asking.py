@@ -9,9 +9,9 @@ from .answers import COMMANDS as LANGUAGE, Place, read_place
 from .causes import MOST_BYTES_ASKED, Cause, Question
 from .expressions import Unset, Wrong, evaluate, parts_of, temporaries_of
 from .pipe import Pipe
-from .session import MOVES, Refused
+from .scratch import Refused, frames_of
+from .session import MOVES
 from .shell import Shell, command
-from .scratch import frames_of
 from .stops import Answered, FixedState, questions_of
 from .timeline import Timeline, common
 from .values import BYTES, brief

@@ -480,7 +480,7 @@ class Causes:
                 made.questions += cause.questions
         if left:
             made = made or Cause(question.at.at(0))
-            made.lines.append(f"{self.which(question, left)}{question.text} stands so since the start: "
+            made.lines.append(f"{self.which(question, left)}{question.text} so since the start: "
                               f"{self.data_told(question.address + min(left))}")
         return made
 
@@ -506,5 +506,5 @@ class Causes:
             return self.executed(at, f"{head}: made, as zeros, by")
         if instruction.operation == "ret":
             return self.executed(at, f"{head}: given back by")
-        return self.executed(at, f"{head}: stored by", (question.address + min(span), len(span)))
+        return self.executed(at, f"{head}: stored by", (question.address + min(span), max(span) - min(span) + 1))
 

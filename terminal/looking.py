@@ -5,7 +5,7 @@ import pathlib
 
 from .answers import read_output
 from .expressions import Unset, Wrong
-from .session import Refused
+from .scratch import Refused
 from .shell import COMMANDS, Shell, command
 from .values import BYTES, FORMATS, formatted, shown_bytes
 
@@ -166,7 +166,7 @@ def select(shell: Shell, index: int) -> None:
     if not frames:
         raise Refused("no frame: the run is over")
     if not 0 <= index < len(frames):
-        raise Refused("this is the innermost frame" if index < 0 else f"there are {len(frames)} frames")
+        raise Refused("this is the innermost frame" if index < 0 else f"the outermost frame is {len(frames) - 1}")
     shell.session.selected = index
     place = frames[index]
     shell.say(f"frame {index} {place.function} {place.label} {place.index}")

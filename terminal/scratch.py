@@ -9,7 +9,7 @@ import time
 from dataclasses import dataclass
 from typing import Iterator, NamedTuple
 
-from .answers import Moved, Place, read_bytes, read_moved, read_place, read_value
+from .answers import Place, read_bytes, read_moved, read_place, read_value
 from .pipe import Ended, Pipe
 from .timeline import Timeline, lines_between
 from .waiting import Interrupted, Waiting
@@ -19,6 +19,10 @@ MOST_AT_ONCE = 4096
 # A batch that took less than this, in seconds, is followed by a larger one.
 SHORT = 0.03
 MOST_BYTES = 256
+
+
+class Refused(Exception):
+    """What a command can't do, in words for whoever typed it."""
 
 
 @dataclass(frozen=True)
@@ -136,7 +140,7 @@ class Scratch:
         self.stops, self.numbers = lines, {}
         for index, answer in enumerate(answers):
             if answer[0].startswith("no: "):
-                raise ValueError(f"{lines[index]}: {answer[0][4:]}")
+                raise Refused(f"{lines[index]}: {answer[0][4:]}")
             self.numbers[int(answer[0].split(" ")[1])] = index
 
     def hits(self, is_forward: bool, stops: list[str], questions: list[str] = [], most: int = MOST_AT_ONCE,

@@ -6,14 +6,15 @@ import sys
 from dataclasses import dataclass
 from typing import Callable
 
+from .answers import Place
 from .causes import Cause, Causes
 from .expressions import Node, Unset, Value, Wrong, evaluate, parse
 from .frames import Frames
 from .pipe import Ended
-from .runs import Outcome, Runs
-from .scratch import SLICE, Launch
+from .runs import STOPPED, Outcome, Runs
+from .scratch import SLICE, Launch, Refused
 from .screen import Screen
-from .session import Refused, Session
+from .session import Session
 from .timeline import Timeline
 from .values import FORMATS, formatted, remarks, unsigned
 from .waiting import Interrupted, Waiting
@@ -233,12 +234,15 @@ class Shell:
     def run(self, line: str) -> None:
         """Does what a line asks, and says what came of it or what is wrong with it."""
         self.waiting.begin()
+        before = self.session.place
         try:
             self.do(line)
-        except (Wrong, Unset, Refused, ValueError) as error:
+        except (Wrong, Unset, Refused) as error:
             self.say(str(error))
+            self.show_if_moved(before)
         except Interrupted:
-            self.say("stopped by Ctrl-C")
+            self.say(STOPPED)
+            self.show_if_moved(before)
         except Ended as end:
             self.say(f"the debugger ended ({end}); `save FILE` still writes the session's lines")
         finally:
@@ -246,6 +250,11 @@ class Shell:
             for news in self.session.news:
                 self.say(news)
             self.session.news.clear()
+
+    def show_if_moved(self, before: Place) -> None:
+        """Where a command got no further than a part of its way."""
+        if self.session.place != before:
+            self.show()
 
     def do(self, line: str) -> None:
         line = line.strip()

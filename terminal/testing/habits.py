@@ -257,7 +257,7 @@ def bounded(program: str) -> str | None:
         try:
             fault = missing(session.do("c"), "done 7") or missing(session.do("why"), "[1] %r = 7")
             fault = fault or missing(session.do("why w $first"), "line 5: storew 7, $first", "#1 $main @start 1")
-            return fault or missing(session.do("goto 5"), "keeps its last 10 moves only")
+            return fault or missing(session.do("goto 5"), "keeps its last 10 moves, which end here", f"#{int(session.place[1:].split()[0])} $main")
         finally:
             session.close()
 
