@@ -1,8 +1,6 @@
 """Random sessions: any command in any state, after which the saved lines must lead the plain debugger to the same state."""
 from __future__ import annotations
 
-import contextlib
-import io
 import random
 import subprocess
 
@@ -12,7 +10,13 @@ from terminal.text import Program
 from terminal.waiting import Waiting
 
 LIMIT = 2000
-MOST_COUNT = 60
+
+
+class QuietShell(Shell):
+    """What it says is made all the same, and goes nowhere."""
+
+    def say(self, *lines: str) -> None:
+        pass
 
 
 class Typist:
@@ -66,15 +70,14 @@ def session_fault(debugger: str, file: str, seed: int, lines: int, history: int 
     with open(file, "rb") as opened:
         source = opened.read()
     chosen = random.Random(f"{seed} {file}")
-    shell = Shell(Launch(debugger, file, (), LIMIT, history), file, source, Waiting(), budget=LIMIT)
+    shell = QuietShell(Launch(debugger, file, (), LIMIT, history), file, source, Waiting(), budget=LIMIT)
     if shell.session.pipe.refused:
         return None
     typist, typed = Typist(shell.session.program, chosen), []
     try:
-        with contextlib.redirect_stdout(io.StringIO()):
-            for _ in range(lines):
-                typed.append(typist.line())
-                shell.run(typed[-1])
+        for _ in range(lines):
+            typed.append(typist.line())
+            shell.run(typed[-1])
         return state_fault(debugger, file, shell, history)
     except (Leave, Exception) as error:
         return f"seed {seed}: {error!r} at {typed[-1]!r}, behind {typed[:-1]}"
