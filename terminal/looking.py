@@ -146,7 +146,8 @@ def undisplay(shell: Shell, rest: str) -> None:
 
 @command("bt backtrace where", "bt [N]", "")
 def backtrace(shell: Shell, rest: str) -> None:
-    """Shows the frames, the innermost as frame 0, with the lines where they stand; N of them. The selected one is marked."""
+    """Shows the frames, or N of them, with the lines where they stand. The innermost is frame 0; the selected one is
+    marked."""
     frames = shell.session.frames()
     if not frames:
         raise Refused("no frame: the run is over")

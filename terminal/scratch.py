@@ -40,7 +40,7 @@ class Launch:
 
 
 class Hit(NamedTuple):
-    """A stop of a run: where, which of the lines that were given (or None where the run is over), and what was answered."""
+    """A stop of a run: where, by which of the lines that were given (None at the end), and what was answered there."""
     position: int
     stop: int | None
     line: str
@@ -61,7 +61,7 @@ class Scratch:
 
     @property
     def history(self) -> int | None:
-        """Where the session keeps its last moves only, so does this one: a million at least, and it begins anew for more."""
+        """Where the session keeps its last moves only, so does this one, a million at least; it begins anew for more."""
         return max(SLICE, self.launch.history) if self.launch.history else None
 
     def drop(self) -> None:
@@ -77,7 +77,7 @@ class Scratch:
         self.place = read_place(self.pipe.loaded[1])
 
     def ask(self, *lines: str) -> list[list[str]]:
-        """Answers of the process that is there; where it is broken off it is gone, and the next question begins another."""
+        """Answers of the process that is there. Where it is broken off it is gone, and the next question begins another."""
         if not self.pipe:
             self.start()
         if not self.pipe.has_room(lines):

@@ -60,7 +60,7 @@ class Session:
                 self.waiting.tell(self.place.position)
                 self.waiting.stop_if_pressed()
             self.move(f"{word} {left}" if left else line)
-            if word == "back" and self.timeline.position > there.position and common(self.timeline, there) == there.position:
+            if self.timeline.position > there.position == common(self.timeline, there):
                 raise Refused(f"the session keeps its last {self.launch.history} moves, which end here")
 
     def send(self, line: str) -> list[str]:
@@ -74,7 +74,7 @@ class Session:
             return self.pipe.ask(line)[0]
 
     def begin_anew(self) -> None:
-        """Another process, which the kept lines lead to the same state: where one broke, or was sent as much as it reads."""
+        """Another process, which the kept lines lead to the same state: where one broke, or can't be sent more."""
         self.pipe.close()
         self.pipe = Pipe(self.launch.command(self.launch.history))
         if self.pipe.refused:

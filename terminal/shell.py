@@ -1,4 +1,4 @@
-"""The prompt's commands: what each line does, and what it says. The commands themselves stand in modules by their kinds."""
+"""The prompt's lines: what each does, and what it says. The commands themselves stand in modules by their kinds."""
 from __future__ import annotations
 
 import shlex
@@ -167,8 +167,8 @@ class Shell:
         taken = self.session.memory_taken()
         if taken > self.memory_told:
             self.memory_told = 2 * taken
-            self.say(f"the session takes {taken // MEGABYTE} MB, some 28 bytes a move; with --history 1000000 it would keep "
-                     "the last million moves only, in 28 MB, and `back` would end there")
+            self.say(f"the session takes {taken // MEGABYTE} MB, some 28 bytes a move; with --history 1000000 it would "
+                     "keep the last million moves only, in 28 MB, and `back` would end there")
 
     # What lines are made of.
 

@@ -1,4 +1,4 @@
-"""Random sessions: any command in any state, after which the saved lines must lead the plain debugger to the same state."""
+"""Random sessions: any command in any state; the saved lines must lead the plain debugger to where the session stands."""
 from __future__ import annotations
 
 import random
@@ -19,50 +19,48 @@ class QuietShell(Shell):
         pass
 
 
+# Lines with what is made up for each; an empty line repeats.
+LINES = {
+    "moves": ("s", "n", "rs", "rn", "c", "rc", "fin", "rf", "s {number}", "rs {number}", "n {number}", "goto {number}", "run",
+              "checkpoint 1", "restart 1", "goto why", "set {temporary} {number}", "poke {width} {address} {number}", ""),
+    "stops": ("b {place}{condition}", "tb {place}{condition}", "watch {temporary}{condition}",
+              "watch {function} {temporary}", "watch {width} {address}{condition}", "watch {number} {address}", "d {number}",
+              "d", "ignore {number} {number}", "stops"),
+    "looks": ("p {temporary}", "p/x {temporary}+{number}", "x/{number}{width}x {address}", "bt", "up", "down", "temps", "l",
+              "list {place}", "out", "display {temporary}", "undisplay", "info symbol {address}"),
+    "asks": ("why", "why {temporary}", "why {width} {address}", "why 1", "why 2", "why 3", "why back", "why jump", "why call",
+             "why out {number}", "readers {width} {address}", "writers {width} {address}", "when {temporary} == {number}",
+             "when w[{data}] == {number}"),
+}
+PARTS = {
+    "address": ("{data}", "{temporary}", "{data}+{number}", "({temporary}+{number})", "16777216", "16777220"),
+    "place": ("{function}", "{label}", "{function} {label}", "{line}"),
+    "condition": ("", "", " if {temporary} > {number}", " if depth == 2", " if w[{data}] != {number}", " if b[{temporary}] < 9"),
+    "width": ("b", "h", "w", "l"),
+}
+
+
 class Typist:
-    """Makes up lines about a program."""
+    """Makes up lines about a program: each part of a line by its name."""
 
     def __init__(self, program: Program, chosen: random.Random):
-        self.program, self.chosen = program, chosen
-        self.functions = list(program.functions)
-        self.data = [data.name for data in program.data] or ["65536"]
+        self.chosen = chosen
+        functions = program.functions.values()
+        self.names = {
+            "function": list(program.functions),
+            "label": [label for function in functions for label in function.blocks],
+            "temporary": [name for function in functions for name in function.temporaries] or ["%x"],
+            "data": [data.name for data in program.data] or ["65536"],
+            "number": ["0", "1", "2", "3", "7", "20", "113"],
+            "line": [str(line) for line in range(1, len(program.lines) + 1)],
+        }
 
-    def temporary(self) -> str:
-        names = [name for function in self.program.functions.values() for name in function.temporaries]
-        return self.chosen.choice(names or ["%x"])
-
-    def number(self) -> str:
-        return str(self.chosen.choice((0, 1, 2, 3, 7, 20, self.chosen.randrange(200))))
-
-    def address(self) -> str:
-        return self.chosen.choice((self.chosen.choice(self.data), self.temporary(), f"{self.chosen.choice(self.data)}+{self.number()}",
-                                   f"({self.temporary()}+{self.number()})", "16777216", "16777220"))
-
-    def place(self) -> str:
-        function = self.program.functions[self.chosen.choice(self.functions)]
-        label = self.chosen.choice(list(function.blocks))
-        return self.chosen.choice((function.name, label, f"{function.name} {label}", str(self.chosen.randrange(1, len(self.program.lines) + 1))))
-
-    def condition(self) -> str:
-        return self.chosen.choice(("", "", f" if {self.temporary()} > {self.number()}", f" if depth == {self.chosen.randrange(1, 4)}",
-                                   f" if w[{self.chosen.choice(self.data)}] != {self.number()}", f" if b[{self.temporary()}] < 100"))
-
-    def width(self) -> str:
-        return self.chosen.choice("bhwl")
+    def __getitem__(self, part: str) -> str:
+        return self.chosen.choice(PARTS[part]).format_map(self) if part in PARTS else self.chosen.choice(self.names[part])
 
     def line(self) -> str:
-        moves = ("s", "n", "rs", "rn", "c", "rc", "fin", "rf", f"s {self.number()}", f"rs {self.number()}", f"n {self.number()}",
-                 f"goto {self.number()}", "run", "checkpoint 1", "restart 1", "goto why", f"set {self.temporary()} {self.number()}",
-                 f"poke {self.width()} {self.address()} {self.number()}", "")
-        stops = (f"b {self.place()}{self.condition()}", f"tb {self.place()}{self.condition()}", f"watch {self.temporary()}{self.condition()}",
-                 f"watch {self.chosen.choice(self.functions)} {self.temporary()}", f"watch {self.width()} {self.address()}{self.condition()}",
-                 f"watch {self.number()} {self.address()}", f"d {self.number()}", "d", f"ignore {self.number()} {self.number()}", "stops")
-        looks = (f"p {self.temporary()}", f"p/x {self.temporary()}+{self.number()}", f"x/{self.number()}{self.width()}x {self.address()}", "bt", "up", "down",
-                 "temps", "l", f"list {self.place()}", "out", f"display {self.temporary()}", "undisplay", f"info symbol {self.address()}")
-        asks = ("why", f"why {self.temporary()}", f"why {self.width()} {self.address()}", "why 1", "why 2", "why 3", "why back", "why jump", "why call",
-                f"why out {self.number()}", f"readers {self.width()} {self.address()}", f"writers {self.width()} {self.address()}",
-                f"when {self.temporary()} == {self.number()}", f"when w[{self.chosen.choice(self.data)}] == {self.number()}")
-        return self.chosen.choice(self.chosen.choice((moves, moves, stops, looks, asks)))
+        kind = self.chosen.choice(("moves", *LINES))
+        return self.chosen.choice(LINES[kind]).format_map(self)
 
 
 def session_fault(debugger: str, file: str, seed: int, lines: int, history: int | None = None) -> str | None:
