@@ -1,7 +1,7 @@
 """Which instructions of a run touched some bytes of memory.
 
-The debugger has no watch for reads, and none for a write of the same value. So breakpoints at all loads, or all stores, give
-the positions at which these were run, many at a time, and only then the addresses are asked, along these positions.
+The debugger has no watch for reads, and none for a write of the same value. So breakpoints at all loads, or all stores,
+give the positions at which these were run, many at a time, and then the addresses are asked, along these positions.
 """
 from __future__ import annotations
 
@@ -63,9 +63,6 @@ class Accesses:
             for block in self.blocks(sites[first:first + MOST_STOPS], high, low):
                 yield from (access for access in self.looked_at(block, is_write, high) if access.meets(address, count))
 
-    def number_of_sites(self, is_write: bool, address: int, count: int) -> int:
-        return sum(self.may_touch(site, is_write, address, count) for site in self.sites(is_write))
-
     def may_touch(self, site: Site, is_write: bool, address: int, count: int) -> bool:
         """False where the text alone says that an instruction touches other bytes."""
         instruction = site.instruction
@@ -83,16 +80,23 @@ class Accesses:
     def blocks(self, sites: list[Site], high: Timeline, low: int) -> Iterator[list[tuple[int, Site]]]:
         """The moves that ran one of these instructions, in blocks that grow, from the latest back."""
         stops = [f"break {site.function} {site.label} {site.index}" for site in sites]
-        size = FIRST_BLOCK
+        size, faulted = FIRST_BLOCK, self.faulted(high)
         while stops:
             hits = self.scratch.go(high).hits(False, stops, most=size, last=low)
             block = list(islice(((hit.position, hit.stop) for hit in hits), size))
             found = [(position, sites[stop]) for position, stop in block
-                     if stop is not None and position >= low and not high.poke_at(position)]
+                     if stop is not None and position >= low and position != faulted and not high.poke_at(position)]
             yield found
             if not block or block[-1][1] is None or block[-1][0] <= low:
                 return
             high, size = high.at(block[-1][0]), min(MOST_BLOCK, 4 * size)
+
+    def faulted(self, at: Timeline) -> int | None:
+        """The position of the move that ended in a fault, and so touched nothing, where a state is one."""
+        position = at.position - 1
+        while at.poke_at(position):
+            position -= 1
+        return position if self.scratch.go(at).place.is_fault else None
 
     def looked_at(self, block: list[tuple[int, Site]], is_write: bool, run: Timeline) -> Iterator[Access]:
         """The bytes that each move of a block touched, by the operands' values that tell the address."""

@@ -82,8 +82,9 @@ def read_output(line: str) -> bytes:
 REFUSALS = {
     "L1": "a stray byte", "L2": "a sigil without a name", "L3": "a number out of range", "L4": "a string without an end",
     "L5": "an escape that isn't known; octal ones are", "L6": "more than 2^20 bytes",
-    "P1": "not in the grammar here", "P2": "a part of QBE's language that is left out here", "P3": "the text ends too early",
-    "P4": "the last block has no jump", "C1": "a global that is defined twice", "C2": "a label that is defined twice",
+    "P1": "not in the grammar here", "P2": "a part of QBE's language that is left out here",
+    "P3": "the text ends too early", "P4": "the last block has no jump", "C1": "a global that is defined twice",
+    "C2": "a label that is defined twice",
     "C3": "a label that the function lacks", "C4": "a jump to the function's first block",
     "C5": "a temporary with definitions of two classes", "C6": "a temporary that is nowhere defined",
     "C7": "a w temporary where an l is wanted", "C8": "a phi whose labels aren't its block's predecessors",

@@ -9,9 +9,9 @@ from .answers import COMMANDS as LANGUAGE, Place, read_place
 from .causes import MOST_BYTES_ASKED, Cause, Question
 from .expressions import Unset, Wrong, evaluate, parts_of, temporaries_of
 from .pipe import Pipe
-from .session import MOVES, Refused
+from .scratch import Refused, frames_of
+from .session import MOVES
 from .shell import Shell, command
-from .scratch import frames_of
 from .stops import Answered, FixedState, questions_of
 from .timeline import Timeline, common
 from .values import BYTES, brief
@@ -77,7 +77,8 @@ def of_output(shell: Shell, text: str) -> Cause:
     size = int(shell.session.ask("out")[0].split(" ")[1])
     number = shell.evaluate(text).number if text.strip() else size - 1
     if not 0 <= number < size:
-        raise Wrong(f"{text.strip() or 'out'}: a byte from 0 to {size - 1} was expected" if size else "nothing was written yet")
+        expected = f"a byte from 0 to {size - 1} was expected" if size else "nothing was written yet"
+        raise Wrong(f"{text.strip() or 'out'}: {expected}")
     return shell.causes.of_output(number, shell.session.timeline)
 
 
@@ -203,7 +204,7 @@ class Readings:
         self.scratch, self.program = shell.session.scratch, shell.session.program
 
     def holds(self, place, answers: list[list[str]]) -> bool | None:
-        """Of a state whose answers are known; None where the frame that is meant has called another one, or it is an end."""
+        """Of a state whose answers are known; None where the frame that is meant isn't the innermost one."""
         known = dict(zip(self.questions, answers))
         if self.function and place.function != self.function:
             frames = frames_of(known["where"])
@@ -250,7 +251,8 @@ def compare(shell: Shell, rest: str) -> None:
     if mine == there:
         shell.say(f"the same state, #{mine.position}")
     else:
-        shell.say(f"the same states up to #{shared}; here the session stands at #{mine.position}, there at #{there.position}")
+        shell.say(f"the same states up to #{shared}; here the session stands at #{mine.position}, "
+                  f"there at #{there.position}")
     shell.say(*transcript_difference(rest, answers))
 
 

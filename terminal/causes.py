@@ -172,7 +172,8 @@ class Causes:
         if setter.kind == "unset":
             return self.unset(name, function, at)
         if setter.kind == "poke":
-            return Cause(there, [f"{question.text} was set by hand: #{setter.position} {at.poke_at(setter.position).line}"])
+            line = at.poke_at(setter.position).line
+            return Cause(there, [f"{question.text} was set by hand: #{setter.position} {line}"])
         if setter.kind == "given":
             return Cause(there, [f"{question.text} is an argument of the command line"])
         if setter.kind == "phi":
@@ -214,7 +215,7 @@ class Causes:
         return roles, code.first
 
     def role_at(self, place: tuple[str, int], roles: dict, run: Timeline, position: int) -> Setter | None:
-        """What was done at a place, by the state of a run at a position, or by the step from there where the run went on."""
+        """What was done at a place, to come to the state of a run at a position or by the step from there."""
         found = roles.get(place, {})
         if position < run.position and "set" in found and not run.poke_at(position):
             return Setter("set", position, found["set"])
@@ -350,7 +351,8 @@ class Causes:
         before = [data for data in self.program.data if data.address <= address]
         if before and not is_stack(address):
             data = before[-1]
-            return f"  the nearest data before {address} is {data.name}, of {data.size} bytes: {data.name}+{address - data.address}"
+            return (f"  the nearest data before {address} is {data.name}, of {data.size} bytes: "
+                    f"{data.name}+{address - data.address}")
         return f"  {address} is " + ("in the stack, above its top" if is_stack(address) else
                                    "neither in the data nor in the stack")
 
@@ -416,7 +418,7 @@ class Causes:
         return hit.position if hit and hit.stop is not None else None
 
     def same_stores(self, address: int, left: set[int], at: Timeline, low: int, writers: list) -> bool:
-        """Looks for stores of what was there already, behind the last change; False where there are too many to look at."""
+        """Looks for stores of what was there already, behind the last change; False where they are too many."""
         first, count = address + min(left), max(left) - min(left) + 1
         sites = [site for site in self.accesses.sites(True) if self.accesses.may_touch(site, True, first, count)]
         if at.position <= low or not sites:
@@ -480,7 +482,7 @@ class Causes:
                 made.questions += cause.questions
         if left:
             made = made or Cause(question.at.at(0))
-            made.lines.append(f"{self.which(question, left)}{question.text} stands so since the start: "
+            made.lines.append(f"{self.which(question, left)}{question.text} so since the start: "
                               f"{self.data_told(question.address + min(left))}")
         return made
 
@@ -506,5 +508,5 @@ class Causes:
             return self.executed(at, f"{head}: made, as zeros, by")
         if instruction.operation == "ret":
             return self.executed(at, f"{head}: given back by")
-        return self.executed(at, f"{head}: stored by", (question.address + min(span), len(span)))
+        return self.executed(at, f"{head}: stored by", (question.address + min(span), max(span) - min(span) + 1))
 

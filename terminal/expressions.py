@@ -1,7 +1,8 @@
 """Expressions of numbers, temporaries, names and memory, as in `%i > 3 && w[$table+4*%i] != 0`.
 
-Values are whole numbers without a bound. A temporary or a piece of memory counts as the signed number of its class; `u(..)`
-is the number without a sign. Equality looks at the bits of the narrower class, so that `%x == 4294967295` holds for -1.
+Values are whole numbers without a bound. A temporary or a piece of memory counts as the signed number of its class;
+`u(..)` is the number without a sign. Equality looks at the bits of the narrower class, so that `%x == 4294967295` holds
+for -1.
 """
 from __future__ import annotations
 
@@ -197,7 +198,7 @@ def evaluate(node: Node, state: State) -> Value:
 
 
 def combined(node: Node, first: Value, state: State) -> Value:
-    """The value of a binary operation whose first operand is known; the second of && and || is looked at where it counts."""
+    """The value of a binary operation whose first operand is known; && and || look at the second where it counts."""
     if node.text in ("&&", "||"):
         if bool(first.number) == (node.text == "||"):
             return Value(int(node.text == "||"))

@@ -6,7 +6,7 @@ import shlex
 
 from .answers import read_output
 from .expressions import Unset, Wrong
-from .session import Refused
+from .scratch import Refused
 from .shell import COMMANDS, Shell, command
 from .values import BYTES, FORMATS, formatted, shown_bytes
 
@@ -147,7 +147,8 @@ def undisplay(shell: Shell, rest: str) -> None:
 
 @command("bt backtrace where", "bt [N]", "")
 def backtrace(shell: Shell, rest: str) -> None:
-    """Shows the frames, the innermost as frame 0, with the lines where they stand; N of them. The selected one is marked."""
+    """Shows the frames, or N of them, with the lines where they stand. The innermost is frame 0; the selected one is
+    marked."""
     frames = shell.session.frames()
     if not frames:
         raise Refused("no frame: the run is over")
@@ -167,7 +168,7 @@ def select(shell: Shell, index: int) -> None:
     if not frames:
         raise Refused("no frame: the run is over")
     if not 0 <= index < len(frames):
-        raise Refused("this is the innermost frame" if index < 0 else f"there are {len(frames)} frames")
+        raise Refused("this is the innermost frame" if index < 0 else f"the outermost frame is {len(frames) - 1}")
     shell.session.selected = index
     place = frames[index]
     shell.say(f"frame {index} {place.function} {place.label} {place.index}")

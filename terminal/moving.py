@@ -3,7 +3,7 @@ from __future__ import annotations
 
 from .expressions import Wrong
 from .runs import Outcome
-from .session import Refused
+from .scratch import Refused
 from .shell import Leave, Shell, command
 from .timeline import Timeline
 

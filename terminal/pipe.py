@@ -1,8 +1,7 @@
 """The debugger at a pipe.
 
-A command's answer ends where that of the next line begins, and what an answer's last line looks like depends on the command.
-So behind each command, or behind many of them, goes a line that is no command: it changes nothing and is answered by
-`no: unknown command`, which no command of the language answers and which no other answer contains as a line.
+A command's answer ends where that of the next line begins. So behind commands goes a line that is none: it changes nothing
+and is answered by `no: unknown command`, which no command of the language answers and no other answer contains as a line.
 """
 from __future__ import annotations
 
@@ -47,7 +46,7 @@ class Pipe:
             self.refused = None
 
     def exchange(self, sent: bytes, marks: int) -> bytes:
-        """Writes all of it while it reads, until the answer to a mark came so many times. Other threads don't come here."""
+        """Writes all of it while it reads, until the answer to a mark came so many times."""
         source, sink = self.process.stdout.fileno(), self.process.stdin.fileno()
         left, self.rest = memoryview(sent), bytearray()
         self.sent += len(sent)

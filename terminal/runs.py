@@ -10,8 +10,8 @@ from dataclasses import dataclass
 from .answers import Place
 from .frames import Frames
 from .levels import MOST_STOPS, Levels, stop_line
-from .scratch import Hit
-from .session import Refused, Session
+from .scratch import MOST_AT_ONCE, Hit, Refused
+from .session import Session
 from .stops import FRAME_OVER, Answered, Filter, FrameWatch, Stop
 from .text import Program
 from .waiting import Interrupted
@@ -121,24 +121,24 @@ class Runs:
         lines = filter.lines + (target.begin(self.session, is_forward, filter.lines) if target else [])
         questions, is_known = filter.questions(target.questions if target else [])
         last = here.position + (self.budget if is_forward else -self.budget) if self.budget else None
+        position, outcome = here.position, None
         try:
-            hits = self.scratch.go(here).hits(is_forward, lines, questions, last=last, **({} if is_known else {"most": 1}))
+            hits = self.scratch.go(here).hits(is_forward, lines, questions, MOST_AT_ONCE if is_known else 1, last)
             for hit in hits:
                 outcome = self.outcome_at(hit, filter, questions, target, is_forward)
+                position = hit.position
                 if outcome:
-                    for stop in self.stops:
-                        stop.ignored = filter.left[id(stop)]
-                    self.session.go(here.at(hit.position))
-                    return outcome
+                    break
         except Interrupted:
-            if self.scratch.pipe:
-                self.waiting.begin()
-                self.session.go(here.at(self.scratch.timeline.position))
-            return Outcome(STOPPED)
-        if last is not None and not self.session.place.end:
-            self.session.go(here.at(max(last, 0)))
-            return Outcome("limit")
-        return Outcome(refusal="at end" if is_forward else "at start")
+            position, outcome = self.scratch.timeline.position if self.scratch.pipe else position, Outcome(STOPPED)
+            self.waiting.begin()
+        for stop in self.stops:
+            stop.ignored = filter.left[id(stop)]
+        if not outcome and last is not None and not self.session.place.end:
+            position, outcome = max(last, 0), Outcome("limit")
+        if outcome:
+            self.session.go(here.at(position))
+        return outcome or Outcome(refusal="at end" if is_forward else "at start")
 
     def outcome_at(self, hit: Hit, filter: Filter, questions: list[str], target: Target | None,
                    is_forward: bool) -> Outcome | None:
@@ -231,7 +231,8 @@ class Runs:
         if index + 1 >= len(frames):
             return self.run(True)
         caller = frames[index + 1]
-        return self.run(True, Target(self.session.program, caller.function, caller.label, caller.index, len(frames) - index - 1))
+        target = Target(self.session.program, caller.function, caller.label, caller.index, len(frames) - index - 1)
+        return self.run(True, target)
 
     def finish_back(self, index: int) -> Outcome:
         """Goes back to before the call that made a frame."""

@@ -9,7 +9,7 @@ import time
 from dataclasses import dataclass
 from typing import Iterator, NamedTuple
 
-from .answers import Moved, Place, read_bytes, read_moved, read_place, read_value
+from .answers import Place, read_bytes, read_moved, read_place, read_value
 from .pipe import Ended, Pipe
 from .timeline import Timeline, lines_between
 from .waiting import Interrupted, Waiting
@@ -19,6 +19,10 @@ MOST_AT_ONCE = 4096
 # A batch that took less than this, in seconds, is followed by a larger one.
 SHORT = 0.03
 MOST_BYTES = 256
+
+
+class Refused(Exception):
+    """What a command can't do, in words for whoever typed it."""
 
 
 @dataclass(frozen=True)
@@ -36,7 +40,7 @@ class Launch:
 
 
 class Hit(NamedTuple):
-    """A stop of a run: where, which of the lines that were given (or None where the run is over), and what was answered."""
+    """A stop of a run: where, by which of the lines that were given (None at the end), and what was answered there."""
     position: int
     stop: int | None
     line: str
@@ -57,7 +61,7 @@ class Scratch:
 
     @property
     def history(self) -> int | None:
-        """Where the session keeps its last moves only, so does this one: a million at least, and it begins anew for more."""
+        """Where the session keeps its last moves only, so does this one, a million at least; it begins anew for more."""
         return max(SLICE, self.launch.history) if self.launch.history else None
 
     def drop(self) -> None:
@@ -73,7 +77,7 @@ class Scratch:
         self.place = read_place(self.pipe.loaded[1])
 
     def ask(self, *lines: str) -> list[list[str]]:
-        """Answers of the process that is there; where it is broken off it is gone, and the next question begins another."""
+        """Answers of the process that is there. Where it is broken off it is gone, and the next question begins another."""
         if not self.pipe:
             self.start()
         if not self.pipe.has_room(lines):
@@ -136,7 +140,7 @@ class Scratch:
         self.stops, self.numbers = lines, {}
         for index, answer in enumerate(answers):
             if answer[0].startswith("no: "):
-                raise ValueError(f"{lines[index]}: {answer[0][4:]}")
+                raise Refused(f"{lines[index]}: {answer[0][4:]}")
             self.numbers[int(answer[0].split(" ")[1])] = index
 
     def hits(self, is_forward: bool, stops: list[str], questions: list[str] = [], most: int = MOST_AT_ONCE,

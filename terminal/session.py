@@ -3,17 +3,13 @@ from __future__ import annotations
 
 from .answers import Moved, Place, read_bytes, read_moved, read_place, read_value
 from .pipe import Ended, Pipe
-from .scratch import MOST_BYTES, Launch, Scratch, frames_of
+from .scratch import MOST_BYTES, Launch, Refused, Scratch, frames_of
 from .text import Program
-from .timeline import Timeline, lines_between
+from .timeline import Timeline, common, lines_between
 from .values import Names
 from .waiting import Waiting
 
 MOVES = ("step", "back", "continue", "reverse", "set", "poke")
-
-
-class Refused(Exception):
-    """What a command can't do, in words for whoever typed it."""
 
 
 class Session:
@@ -63,9 +59,9 @@ class Session:
                 left -= self.launch.limit
                 self.waiting.tell(self.place.position)
                 self.waiting.stop_if_pressed()
-            moved = self.move(f"{word} {left}" if left else line)
-            if moved.refusal == "history ends":
-                raise Refused(f"the session keeps its last {self.launch.history} moves only, back to #{self.place.position}")
+            self.move(f"{word} {left}" if left else line)
+            if self.timeline.position > there.position == common(self.timeline, there):
+                raise Refused(f"the session keeps its last {self.launch.history} moves, which end here")
 
     def send(self, line: str) -> list[str]:
         if not self.pipe.has_room((line,)):
@@ -78,7 +74,7 @@ class Session:
             return self.pipe.ask(line)[0]
 
     def begin_anew(self) -> None:
-        """Another process, which the kept lines lead to the same state: where one broke, or was sent as much as it reads."""
+        """Another process, which the kept lines lead to the same state: where one broke, or can't be sent more."""
         self.pipe.close()
         self.pipe = Pipe(self.launch.command(self.launch.history))
         if self.pipe.refused:

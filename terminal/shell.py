@@ -1,4 +1,4 @@
-"""The prompt's commands: what each line does, and what it says. The commands themselves stand in modules by their kinds."""
+"""The prompt's lines: what each does, and what it says. The commands themselves stand in modules by their kinds."""
 from __future__ import annotations
 
 import shlex
@@ -6,14 +6,15 @@ import sys
 from dataclasses import dataclass
 from typing import Callable, Sequence
 
+from .answers import Place
 from .causes import Cause, Causes
 from .expressions import Node, Unset, Value, Wrong, evaluate, parse
 from .frames import Frames
 from .pipe import Ended
-from .runs import Outcome, Runs
-from .scratch import SLICE, Launch
+from .runs import STOPPED, Outcome, Runs
+from .scratch import SLICE, Launch, Refused
 from .screen import Screen
-from .session import Refused, Session
+from .session import Session
 from .timeline import Timeline
 from .values import FORMATS, formatted, remarks, unsigned
 from .waiting import Interrupted, Waiting
@@ -168,8 +169,8 @@ class Shell:
         taken = self.session.memory_taken()
         if taken > self.memory_told:
             self.memory_told = 2 * taken
-            self.say(f"the session takes {taken // MEGABYTE} MB, some 28 bytes a move; with --history 1000000 it would keep "
-                     "the last million moves only, in 28 MB, and `back` would end there")
+            self.say(f"the session takes {taken // MEGABYTE} MB, some 28 bytes a move; with --history 1000000 it would "
+                     "keep the last million moves only, in 28 MB, and `back` would end there")
 
     # What lines are made of.
 
@@ -235,12 +236,15 @@ class Shell:
     def run(self, line: str) -> None:
         """Does what a line asks, and says what came of it or what is wrong with it."""
         self.waiting.begin()
+        before = self.session.place
         try:
             self.do(line)
-        except (Wrong, Unset, Refused, ValueError) as error:
+        except (Wrong, Unset, Refused) as error:
             self.say(str(error))
+            self.show_if_moved(before)
         except Interrupted:
-            self.say("stopped by Ctrl-C")
+            self.say(STOPPED)
+            self.show_if_moved(before)
         except Ended as end:
             self.say(f"the debugger ended ({end}); `save FILE` still writes the session's lines")
         finally:
@@ -248,6 +252,11 @@ class Shell:
             for news in self.session.news:
                 self.say(news)
             self.session.news.clear()
+
+    def show_if_moved(self, before: Place) -> None:
+        """Where a command got no further than a part of its way."""
+        if self.session.place != before:
+            self.show()
 
     def do(self, line: str) -> None:
         line = line.strip()

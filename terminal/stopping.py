@@ -3,7 +3,7 @@ from __future__ import annotations
 
 from .expressions import Node, Wrong, temporaries_of
 from .moving import address_word
-from .session import Refused
+from .scratch import Refused
 from .shell import Shell, command
 from .stops import FrameWatch, MemoryWatch, Stop
 from .values import BYTES

@@ -54,7 +54,7 @@ class Stop:
 
 @dataclass
 class FrameWatch:
-    """A temporary of one frame: the depth of the frame, the place to which it returns, and the position at which it began.
+    """A temporary of one frame: its depth, the place to which it returns, and the position at which it began.
 
     Whether a run begins inside the frame, before it or behind it is looked at each time.
     """
@@ -151,7 +151,8 @@ class Filter:
         self.owners: list[Stop] = []
         # Of several reasons the debugger tells one: watches whose values aren't asked come first.
         watches = [stop for stop in stops if not stop.place]
-        for stop in sorted(watches, key=lambda stop: bool(stop.memory or stop.frame)) + [stop for stop in stops if stop.place]:
+        watches.sort(key=lambda stop: bool(stop.memory or stop.frame))
+        for stop in watches + [stop for stop in stops if stop.place]:
             for line in stop.lines + self.frame_ends(stop):
                 self.lines.append(line)
                 self.owners.append(stop)

@@ -78,7 +78,7 @@ class Operand:
 
 @dataclass(frozen=True)
 class Instruction:
-    """An instruction, a phi or a jump. Of a call the first operand is what is called; labels are those of a phi or jump."""
+    """An instruction, a phi or a jump. The first operand of a call is what is called; a phi and a jump have labels."""
     line: int
     operation: str
     result: str | None = None
@@ -335,7 +335,7 @@ class Program:
         return self.functions[function].at(label, index).line
 
     def place_at(self, line: int) -> tuple[str, str, int] | None:
-        """The first place at that line or behind it, in the function that the line belongs to; phis stand for their block."""
+        """The first place at that line or behind it; a phi stands for its block, a function's line for its first block."""
         lines = {}
         for function in self.functions.values():
             lines[function.line] = (function.name, function.first, 0)

@@ -3,7 +3,7 @@ from __future__ import annotations
 
 import struct
 
-from .text import BUILT_IN, DATA, STACK, STACK_BYTES, Program
+from .text import DATA, STACK, STACK_BYTES, Program
 
 BITS = {"b": 8, "h": 16, "w": 32, "l": 64}
 BYTES = {"b": 1, "h": 2, "w": 4, "l": 8}

@@ -15,7 +15,15 @@ import time
 from .harness import PROMPT, TOP, Held, Silent, Terminal
 from .sessions import EXAMPLES, SQUARES
 
-ENDLESS = "export function w $main() {\n@start\n\tjmp @loop\n@loop\n\t%i =l phi @start 0, @loop %j\n\t%j =l add %i, 1\n\tjmp @loop\n}\n"
+ENDLESS = """export function w $main() {
+@start
+	jmp @loop
+@loop
+	%i =l phi @start 0, @loop %j
+	%j =l add %i, 1
+	jmp @loop
+}
+"""
 # What is typed for a run of so many moves, and how many seconds `why` may take behind it.
 SPEEDS = ((1_000_000, 1.0), (10_000_000, 5.0))
 # A round of the loop below takes eight moves, and stores at an address that only the run tells.
@@ -115,7 +123,8 @@ def completed(program: str) -> str | None:
     """Commands, temporaries of the frame, functions, data, labels and checkpoints are completed by the tabulator."""
     session = Held(program, str(SQUARES))
     try:
-        for keys, wanted in (("conti\t\n", "#88 done 30"), ("watch w $bi\t\n", "watch 1: w $bias+0"), ("reverse-c\t\n", "#44 $fill @body 4"),
+        for keys, wanted in (("conti\t\n", "#88 done 30"), ("watch w $bi\t\n", "watch 1: w $bias+0"),
+                             ("reverse-c\t\n", "#44 $fill @body 4"),
                              ("p %squ\t\n", "%square = 16"), ("b $fi\t @bo\t\n", "$fill @body 0"),
                              ("checkpoint here\n", "here"), ("restart he\t\n", "#44"), ("help undis\t\n", "undisplay [N]"),
                              ("p $bias+%squ\t*2\n", "= 65584"), ("info chec\t\n", "here: #44")):
@@ -131,15 +140,21 @@ def completed(program: str) -> str | None:
         session.close()
 
 
-WRONG = ["frob", "step x", "step 0", "step 99999999999", "back -1", "b", "b 999", "b $none", "b $main @none", "b $main @start 99", "b @none",
-         "b 3 if", "b 3 if %zz > 1", "b 3 4 5", "watch", "watch q", "watch w", "watch w $none", "watch 600 $bias", "watch $fill %zz", "watch $none %i",
-         "watch %zz", "delete 9", "delete x", "ignore 1", "condition 7 1", "set", "set %zz 1", "set %i", "set i 1", "set %more 99999999999999999999999", "poke",
-         "poke w", "poke q 1 1", "poke w $bias", "poke w 1 1", "p", "p %", "p (1", "p 1 +", "p 1 2", "p @", "p/z 1", "p 1/0", "p 1 << 99", "p w[", "p w[1",
-         "p 'ab'", "x/q 1", "x/0x 1", "x/99999x 1", "x", "mem", "mem $none", "mem 0 0", "display %", "undisplay 4", "frame x", "frame 9", "up 99", "down",
-         "list @none", "list 0x", "info", "info frob", "goto", "goto x", "goto -1", "restart", "restart no", "why %zz", "why q", "why 3", "why w", "why out 5",
-         "why back", "why 99 $bias", "readers", "readers $none", "writers w", "when", "when 1", "when depth > 1", "when %zz", "compare", "compare /nowhere",
-         "save", "save /nowhere/x", "help frob", "checkpoint a b", "\x01\x02", "p " + "(" * 60, "s " * 300, "é", "p é", "b $fill if é",
-         "p %i%", "p --", "x/4w", "why out", "d $fill", "c 0", "stops 1 2", "f -1", "/", "p/", "x/", "$", "%", "@", ";", "p $", "watch 0 $bias", "watch w 5 6"]
+WRONG = [
+    "frob", "step x", "step 0", "step 99999999999", "back -1", "b", "b 999", "b $none", "b $main @none",
+    "b $main @start 99", "b @none", "b 3 if", "b 3 if %zz > 1", "b 3 4 5", "watch", "watch q", "watch w",
+    "watch w $none", "watch 600 $bias", "watch $fill %zz", "watch $none %i", "watch %zz", "delete 9", "delete x",
+    "ignore 1", "condition 7 1", "set", "set %zz 1", "set %i", "set i 1", "set %more 99999999999999999999999", "poke",
+    "poke w", "poke q 1 1", "poke w $bias", "poke w 1 1", "p", "p %", "p (1", "p 1 +", "p 1 2", "p @", "p/z 1",
+    "p 1/0", "p 1 << 99", "p w[", "p w[1", "p 'ab'", "x/q 1", "x/0x 1", "x/99999x 1", "x", "mem", "mem $none",
+    "mem 0 0", "display %", "undisplay 4", "frame x", "frame 9", "up 99", "down", "list @none", "list 0x", "info",
+    "info frob", "goto", "goto x", "goto -1", "restart", "restart no", "why %zz", "why q", "why 3", "why w",
+    "why out 5", "why back", "why 99 $bias", "readers", "readers $none", "writers w", "when", "when 1",
+    "when depth > 1", "when %zz", "compare", "compare /nowhere", "save", "save /nowhere/x", "help frob",
+    "checkpoint a b", "\x01\x02", "p " + "(" * 60, "s " * 300, "é", "p é", "b $fill if é", "p %i%", "p --", "x/4w",
+    "why out", "d $fill", "c 0", "stops 1 2", "f -1", "/", "p/", "x/", "$", "%", "@", ";", "p $", "watch 0 $bias",
+    "watch w 5 6",
+]
 
 
 def bad_lines(program: str) -> str | None:
@@ -152,7 +167,8 @@ def bad_lines(program: str) -> str | None:
             if "Traceback" in answer or PROMPT in answer:
                 return f"{line!r} shows {answer!r}"
         # Two words of them name what they are about and what was expected.
-        fault = missing(session.do("watch q"), "q: ", "was expected") or missing(session.do("b @none"), "@none: $fill has no such label")
+        fault = missing(session.do("watch q"), "q: ", "was expected")
+        fault = fault or missing(session.do("b @none"), "@none: $fill has no such label")
         return fault or missing(session.do("info session"), "#2,") or session.replayed_fault()
     finally:
         session.close()
@@ -163,7 +179,8 @@ def refused(program: str) -> str | None:
     with tempfile.TemporaryDirectory(prefix="refused-") as folder:
         text = SQUARES.read_text().replace("mul %i, %i", "mul %i, %j")
         words = [os.path.join(TOP, "terminal", "main"), "--debugger", program, "--"]
-        for file, wanted, status in ((written(folder, "a.ssa", text), "a.ssa:14: C6: ", 1), (os.path.join(folder, "none.ssa"), "cannot read program", 2),
+        for file, wanted, status in ((written(folder, "a.ssa", text), "a.ssa:14: C6: ", 1),
+                                     (os.path.join(folder, "none.ssa"), "cannot read program", 2),
                                      (written(folder, "b.ssa", ""), "S1", 1)):
             terminal = Terminal([*words, file])
             try:
@@ -226,16 +243,15 @@ def without_readline(program: str) -> str | None:
 def wrapped(program: str) -> str | None:
     """The script at the top starts the front end at a terminal; behind --plain, and with a script, it doesn't."""
     wrapper = str(TOP / "qrev")
-    for words, keys, wanted in (([], "c\n", "(qrev) "), (["--plain"], "continue\n", "stop: end"), (["--prompt"], "c\n", "(qrev) ")):
+    for words in ([], ["--plain"], ["--prompt"]):
         terminal = Terminal([wrapper, *words, str(SQUARES)], seconds=60)
         try:
-            told = terminal.wait_for("#0 $main @start 0")
+            terminal.wait_for("#0 $main @start 0")
             if words != ["--plain"]:
-                terminal.wait_for(wanted)
-            terminal.type(keys)
-            told = terminal.wait_for("#88 done 30\n")
-            if ("(qrev)" in told) and words == ["--plain"]:
-                return "--plain starts the front end"
+                terminal.wait_for(PROMPT)
+            terminal.type("continue\n")
+            if PROMPT in terminal.wait_for("#88 done 30\n"):
+                return f"{words}: a prompt before the answer"
         finally:
             terminal.close()
     run = subprocess.run([wrapper, "--prompt", str(SQUARES)], input="c\nwhy\n", capture_output=True, text=True, timeout=60)
@@ -257,7 +273,8 @@ def bounded(program: str) -> str | None:
         try:
             fault = missing(session.do("c"), "done 7") or missing(session.do("why"), "[1] %r = 7")
             fault = fault or missing(session.do("why w $first"), "line 5: storew 7, $first", "#1 $main @start 1")
-            return fault or missing(session.do("goto 5"), "keeps its last 10 moves only")
+            oldest = int(session.place[1:].split()[0]) - 10
+            return fault or missing(session.do("goto 5"), "keeps its last 10 moves, which end here", f"#{oldest} $main")
         finally:
             session.close()
 
@@ -271,7 +288,8 @@ def fast(program: str) -> str | None:
                 fault = missing(session.do("c"), "done 7")
                 if fault or int(session.place[1:].split()[0]) < moves:
                     return fault or f"{session.place} is before #{moves}"
-                for line, wanted in (("why", "[1] %r = 7"), ("why 1", "[1] w $first+0 = 7"), ("why 1", "line 5: storew 7, $first"),
+                for line, wanted in (("why", "[1] %r = 7"), ("why 1", "[1] w $first+0 = 7"),
+                                     ("why 1", "line 5: storew 7, $first"),
                                      ("back", "%r=7"), ("why l %sum", "storel %new, %sum"), ("why %i", "for @body"),
                                      ("why %sum", "line 4: %sum =l alloc8 8"), ("why w $first", "line 5: storew 7, $first")):
                     begun = time.monotonic()
@@ -295,7 +313,8 @@ def saved_and_compared(program: str) -> str | None:
             session.do("c")
             if session.place != "#50 $main @start 1":
                 return f"the limit of 50 leads to {session.place}"
-            fault = session.replayed_fault() or missing(session.do(f"compare {recorded}"), "here the end, there `watch w $bias`")
+            fault = session.replayed_fault()
+            fault = fault or missing(session.do(f"compare {recorded}"), "here the end, there `watch w $bias`")
             fault = fault or missing(session.do(f"save {folder}/b.script"), "--limit 50")
         finally:
             session.close()
@@ -317,11 +336,13 @@ def mapped(program: str) -> str | None:
     """The place in the source is shown where a map stands beside the text."""
     with tempfile.TemporaryDirectory(prefix="mapped-") as folder:
         file = written(folder, "a.ssa", SQUARES.read_text())
-        written(folder, "a.ssa.map", "".join(f"squares.my {number // 2}\n" if number > 5 else "\n" for number in range(1, 50)))
+        places = [f"squares.my {number // 2}\n" if number > 5 else "\n" for number in range(1, 50)]
+        written(folder, "a.ssa.map", "".join(places))
         session = Held(program, file)
         try:
-            return missing(session.do("goto 44"), "  source: squares.my:9") or missing(session.do("bt"), "(squares.my:13)") or \
-                missing(session.do("why %place"), "line 17: %place =l add $squares, %bytes  (squares.my:8)")
+            fault = missing(session.do("goto 44"), "  source: squares.my:9")
+            fault = fault or missing(session.do("bt"), "(squares.my:13)")
+            return fault or missing(session.do("why %place"), "%place =l add $squares, %bytes  (squares.my:8)")
         finally:
             session.close()
 

@@ -85,8 +85,8 @@ class Held(Terminal):
 
     def __init__(self, program: str, *words: str, columns: int = 200, memory: int = 512, folder: str = ".",
                  **environment: str):
-        super().__init__([sys.executable, str(FOLDER / "main"), "--debugger", program, "--memory", str(memory), "--", *words],
-                         columns, folder=folder, **environment)
+        own = [sys.executable, str(FOLDER / "main"), "--debugger", program, "--memory", str(memory), "--"]
+        super().__init__([*own, *words], columns, folder=folder, **environment)
         self.program, self.words, self.folder = program, words, folder
         self.told = self.wait_for(PROMPT)
         self.place = last_place(self.told)
@@ -104,8 +104,8 @@ class Held(Terminal):
         self.do(f"save {script}")
         self.do("frame 0")
         asked = "where\ntemps\nout\n"
-        run = subprocess.run([self.program, *self.words], input=script.read_text() + asked, capture_output=True, text=True,
-                             timeout=self.seconds, cwd=self.folder)
+        run = subprocess.run([self.program, *self.words], input=script.read_text() + asked, capture_output=True,
+                             text=True, timeout=self.seconds, cwd=self.folder)
         told = run.stdout.split("\n")
         place = [line for line in told if PLACE.fullmatch(line)][-1]
         if place != self.place:

@@ -152,7 +152,7 @@ def memory_fault(shell: Shell, trace: Trace, position: int) -> str | None:
     cause = shell.causes.of(Question("memory", Timeline(position), "it", address=address, count=size))
     wanted = max(trace.writer(address + offset, state) for offset in range(size))
     if wanted < 0:
-        return None if "stands so since the start" in cause.lines[-1] else f"{address} at #{position}: {cause.lines}"
+        return None if "so since the start" in cause.lines[-1] else f"{address} at #{position}: {cause.lines}"
     return None if cause.at.position == wanted else f"{address} at #{position}: #{cause.at.position} and not #{wanted}"
 
 
