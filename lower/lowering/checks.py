@@ -1,9 +1,11 @@
 """What QBE refuses of a function that was read: labels, classes, phis, and temporaries without a value."""
 from .instructions import ALLOCS, STORES, WITH_RESULT, WITHOUT_RESULT, class_of
 from .refusals import Refused
-from .tree import Block, Call, Function, Instruction, Value
+from .tree import Block, Call, Function, Instruction, Phi, Value
 
 LOAD_SIZES = {"loadsb": 1, "loadub": 1, "loadsh": 2, "loaduh": 2, "loadw": 4, "loadsw": 4, "loaduw": 4}
+# The index of a use behind all instructions of a block.
+AT_THE_JUMP = 1 << 30
 CLASS_SIZES = {"w": 4, "l": 8, "s": 4, "d": 8}
 
 
@@ -96,14 +98,15 @@ class Checker:
                 if label == blocks[0].name:
                     self.refuse(block.jump.line, f"a jump to {label}, the first block")
 
-    def check_phi(self, phi, predecessors: set[str]) -> None:
-        labels = [label for label, _ in phi.sources]
-        for index, (label, value) in enumerate(phi.sources):
-            if label in labels[:index]:
+    def check_phi(self, phi: Phi, predecessors: set[str]) -> None:
+        labels: set[str] = set()
+        for label, value in phi.sources:
+            if label in labels:
                 self.refuse(phi.line, f"the phi of {phi.result} has two values for {label}")
+            labels.add(label)
             self.check_use(value, self.classes[phi.result], phi.line, "phi")
-        if set(labels) != predecessors:
-            missing = sorted(predecessors.symmetric_difference(labels))[0]
+        if labels != predecessors:
+            missing = min(predecessors ^ labels)
             what = f"none for {missing}, from where control comes" if missing in predecessors \
                 else f"one for {missing}, from where it doesn't come"
             self.refuse(phi.line, f"the phi of {phi.result} has values for other blocks than its predecessors: {what}")
@@ -138,6 +141,7 @@ class ValueChecker:
     def __init__(self, function: Function, path: str):
         self.path = path
         self.blocks = reachable(function.blocks)
+        self.numbers = {block.name: number for number, block in enumerate(self.blocks)}
         self.definitions: dict[str, list[tuple[int, int]]] = {}
         self.uses: dict[str, list[tuple[int, int, int]]] = {}
         for _, name in function.parameters:
@@ -155,12 +159,11 @@ class ValueChecker:
 
     def collect(self, number: int, block: Block) -> None:
         uses, definitions = self.uses, self.definitions
-        by_name = {other.name: index for index, other in enumerate(self.blocks)} if block.phis else {}
         for phi in block.phis:
             definitions.setdefault(phi.result, []).append((number, -1))
             for label, value in phi.sources:
-                if type(value) is str and label in by_name:
-                    uses.setdefault(value, []).append((by_name[label], 1 << 30, phi.line))
+                if type(value) is str and label in self.numbers:
+                    uses.setdefault(value, []).append((self.numbers[label], AT_THE_JUMP, phi.line))
         for index, instruction in enumerate(block.instructions):
             for value in operands_of(instruction):
                 if type(value) is str:
@@ -168,7 +171,7 @@ class ValueChecker:
             if instruction.result is not None:
                 definitions.setdefault(instruction.result, []).append((number, index))
         if type(block.jump.value) is str:
-            uses.setdefault(block.jump.value, []).append((number, 1 << 30, block.jump.line))
+            uses.setdefault(block.jump.value, []).append((number, AT_THE_JUMP, block.jump.line))
 
     def check_order(self, name: str, place: tuple[int, int]) -> None:
         """A temporary with one definition that is used in that block alone, or is defined in the first."""
@@ -191,7 +194,7 @@ class ValueChecker:
         """A slot whose uses are loads of one size is read and never stored to."""
         sizes = set()
         for block, index, _ in self.uses.get(alloc.result, ()):
-            use = self.blocks[block].instructions[index] if index < 1 << 30 else None
+            use = self.blocks[block].instructions[index] if index < AT_THE_JUMP else None
             size = load_size(use) if type(use) is Instruction else None
             if size is None or use.name in STORES:
                 return

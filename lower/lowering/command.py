@@ -65,9 +65,10 @@ class Lowering:
         self.program.give_names()
         self.report.count("functions that are called before the entry", len(first))
         self.count_dropped(texts)
+        self.program.reached = self.reached()
         writer = ProgramWriter(self.program, self.report, self.entry, first)
         self.chunks = writer.write()
-        self.program.note_outside(self.reached())
+        self.program.note_outside()
         self.text, self.map = text_of(self.chunks), map_of(self.chunks)
         self.overflows = writer.overflows(len(self.text))
 

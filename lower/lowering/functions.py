@@ -7,7 +7,7 @@ from .calls import CallWriter
 from .checks import reachable
 from .instructions import CARRIED, CLASSES, FLOAT_COMPARISONS, FLOATS, INTEGERS, SMALL_LOADS, SUBWORDS, WITH_RESULT
 from .linking import Program
-from .report import Report, Weight
+from .report import Report
 from .symbols import CELLS, Symbol
 from .tree import Block, Call, Function, Instruction, Jump, Phi
 
@@ -208,6 +208,5 @@ class FunctionWriter(CallWriter):
 
     def halt(self, name: str, what: str) -> None:
         target = self.program.fault_symbol(name)
-        path, (line, _) = self.symbol.unit.text.path, self.origin
         self.emit(f"\tcall {target.name}()")
-        self.report.note(path, line, what, Weight.HALTS)
+        self.note(what, self.program.weight_in(self.symbol))

@@ -30,6 +30,8 @@ class Program:
         self.built_in = {raw: Symbol(raw, None, None, signature, True, raw) for raw, signature in BUILT_IN.items()}
         self.units = [self.unit_of(text) for text in texts]
         self.replaced: dict[Symbol, Symbol] = {}
+        # What can be reached from the entry; without an entry all.
+        self.reached: dict[Symbol, None] = {}
         self.replace_those_that_halt()
 
     def unit_of(self, text: Text) -> Unit:
@@ -188,19 +190,22 @@ class Program:
             unit.scope.clear()
         self.outside.clear()
 
-    def note_outside(self, reached: Iterable[Symbol]) -> None:
+    def weight_in(self, symbol: Symbol) -> Weight:
+        """What it means that something halts in what a symbol stands for."""
+        return Weight.HALTS if symbol in self.reached else Weight.OTHER
+
+    def note_outside(self) -> None:
         """A note for each function from outside, at its first use in the texts."""
-        reached = list(reached)
-        for symbol in self.kept:
-            if not symbol.is_outside() or symbol.raw.startswith("$fault."):
+        told: set[Symbol] = set()
+        for user in self.kept:
+            if user.unit is None or user.is_of_runtime():
                 continue
-            self.report.count("functions from outside, which halt")
-            users = [user for user in self.kept if user.unit is not None and not user.is_of_runtime()
-                     and symbol in self.references_of(user)]
-            for user in users[:1]:
-                weight = Weight.HALTS if symbol in reached else Weight.OTHER
-                self.report.note(user.unit.text.path, line_of_use(user.definition, symbol.raw),
-                                 f"{symbol.raw} is defined nowhere: a function that halts", weight)
+            for symbol in self.references_of(user):
+                if symbol.is_outside() and symbol not in told:
+                    told.add(symbol)
+                    self.report.note(user.unit.text.path, line_of_use(user.definition, symbol.raw),
+                                     f"{symbol.raw} is defined nowhere: a function that halts", self.weight_in(symbol))
+        self.report.count("functions from outside, which halt", len(told))
 
 
 def name_order(symbol: Symbol, program: Program) -> int:

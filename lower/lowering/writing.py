@@ -35,6 +35,8 @@ class ProgramWriter:
     def __init__(self, program: Program, report: Report, entry: Symbol | None, begin_with: list[Symbol]):
         self.program, self.report, self.entry, self.begin_with = program, report, entry, begin_with
         addressed = [symbol for symbol in self.addressed() if symbol.is_function() and not symbol.is_outside()]
+        program.keep(addressed)
+        program.give_names()
         self.adapters = Adapters(program, addressed)
         self.data: list[Symbol] = []
         self.chunks: list[Chunk] = []

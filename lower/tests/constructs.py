@@ -359,6 +359,25 @@ export function w $main() {
 }
 data $format = { b "%d %d %d %d\\0" }
 """, "done 0", "42 58 40 1"),
+    Case("built-in functions by their addresses", """
+data $s = { b "abc\\0" }
+data $functions = { l $puts $putchar }
+export function w $main() {
+@start
+	%f =l loadl $functions
+	%q =l add $functions, 8
+	%g =l loadl %q
+	%a =w call %f(l $s)
+	%b =w call %f(env 5, l $s)
+	%c =l call %g(w 65)
+	%d =w call $puts(l $s)
+	%e =w mul %a, 100
+	%h =w add %e, %b
+	%i =w add %h, %d
+	%r =w add %i, %c
+	ret %r
+}
+""", "done 473", "abc\nabc\nAabc\n"),
     Case("an environment", """
 function w $closure(env %e, w %x) {
 @start
