@@ -2,6 +2,7 @@
 from __future__ import annotations
 
 import pathlib
+import re
 import shutil
 import sys
 import textwrap
@@ -19,10 +20,16 @@ WIDTH = 100
 GAP = "    "
 # Beyond so many moves the frames of callers aren't looked for at each stop: that goes back along all of them.
 MOST_MOVES = 1_000_000
+ESCAPE = re.compile(r"\\([\\tn])")
+
+
+def unescaped(match: re.Match) -> str:
+    """A character that would part the fields or the lines of a map."""
+    return {"t": "\t", "n": "\n"}.get(match.group(1), "\\")
 
 
 class SourceMap:
-    """The map of places that may stand beside a text: its n-th line has the source file and line of the text's n-th."""
+    """The map that lower/qrev-lower writes of a text: the n-th line is about the text's n-th (docs/REAL_COMPILERS.md)."""
 
     def __init__(self, file: pathlib.Path):
         try:
@@ -31,9 +38,12 @@ class SourceMap:
             self.lines = []
 
     def place(self, line: int) -> str:
-        """`FILE:LINE`, or nothing where the map has none for a line of the text."""
-        words = self.lines[line - 1].replace("\t", " ").split() if 1 <= line <= len(self.lines) else []
-        return f"{words[0]}:{words[1]}" if len(words) > 1 and words[1].isdigit() else words[0] if words else ""
+        """`FILE:LINE`, with `: FILE:LINE:COLUMN` of the source if the map has that; or nothing for a line without a place."""
+        fields = self.lines[line - 1].split("\t") if 1 <= line <= len(self.lines) else []
+        places = [f"{ESCAPE.sub(unescaped, fields[at])}:{fields[at + 1]}" for at in range(0, len(fields) - 1, 2)]
+        if len(fields) == 5 and fields[4] != "0":
+            places[1] += f":{fields[4]}"
+        return ": ".join(places)
 
 
 class Screen:

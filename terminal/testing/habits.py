@@ -333,23 +333,60 @@ def saved_and_compared(program: str) -> str | None:
 
 
 def mapped(program: str) -> str | None:
-    """The place in the source is shown where a map stands beside the text."""
+    """The places that a map has for a line are shown: of the text that was lowered, and of the source."""
     with tempfile.TemporaryDirectory(prefix="mapped-") as folder:
         file = written(folder, "a.ssa", SQUARES.read_text())
-        places = [f"squares.my {number // 2}\n" if number > 5 else "\n" for number in range(1, 50)]
-        written(folder, "a.ssa.map", "".join(places))
+        places = [f"my\\tsquares.ssa\t{number // 2}" if number > 5 else "" for number in range(1, 50)]
+        places[17 - 1] += "\tsquares.my\t3\t0"
+        places[18 - 1] += "\tsquares.my\t4\t7"
+        written(folder, "a.ssa.map", "\n".join(places) + "\n")
         session = Held(program, file)
         try:
-            fault = missing(session.do("goto 44"), "  source: squares.my:9")
-            fault = fault or missing(session.do("bt"), "(squares.my:13)")
-            return fault or missing(session.do("why %place"), "%place =l add $squares, %bytes  (squares.my:8)")
+            fault = missing(session.do("goto 44"), "  source: my\tsquares.ssa:9: squares.my:4:7\n")
+            fault = fault or missing(session.do("bt"), "(my\tsquares.ssa:13)\n")
+            return fault or missing(session.do("why %place"), "  (my\tsquares.ssa:8: squares.my:3)\n")
         finally:
             session.close()
 
 
+def lowered(program: str) -> str | None:
+    """A text of whole QBE: places of its own lines, and a saved script that says how to play it."""
+    text = "lower/test-data/real/structval.ssa"
+    with tempfile.TemporaryDirectory(prefix="lowered-") as folder:
+        session = Terminal([str(TOP / "qrev"), "--lower", text], seconds=60, folder=str(TOP), TMPDIR=folder)
+        script = str(pathlib.Path(folder) / "saved.script")
+        try:
+            session.wait_for(PROMPT)
+            session.type("b $add\nc\n")
+            # The function `add` begins on line 76 of that text.
+            session.wait_for(f"  source: {text}:76\n")
+            session.type(f"save {script}\n")
+            session.wait_for(f"to play them: ./qrev --lower {text} < {script}\n")
+            session.type("quit\n")
+            status = session.status()
+        finally:
+            session.close()
+        run = subprocess.run([str(TOP / "qrev"), "--lower", text], input=pathlib.Path(script).read_text(), text=True,
+                             capture_output=True, cwd=TOP, timeout=60)
+        fault = missing(run.stdout, "stop: break 1\n#14 $add ")
+        left_over = [file.name for file in pathlib.Path(folder).iterdir() if file.name != "saved.script"]
+    return fault or (f"status {status}, and {left_over} are left" if status or left_over else None)
+
+
+def bare(program: str) -> str | None:
+    """Without a program the script at the top says what is wrong, and starts nothing."""
+    session = Terminal([str(TOP / "qrev")], seconds=60)
+    try:
+        session.wait_for("Usage: qrev")
+        status = session.status()
+        return None if status == 64 else f"status {status}"
+    finally:
+        session.close()
+
+
 HABITS = {call.__name__.replace("_", " "): call for call in (
     interrupted, interrupted_at_the_prompt, left, completed, bad_lines, refused, broken, narrow, without_readline, wrapped,
-    memory_told, bounded, fast, saved_and_compared, mapped)}
+    memory_told, bounded, fast, saved_and_compared, mapped, lowered, bare)}
 
 
 def tried(call, program: str) -> str | None:

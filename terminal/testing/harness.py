@@ -84,9 +84,10 @@ class Held(Terminal):
     """A session of the front end: lines are typed, and what each shows is kept."""
 
     def __init__(self, program: str, *words: str, columns: int = 200, memory: int = 512, folder: str = ".",
-                 **environment: str):
-        own = [sys.executable, str(FOLDER / "main"), "--debugger", program, "--memory", str(memory), "--"]
-        super().__init__([*own, *words], columns, folder=folder, **environment)
+                 lowered: tuple[str, ...] = (), **environment: str):
+        own = [sys.executable, str(FOLDER / "main"), "--debugger", program, "--memory", str(memory)]
+        super().__init__([*own, *(f"--lowered={file}" for file in lowered), "--", *words], columns, folder=folder,
+                         **environment)
         self.program, self.words, self.folder = program, words, folder
         self.told = self.wait_for(PROMPT)
         self.place = last_place(self.told)

@@ -6,6 +6,8 @@ from __future__ import annotations
 
 import pathlib
 import re
+import subprocess
+import tempfile
 from typing import Callable, Iterator
 
 from terminal.shell import COMMANDS
@@ -28,9 +30,18 @@ def blocks_of(page: pathlib.Path) -> Iterator[tuple[int, list[str]]]:
         yield first + 1, "\n".join(line[4:] for line in lines[first:at]).rstrip("\n").split("\n")
 
 
-def session_fault(program: str, lines: list[str]) -> str | None:
+def lowered_session_fault(program: str, lines: list[str]) -> str | None:
+    """The same of a session over texts of whole QBE, which are lowered first."""
+    texts = lines[0].split()[3:]
+    with tempfile.TemporaryDirectory(prefix="lowered-") as folder:
+        file = f"{folder}/out.ssa"
+        subprocess.run([str(TOP / "lower" / "qrev-lower"), "--link", "--output", file, *texts], cwd=TOP, check=True)
+        return session_fault(program, lines, (file,), tuple(texts))
+
+
+def session_fault(program: str, lines: list[str], words: tuple[str, ...], lowered: tuple[str, ...] = ()) -> str | None:
     """What a session shows otherwise than the page says, or None."""
-    session = Held(program, *lines[0].split()[2:], folder=str(TOP), columns=100)
+    session = Held(program, *words, folder=str(TOP), columns=100, lowered=lowered)
     try:
         shown = [lines[0], *session.told.split("\n")[:-1]]
         for line in lines:
@@ -59,7 +70,9 @@ def cases(program: str) -> Iterator[tuple[str, Callable[[], str | None]]]:
     for page in (TOP / "README.md", PAGE):
         if page.exists():
             for number, lines in blocks_of(page):
-                if lines[0].startswith("$ ./qrev "):
-                    yield f"{page.name}:{number}", lambda lines=lines: session_fault(program, lines)
+                if lines[0].startswith("$ ./qrev --lower "):
+                    yield f"{page.name}:{number}", lambda lines=lines: lowered_session_fault(program, lines)
+                elif lines[0].startswith("$ ./qrev "):
+                    yield f"{page.name}:{number}", lambda lines=lines: session_fault(program, lines, (*lines[0].split()[2:],))
     if PAGE.exists():
         yield "commands", table_fault
