@@ -38,7 +38,7 @@ class SourceMap:
             self.lines = []
 
     def place(self, line: int) -> str:
-        """`FILE:LINE`, with `: FILE:LINE:COLUMN` of the source if the map has that; or nothing for a line without a place."""
+        """`FILE:LINE`, and `: FILE:LINE:COLUMN` of the source if the map has that; nothing for a line without a place."""
         fields = self.lines[line - 1].split("\t") if 1 <= line <= len(self.lines) else []
         places = [f"{ESCAPE.sub(unescaped, fields[at])}:{fields[at + 1]}" for at in range(0, len(fields) - 1, 2)]
         if len(fields) == 5 and fields[4] != "0":

@@ -73,6 +73,7 @@ def cases(program: str) -> Iterator[tuple[str, Callable[[], str | None]]]:
                 if lines[0].startswith("$ ./qrev --lower "):
                     yield f"{page.name}:{number}", lambda lines=lines: lowered_session_fault(program, lines)
                 elif lines[0].startswith("$ ./qrev "):
-                    yield f"{page.name}:{number}", lambda lines=lines: session_fault(program, lines, (*lines[0].split()[2:],))
+                    words = tuple(lines[0].split()[2:])
+                    yield f"{page.name}:{number}", lambda lines=lines, words=words: session_fault(program, lines, words)
     if PAGE.exists():
         yield "commands", table_fault
