@@ -9,7 +9,7 @@ from .instructions import CARRIED, CLASSES, FLOAT_COMPARISONS, FLOATS, INTEGERS,
 from .linking import Program
 from .report import Report
 from .symbols import CELLS, Symbol
-from .tree import Block, Call, Function, Instruction, Jump, Phi
+from .tree import Block, Instruction, Jump, Phi
 
 SIGN_BITS = {"s": 1 << 31, "d": 1 << 63}
 LOADS = {"w": "loadsw", "l": "loadl", "s": "loaduw", "d": "loadl"}

@@ -13,7 +13,6 @@ from .running import Results, Running
 
 PAIRS = 100_000
 DOUBLES_AT_ONCE, SINGLES_AT_ONCE = 12_500, 21_000
-MINUS_ZERO = -0.0
 NAN_DOUBLE, NAN_SINGLE = 0x7FF8000000000000, 0x7FC00000
 
 # A program that goes through records of two operands, four results, and a byte of the eight comparisons.
