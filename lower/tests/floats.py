@@ -312,6 +312,9 @@ def batches(running: Running, cls: str, make: Callable[[int, int], bytes], at_on
         yield f"floats/{cls}-{number} ({len(records)} pairs)", batch_fault(running, cls, records)
 
 
-def results(running: Running) -> Results:
+def doubles(running: Running) -> Results:
     yield from batches(running, "d", double_record, DOUBLES_AT_ONCE, operands(PAIRS, 52, 11, 1))
+
+
+def singles(running: Running) -> Results:
     yield from batches(running, "s", single_record, SINGLES_AT_ONCE, operands(PAIRS, 23, 8, 2))
