@@ -4,6 +4,7 @@ Native code passes arguments in registers, so that a function may be called with
 values than it takes. Here a call must have the shape of the function: so an adapter compares the address with those of the
 functions that have another shape, and calls these by their names.
 """
+from .linking import Program
 from .symbols import Signature, Symbol, Unit
 from .tree import Aggregate, Block, Call, Function, Instruction, Jump, Text
 
@@ -11,7 +12,7 @@ from .tree import Aggregate, Block, Call, Function, Instruction, Jump, Text
 class Adapters:
     """The adapters of a program, by the shape of the call."""
 
-    def __init__(self, program, addressed: list[Symbol]):
+    def __init__(self, program: Program, addressed: list[Symbol]):
         self.program, self.addressed = program, addressed
         self.unit = Unit(Text("adapters", [], {}, []), False)
         self.by_shape: dict[tuple, Symbol | None] = {}
@@ -52,7 +53,8 @@ class Adapters:
         # The address comes first of the parameters, and the environment behind it.
         if environment is not None:
             parameters.insert(1, ("l", environment))
-        function = Function(0, name, False, signature.returns, parameters, None, False, blocks, aggregates, set(), set())
+        function = Function(0, name, False, signature.returns, parameters, None, False, blocks, aggregates, set(), set(),
+                            blocks)
         kinds = tuple(kind for kind, _ in parameters)
         return Symbol(name, self.unit, function, Signature(signature.returns, kinds), name=name)
 

@@ -1,4 +1,5 @@
 """Reads the bodies of functions: parameters, blocks, phis, instructions and jumps."""
+from collections.abc import Callable
 from typing import NoReturn
 
 from .instructions import CLASSES, SUBWORDS, WITH_RESULT, WITHOUT_RESULT, NAMES
@@ -107,7 +108,7 @@ class BodyReader:
         self.addresses.add(name)
         return name
 
-    def read_list(self, read_one) -> tuple[str | None, int | None]:
+    def read_list(self, read_one: Callable[[str | None], Value]) -> tuple[Value | None, int | None]:
         """The parts of a parenthesis, each read by a call with its type; the value of `env`, and how many stand before
         the dots."""
         environment, dots, count = None, None, 0

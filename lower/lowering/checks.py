@@ -1,9 +1,11 @@
 """What QBE refuses of a function that was read: labels, classes, phis, and temporaries without a value."""
-from .instructions import ALLOCS, STORES, WITH_RESULT, WITHOUT_RESULT, class_of
+from .instructions import ALLOCS, LOADS_BY_CLASS, STORES, WITH_RESULT, WITHOUT_RESULT, class_of
 from .refusals import Refused
 from .tree import Block, Call, Function, Instruction, Phi, Value
 
 LOAD_SIZES = {"loadsb": 1, "loadub": 1, "loadsh": 2, "loaduh": 2, "loadw": 4, "loadsw": 4, "loaduw": 4}
+# A slot of the first block has fewer bytes.
+MOST_SLOT = (1 << 31) - 16
 # The index of a use behind all instructions of a block.
 AT_THE_JUMP = 1 << 30
 CLASS_SIZES = {"w": 4, "l": 8, "s": 4, "d": 8}
@@ -139,7 +141,7 @@ class ValueChecker:
     both are looked for where control can come, and where all uses can be seen in the text."""
 
     def __init__(self, function: Function, path: str):
-        self.path = path
+        self.function, self.path = function, path
         self.blocks = reachable(function.blocks)
         self.numbers = {block.name: number for number, block in enumerate(self.blocks)}
         self.definitions: dict[str, list[tuple[int, int]]] = {}
@@ -156,6 +158,9 @@ class ValueChecker:
             if len(places) == 1 and name in self.uses:
                 self.check_order(name, places[0])
         self.check_slots()
+        # A temporary that is used here and defined elsewhere alone is one without a value; its definition has to stay.
+        is_whole = all(name in self.definitions or name[0] == "$" for name in self.uses)
+        self.function.kept = self.blocks if is_whole else self.function.blocks
 
     def collect(self, number: int, block: Block) -> None:
         uses, definitions = self.uses, self.definitions
@@ -191,7 +196,10 @@ class ValueChecker:
                 self.check_slot(instruction)
 
     def check_slot(self, alloc: Instruction) -> None:
-        """A slot whose uses are loads of one size is read and never stored to."""
+        """A slot of a size that can't be, or one whose uses are loads of one size: it is read and never stored to."""
+        size = alloc.operands[0]
+        if type(size) is int and not 0 <= size < MOST_SLOT:
+            raise Refused(self.path, alloc.line, f"a slot of {size} bytes")
         sizes = set()
         for block, index, _ in self.uses.get(alloc.result, ()):
             use = self.blocks[block].instructions[index] if index < AT_THE_JUMP else None
@@ -211,7 +219,7 @@ def operands_of(instruction: Instruction | Call) -> list[Value]:
 
 
 def load_size(instruction: Instruction) -> int | None:
-    if instruction.name in ("load", "loadl", "loads", "loadd"):
+    if instruction.name in LOADS_BY_CLASS:
         return CLASS_SIZES[instruction.cls]
     return LOAD_SIZES.get(instruction.name)
 

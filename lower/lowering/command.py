@@ -44,12 +44,15 @@ def map_beside(output: str | None) -> str | None:
     """Where the map goes: beside the text, where this goes to a file."""
     if output is not None:
         return output + ".map"
-    if stat.S_ISREG(os.fstat(sys.stdout.fileno()).st_mode):
-        try:
-            return os.readlink(f"/proc/self/fd/{sys.stdout.fileno()}") + ".map"
-        except OSError:
-            return None
-    return None
+    opened = os.fstat(sys.stdout.fileno())
+    if not stat.S_ISREG(opened.st_mode):
+        return None
+    try:
+        path = os.readlink(f"/proc/self/fd/{sys.stdout.fileno()}")
+        # A file without a name, as one that was removed, has no map.
+        return path + ".map" if os.path.samestat(opened, os.stat(path)) else None
+    except OSError:
+        return None
 
 
 class Lowering:

@@ -4,12 +4,11 @@ What a line needs in front of all others, such as memory for a result, stands at
 """
 from .adapters import Adapters
 from .calls import CallWriter
-from .checks import reachable
-from .instructions import CARRIED, CLASSES, FLOAT_COMPARISONS, FLOATS, INTEGERS, SMALL_LOADS, SUBWORDS, WITH_RESULT
+from .instructions import CARRIED, FLOAT_COMPARISONS, FLOATS, INTEGERS, LOADS_BY_CLASS, SUBWORDS, WITH_RESULT
 from .linking import Program
 from .report import Report
 from .symbols import CELLS, Symbol
-from .tree import Block, Call, Function, Instruction, Jump, Phi
+from .tree import Block, Instruction, Jump, Phi
 
 SIGN_BITS = {"s": 1 << 31, "d": 1 << 63}
 LOADS = {"w": "loadsw", "l": "loadl", "s": "loaduw", "d": "loadl"}
@@ -40,7 +39,7 @@ def plain_instructions() -> dict[tuple[str, str], tuple[str, str]]:
     """For each instruction that stays one: the class of its result, and its name."""
     plain = {}
     for name, cls in WITH_RESULT:
-        if name in ("load", "loadl", "loads", "loadd"):
+        if name in LOADS_BY_CLASS:
             plain[name, cls] = (CARRIED[cls], LOADS[cls])
         elif name in ("copy", "cast"):
             plain[name, cls] = (CARRIED[cls], "copy")
@@ -53,8 +52,6 @@ def plain_instructions() -> dict[tuple[str, str], tuple[str, str]]:
 
 FLOAT_CALLS = float_calls()
 PLAIN = plain_instructions()
-assert all(key in PLAIN or key in FLOAT_CALLS or key[0] in ("neg", "vaarg") for key in WITH_RESULT)
-assert set(CLASSES) == set(LOADS) and set(SMALL_LOADS) <= {name for name, _ in PLAIN}
 
 
 class FunctionWriter(CallWriter):
@@ -69,7 +66,7 @@ class FunctionWriter(CallWriter):
     def write(self, begin_with: list[Symbol]) -> None:
         """The lines of the function; those that are called first stand in front of all else."""
         function = self.function
-        blocks = reachable(function.blocks)
+        blocks = function.kept
         self.labels = {block.name for block in blocks}
         self.report.count("blocks without a way to them left out", len(function.blocks) - len(blocks))
         header = self.header()
@@ -139,7 +136,8 @@ class FunctionWriter(CallWriter):
         self.origin = (phi.line, phi.place)
         sources = ", ".join(f"{label} {self.operand(value)}" for label, value in phi.sources if label in self.labels)
         cls = CARRIED[self.function.classes[phi.result]]
-        self.emit(f"\t{phi.result} ={cls} phi {sources}")
+        # Nothing leads to the block of a phi without values.
+        self.emit(f"\t{phi.result} ={cls} phi {sources}" if sources else f"\t{phi.result} ={cls} copy 0")
 
     def write_jump(self, jump: Jump) -> None:
         self.origin = (jump.line, jump.place)

@@ -40,7 +40,7 @@ class Program:
             signature = signature_of(definition, False) if isinstance(definition, Function) else None
             symbol = Symbol(definition.name, unit, definition, signature)
             unit.own[definition.name] = symbol
-            if definition.is_exported or getattr(definition, "is_common", False):
+            if definition.is_exported or is_common(symbol):
                 self.export(symbol)
         return unit
 

@@ -6,7 +6,7 @@ from .bodies import BodyReader
 from .checks import check_function
 from .refusals import Refused
 from .tokens import tokens_of
-from .tree import Aggregate, Data, Definition, Function, Item, Place, Text
+from .tree import Aggregate, Data, Definition, Function, Item, Text
 
 SIZES = {"b": 1, "h": 2, "w": 4, "s": 4, "l": 8, "d": 8}
 LETTERS = {"b": "b", "h": "h", "w": "w", "l": "l", "s": "w", "d": "l", "z": "z"}

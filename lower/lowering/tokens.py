@@ -31,6 +31,8 @@ SHAPES = [
 ]
 TOKEN = re.compile(r"[ \t]*(?:" + "|".join(f"({shape})" for _, shape in SHAPES) + ")", re.DOTALL)
 KINDS = [None] + [kind for kind, _ in SHAPES]
+# The kinds whose value is the token itself.
+NAMES = frozenset("%@$:")
 LONG = (1 << 64) - 1
 DIGITS_AT_ONCE = 40
 LETTERS = {"b": "\b", "f": "\f", "n": "\n", "r": "\r", "t": "\t", "v": "\v"}
@@ -98,7 +100,9 @@ def tokens_of(text: str, path: str) -> Tokens:
     for match in TOKEN.finditer(text):
         kind, value = KINDS[match.lastindex], match.group(match.lastindex)
         add_line(line)
-        if kind == "newline":
+        if kind in NAMES:
+            pass
+        elif kind == "newline":
             line += value.count("\n")
             value = None
         elif kind == "symbol":

@@ -92,6 +92,8 @@ class Function:
     # The globals that are called by name, and those whose address is used.
     callees: set[str]
     addresses: set[str]
+    # The blocks that are written: those to which control can come.
+    kept: list[Block] = field(default_factory=list)
     # The class of each temporary, and those that have definitions of both `w` and `l`, which are `w`.
     classes: dict[str, str] = field(default_factory=dict)
     mixed: set[str] = field(default_factory=set)

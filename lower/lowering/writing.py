@@ -55,12 +55,10 @@ class ProgramWriter:
         """The chunks: the texts' definitions in their order, then those of the runtime that these need."""
         for symbol in self.in_order():
             self.write_symbol(symbol)
-        written = len(self.chunks) + len(self.data)
+        done = set(self.in_order())
         for adapter in filter(None, self.adapters.by_shape.values()):
             # What it does is told where it is called.
             self.write_function(adapter, Report())
-        done = {chunk.symbol for chunk in self.chunks} | set(self.data)
-        assert written <= len(done)
         while more := [symbol for symbol in self.program.kept if symbol not in done]:
             for symbol in more:
                 self.write_symbol(symbol)

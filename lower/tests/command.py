@@ -5,7 +5,6 @@ import shutil
 import subprocess
 import sys
 import tempfile
-import time
 
 from .running import DATA, FOLDER, LOWER, TOP, Results, Running, differ
 
@@ -96,30 +95,30 @@ def mebibyte() -> str:
     return "".join(parts)
 
 
-def time_fault(running: Running) -> str | None:
+def time_fault() -> str | None:
     """The seconds of the processor, as the machine may have more to do."""
     text = mebibyte()
     with tempfile.TemporaryDirectory(prefix="lower-") as place:
         folder = pathlib.Path(place)
         (folder / "a.ssa").write_text(text)
-        best = min(timed(folder, running) for _ in range(2))
+        best = min(timed(folder) for _ in range(2))
         lowered = (folder / "out.ssa").read_bytes()
     if lowered.count(b"function") < 300:
         return f"{lowered.count(b'function')} functions"
     return None if best < SECONDS_OF_A_MEBIBYTE else f"{len(text)} bytes took {best:.2f} s"
 
 
-def timed(folder: pathlib.Path, running: Running) -> float:
-    before = os.times()
-    begun = time.monotonic()
-    subprocess.run([sys.executable, str(LOWER), "--output", "out.ssa", "a.ssa"], cwd=folder, check=True,
-                   timeout=running.seconds)
-    after = os.times()
-    used = after.children_user + after.children_system - before.children_user - before.children_system
-    return min(used, time.monotonic() - begun)
+def timed(folder: pathlib.Path) -> float:
+    """The seconds that the processor worked for it."""
+    process = subprocess.Popen([sys.executable, str(LOWER), "--output", "out.ssa", "a.ssa"], cwd=folder)
+    _, status, usage = os.wait4(process.pid, 0)
+    process.returncode = os.waitstatus_to_exitcode(status)
+    if process.returncode:
+        raise RuntimeError(f"status {process.returncode}")
+    return usage.ru_utime + usage.ru_stime
 
 
 def results(running: Running) -> Results:
     yield from wrapper_faults(running)
     yield "command/the map", map_fault(running)
-    yield "command/the time of a mebibyte", time_fault(running)
+    yield "command/the time of a mebibyte", time_fault()

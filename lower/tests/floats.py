@@ -13,7 +13,6 @@ from .running import Results, Running
 
 PAIRS = 100_000
 DOUBLES_AT_ONCE, SINGLES_AT_ONCE = 12_500, 21_000
-MINUS_ZERO = -0.0
 NAN_DOUBLE, NAN_SINGLE = 0x7FF8000000000000, 0x7FC00000
 
 # A program that goes through records of two operands, four results, and a byte of the eight comparisons.
@@ -313,6 +312,9 @@ def batches(running: Running, cls: str, make: Callable[[int, int], bytes], at_on
         yield f"floats/{cls}-{number} ({len(records)} pairs)", batch_fault(running, cls, records)
 
 
-def results(running: Running) -> Results:
+def doubles(running: Running) -> Results:
     yield from batches(running, "d", double_record, DOUBLES_AT_ONCE, operands(PAIRS, 52, 11, 1))
+
+
+def singles(running: Running) -> Results:
     yield from batches(running, "s", single_record, SINGLES_AT_ONCE, operands(PAIRS, 23, 8, 2))

@@ -104,6 +104,7 @@ TEXTS = [
     # Values.
     (in_main("%x =w add %y, 1", "%y =w copy 1"), 3, "before it is defined"),
     (in_main("%p =l alloc4 4", "%x =w loadw %p"), 3, "never stored to"),
+    (in_main("%p =l alloc4 -4", "storew 1, %p"), 3, "bytes"),
     # Blocks.
     (blocks("@one", "@two", "@one", "\tret 0"), 6, "a second time"),
     (blocks("@one", "\tret 0"), 3, "@two is used"),

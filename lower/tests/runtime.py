@@ -70,6 +70,55 @@ export function w $main() {
 STRINGS_OUTPUT = "5 -1 0 1 0 -1 2 0 5 hello\n6 0 1 AAAAAAAAAAA\nhell4 0 A65 "
 
 
+# The calls that Hare's compiler makes of its own runtime; a slice of two words grows to three.
+HARE = """
+data $text = { b "hello" }
+data $one = { l $text 5 5 }
+data $two = { l $text 4 5 }
+data $vector = { l $text 2 $vector 3 }
+data $f = { b "%d " , b 0 }
+function $tell(w %x) {
+@start
+	%r =w call $printf(l $f, ..., w %x)
+	ret
+}
+export function w $main() {
+@start
+	%a =w call $rt.strcmp(l $one, l $two)
+	call $tell(w %a)
+	%b =w call $rt.strcmp(l $one, l $one)
+	call $tell(w %b)
+	%slice =l alloc8 24
+	%length =l add %slice, 8
+	%capacity =l add %slice, 16
+	%p =l call $rt.malloc(l 8)
+	storew 11, %p
+	storel %p, %slice
+	storel 3, %length
+	storel 2, %capacity
+	call $rt.ensure(l %slice, l 4)
+	%q =l loadl %slice
+	%c =w loadw %q
+	call $tell(w %c)
+	%d =w loadw %capacity
+	call $tell(w %d)
+	call $rt.unensure(l %slice, l 4)
+	call $rt.memset(l %q, l 65, l 3)
+	call $rt.memmove(l $text, l %q, l 2)
+	%w =l call $rt.syscall3(l 1, l 1, l $text, l 5)
+	%v =l call $rt.syscall3(l 20, l 1, l $vector, l 2)
+	call $tell(w %v)
+	%e =l call $rt.syscall3(l 16, l 1, l 0, l 0)
+	call $tell(w %e)
+	call $rt.free(l %q)
+	%r =l call $rt.syscall1(l 60, l 3)
+	ret 0
+}
+"""
+# Behind that come three bytes of an address, which aren't told here.
+HARE_OUTPUT = "0 1 11 4 AAlloAA"
+
+
 def in_main(body: str) -> str:
     lines = "\n".join("\t" + line.strip() for line in body.strip().split("\n"))
     return f"export function w $main() {{\n@start\n{lines}\n\tret 0\n}}\n"
@@ -248,6 +297,13 @@ def results(running: Running) -> Results:
     else:
         run = running.run(lowered.text)
         yield "runtime/strings", differ("output", STRINGS_OUTPUT, run.output) or differ("end", "exit 7", run.end)
+    lowered = running.lower_here(HARE)
+    if isinstance(lowered, str):
+        yield "runtime/hare", lowered
+    else:
+        run = running.run(lowered.text)
+        yield "runtime/hare", differ("output", HARE_OUTPUT, run.output[:16]) or \
+            differ("end", "exit 3", run.end) or differ("count", "5 -25 ", run.output[-6:])
     for body, place in FAULTS:
         yield f"runtime/{place}", fault_fault(running, body, place)
     for seed in range(8):
