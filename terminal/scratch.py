@@ -36,7 +36,8 @@ class Launch:
 
     def command(self, history: int | None) -> list[str]:
         bound = ["--history", str(history)] if history else []
-        return [self.debugger, self.file, *self.words, "--limit", str(self.limit), *bound]
+        file = [self.file] if self.file else []
+        return [self.debugger, *file, *self.words, "--limit", str(self.limit), *bound]
 
 
 class Hit(NamedTuple):

@@ -22,7 +22,12 @@ MOST_MOVES = 1_000_000
 
 
 class SourceMap:
-    """The map of places that may stand beside a text: its n-th line has the source file and line of the text's n-th."""
+    """The map of places that may stand beside a text: its n-th line is about the text's n-th.
+
+    A line has the file and the line that the text's comes from, and behind these file, line and column of the source where
+    they are known, each behind a tabulator; in a file's name a tabulator, a newline and a backslash are `\\t`, `\\n`
+    and `\\\\`. It is empty for a line that comes from nowhere.
+    """
 
     def __init__(self, file: pathlib.Path):
         try:
@@ -31,9 +36,18 @@ class SourceMap:
             self.lines = []
 
     def place(self, line: int) -> str:
-        """`FILE:LINE`, or nothing where the map has none for a line of the text."""
-        words = self.lines[line - 1].replace("\t", " ").split() if 1 <= line <= len(self.lines) else []
-        return f"{words[0]}:{words[1]}" if len(words) > 1 and words[1].isdigit() else words[0] if words else ""
+        """`FILE:LINE` of the source, or of what the text was made from, or nothing."""
+        fields = self.lines[line - 1].split("\t") if 1 <= line <= len(self.lines) else []
+        if len(fields) >= 4:
+            column = f":{fields[4]}" if len(fields) > 4 and fields[4] != "0" else ""
+            return f"{unescaped(fields[2])}:{fields[3]}{column}"
+        return f"{unescaped(fields[0])}:{fields[1]}" if len(fields) >= 2 else ""
+
+
+def unescaped(name: str) -> str:
+    """A file's name, as it is written in a map."""
+    parts = name.split("\\\\")
+    return "\\".join(part.replace("\\t", "\t").replace("\\n", "\n") for part in parts)
 
 
 class Screen:

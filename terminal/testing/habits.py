@@ -336,13 +336,15 @@ def mapped(program: str) -> str | None:
     """The place in the source is shown where a map stands beside the text."""
     with tempfile.TemporaryDirectory(prefix="mapped-") as folder:
         file = written(folder, "a.ssa", SQUARES.read_text())
-        places = [f"squares.my {number // 2}\n" if number > 5 else "\n" for number in range(1, 50)]
+        places = [f"squares.my\t{number // 2}\n" if number > 5 else "\n" for number in range(1, 50)]
+        places[42] = "squares.my\t21\tlib\\\\a.ha\t7\t3\n"
         written(folder, "a.ssa.map", "".join(places))
         session = Held(program, file)
         try:
             fault = missing(session.do("goto 44"), "  source: squares.my:9")
             fault = fault or missing(session.do("bt"), "(squares.my:13)")
-            return fault or missing(session.do("why %place"), "%place =l add $squares, %bytes  (squares.my:8)")
+            fault = fault or missing(session.do("why %place"), "%place =l add $squares, %bytes  (squares.my:8)")
+            return fault or missing(session.do("goto 86"), "  source: lib\\a.ha:7:3")
         finally:
             session.close()
 
