@@ -5,9 +5,11 @@ and is answered by `no: unknown command`, which no command of the language answe
 """
 from __future__ import annotations
 
+import fcntl
 import os
 import select
 import subprocess
+import time
 from typing import Callable
 
 MARK = b"?\n"
@@ -17,8 +19,10 @@ MARKED = MARKED_LINE.encode() + b"\n"
 UNBOUNDED = frozenset(("where", "temps", "list", "stops"))
 # The debugger reads so many bytes of a script and no more (docs/DEBUGGER.md).
 MOST_SENT = 1 << 24
-PIECE = 1 << 16
+PIECE = WIDE = 1 << 18
 PULSE = 0.1
+# Bytes that are sent with many commands, and how long their answers may gather, in seconds.
+PIECE_OF_MANY, MOMENT = 1 << 10, 0.0005
 
 
 class Ended(Exception):
@@ -36,6 +40,7 @@ class Pipe:
         self.process = subprocess.Popen(["qrev", *words[1:]], executable=words[0], stdin=subprocess.PIPE,
                                         stdout=subprocess.PIPE, start_new_session=True)
         os.set_blocking(self.process.stdin.fileno(), False)
+        self.widen()
         self.pulse, self.sent = pulse, 0
         try:
             self.loaded = self.exchange(MARK, 1)[:-len(MARKED)].decode("latin-1").splitlines()
@@ -44,6 +49,14 @@ class Pipe:
             self.refused = end
         else:
             self.refused = None
+
+    def widen(self) -> None:
+        """Lets more stand in the pipes than the system gives at first, so that neither side waits for the other often."""
+        for stream in (self.process.stdin, self.process.stdout):
+            try:
+                fcntl.fcntl(stream.fileno(), fcntl.F_SETPIPE_SZ, WIDE)
+            except (OSError, AttributeError):
+                pass
 
     def exchange(self, sent: bytes, marks: int) -> bytes:
         """Writes all of it while it reads, until the answer to a mark came so many times."""
@@ -59,6 +72,9 @@ class Pipe:
                 except BrokenPipeError:
                     left = left[:0]
             if ready:
+                if len(sent) > PIECE_OF_MANY:
+                    # Each answer comes for itself: after a moment many can be read at once.
+                    time.sleep(MOMENT)
                 piece = os.read(source, PIECE)
                 if not piece:
                     raise Ended(self.process.wait())
@@ -90,9 +106,13 @@ class Pipe:
                 at = behind
         return answers
 
-    def has_room(self, lines: tuple[str, ...]) -> bool:
-        """Whether so much more may be sent."""
-        return self.sent + sum(map(len, lines)) + 3 * len(lines) + len(MARK) < MOST_SENT
+    def ask_text(self, text: str) -> str:
+        """All that is answered to some lines, for answers that tell themselves where they end."""
+        return self.exchange(text.encode("latin-1") + MARK, 1)[:-len(MARKED)].decode("latin-1")
+
+    def has_room(self, size: int) -> bool:
+        """Whether so many bytes more may be sent."""
+        return self.sent + size + len(MARK) < MOST_SENT
 
     def memory(self) -> int:
         """How many bytes of memory the process holds, or 0 where the system doesn't tell."""

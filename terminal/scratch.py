@@ -5,9 +5,10 @@ breakpoints and watches: many hits at a time go through the pipe, with what is a
 """
 from __future__ import annotations
 
+import re
 import time
 from dataclasses import dataclass
-from typing import Iterator, NamedTuple
+from typing import Callable, Iterator, NamedTuple, TypeVar
 
 from .answers import Place, read_bytes, read_moved, read_place, read_value
 from .pipe import Ended, Pipe
@@ -19,10 +20,18 @@ MOST_AT_ONCE = 4096
 # A batch that took less than this, in seconds, is followed by a larger one.
 SHORT = 0.03
 MOST_BYTES = 256
+# A stop as it is told: why, by which stop if by one, and where.
+TOLD = re.compile(r"stop: (\w+)(?: (\d+))?\n(#(\d+) .*)\n")
+ENDS = ("end", "start", "memory")
+# What is told where a history with a bound begins.
+OLDEST, OLDER = "stop: oldest", "no: history ends"
 
 
 class Refused(Exception):
     """What a command can't do, in words for whoever typed it."""
+
+
+Answer = TypeVar("Answer")
 
 
 @dataclass(frozen=True)
@@ -36,7 +45,8 @@ class Launch:
 
     def command(self, history: int | None) -> list[str]:
         bound = ["--history", str(history)] if history else []
-        return [self.debugger, self.file, *self.words, "--limit", str(self.limit), *bound]
+        file = [self.file] if self.file else []
+        return [self.debugger, *file, *self.words, "--limit", str(self.limit), *bound]
 
 
 class Hit(NamedTuple):
@@ -78,12 +88,20 @@ class Scratch:
 
     def ask(self, *lines: str) -> list[list[str]]:
         """Answers of the process that is there. Where it is broken off it is gone, and the next question begins another."""
+        return self.asked(sum(map(len, lines)) + 3 * len(lines), lambda pipe: pipe.ask(*lines))
+
+    def ask_text(self, text: str) -> str:
+        """All that is answered to lines whose answers tell where they end."""
+        return self.asked(len(text), lambda pipe: pipe.ask_text(text))
+
+    def asked(self, size: int, call: Callable[[Pipe], Answer]) -> Answer:
+        """What a call of the process gives, which sends so many bytes."""
         if not self.pipe:
             self.start()
-        if not self.pipe.has_room(lines):
+        if not self.pipe.has_room(size):
             self.begin_anew()
         try:
-            return self.pipe.ask(*lines)
+            return call(self.pipe)
         except (Interrupted, Ended):
             self.drop()
             raise
@@ -150,39 +168,77 @@ class Scratch:
         Where `last` is given the run doesn't go on past that position, though hits behind it may still come.
         While they are taken the process may be further on: whoever goes on asking goes to where he wants to be first.
         """
+        if questions:
+            yield from self.asked_hits(is_forward, stops, questions, most, last)
+            return
+        for text in self.texts(is_forward, stops, most, last):
+            for reason, number, line, position in TOLD.findall(text):
+                if number:
+                    yield Hit(int(position), self.numbers[int(number)], line, [])
+                elif reason in ENDS:
+                    yield Hit(int(position), None, line, [])
+                    return
+
+    def texts(self, is_forward: bool, stops: list[str], most: int = MOST_AT_ONCE,
+              last: int | None = None) -> Iterator[str]:
+        """What a run tells of its stops, many at a time, as it is written."""
+        self.set_stops(stops)
+        command = "continue" if is_forward else "reverse"
+        size = 1
+        while True:
+            begun = time.monotonic()
+            text = self.ask_text((command + "\n") * size)
+            at = text.rfind("\n#") + 1
+            is_oldest = OLDEST in text or OLDER in text
+            if not self.followed(text[at:text.index("\n", at)] if at else "", command, is_oldest):
+                return
+            yield text
+            if self.is_far_enough(last, is_forward, is_oldest):
+                return
+            size = next_size(size, most, begun)
+
+    def asked_hits(self, is_forward: bool, stops: list[str], questions: list[str], most: int,
+                   last: int | None) -> Iterator[Hit]:
+        """The stops of a run, with questions that are asked at each."""
         self.set_stops(stops)
         command = "continue" if is_forward else "reverse"
         size, width = 1, 1 + len(questions)
         while True:
             begun = time.monotonic()
             answers = self.ask(*[command, *questions] * size)
-            if not self.followed(answers[::width], command):
+            moves = answers[::width]
+            is_oldest = [OLDER] in moves or moves[-1][0] == OLDEST
+            if not self.followed(next((move[1] for move in reversed(moves) if len(move) == 2), ""), command, is_oldest):
                 return
-            for at in range(0, len(answers), width):
-                reason = answers[at][0]
-                if reason[6:11] in ("break", "watch"):
-                    line = answers[at][1]
-                    stop = self.numbers[int(reason[12:])]
-                    yield Hit(int(line[1:line.index(" ")]), stop, line, answers[at + 1:at + width])
-                elif reason in ("stop: end", "stop: start", "stop: memory"):
-                    line = answers[at][1]
-                    yield Hit(int(line[1:line.index(" ")]), None, line, answers[at + 1:at + width])
-                    return
-            if last is not None and (self.timeline.position >= last) == is_forward:
+            for index, move in enumerate(moves):
+                told = TOLD.match("\n".join((*move, "")))
+                if told:
+                    reason, number, line, position = told.groups()
+                    stop = self.numbers[int(number)] if number else None
+                    if number or reason in ENDS:
+                        yield Hit(int(position), stop, line, answers[index * width + 1:(index + 1) * width])
+                    if reason in ENDS:
+                        return
+            if self.is_far_enough(last, is_forward, is_oldest):
                 return
-            self.waiting.stop_if_pressed()
-            self.waiting.tell(self.timeline.position)
-            if answers[-width][0] in ("stop: oldest", "no: history ends"):
-                self.begin_anew()
-            size = min(most, size * 4) if time.monotonic() - begun < SHORT else max(1, size // 2)
+            size = next_size(size, most, begun)
 
-    def followed(self, answers: list[list[str]], command: str) -> bool:
-        """Keeps where the process is behind these moves; False where none was made at the end or the start."""
-        last = next((answer for answer in reversed(answers) if len(answer) == 2), None)
-        if last:
-            self.place = read_place(last[1])
+    def followed(self, line: str, command: str, is_oldest: bool) -> bool:
+        """Keeps where the process is behind a run, by its last place line; False where it made no move, at an end."""
+        if line:
+            self.place = read_place(line)
             self.timeline = self.timeline.moved(self.place.position, command)
-        return last is not None or answers[0] == ["no: history ends"]
+        return bool(line) or is_oldest
+
+    def is_far_enough(self, last: int | None, is_forward: bool, is_oldest: bool) -> bool:
+        """Whether a run came as far as it is to go; else it can go on."""
+        if last is not None and (self.timeline.position >= last) == is_forward:
+            return True
+        self.waiting.stop_if_pressed()
+        self.waiting.tell(self.timeline.position)
+        if is_oldest:
+            self.begin_anew()
+        return False
 
     def begin_anew(self) -> None:
         """Another process that leads to here: where this one keeps no earlier moves, or was sent as much as it reads."""
@@ -190,6 +246,11 @@ class Scratch:
         self.start()
         self.go(here)
         self.set_stops(stops)
+
+
+def next_size(size: int, most: int, begun: float) -> int:
+    """How many stops are asked for at a time, by how long the last ones took."""
+    return min(most, size * 4) if time.monotonic() - begun < SHORT else max(1, size // 2)
 
 
 def frames_of(answer: list[str]) -> list[Place]:

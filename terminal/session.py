@@ -64,7 +64,7 @@ class Session:
                 raise Refused(f"the session keeps its last {self.launch.history} moves, which end here")
 
     def send(self, line: str) -> list[str]:
-        if not self.pipe.has_room((line,)):
+        if not self.pipe.has_room(len(line) + 3):
             self.begin_anew()
         try:
             return self.pipe.ask(line)[0]

@@ -339,6 +339,8 @@ class Program:
         lines = {}
         for function in self.functions.values():
             lines[function.line] = (function.name, function.first, 0)
+            # A jump that isn't written stands on the line of the next label, which is meant for its own block.
+            lines.update((block.line, (function.name, block.label, 0)) for block in function.blocks.values())
             for label, index, instruction in function.places():
                 lines.setdefault(instruction.line, (function.name, label, max(index, 0)))
         behind = [number for number in lines if number >= line]

@@ -100,6 +100,7 @@ STOPS: Lines = [
     ("c", ["stop: break 8", "#49 $fill @end 0"]), ("c", ["stop: break 9", "#52 $main @loop 1"]),
     ("b $fill if depth == 2", ["break 10"]),
     ("rc", ["stop: break 8"]), ("d 8", []), ("rc", ["stop: break 10", "#1 $fill @start 0"]),
+    ("b 29", ["$main @loop 0 (line 32)"]),
 ]
 
 # A stack variable of a loop: its bytes are dead between two calls, and are written with the same value.

@@ -19,6 +19,8 @@ from terminal.text import ALLOCATIONS, DATA, JUMPS, LOADED, STORED, Instruction,
 from terminal.timeline import Timeline
 from terminal.waiting import Waiting
 
+from .soak import QuietShell
+
 MOST_MOVES = 700
 MOST_LISTED = 100
 
@@ -233,7 +235,7 @@ def spans_of(trace: Trace, function: str, name: str, value: int) -> list[tuple[i
 def begun(debugger: str, file: str, seed: int) -> tuple[Shell, Trace, random.Random]:
     with open(file, "rb") as opened:
         source = opened.read()
-    shell = Shell(Launch(debugger, file, (), SLICE), file, source, Waiting())
+    shell = QuietShell(Launch(debugger, file, (), SLICE), file, source, Waiting())
     return shell, trace_of(debugger, file, shell.session.program), random.Random(seed)
 
 
@@ -265,3 +267,78 @@ def words_of(text: str) -> list[str | int]:
     """The words of an instruction's text, numbers as their 64 bits."""
     words = "".join(" " if letter in ",()" else letter for letter in text).split()
     return [int(word) % (1 << 64) if word.lstrip("-").isdigit() else word for word in words]
+
+
+def run_faults(debugger: str, file: str, seed: int, questions: int) -> list[str]:
+    """Where a run ends elsewhere than in the state that is found by looking at each state in turn."""
+    shell, trace, chosen = begun(debugger, file, seed)
+    try:
+        found = []
+        for _ in range(questions):
+            position = chosen.randrange(len(trace.states))
+            line, wanted = chosen.choice((over, out_of, at_condition, of_frame))(trace, position, chosen)
+            if wanted is not None:
+                shell.session.go(Timeline(position))
+                for each in line.split("; "):
+                    shell.run(each)
+                given = shell.session.place.position
+                found.append(None if given == wanted else f"{line} at #{position} leads to #{given} and not #{wanted}")
+                shell.run("d")
+        return [fault for fault in found if fault]
+    finally:
+        shell.session.close()
+
+
+def first_where(trace: Trace, positions: range, holds) -> int | None:
+    return next((position for position in positions if holds(trace.states[position])), None)
+
+
+def over(trace: Trace, position: int, chosen: random.Random) -> tuple[str, int | None]:
+    """Over a call, forward or back, or over another instruction."""
+    depth, behind = len(trace.states[position].frames), range(position + 1, len(trace.states))
+    before = range(position - 1, -1, -1)
+    is_same = lambda state: len(state.frames) <= depth
+    if chosen.random() < 0.5:
+        return "n", first_where(trace, behind, is_same)
+    if trace.states[position - 1].frames and position and len(trace.states[position - 1].frames) < depth:
+        return "rn", position - 1
+    return "rn", first_where(trace, before, is_same)
+
+
+def out_of(trace: Trace, position: int, chosen: random.Random) -> tuple[str, int | None]:
+    depth = len(trace.states[position].frames)
+    index = chosen.randrange(depth)
+    is_out = lambda state: len(state.frames) < depth - index
+    line, positions = chosen.choice((("fin", range(position + 1, len(trace.states))), ("rf", range(position - 1, -1, -1))))
+    select = f"frame {index}; " if index else ""
+    return select + line, first_where(trace, positions, is_out) if depth - index > 1 else None
+
+
+def at_condition(trace: Trace, position: int, chosen: random.Random) -> tuple[str, int | None]:
+    """To a place of some state, with the value of one of its temporaries as the condition, or its depth."""
+    goal = chosen.choice(trace.states)
+    place, depth = goal.frames[0], len(goal.frames)
+    names = [name for name, value in goal.values.items() if value is not None]
+    where = (place.function, place.label, place.index)
+    name = chosen.choice(names) if names and chosen.random() < 0.7 else None
+    condition = f"u({name}) == {goal.values[name]}" if name else f"depth == {depth}"
+
+    def holds(state: State) -> bool:
+        top = state.frames[0]
+        is_there = (top.function, top.label, top.index) == where
+        return is_there and (state.values.get(name) == goal.values[name] if name else len(state.frames) == depth)
+    line, positions = chosen.choice((("c", range(position + 1, len(trace.states))), ("rc", range(position - 1, -1, -1))))
+    return f"b {' '.join(map(str, where))} if {condition}; {line}", first_where(trace, positions, holds)
+
+
+def of_frame(trace: Trace, position: int, chosen: random.Random) -> tuple[str, int | None]:
+    """To a change of a temporary of this frame alone, or to the frame's end."""
+    state = trace.states[position]
+    if not state.values:
+        return "", None
+    depth, name = len(state.frames), chosen.choice(sorted(state.values))
+
+    def holds(later: State) -> bool:
+        is_other = len(later.frames) == depth and later.values[name] != state.values[name]
+        return len(later.frames) < depth or is_other
+    return f"watch {name}; c", first_where(trace, range(position + 1, len(trace.states)), holds)
