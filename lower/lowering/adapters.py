@@ -28,7 +28,8 @@ class Adapters:
 
     def is_other(self, has: Signature, call: Signature, has_dots: bool) -> bool:
         """Whether a function of another shape than a call has may stand behind it all the same."""
-        if has.carried() == call.carried() and (call.carried_result() in (None, has.carried_result())):
+        is_same = has.carried() == call.carried() and has.has_environment == call.has_environment and not has.has_dots
+        if is_same and call.carried_result() in (None, has.carried_result()):
             return False
         if has.gives_aggregate() != call.gives_aggregate():
             return False

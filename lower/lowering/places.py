@@ -73,7 +73,8 @@ class Places:
         if not fields[0]:
             return Origin(self.path, line, "")
         source = ""
-        if len(fields) == 5:
+        # Debug lines tell nothing where no file was named before them.
+        if len(fields) == 5 and fields[2]:
             source = f"{unescaped(fields[2])}:{fields[3]}" + (f":{fields[4]}" if fields[4] != "0" else "")
         return Origin(path_of(fields[0]), int(fields[1]), source)
 

@@ -177,52 +177,71 @@ def copies_fault(running: Running, seed: int) -> str | None:
         differ("memory", wanted.decode("latin-1"), running.run(lowered.text).output)
 
 
-def heap_text(choice: random.Random) -> tuple[str, int]:
-    """Random malloc, calloc, realloc and free of 12 places, each block filled with its own byte, which is checked before it
-    goes. The sum of all bytes that were seen is told."""
-    body, sizes, values, total = [], [0] * 12, [0] * 12, 0
-    names = iter(range(10 ** 6))
+class HeapText:
+    """Random malloc, calloc, realloc and free of 12 places, each block filled with its own byte, which is looked at before it
+    goes; `total` is the sum of all bytes that are seen."""
 
-    def fill(place: int, size: int, value: int, begin: int = 0) -> None:
-        name = next(names)
-        body.extend([f"%p{name} =l loadl {cell(place)}", f"%q{name} =l add %p{name}, {begin}",
-                     f"%m{name} =l call $memset(l %q{name}, w {value}, l {size - begin})"])
-
-    def cell(place: int) -> str:
-        name = next(names)
-        body.append(f"%c{name} =l add $places, {8 * place}")
-        return f"%c{name}"
-
-    def seen(place: int) -> int:
-        name = next(names)
-        body.extend([f"%p{name} =l loadl {cell(place)}", f"call $look(l %p{name}, l {sizes[place]})"])
-        return sizes[place] * values[place]
-
-    for _ in range(160):
-        place = choice.randrange(12)
-        size, value, name = choice.choice((1, 8, 16, 40, 100, 1000, 1024, 1025, 3000)), choice.randrange(1, 256), next(names)
-        if sizes[place] == 0:
-            call = f"$malloc(l {size})" if choice.random() < 0.5 else f"$calloc(l {size}, l 1)"
-            if "calloc" in call:
-                body.extend([f"%n{name} =l call {call}", f"call $look(l %n{name}, l {size})"])
+    def __init__(self, seed: int):
+        self.choice = random.Random(seed)
+        self.body: list[str] = []
+        self.sizes, self.values, self.total, self.made = [0] * 12, [0] * 12, 0, 0
+        for _ in range(160):
+            place = self.choice.randrange(12)
+            if self.sizes[place] == 0:
+                self.take(place)
+            elif self.choice.random() < 0.5:
+                self.give_back(place)
             else:
-                body.append(f"%n{name} =l call {call}")
-            body.append(f"storel %n{name}, {cell(place)}")
-            sizes[place], values[place] = size, value
-            fill(place, size, value)
-        elif choice.random() < 0.5:
-            total += seen(place)
-            body.extend([f"%o{name} =l loadl {cell(place)}", f"call $free(l %o{name})"])
-            sizes[place] = 0
+                self.change(place)
+
+    def loaded(self, place: int) -> str:
+        """The block of a place, as a temporary."""
+        self.made += 1
+        self.body += [f"%c{self.made} =l add $places, {8 * place}", f"%p{self.made} =l loadl %c{self.made}"]
+        return f"%p{self.made}"
+
+    def store(self, place: int, call: str) -> str:
+        self.made += 1
+        self.body += [f"%n{self.made} =l call {call}", f"%c{self.made} =l add $places, {8 * place}",
+                      f"storel %n{self.made}, %c{self.made}"]
+        return f"%n{self.made}"
+
+    def fill(self, place: int, size: int) -> None:
+        self.sizes[place], self.values[place] = size, self.choice.randrange(1, 256)
+        block = self.loaded(place)
+        self.made += 1
+        self.body.append(f"%m{self.made} =l call $memset(l {block}, w {self.values[place]}, l {size})")
+
+    def look(self, place: int, size: int) -> None:
+        self.body.append(f"call $look(l {self.loaded(place)}, l {size})")
+        self.total += size * self.values[place]
+
+    def size(self) -> int:
+        return self.choice.choice((1, 8, 16, 40, 100, 1000, 1024, 1025, 3000))
+
+    def take(self, place: int) -> None:
+        size = self.size()
+        if self.choice.random() < 0.5:
+            self.store(place, f"$malloc(l {size})")
         else:
-            kept = min(size, sizes[place])
-            body.extend([f"%o{name} =l loadl {cell(place)}", f"%n{name} =l call $realloc(l %o{name}, l {size})",
-                         f"storel %n{name}, {cell(place)}", f"call $look(l %n{name}, l {kept})"])
-            total += kept * values[place]
-            sizes[place], values[place] = size, value
-            fill(place, size, value)
-    body += ["%sum =l loadl $sum", "%end =w call $printf(l $f, ..., l %sum)"]
-    return HEAP_FRONT + in_main("\n".join(body)), total
+            # What calloc gives is zero: it adds nothing to the sum.
+            self.body.append(f"call $look(l {self.store(place, f'$calloc(l {size}, l 1)')}, l {size})")
+        self.fill(place, size)
+
+    def give_back(self, place: int) -> None:
+        self.look(place, self.sizes[place])
+        self.body.append(f"call $free(l {self.loaded(place)})")
+        self.sizes[place] = 0
+
+    def change(self, place: int) -> None:
+        size = self.size()
+        self.store(place, f"$realloc(l {self.loaded(place)}, l {size})")
+        self.look(place, min(size, self.sizes[place]))
+        self.fill(place, size)
+
+    def text(self) -> str:
+        end = ["%sum =l loadl $sum", "%end =w call $printf(l $f, ..., l %sum)"]
+        return HEAP_FRONT + in_main("\n".join(self.body + end))
 
 
 HEAP_FRONT = """
@@ -250,9 +269,9 @@ function $look(l %p, l %n) {
 
 
 def heap_fault(running: Running, seed: int) -> str | None:
-    text, total = heap_text(random.Random(seed))
-    lowered = running.lower_here(text)
-    return lowered if isinstance(lowered, str) else differ("sum", str(total), running.run(lowered.text).output)
+    heap = HeapText(seed)
+    lowered = running.lower_here(heap.text())
+    return lowered if isinstance(lowered, str) else differ("sum", str(heap.total), running.run(lowered.text).output)
 
 
 def reuse_fault(running: Running) -> str | None:
