@@ -162,6 +162,7 @@ def restart(shell: Shell, rest: str) -> None:
 @command("set", "set %x EXPRESSION", "expression", is_repeated=False)
 def set_(shell: Shell, rest: str) -> None:
     """Sets a temporary of the innermost frame. That is a move, which `back` takes back."""
+    rest = rest.removeprefix("var ")
     name, _, value = rest.replace("=", " = ", 1).partition(" ") if "=" in rest.split(" ")[0] else rest.partition(" ")
     value = value.strip().removeprefix("=").strip() if not value.strip().startswith("==") else value
     if not name.startswith("%") or not value:

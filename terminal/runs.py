@@ -130,7 +130,8 @@ class Runs:
                 if outcome:
                     break
         except Interrupted:
-            position, outcome = self.scratch.timeline.position if self.scratch.pipe else position, Outcome(STOPPED)
+            reached = self.scratch.timeline.position if self.scratch.pipe else position
+            position, outcome = (max if is_forward else min)(position, reached), Outcome(STOPPED)
             self.waiting.begin()
         for stop in self.stops:
             stop.ignored = filter.left[id(stop)]

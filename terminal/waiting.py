@@ -27,6 +27,9 @@ class Waiting:
 
     def install(self) -> None:
         signal.signal(signal.SIGINT, self.handle)
+        # Where the terminal is closed, or the process is asked to end, what it has made is cleared away.
+        for number in (signal.SIGHUP, signal.SIGTERM):
+            signal.signal(number, lambda number, _frame: sys.exit(128 + number))
 
     def handle(self, _number, _frame) -> None:
         if self.is_at_prompt:

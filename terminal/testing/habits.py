@@ -12,7 +12,7 @@ import subprocess
 import tempfile
 import time
 
-from .harness import PROMPT, TOP, Held, Silent, Terminal
+from .harness import PROMPT, TOP, Held, Silent, Terminal, last_place
 from .sessions import EXAMPLES, SQUARES
 
 ENDLESS = """export function w $main() {
@@ -82,7 +82,9 @@ def interrupted(program: str) -> str | None:
             session.type("c\n")
             session.wait_for("million moves a second")
             session.type("\x03")
-            return missing(session.wait_for(PROMPT), "stopped by Ctrl-C") or missing(session.do("p 1+1"), "1+1 = 2")
+            answer = session.wait_for(PROMPT)
+            session.place = last_place(answer) or session.place
+            return missing(answer, "stopped by Ctrl-C") or session.replayed_fault()
         finally:
             session.close()
 
@@ -133,13 +135,16 @@ def completed(program: str) -> str | None:
                              ("checkpoint here\n", "here"), ("restart he\t\n", "#44"), ("help undis\t\n", "undisplay [N]"),
                              ("p $bias+%squ\t*2\n", "= 65584"), ("info chec\t\n", "here: #44")):
             session.type(keys)
-            fault = missing(session.wait_for(PROMPT), wanted)
+            answer = session.wait_for(PROMPT)
+            session.place = last_place(answer) or session.place
+            fault = missing(answer, wanted)
             if fault:
                 return f"{keys!r}: {fault}"
         # Two lines up is the command before the last.
         session.type("\x10\x10\n")
         session.wait_for("= 65584")
-        return None
+        session.wait_for(PROMPT)
+        return session.replayed_fault()
     finally:
         session.close()
 
@@ -265,7 +270,7 @@ def wrapped(program: str) -> str | None:
 def memory_told(program: str) -> str | None:
     session = Held(program, str(SQUARES), memory=1)
     try:
-        return missing(session.do("c") + session.told, " MB", "--history 1000000")
+        return missing(session.do("c") + session.told, " MB", "--history 1000000") or session.replayed_fault()
     finally:
         session.close()
 
@@ -278,7 +283,8 @@ def bounded(program: str) -> str | None:
             fault = missing(session.do("c"), "done 7") or missing(session.do("why"), "[1] %r = 7")
             fault = fault or missing(session.do("why w $first"), "line 5: storew 7, $first", "#1 $main @start 1")
             oldest = int(session.place[1:].split()[0]) - 10
-            return fault or missing(session.do("goto 5"), "keeps its last 10 moves, which end here", f"#{oldest} $main")
+            fault = fault or missing(session.do("goto 5"), "keeps its last 10 moves, which end here", f"#{oldest} $main")
+            return fault or session.replayed_fault()
         finally:
             session.close()
 
@@ -348,7 +354,8 @@ def mapped(program: str) -> str | None:
         try:
             fault = missing(session.do("goto 44"), "  source: my\tsquares.ssa:9: squares.my:4:7\n")
             fault = fault or missing(session.do("bt"), "(my\tsquares.ssa:13)\n")
-            return fault or missing(session.do("why %place"), "  (my\tsquares.ssa:8: lib\\a.my:3)\n")
+            fault = fault or missing(session.do("why %place"), "  (my\tsquares.ssa:8: lib\\a.my:3)\n")
+            return fault or session.replayed_fault()
         finally:
             session.close()
 

@@ -32,6 +32,7 @@ MOVES: Lines = [
     ("", ["#38 $fill @loop 0"]), ("rf", ["#0 $main @start 0"]), ("back", ["this is the start of the run"]),
     ("goto 44", ["#44 $fill @body 4"]), ("checkpoint here", ["checkpoint here: #44 $fill @body 4"]),
     ("set %i 9", ["#45 $fill @body 4"]), ("checkpoint", ["checkpoint 1: #45"]),
+    ("set var %i = %i * 2", ["#46"]), ("p %i", ["= 18"]), ("set %i=9", ["#47"]), ("back 2", ["#45"]),
     ("info checkpoints", ["here: #44", "1: #45"]),
     ("goto 20", ["taken back: set %i 9 (#44)", "#20 $fill @loop 0"]), ("restart 1", ["#45 $fill @body 4"]),
     ("p %i", ["%i = 9"]), ("restart here", ["taken back: set %i 9", "#44 $fill @body 4"]), ("p %i", ["%i = 4"]),
