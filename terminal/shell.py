@@ -84,8 +84,9 @@ class Shell:
     def __init__(self, launch: Launch, file: str, source: bytes, waiting: Waiting, budget: int | None = None,
                  memory_told: int = MEMORY_TOLD, lowered: Sequence[str] = ()):
         self.launch, self.waiting = launch, waiting
-        # What stands for the program on a command line of ./qrev.
-        self.named = ["--lower", *lowered] if lowered else [file]
+        # What stands for the program on a command line of ./qrev, and what comes last there.
+        end = lowered.index("--") if "--" in lowered else len(lowered)
+        self.named, self.texts = ["--lower", *lowered[:end]] if lowered else [file], lowered[end:]
         self.session = Session(launch, source, waiting)
         if self.session.pipe.refused:
             return
@@ -121,7 +122,7 @@ class Shell:
         words = [*self.named, *self.launch.words]
         words += ["--limit", str(self.launch.limit)] if self.launch.limit != SLICE else []
         words += ["--history", str(self.launch.history)] if self.launch.history else []
-        return f"./qrev {shlex.join(words)} < {shlex.quote(script)}"
+        return f"./qrev {shlex.join([*words, *self.texts])} < {shlex.quote(script)}"
 
     def line_of(self, text: str) -> int:
         """The line of a number, a function, a label of the selected frame's function, or data."""

@@ -6,6 +6,7 @@ import pathlib
 import stat
 import sys
 
+from .arguments import give_arguments
 from .linking import Program
 from .reader import TextReader
 from .refusals import Refused
@@ -32,6 +33,8 @@ def options() -> Parser:
     parser.add_argument("--report", action="store_true", help="say on standard error what was rewritten")
     parser.add_argument("--output", "-o", metavar="FILE", help="write the text there, and the map beside it")
     parser.add_argument("--map", metavar="FILE", help="write the map there")
+    parser.add_argument("--arguments", metavar="WORD", nargs=argparse.REMAINDER,
+                        help="all that follows are words for the argc and argv of the entry")
     parser.add_argument("files", metavar="FILE", nargs="+", help="a text of QBE")
     return parser
 
@@ -58,12 +61,15 @@ def map_beside(output: str | None) -> str | None:
 class Lowering:
     """One run: the texts in, the text and its map out."""
 
-    def __init__(self, texts: list[Text], entry: str, is_linked: bool):
+    def __init__(self, texts: list[Text], entry: str, is_linked: bool, words: list[str] | None = None):
+        """`words` are the arguments of the entry as texts, without the name of the program."""
         self.report = Report()
         self.program = Program(texts, self.report)
         self.entry = self.entry_symbol("$" + entry)
         if is_linked and self.entry is None:
             raise Refused(texts[0].path, 1, f"no text exports a function ${entry}")
+        if words is not None and self.entry is not None:
+            give_arguments(self.entry, [pathlib.Path(texts[0].path).stem, *words])
         first = self.program.keep_from(self.entry) if is_linked else self.keep_all()
         self.program.give_names()
         self.report.count("functions that are called before the entry", len(first))
@@ -116,7 +122,7 @@ def main(words: list[str]) -> int:
     gc.disable()
     given = options().parse_args(words)
     try:
-        lowering = Lowering([read_text(path) for path in given.files], given.entry, given.link)
+        lowering = Lowering([read_text(path) for path in given.files], given.entry, given.link, given.arguments)
         write_all(lowering, given.output, given.map or map_beside(given.output))
     except Refused as refused:
         print(refused, file=sys.stderr)

@@ -19,6 +19,29 @@ export function w $main(w %a) {
 }
 """
 HALF = "export function w $half(w %x) {\n@start\n\t%d =d swtof %x\n\t%h =d div %d, d_2\n\t%r =w dtosi %h\n\tret %r\n}\n"
+ECHO = """
+export function w $main(w %argc, l %argv) {
+@start
+@loop
+	%at =l phi @start %argv, @word %next
+	%word =l loadl %at
+	%is.word =w cnel %word, 0
+	jnz %is.word, @word, @end
+@word
+	%w =w call $printf(l $f, ..., l %word)
+	%next =l add %at, 8
+	jmp @loop
+@end
+	%p =w call $putchar(w 10)
+	%bytes =l sub %at, %argv
+	%count =l div %bytes, 8
+	%wide =l extsw %argc
+	%rest =l sub %wide, %count
+	%r =w copy %rest
+	ret %r
+}
+data $f = { b "%s|\\0" }
+"""
 SECONDS_OF_A_MEBIBYTE = 2.0
 
 
@@ -54,6 +77,12 @@ def wrapper_faults(running: Running) -> Results:
                                         (run.returncode, lines[-3].endswith(" done 6"), lines[-2:], run.stderr))
         run = wrapper.run("--lower", "b.ssa", "9", "--entry", "half")
         yield "command/--lower with an entry", differ("end", True, run.stdout.split("\n")[-3].endswith(" done 4"))
+        (wrapper.top / "echo.ssa").write_text(ECHO)
+        run = wrapper.run("--lower", "echo.ssa", "--", "a", "1", "--b c", "")
+        yield "command/--lower with texts for main", differ("output", 'out 17 "echo|a|1|--b c||\\012"',
+                                                            run.stdout.split("\n")[-2])
+        run = wrapper.run("--lower", "echo.ssa", "--")
+        yield "command/--lower without texts for main", differ("output", 'out 6 "echo|\\012"', run.stdout.split("\n")[-2])
         run = wrapper.run("--lower", "wrong.ssa", "1")
         told = "wrong.ssa:8: %y is used in `ret`, and nothing defines it\n"
         yield "command/--lower refuses", differ("run", (1, "", told), (run.returncode, run.stdout, run.stderr))

@@ -7,6 +7,7 @@ from __future__ import annotations
 import os
 import pathlib
 import re
+import shlex
 import signal
 import subprocess
 import tempfile
@@ -360,28 +361,44 @@ def mapped(program: str) -> str | None:
             session.close()
 
 
+COUNT = """export function w $main(w %count, l %texts) {
+@start
+	ret %count
+}
+"""
+
+
 def lowered(program: str) -> str | None:
-    """A text of whole QBE: places of its own lines, and a saved script that says how to play it."""
-    text = "lower/test-data/real/structval.ssa"
+    """Texts of whole QBE: the places of their own lines, and saved scripts that say how to play them."""
+    struct = "lower/test-data/real/structval.ssa"
     with tempfile.TemporaryDirectory(prefix="lowered-") as folder:
-        session = Terminal([str(TOP / "qrev"), "--lower", text], seconds=60, folder=str(TOP), TMPDIR=folder)
-        script = str(pathlib.Path(folder) / "saved.script")
-        try:
-            session.wait_for(PROMPT)
-            session.type("b $add\nc\n")
-            # The function `add` begins on line 76 of that text.
-            session.wait_for(f"  source: {text}:76\n")
-            session.type(f"save {script}\n")
-            session.wait_for(f"to play them: ./qrev --lower {text} < {script}\n")
-            session.type("quit\n")
-            status = session.status()
-        finally:
-            session.close()
-        run = subprocess.run([str(TOP / "qrev"), "--lower", text], input=pathlib.Path(script).read_text(), text=True,
-                             capture_output=True, cwd=TOP, timeout=60)
-        fault = missing(run.stdout, "stop: break 1\n#14 $add ")
-        left_over = [file.name for file in pathlib.Path(folder).iterdir() if file.name != "saved.script"]
-    return fault or (f"status {status}, and {left_over} are left" if status or left_over else None)
+        count = written(folder, "count.ssa", COUNT)
+        # The function `add` begins on line 76 of its text. The name of the program is a text of `main` too.
+        return played(folder, [struct], "b $add\nc\n", f"  source: {struct}:76\n", "#14 $add @start.") or \
+            played(folder, [count, "--", "a", "b c"], "c\n", "done 3\n", " done 3\n")
+
+
+def played(folder: str, words: list[str], lines: str, shown: str, place: str) -> str | None:
+    """What a session over lowered texts shows otherwise, or where its saved script leads otherwise; or None."""
+    scratch, script = pathlib.Path(folder) / "scratch", pathlib.Path(folder) / "saved.script"
+    scratch.mkdir(exist_ok=True)
+    session = Terminal([str(TOP / "qrev"), "--lower", *words], seconds=60, folder=str(TOP), TMPDIR=str(scratch))
+    try:
+        session.wait_for(PROMPT)
+        session.type(lines)
+        session.wait_for(shown)
+        session.type(f"save {script}\n")
+        session.wait_for("to play them: ")
+        told = session.wait_for("\n")
+        session.type("quit\n")
+        status = session.status()
+    finally:
+        session.close()
+    wanted = f"./qrev {shlex.join(['--lower', *words])} < {script}"
+    run = subprocess.run(["bash", "-c", told], text=True, capture_output=True, cwd=TOP, timeout=60)
+    left_over = list(scratch.iterdir())
+    return missing(run.stdout, place) or (f"{told!r} in place of {wanted!r}" if told != wanted else None) or \
+        (f"status {status}, and {left_over} are left" if status or left_over else None)
 
 
 def bare(program: str) -> str | None:
