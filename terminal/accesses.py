@@ -10,6 +10,7 @@ from itertools import islice
 from typing import Iterator
 
 from .answers import read_bytes, read_value
+from .frames import steps_begun
 from .scratch import MOST_BYTES, Scratch
 from .text import BUILT_IN, LOADED, STORED, Instruction, Operand, Program
 from .timeline import Timeline
@@ -93,10 +94,7 @@ class Accesses:
 
     def faulted(self, at: Timeline) -> int | None:
         """The position of the move that ended in a fault, and so touched nothing, where a state is one."""
-        position = at.position - 1
-        while at.poke_at(position):
-            position -= 1
-        return position if self.scratch.go(at).place.is_fault else None
+        return steps_begun(at) - 1 if self.scratch.go(at).place.is_fault else None
 
     def looked_at(self, block: list[tuple[int, Site]], is_write: bool, run: Timeline) -> Iterator[Access]:
         """The bytes that each move of a block touched, by the operands' values that tell the address."""

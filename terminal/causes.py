@@ -10,7 +10,7 @@ from dataclasses import dataclass, field
 
 from .accesses import MOST_STOPS, Accesses, Site, size_of
 from .answers import Place, read_output
-from .frames import Frames
+from .frames import Frames, steps_begun
 from .levels import own_hits
 from .scratch import Scratch
 from .text import ALLOCATIONS, BUILT_IN, LOADED, STORED, Instruction, Program
@@ -226,10 +226,7 @@ class Causes:
 
     def came_by(self, run: Timeline, position: int) -> int:
         """The position from which the last step led to the place of a state; pokes stay at it."""
-        position -= 1
-        while run.poke_at(position):
-            position -= 1
-        return position
+        return steps_begun(run.at(position)) - 1
 
     def begun(self, name: str, function: str, at: Timeline, depth: int) -> Setter:
         """At the beginning of a frame: what sets a parameter, or nothing."""

@@ -5,83 +5,133 @@ scratch process goes to.
 """
 from __future__ import annotations
 
+from collections import Counter
+
 from .answers import Place
-from .levels import own_hits
+from .levels import MOST_STOPS, Levels, own_hits, stop_line
 from .scratch import Scratch
 from .text import ALLOCATIONS, STACK, Program
 from .timeline import Timeline
 from .values import Names, is_stack
 
 MOST_ALLOCATIONS = 8
+# How many of the innermost frames are looked at first for the owner of an address.
+NEAR = (1, 4, 32)
 
 
 class Frames:
     def __init__(self, program: Program, names: Names, scratch: Scratch):
         self.program, self.names, self.scratch = program, names, scratch
         self.entries: dict[Timeline, Timeline] = {}
+        self.allocated: dict[Timeline, list[int | None]] = {}
 
     def where(self, at: Timeline) -> list[Place]:
         return self.scratch.go(at).where()
 
     def before_end(self, at: Timeline) -> Timeline:
         """The state itself, or the one before the step that ended the run where it is over."""
-        if not self.scratch.go(at).place.end:
-            return at
-        position = at.position
-        while at.poke_at(position - 1):
-            position -= 1
-        return at.at(position - 1)
+        return at.at(steps_begun(at) - 1) if self.scratch.go(at).place.end else at
 
     def entry(self, at: Timeline) -> Timeline:
         """The first state of the frame that is the innermost one there."""
         if at not in self.entries:
-            self.entries[at] = at.at(self.entry_position(at))
+            self.find_entries(at, 1)
         return self.entries[at]
-
-    def entry_position(self, at: Timeline) -> int:
-        at = self.before_end(at)
-        frames = self.where(at)
-        if len(frames) == 1:
-            return 0
-        name, first = frames[0].function, self.program.functions[frames[0].function].first
-        found = at.position
-        if (frames[0].label, frames[0].index) != (first, 0):
-            found, _ = next(own_hits(self.program, self.scratch, at, name, []))
-        while at.poke_at(found - 1):
-            found -= 1
-        return found
 
     def frame(self, at: Timeline, index: int) -> Timeline:
         """The last state in which a frame was the innermost one; 0 is the one that is so now."""
-        for _ in range(index):
-            at = at.at(self.entry(at).position - 1)
-        return at
+        return self.last_states(at, index + 1)[index]
+
+    def last_states(self, at: Timeline, count: int) -> list[Timeline]:
+        """As above for the first frames, so many or as many as there are."""
+        found = [at]
+        while len(found) < count:
+            if found[-1] not in self.entries:
+                self.find_entries(found[-1], count - len(found))
+            entry = self.entries[found[-1]]
+            if not entry.position:
+                break
+            found.append(entry.at(entry.position - 1))
+        return found
+
+    def find_entries(self, at: Timeline, count: int) -> None:
+        """Keeps where the innermost frame of a state began, and where so many of its callers did, by one run back."""
+        there = self.before_end(at)
+        frames = self.where(there)[:count]
+        positions = self.entries_by_counting(there, frames)
+        if positions is None:
+            positions = [self.entry_by_depth(there)]
+        for position in positions:
+            self.entries[at] = at.at(position)
+            at = at.at(position - 1)
+
+    def entries_by_counting(self, at: Timeline, frames: list[Place]) -> list[int] | None:
+        """The positions at which frames began, the innermost first. Of a function that calls itself the returns are
+        counted, so that its calls that are over are left out; None where that can't be done."""
+        functions = dict.fromkeys(place.function for place in frames)
+        levels = {name: Levels(self.program, name) for name in functions if name in self.program.again}
+        entries = {(name, self.program.functions[name].first, 0): name for name in functions}
+        returns = {place: name for name, level in levels.items() for place in level.returns}
+        places = [*entries, *returns]
+        if not all(level.is_counted for level in levels.values()) or len(places) > MOST_STOPS:
+            return None
+        here = (frames[0].function, frames[0].label, frames[0].index)
+        found = [steps_begun(at)] if here in entries else []
+        inside = Counter([returns[here]] if here in returns else [])
+        at = at.at(found[0]) if found else at
+        hits = self.scratch.go(at).hits(False, [stop_line(place) for place in places]) if len(found) < len(frames) else ()
+        for hit in hits:
+            # Behind a poke the place is that of the state before, which comes next.
+            if hit.stop is None or at.poke_at(hit.position - 1):
+                continue
+            place = places[hit.stop]
+            if place in returns:
+                inside[returns[place]] += 1
+            elif inside[entries[place]]:
+                inside[entries[place]] -= 1
+            elif frames[len(found)].function == entries[place]:
+                found.append(hit.position)
+            if len(found) == len(frames):
+                break
+        return found
+
+    def entry_by_depth(self, at: Timeline) -> int:
+        """Where the innermost frame began, by the number of frames at each beginning of its function."""
+        frames = self.where(at)
+        first = self.program.functions[frames[0].function].first
+        if (frames[0].label, frames[0].index) == (first, 0):
+            return steps_begun(at)
+        position, _ = next(own_hits(self.program, self.scratch, at, frames[0].function, []))
+        return steps_begun(at.at(position))
 
     def owner(self, address: int, at: Timeline) -> str | None:
         """Which alloc of which frame made the stack bytes at an address, as `frame 1 $f alloc %p+4`."""
         if not is_stack(address) or self.scratch.go(at).memory(address, 1)[0] is None:
             return None
-        for index, place in enumerate(self.where(at)):
-            there = self.frame(at, index)
-            found = self.allocation(place.function, address, there)
-            if found:
-                name, offset = found
-                return f"frame {index} {place.function} alloc {name}+{offset}"
+        frames, looked = self.where(at), 0
+        for count in (*NEAR, len(frames)):
+            states = self.last_states(at, min(count, len(frames)))
+            for index in range(looked, len(states)):
+                found = self.allocation(frames[index].function, address, states[index])
+                if found:
+                    name, offset = found
+                    return f"frame {index} {frames[index].function} alloc {name}+{offset}"
+            looked = len(states)
         return None
 
     def allocation(self, function: str, address: int, at: Timeline) -> tuple[str, int] | None:
-        """The temporary of a frame whose alloc made the bytes at an address, and how far behind its beginning they are."""
-        allocations = allocations_of(self.program, function)
-        names = list(allocations)
-        values = self.scratch.go(at).values(*names)
-        found = [(address - value, name) for name, value in zip(names, values)
+        """The temporary of a frame whose alloc made the bytes at an address, and how far behind its begin they are."""
+        sizes = allocations_of(self.program, function)
+        if at not in self.allocated:
+            self.allocated[at] = self.scratch.go(at).values(*sizes) if sizes else []
+        found = [(address - value, name) for name, value in zip(sizes, self.allocated[at])
                  if value is not None and STACK <= value <= address]
         if not found:
             return None
         offset, name = min(found)
-        if offset < allocations[name] or len(names) > MOST_ALLOCATIONS:
+        if offset < sizes[name] or len(sizes) > MOST_ALLOCATIONS:
             return name, offset
-        return self.earlier_allocation(function, names, address, at) or (name, offset)
+        return self.earlier_allocation(function, list(sizes), address, at) or (name, offset)
 
     def earlier_allocation(self, function: str, names: list[str], address: int, at: Timeline) -> tuple[str, int] | None:
         """As above, for an alloc that was made again since: by going back along all allocs of the frame."""
@@ -100,6 +150,14 @@ class Frames:
         if width != "l":
             return None
         return self.names.of(value) or (self.owner(value, at) if at else None)
+
+
+def steps_begun(at: Timeline) -> int:
+    """The position at which the run came to the place of a state; pokes stay at it."""
+    position = at.position
+    while at.poke_at(position - 1):
+        position -= 1
+    return position
 
 
 def allocations_of(program: Program, function: str) -> dict[str, int]:

@@ -54,6 +54,32 @@ export function w $main() {{
 """
 
 
+# Each of 900 calls hands the address of a variable of $main on.
+DEEP = """function w $down(w %n, l %at) {
+@start
+	%local =l alloc4 4
+	storew %n, %local
+	jnz %n, @more, @bottom
+@bottom
+	%value =w loadw %at
+	ret %value
+@more
+	%less =w sub %n, 1
+	%result =w call $down(w %less, l %at)
+	ret %result
+}
+export function w $main() {
+@start
+	%variable =l alloc4 4
+	storew 5, %variable
+	%result =w call $down(w 900, l %variable)
+	ret %result
+}
+"""
+# Seconds that a stop may take there.
+AT_ONCE = 3.0
+
+
 def written(folder: str, name: str, text: str) -> str:
     path = pathlib.Path(folder) / name
     path.write_text(text)
@@ -313,6 +339,24 @@ def fast(program: str) -> str | None:
     return None
 
 
+def deep(program: str) -> str | None:
+    """Far inside calls an address is named by its frame, callers are looked at, and no stop takes long for it."""
+    with tempfile.TemporaryDirectory(prefix="deep-") as folder:
+        session = Held(program, written(folder, "deep.ssa", DEEP))
+        try:
+            session.do("b $down @bottom")
+            begun = time.monotonic()
+            fault = missing(session.do("c"), "%at=frame 901 $main alloc %variable+0")
+            if time.monotonic() - begun > AT_ONCE:
+                return f"the stop takes {time.monotonic() - begun:.2f} seconds"
+            fault = fault or missing(session.do("up 450"), "frame 450 $down @more 2") or missing(session.do("p %n"), "%n = 450")
+            fault = fault or missing(session.do("p %local"), "(frame 450 $down alloc %local+0)")
+            fault = fault or missing(session.do("why %at"), "[2] %at = 16777216 (frame 450 $main alloc %variable+0)")
+            return fault or missing(session.do("fin"), "given back: %result = 5") or session.replayed_fault()
+        finally:
+            session.close()
+
+
 def saved_and_compared(program: str) -> str | None:
     """A saved script with another limit, what a recorded script parts by, and a transcript that no longer holds."""
     with tempfile.TemporaryDirectory(prefix="compared-") as folder:
@@ -414,7 +458,7 @@ def bare(program: str) -> str | None:
 
 HABITS = {call.__name__.replace("_", " "): call for call in (
     interrupted, interrupted_at_the_prompt, left, completed, bad_lines, refused, broken, narrow, without_readline, wrapped,
-    memory_told, bounded, fast, saved_and_compared, mapped, lowered, bare)}
+    memory_told, bounded, fast, deep, saved_and_compared, mapped, lowered, bare)}
 
 
 def tried(call, program: str) -> str | None:
