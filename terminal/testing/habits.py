@@ -349,7 +349,8 @@ def deep(program: str) -> str | None:
             fault = missing(session.do("c"), "%at=frame 901 $main alloc %variable+0")
             if time.monotonic() - begun > AT_ONCE:
                 return f"the stop takes {time.monotonic() - begun:.2f} seconds"
-            fault = fault or missing(session.do("up 450"), "frame 450 $down @more 2") or missing(session.do("p %n"), "%n = 450")
+            fault = fault or missing(session.do("up 450"), "frame 450 $down @more 2")
+            fault = fault or missing(session.do("p %n"), "%n = 450")
             fault = fault or missing(session.do("p %local"), "(frame 450 $down alloc %local+0)")
             fault = fault or missing(session.do("why %at"), "[2] %at = 16777216 (frame 450 $main alloc %variable+0)")
             return fault or missing(session.do("fin"), "given back: %result = 5") or session.replayed_fault()

@@ -21,21 +21,26 @@ class QuietShell(Shell):
 
 # Lines with what is made up for each; an empty line repeats.
 LINES = {
-    "moves": ("s", "n", "rs", "rn", "c", "rc", "fin", "rf", "s {number}", "rs {number}", "n {number}", "goto {number}", "run",
-              "checkpoint 1", "restart 1", "goto why", "set {temporary} {number}", "poke {width} {address} {number}", ""),
-    "stops": ("b {place}{condition}", "tb {place}{condition}", "watch {temporary}{condition}",
-              "watch {function} {temporary}", "watch {width} {address}{condition}", "watch {number} {address}", "d {number}",
-              "d", "ignore {number} {number}", "stops"),
-    "looks": ("p {temporary}", "p/x {temporary}+{number}", "x/{number}{width}x {address}", "bt", "up", "down", "temps", "l",
-              "list {place}", "out", "display {temporary}", "undisplay", "info symbol {address}"),
-    "asks": ("why", "why {temporary}", "why {width} {address}", "why 1", "why 2", "why 3", "why back", "why jump", "why call",
-             "why out {number}", "readers {width} {address}", "writers {width} {address}", "when {temporary} == {number}",
-             "when w[{data}] == {number}"),
+    "moves": (
+        "s", "n", "rs", "rn", "c", "rc", "fin", "rf", "s {number}", "rs {number}", "n {number}", "goto {number}", "run",
+        "checkpoint 1", "restart 1", "goto why", "set {temporary} {number}", "poke {width} {address} {number}", ""),
+    "stops": (
+        "b {place}{condition}", "tb {place}{condition}", "watch {temporary}{condition}", "watch {function} {temporary}",
+        "watch {width} {address}{condition}", "watch {number} {address}", "d {number}", "d", "ignore {number} {number}",
+        "stops"),
+    "looks": (
+        "p {temporary}", "p/x {temporary}+{number}", "x/{number}{width}x {address}", "bt", "up", "down", "temps", "l",
+        "list {place}", "out", "display {temporary}", "undisplay", "info symbol {address}"),
+    "asks": (
+        "why", "why {temporary}", "why {width} {address}", "why 1", "why 2", "why 3", "why back", "why jump", "why call",
+        "why out {number}", "readers {width} {address}", "writers {width} {address}", "when {temporary} == {number}",
+        "when w[{data}] == {number}"),
 }
 PARTS = {
     "address": ("{data}", "{temporary}", "{data}+{number}", "({temporary}+{number})", "16777216", "16777220"),
     "place": ("{function}", "{label}", "{function} {label}", "{line}"),
-    "condition": ("", "", " if {temporary} > {number}", " if depth == 2", " if w[{data}] != {number}", " if b[{temporary}] < 9"),
+    "condition": (
+        "", "", " if {temporary} > {number}", " if depth == 2", " if w[{data}] != {number}", " if b[{temporary}] < 9"),
     "width": ("b", "h", "w", "l"),
 }
 
