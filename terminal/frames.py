@@ -7,7 +7,7 @@ from __future__ import annotations
 
 from collections import Counter
 
-from .answers import Place
+from .answers import Place, read_value
 from .levels import MOST_STOPS, Levels, own_hits, stop_line
 from .scratch import Scratch
 from .text import ALLOCATIONS, STACK, Program
@@ -24,6 +24,7 @@ class Frames:
         self.program, self.names, self.scratch = program, names, scratch
         self.entries: dict[Timeline, Timeline] = {}
         self.allocated: dict[Timeline, list[int | None]] = {}
+        self.made: dict[Timeline, list[tuple[int, str, int]]] = {}
 
     def where(self, at: Timeline) -> list[Place]:
         return self.scratch.go(at).where()
@@ -114,13 +115,13 @@ class Frames:
             for index in range(looked, len(states)):
                 found = self.allocation(frames[index].function, address, states[index])
                 if found:
-                    name, offset = found
-                    return f"frame {index} {frames[index].function} alloc {name}+{offset}"
+                    return f"frame {index} {frames[index].function} alloc {found}"
             looked = len(states)
         return None
 
-    def allocation(self, function: str, address: int, at: Timeline) -> tuple[str, int] | None:
-        """The temporary of a frame whose alloc made the bytes at an address, and how far behind its begin they are."""
+    def allocation(self, function: str, address: int, at: Timeline) -> str | None:
+        """The temporary of a frame whose alloc made the bytes at an address, and how far behind its begin they are; of one
+        that was made again since also when it was made."""
         sizes = allocations_of(self.program, function)
         if at not in self.allocated:
             self.allocated[at] = self.scratch.go(at).values(*sizes) if sizes else []
@@ -130,20 +131,35 @@ class Frames:
             return None
         offset, name = min(found)
         if offset < sizes[name] or len(sizes) > MOST_ALLOCATIONS:
-            return name, offset
-        return self.earlier_allocation(function, list(sizes), address, at) or (name, offset)
+            return f"{name}+{offset}"
+        return self.earlier_allocation(function, list(sizes), address, at) or f"{name}+{offset}"
 
-    def earlier_allocation(self, function: str, names: list[str], address: int, at: Timeline) -> tuple[str, int] | None:
-        """As above, for an alloc that was made again since: by going back along all allocs of the frame."""
+    def earlier_allocation(self, function: str, names: list[str], address: int, at: Timeline) -> str | None:
+        """As above, for an alloc that was made again since: along all allocs of the frame, the latest first."""
+        if at not in self.made:
+            self.made[at] = self.all_allocations(function, names, at)
+        return next((f"{name}+{address - value} of #{position}" for position, name, value in self.made[at]
+                     if value <= address), None)
+
+    def all_allocations(self, function: str, names: list[str], at: Timeline) -> list[tuple[int, str, int]]:
+        """What each alloc of a frame gave, the latest first, by going back along the places at which they were made."""
         sites = {place[:2]: name for name in names for place in self.program.functions[function].definitions(name)
                  if place[2].operation in ALLOCATIONS}
-        found = [(position, sites[place]) for position, place in
-                 own_hits(self.program, self.scratch, at, function, list(sites)) if place in sites]
-        for position, name in found:
-            value = self.scratch.go(at.at(position + 1)).values(name)[0]
-            if value is not None and value <= address:
-                return name, address - value
-        return None
+        moves = [(position, sites[place]) for position, place in
+                 own_hits(self.program, self.scratch, at, function, list(sites))
+                 if place in sites and not at.poke_at(position)]
+        if not moves:
+            return []
+        here, lines = moves[0][0], []
+        for position, name in moves:
+            lines += [f"back {here - position}"] * (here > position) + [f"print {name}"]
+            here = position
+        answers = self.scratch.go(at.at(moves[0][0] + 1)).ask(*lines)
+        backs = [answer for line, answer in zip(lines, answers) if line.startswith("back")]
+        if backs:
+            self.scratch.after(backs[-1], "back")
+        values = [read_value(answer[0]) for line, answer in zip(lines, answers) if line.startswith("print")]
+        return [(*move, value) for move, value in zip(moves, values) if value is not None]
 
     def name(self, value: int, width: str, at: Timeline | None) -> str | None:
         """The name of an address; of one on the stack where it is said in which state. Words are no addresses."""

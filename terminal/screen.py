@@ -82,7 +82,7 @@ class Screen:
     def short_owner(self, value: int) -> str | None:
         """The alloc that an address belongs to, as its temporary alone where the frame is the innermost one."""
         owner = self.frames.owner(value, self.session.timeline)
-        return owner and (owner.split(" ")[-1] if owner.startswith("frame 0 ") else owner)
+        return owner and (owner.partition(" alloc ")[2] if owner.startswith("frame 0 ") else owner)
 
     def own_allocation(self, value: int) -> str | None:
         """As above, of the innermost frame alone, which needs no move."""

@@ -290,6 +290,13 @@ def wrapped(program: str) -> str | None:
                 return f"{words}: a prompt before the answer"
         finally:
             terminal.close()
+    with tempfile.TemporaryDirectory(prefix="python-") as folder:
+        os.chmod(written(folder, "python3", "#!/bin/sh\nexit 1\n"), 0o755)
+        run = subprocess.run([wrapper, "--prompt", str(SQUARES)], input="continue\n", capture_output=True, text=True,
+                             timeout=60, env={**os.environ, "PATH": f"{folder}:{os.environ['PATH']}"})
+    fault = missing(run.stderr, "lines are read plainly") or missing(run.stdout, "stop: end\n#88 done 30")
+    if fault:
+        return fault
     run = subprocess.run([wrapper, "--prompt", str(SQUARES)], input="c\nwhy\n", capture_output=True, text=True, timeout=60)
     return missing(run.stdout, "#88 done 30", "[1] %total = 30") or ("a prompt at a pipe" if PROMPT in run.stdout else None)
 

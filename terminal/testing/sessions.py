@@ -141,6 +141,13 @@ FIBONACCI: Lines = [
     ("rf", ["#0 $main @start 0"]), ("c", ["done 8"]),
 ]
 
+# A round takes 14 moves, and the first comes to its alloc at #8 (docs/STORIES.md has the last two).
+BUFFERS: Lines = [
+    ("goto 3578", ["#3578 $main @body 0"]), ("info symbol 16777224", ["frame 0 $main alloc %buffer+0 of #8"]),
+    ("info symbol 16781321", ["frame 0 $main alloc %buffer+1 of #22"]), ("info symbol 16777223", ["alloc %sum+3"]),
+    ("p %buffer", ["%buffer = 17817608 (frame 0 $main alloc %buffer+0)"]), ("info symbol 17825792", ["17825792"]),
+]
+
 # 6 + 7 * 256 is 1798, and a store of the same value is the last one.
 COPY: Lines = [
     ("c", ["exit 1798"]), ("why", ["line 20: call $exit(w %again)", "[1] %again = 1798"]),
