@@ -15,7 +15,7 @@ from .levels import own_hits
 from .scratch import Scratch
 from .text import ALLOCATIONS, BUILT_IN, LOADED, STORED, Instruction, Program
 from .timeline import Timeline
-from .values import Names, is_stack, remarks, shown_bytes
+from .values import Names, is_stack, remarks, shown_bytes, signed
 
 MOST_BYTES_ASKED = 48
 # How many stores of the same value are looked for before `why` is content with the last change.
@@ -64,6 +64,11 @@ class Setter:
     kind: str
     position: int
     instruction: Instruction | None = None
+
+
+def distance(number: int, begin: int, size: int) -> int:
+    """How far a number is from a span."""
+    return max(begin - number, number - (begin + size), 0)
 
 
 class Causes:
@@ -345,11 +350,10 @@ class Causes:
 
     def dead_told(self, address: int, at: Timeline) -> str:
         """What lies near an address without bytes."""
-        before = [data for data in self.program.data if data.address <= address]
-        if before and not is_stack(address):
-            data = before[-1]
-            return (f"  the nearest data before {address} is {data.name}, of {data.size} bytes: "
-                    f"{data.name}+{address - data.address}")
+        if self.program.data and not is_stack(address):
+            number = signed(address, "l")
+            data = min(self.program.data, key=lambda data: distance(number, data.address, data.size))
+            return f"  the nearest data is {data.name}, of {data.size} bytes: {data.name}{number - data.address:+}"
         return f"  {address} is " + ("in the stack, above its top" if is_stack(address) else
                                    "neither in the data nor in the stack")
 

@@ -84,9 +84,9 @@ def is_near_zero(value: int, width: str) -> bool:
 
 
 def remarks(value: int, width: str, address: str | None) -> list[str]:
-    """What a value also is: a name, a small negative number, a text."""
+    """What a value also is: a name, a negative number, a text."""
     found = [address] if address else []
-    if is_near_zero(value, width):
+    if signed(value, width) < 0:
         found.append(str(signed(value, width)))
     text = as_text(value) if not found else None
     return found + ([f"0x{value:x} {text}"] if text else [])

@@ -27,7 +27,7 @@ ENDLESS = """export function w $main() {
 """
 # Seconds after which a prompt waits for keys.
 READY = 0.2
-# What is typed for a run of so many moves, and how many seconds `why` may take behind it.
+# What is typed for a run of so many moves, and how many seconds of a processor `why` may take behind it.
 SPEEDS = ((1_000_000, 1.0), (10_000_000, 5.0))
 # A round of the loop below takes eight moves, and stores at an address that only the run tells.
 LONG = """data $first = align 4 {{ w 0 }}
@@ -76,7 +76,7 @@ export function w $main() {
 	ret %result
 }
 """
-# Seconds that a stop may take there.
+# Seconds of a processor that a stop may take there.
 AT_ONCE = 3.0
 
 
@@ -236,6 +236,16 @@ def children_of(process: int) -> list[int]:
     return [int(word) for word in pathlib.Path(f"/proc/{process}/task/{process}/children").read_text().split()]
 
 
+def worked(process: int) -> float:
+    """How many seconds a processor worked for a process and its children: a machine may have more to do meanwhile."""
+    ticks = 0
+    for each in (process, *children_of(process)):
+        # Behind the name, which may have anything in it, and eleven fields: its own ticks, and those of ended children.
+        fields = pathlib.Path(f"/proc/{each}/stat").read_text().rpartition(")")[2].split()
+        ticks += sum(map(int, fields[11:15]))
+    return ticks / os.sysconf("SC_CLK_TCK")
+
+
 def broken(program: str) -> str | None:
     """Where the debugger's process is ended, another one is led to the same state."""
     session = Held(program, str(SQUARES))
@@ -336,9 +346,9 @@ def fast(program: str) -> str | None:
                                      ("why 1", "line 5: storew 7, $first"),
                                      ("back", "%r=7"), ("why l %sum", "storel %new, %sum"), ("why %i", "for @body"),
                                      ("why %sum", "line 4: %sum =l alloc8 8"), ("why w $first", "line 5: storew 7, $first")):
-                    begun = time.monotonic()
+                    begun = worked(session.child)
                     fault = missing(session.do(line), wanted)
-                    taken = time.monotonic() - begun
+                    taken = worked(session.child) - begun
                     if fault or taken > seconds:
                         return fault or f"{line} takes {taken:.2f} seconds behind {moves} moves"
             finally:
@@ -352,10 +362,11 @@ def deep(program: str) -> str | None:
         session = Held(program, written(folder, "deep.ssa", DEEP))
         try:
             session.do("b $down @bottom")
-            begun = time.monotonic()
+            begun = worked(session.child)
             fault = missing(session.do("c"), "%at=frame 901 $main alloc %variable+0")
-            if time.monotonic() - begun > AT_ONCE:
-                return f"the stop takes {time.monotonic() - begun:.2f} seconds"
+            taken = worked(session.child) - begun
+            if taken > AT_ONCE:
+                return f"the stop takes {taken:.2f} seconds"
             fault = fault or missing(session.do("up 450"), "frame 450 $down @more 2")
             fault = fault or missing(session.do("p %n"), "%n = 450")
             fault = fault or missing(session.do("p %local"), "(frame 450 $down alloc %local+0)")

@@ -141,6 +141,15 @@ FIBONACCI: Lines = [
     ("rf", ["#0 $main @start 0"]), ("c", ["done 8"]),
 ]
 
+# docs/QUESTIONS.md, "What would happen if this value were another?": -1 squared is stored at 4 bytes before $squares.
+HAND: Lines = [
+    ("goto 2", ["#2 $fill @loop 0"]), ("set %i -1", ["#3 $fill @loop 0", "%i=-1"]), ("c", ["#10 fault dead address 65532"]),
+    ("why", ["storew %square, %place", "the nearest data is $squares, of 16 bytes: $squares-4", "[2] %place = 65532"]),
+    ("why 2", ["[1] %bytes = 18446744073709551612 (-4)"]), ("why 1", ["%offset = 18446744073709551615 (-1)"]),
+    ("why 1", ["%offset =l extsw %i", "[1] %i = 4294967295 (-1)"]), ("why 1", ["was set by hand: #2 set %i -1"]),
+    ("back", ["#9 $fill @body 4"]), ("rn 4", ["#5 $fill @body 0"]), ("when %i < 0", ["holds from #3 on"]),
+]
+
 # A round takes 14 moves, and the first comes to its alloc at #8 (docs/STORIES.md has the last two).
 BUFFERS: Lines = [
     ("goto 3578", ["#3578 $main @body 0"]), ("info symbol 16777224", ["frame 0 $main alloc %buffer+0 of #8"]),
