@@ -10,7 +10,7 @@ from .refusals import Refused
 from .report import Report, Weight
 from .runtime import Runtime
 from .symbols import BUILT_IN, Signature, Symbol, Unit, references, signature_at, signature_of
-from .tree import Call, Data, Definition, Function, Text
+from .tree import Block, Call, Data, Definition, Function, Text, Value
 
 # The runtime's own function in the place of the built-in one, where its result or its address is used.
 COUNTED_PUTS = "$puts.counted"
@@ -200,11 +200,12 @@ class Program:
         for user in self.kept:
             if user.unit is None or user.is_of_runtime():
                 continue
-            for symbol in self.references_of(user):
-                if symbol.is_outside() and symbol not in told:
-                    told.add(symbol)
-                    self.report.note(user.unit.text.path, line_of_use(user.definition, symbol.raw),
-                                     f"{symbol.raw} is defined nowhere: a function that halts", self.weight_in(symbol))
+            fresh = [symbol for symbol in self.references_of(user) if symbol.is_outside() and symbol not in told]
+            lines = lines_of_use(user.definition) if fresh else {}
+            for symbol in fresh:
+                self.report.note(user.unit.text.path, lines[symbol.raw],
+                                 f"{symbol.raw} is defined nowhere: a function that halts", self.weight_in(symbol))
+            told.update(fresh)
         self.report.count("functions from outside, which halt", len(told))
 
 
@@ -224,19 +225,27 @@ def size_of_common(symbol: Symbol) -> int:
     return sum(item.value for item in symbol.definition.items)
 
 
-def line_of_use(definition: Definition, raw: str) -> int:
-    """The first line of a definition that names a global."""
+def lines_of_use(definition: Definition) -> dict[str, int]:
+    """The line at which a definition first names each global."""
     if isinstance(definition, Data):
-        return next((item.line for item in definition.items if item.is_global and item.value == raw), definition.line)
-    for block in definition.blocks:
-        for phi in block.phis:
-            if raw in (value for _, value in phi.sources):
-                return phi.line
-        for instruction in block.instructions:
-            values = [instruction.target, instruction.environment, *(value for _, value in instruction.arguments)] \
-                if isinstance(instruction, Call) else instruction.operands
-            if raw in values:
-                return instruction.line
-        if block.jump.value == raw:
-            return block.jump.line
-    return definition.line
+        named = [(item.value, item.line) for item in definition.items if item.is_global]
+    else:
+        named = [(value, line) for block in definition.blocks for value, line in values_of(block)]
+    found: dict[str, int] = {}
+    for value, line in named:
+        found.setdefault(value, line)
+    return found
+
+
+def values_of(block: Block) -> Iterable[tuple[Value | None, int]]:
+    """All values of a block, and their lines."""
+    for phi in block.phis:
+        yield from ((value, phi.line) for _, value in phi.sources)
+    for instruction in block.instructions:
+        if isinstance(instruction, Call):
+            yield instruction.target, instruction.line
+            yield instruction.environment, instruction.line
+            yield from ((value, instruction.line) for _, value in instruction.arguments)
+        else:
+            yield from ((value, instruction.line) for value in instruction.operands)
+    yield block.jump.value, block.jump.line

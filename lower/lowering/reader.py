@@ -218,15 +218,27 @@ class TextReader(BodyReader):
             self.at += 1
             self.skip_newlines()
             items.append(self.read_item(letter))
-            self.skip_newlines()
-            while self.kind() in ("number", "float", "string", "$"):
-                items.append(self.read_item(letter))
-                self.skip_newlines()
+            self.read_more(items, letter)
             if self.kind() == "}":
                 break
             self.expect(",", "`,` or `}`")
         self.at += 1
         return items
+
+    def read_more(self, items: list[Item], letter: str) -> None:
+        """The items behind the first of a letter."""
+        kinds, values, lines = self.kinds, self.values, self.lines
+        while True:
+            kind = kinds[self.at]
+            if kind == "number" and letter != "z":
+                items.append(Item(lines[self.at], letter, values[self.at]))
+                self.at += 1
+            elif kind == "newline":
+                self.at += 1
+            elif kind in ("number", "float", "string", "$"):
+                items.append(self.read_item(letter))
+            else:
+                return
 
     def read_item(self, letter: str) -> Item:
         line, kind, value = self.line(), self.kind(), self.values[self.at]

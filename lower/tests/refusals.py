@@ -118,6 +118,7 @@ TEXTS = [
 
 # What QBE accepts, though it looks as if it didn't.
 ACCEPTED = [
+    'data $a = { b "\\\xb2\\8\xff" }', "data $a = { w 1-2, l $a+-8 }",
     "", "# nothing\n", "export\n\nfunction\tw $main() {\n@start\n\tret 0 # end\n}", "data $a = {}data $b = { w 1, }",
     "type :t = { w, }\ntype :u = align 4 { 3 }\ntype :v = { { :t } { :u 2 } }\n",
     in_main("%x =w call $f(w 1, )"), in_main("%x =w copy 1", "%x =l copy 2", "storew %x, 0"),
