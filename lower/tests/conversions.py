@@ -136,9 +136,12 @@ def batch_fault(running: Running, inputs: list[int]) -> str | None:
     records = [record(bits) for bits in inputs]
     middle, last = len(records) // 2, len(CONVERSIONS) - 1
     records[middle] = records[middle][:-1] + bytes([records[middle][-1] ^ 1])
-    lowered, run = running.lowered_run(program(records))
-    if lowered.status or run.end != f"done {len(records)}":
-        return f"status {lowered.status}, {lowered.errors[:200]!r}, {run.end}"
+    lowered = running.lower_here(program(records))
+    if isinstance(lowered, str) or lowered.overflows:
+        return lowered if isinstance(lowered, str) else lowered.overflows[0]
+    run = running.run(lowered.text)
+    if run.end != f"done {len(records)}":
+        return run.end
     told = run.output.split("\n")[:-1]
     if told == [f"{middle} {last}"]:
         return None

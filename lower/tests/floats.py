@@ -290,9 +290,12 @@ def batch_fault(running: Running, cls: str, records: list[bytes]) -> str | None:
     """What is wrong in a batch: the one record that is planted, in the middle, must be told and no other."""
     middle, first_result = place_for_plant(cls, records), {"s": 8, "d": 16}[cls]
     records = records[:middle] + [planted(records[middle], first_result)] + records[middle:]
-    lowered, run = running.lowered_run(pair_program(cls, records))
-    if lowered.status or run.end != f"done {len(records)}":
-        return f"status {lowered.status}, {lowered.errors[:200]!r}, {run.end}"
+    lowered = running.lower_here(pair_program(cls, records))
+    if isinstance(lowered, str) or lowered.overflows:
+        return lowered if isinstance(lowered, str) else lowered.overflows[0]
+    run = running.run(lowered.text)
+    if run.end != f"done {len(records)}":
+        return run.end
     told = run.output.split("\n")[:-1]
     if told == [f"{middle} 1"]:
         return None

@@ -95,10 +95,6 @@ class Running:
                                  capture_output=True, timeout=self.seconds)
         return Run(run.stdout.decode("latin-1").split("\n")[:-1])
 
-    def lowered_run(self, text: str, *options: str) -> tuple[Lowered, Run]:
-        lowered = self.lower({"a.ssa": text}, "--link", *options)
-        return lowered, self.run(lowered.text)
-
 
 def differ(what: str, wanted, given) -> str | None:
     return None if wanted == given else f"{what}: {given!r} in place of {wanted!r}"

@@ -1,7 +1,7 @@
 """The functions of the runtime: values worked out by hand, random use against Python, and the faults by their names."""
 import random
 
-from .running import Results, Running, differ
+from .running import FOLDER, Results, Running, differ
 
 STRINGS = """
 data $a = { b "hello", b 0 }
@@ -309,7 +309,15 @@ def small_heap_fault(running: Running) -> str | None:
         (None if 0 <= (1 << 20) - 900000 - heap < 2 * 4096 + 1024 else f"the heap has {heap} bytes")
 
 
+def texts_fault(running: Running) -> str | None:
+    """The texts of the runtime are texts of the language as they stand: 1.5 and 2.25 are 3.75."""
+    text = "".join(path.read_text() for path in sorted((FOLDER / "runtime").glob("*.ssa")))
+    words = ("4609434218613702656", "4612248968380809216", "--entry", "float.add.d")
+    return differ("end", "done 4615626668101337088", running.run(text, "continue\n", words).end)
+
+
 def results(running: Running) -> Results:
+    yield "runtime/texts", texts_fault(running)
     lowered = running.lower_here(STRINGS)
     if isinstance(lowered, str):
         yield "runtime/strings", lowered
