@@ -17,7 +17,7 @@ SYMBOLS = ("<<", ">>", "<=", ">=", "==", "!=", "&&", "||", *"+-*/%&|^~!<>()[],")
 WORDS = ("depth", "position")
 LEVELS = (("||",), ("&&",), ("|",), ("^",), ("&",), ("==", "!="), ("<", "<=", ">", ">="), ("<<", ">>"), ("+", "-"),
           ("*", "/", "%"))
-MOST_SHIFT = 64
+MOST_SHIFT, MOST_BITS = 64, 128
 
 
 class Wrong(Exception):
@@ -207,6 +207,8 @@ def combined(node: Node, first: Value, state: State) -> Value:
     if node.text in ("==", "!="):
         return Value(int(is_equal(first, second) == (node.text == "==")))
     result = int(BINARY[node.text](first.number, second.number))
+    if abs(result) >> MOST_BITS:
+        raise Unset(f"a value of more than {MOST_BITS} bits")
     return Value(result, max(first.width, second.width, key=len) if node.text in "+-*/%&|^" else "")
 
 

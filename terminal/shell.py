@@ -8,7 +8,7 @@ from typing import Callable, Sequence
 
 from .answers import Place
 from .causes import Cause, Causes
-from .expressions import Node, Unset, Value, Wrong, evaluate, parse
+from .expressions import Node, Unset, Value, Wrong, evaluate, parse, parts_of
 from .frames import Frames
 from .pipe import Ended
 from .runs import STOPPED, Outcome, Runs
@@ -20,6 +20,7 @@ from .values import FORMATS, formatted, remarks, unsigned
 from .waiting import Interrupted, Waiting
 
 MEGABYTE = 1 << 20
+FAULT = "a fault of the front end"
 MEMORY_TOLD = 512
 
 
@@ -201,7 +202,11 @@ class Shell:
     def parsed(self, text: str) -> Node:
         if not text.strip():
             raise Wrong("an expression was expected")
-        return parse(text)
+        node = parse(text)
+        for part in parts_of(node):
+            if part.kind == "global":
+                self.address_of(part.text)
+        return node
 
     def number(self, text: str) -> int:
         """The value of an expression as 64 bits."""
@@ -248,11 +253,22 @@ class Shell:
             self.show_if_moved(before)
         except Ended as end:
             self.say(f"the debugger ended ({end}); `save FILE` still writes the session's lines")
+        except RecursionError:
+            self.say("the expression is nested too deeply")
+        except Leave:
+            raise
+        except Exception as error:
+            self.fault(error)
         finally:
             self.waiting.clear()
             for news in self.session.news:
                 self.say(news)
             self.session.news.clear()
+
+    def fault(self, error: Exception) -> None:
+        """A fault of this program itself, which isn't to cost whoever typed the line the session."""
+        self.say(f"{FAULT}: {error!r}; the session goes on")
+        self.session.scratch.drop()
 
     def show_if_moved(self, before: Place) -> None:
         """Where a command got no further than a part of its way."""

@@ -188,6 +188,8 @@ WRONG = [
     "why out 5", "why back", "why 99 $bias", "readers", "readers $none", "writers w", "when", "when 1",
     "when depth > 1", "when %zz", "compare", "compare /nowhere", "save", "save /nowhere/x", "help frob",
     "checkpoint a b", "\x01\x02", "p " + "(" * 60, "s " * 300, "é", "p é", "b $fill if é", "p %i%", "p --", "x/4w",
+    "b 14 if w[$none] > 1", "p $none", "p " + "(" * 2000, "p " + "1+" * 1500 + "1", "p " + "9" * 3000,
+    "p " + "*".join(["99999999999999999999"] * 100), "when w[$none]", "condition 1 w[$none]",
     "why out", "d $fill", "c 0", "stops 1 2", "f -1", "/", "p/", "x/", "$", "%", "@", ";", "p $", "watch 0 $bias",
     "watch w 5 6",
 ]

@@ -15,6 +15,8 @@ import tempfile
 import termios
 import time
 
+from terminal.shell import FAULT
+
 FOLDER = pathlib.Path(__file__).resolve().parent.parent
 TOP = FOLDER.parent
 PROMPT = "(qrev) "
@@ -96,6 +98,8 @@ class Held(Terminal):
         """What a line shows."""
         self.type(line + "\n")
         answer = self.wait_for(PROMPT).partition("\n")[2]
+        if FAULT in answer:
+            raise Silent(f"{line!r} shows {answer!r}")
         self.place = last_place(answer) or self.place
         return answer
 

@@ -18,6 +18,9 @@ class QuietShell(Shell):
     def say(self, *lines: str) -> None:
         pass
 
+    def fault(self, error: Exception) -> None:
+        raise error
+
 
 # Lines with what is made up for each; an empty line repeats.
 LINES = {
