@@ -7,10 +7,10 @@ from .running import Results, Running, differ
 PROGRAMS, FUNCTIONS, CALLS = 12, 12, 40
 LONG = (1 << 64) - 1
 SIZES = {"w": 4, "s": 4, "l": 8, "d": 8}
-# Types by their names: the text, the size, and the alignment as the instruction that has memory for it.
+# Types by their names: the text, the size, and the instruction that has memory for it.
 TYPES = {":small": ("{ b 3 }", 3, "alloc4"), ":pair": ("{ w, l }", 16, "alloc8"), ":three": ("{ d, s, h }", 16, "alloc8"),
-         ":big": ("{ l 5 }", 40, "alloc8"), ":wide": ("align 16 { l 2, b }", 32, "alloc16"), ":dark": ("align 8 { 24 }", 24, "alloc8"),
-         ":union": ("{ { b 5 } { w } }", 8, "alloc4")}
+         ":big": ("{ l 5 }", 40, "alloc8"), ":wide": ("align 16 { l 2, b }", 32, "alloc16"),
+         ":dark": ("align 8 { 24 }", 24, "alloc8"), ":union": ("{ { b 5 } { w } }", 8, "alloc4")}
 FACTOR = 1099511628211
 
 
