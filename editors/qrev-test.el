@@ -7,7 +7,9 @@
 (require 'ert)
 (require 'qrev)
 
-(setq qrev-command (getenv "QREV"))
+(setq qrev-command (getenv "QREV") qrev-options nil)
+
+(defconst qrev-test-front (expand-file-name "../terminal/main" (file-name-directory load-file-name)))
 
 (defconst qrev-test-folder (expand-file-name "../examples" (file-name-directory load-file-name)))
 
@@ -134,5 +136,42 @@ data $b = { w 2 }
       (should-error (qrev-print) :type 'user-error))
     (delete-process (get-buffer-process session))
     (should-error (qrev-step) :type 'user-error)))
+
+(ert-deftest qrev-test-front-end ()
+  (let* ((qrev-command qrev-test-front)
+         (qrev-options (list "--debugger" (getenv "QREV") "--"))
+         (session (qrev (expand-file-name "largest.ssa" qrev-test-folder)))
+         (program (get-file-buffer (expand-file-name "largest.ssa" qrev-test-folder))))
+    (set-process-query-on-exit-flag (get-buffer-process session) nil)
+    (qrev-test-wait session "`help` lists the commands\n")
+    (should (equal (qrev-test-arrow) "\t%t1 =w call $largest(l $numbers, w 4)"))
+    (with-current-buffer program
+      (should qrev-source-mode)
+      (goto-char (point-min))
+      (search-forward "%best.ne")
+      (qrev-watch)
+      (qrev-test-wait session "watch 1: $largest %best.next\n")
+      (goto-char (point-min))
+      (search-forward "$numb")
+      (qrev-watch)
+      (qrev-test-wait session "watch 2: w $numbers+0\n")
+      (qrev-continue)
+      (qrev-test-wait session "  28  @end\n")
+      (should (equal (qrev-test-arrow) "\t%i.next =w add %i, 1"))
+      (qrev-where)
+      (qrev-test-wait session "  1  $main @start 1  line 34: %t1 =w call $largest(l $numbers, w 4)\n")
+      (qrev-temps)
+      (qrev-test-wait session "%t6 = 1\n")
+      (goto-char (point-min))
+      (search-forward "%best.ne")
+      (qrev-why)
+      (qrev-test-wait session "[2] the way to @larger\n")
+      (qrev-why 1)
+      (qrev-test-wait session "[2] the call of $largest\n")
+      (goto-char (point-min))
+      (qrev-why)
+      (qrev-test-wait session "[1] the way to @larger\n")
+      (should-error (qrev-watch) :type 'user-error))
+    (delete-process (get-buffer-process session))))
 
 ;;; qrev-test.el ends here

@@ -10,8 +10,11 @@
 ;;
 ;;   C-c C-n  step          C-c C-c  continue       C-c C-b  a breakpoint at this line
 ;;   C-c C-p  back          C-c C-r  reverse        C-c C-t  print the temporary at point
+;;   C-c C-w  watch of the temporary or the data at point
+;;   C-c C-s  where         C-c C-v  temps          C-c C-y  why, of the temporary at point or of where the run stands
 ;;
-;; Where the run is over there is no arrow.
+;; Where the run is over there is no arrow.  The session is that of the front end (docs/TERMINAL.md), which alone knows
+;; `why'; where `qrev-options' is nil it is the plain one.
 ;;
 ;; Labels, phis, instructions and jumps have a line each, as the language wants it.  A label behind the `{' of its function,
 ;; on the same line, isn't found.
@@ -27,6 +30,10 @@
   (expand-file-name "../qrev" (file-name-directory (or load-file-name buffer-file-name default-directory)))
   "The debugger's command."
   :type 'file)
+
+(defcustom qrev-options '("--prompt")
+  "Words before the program: those of the front end, or nil for the plain one."
+  :type '(repeat string))
 
 (defvar qrev-arrow nil "Where the run stands, as a marker at the beginning of a line.")
 (add-to-list 'overlay-arrow-variable-list 'qrev-arrow)
@@ -155,14 +162,38 @@ Nil where no run stands: outside of functions, and at the end of one."
     (unless place (user-error "No run stands at this line"))
     (qrev-send (concat "break " place))))
 
+(defun qrev-name-at-point (sigil)
+  "The name at point that begins with SIGIL, or nil."
+  (save-excursion
+    (skip-chars-backward "[:alnum:]._$%")
+    (and (looking-at (concat (regexp-quote sigil) qrev-name)) (match-string-no-properties 0))))
+
 (defun qrev-print ()
   "Print the temporary at point."
   (interactive)
-  (let ((name (save-excursion
-                (skip-chars-backward "[:alnum:]._$%")
-                (and (looking-at (concat "%" qrev-name)) (match-string-no-properties 0)))))
+  (let ((name (qrev-name-at-point "%")))
     (unless name (user-error "No temporary at point"))
     (qrev-send (concat "print " name))))
+
+(defun qrev-watch ()
+  "Watch the temporary at point in its function, or the word of data at point."
+  (interactive)
+  (let ((temporary (qrev-name-at-point "%")) (data (qrev-name-at-point "$")) (place (qrev-place-at-point)))
+    (cond ((and temporary place) (qrev-send (format "watch %s %s" (car (split-string place " ")) temporary)))
+          (data (qrev-send (concat "watch w " data)))
+          (t (user-error "No temporary and no data at point")))))
+
+(defun qrev-where () "Show the frames." (interactive) (qrev-send "where"))
+(defun qrev-temps () "Show the temporaries." (interactive) (qrev-send "temps"))
+
+(defun qrev-why (&optional number)
+  "Ask where the temporary at point comes from, or how the run came to its place.
+With a prefix argument NUMBER ask on about that operand of the last cause."
+  (interactive "P")
+  (let ((name (qrev-name-at-point "%")))
+    (qrev-send (cond (number (format "why %d" (prefix-numeric-value number)))
+                     (name (concat "why " name))
+                     (t "why")))))
 
 (defvar qrev-source-mode-map
   (let ((map (make-sparse-keymap)))
@@ -172,6 +203,10 @@ Nil where no run stands: outside of functions, and at the end of one."
     (define-key map (kbd "C-c C-r") #'qrev-reverse)
     (define-key map (kbd "C-c C-b") #'qrev-break)
     (define-key map (kbd "C-c C-t") #'qrev-print)
+    (define-key map (kbd "C-c C-w") #'qrev-watch)
+    (define-key map (kbd "C-c C-s") #'qrev-where)
+    (define-key map (kbd "C-c C-v") #'qrev-temps)
+    (define-key map (kbd "C-c C-y") #'qrev-why)
     map))
 
 (define-minor-mode qrev-source-mode
@@ -199,7 +234,7 @@ They are words of the command line; a prefix argument asks for them."
       (setq qrev-program program qrev-unfinished "" qrev-session session)
       (goto-char (point-max))
       (let ((process-connection-type nil))
-        (apply #'make-comint-in-buffer "qrev" session qrev-command nil file words)))
+        (apply #'make-comint-in-buffer "qrev" session qrev-command nil (append qrev-options (cons file words)))))
     (unless noninteractive
       (switch-to-buffer program)
       (display-buffer session))

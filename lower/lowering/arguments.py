@@ -1,0 +1,43 @@
+"""The command line of a program as texts: what native code finds in the `argc` and `argv` of its `main`.
+
+The debugger gives the entry numbers. So the entry is written without parameters, and sets them at its beginning: the count,
+and the address of a table of texts, of which the first is the program's name and the last is followed by 0.
+"""
+import os
+
+from .refusals import Refused
+from .symbols import Signature, Symbol, Unit
+from .tree import Data, Function, Instruction, Item, Text
+
+TABLE = "$arguments"
+
+
+def table_of(words: list[str]) -> Unit:
+    """A text with the table and the words."""
+    texts = [os.fsencode(word).decode("latin-1") for word in words]
+    unit = Unit(Text("", [], {}, []), False)
+    names = [f"$argument.{number}" for number in range(len(texts))]
+    objects = {name: Data(0, name, False, False, None, 1, [Item(0, "b", text), Item(0, "b", 0)], set())
+               for name, text in zip(names, texts)}
+    items = [Item(0, "l", name, True) for name in names] + [Item(0, "l", 0)]
+    objects[TABLE] = Data(0, TABLE, False, False, None, None, items, set(names))
+    for name, definition in objects.items():
+        unit.own[name] = Symbol(name, unit, definition, None)
+    return unit
+
+
+def give_arguments(entry: Symbol, words: list[str]) -> None:
+    """Makes the entry set its parameters by itself."""
+    function = entry.definition
+    if not isinstance(function, Function) or len(function.parameters) > 2 or \
+            any(kind not in ("w", "l") for kind, _ in function.parameters) or function.has_dots or function.environment:
+        raise Refused(entry.unit.text.path, function.line, f"{entry.raw} isn't a function of argc and argv")
+    values = [len(words), TABLE]
+    sets = [Instruction(function.line, None, name, kind, "copy", [value])
+            for (kind, name), value in zip(function.parameters, values)]
+    function.blocks[0].instructions[:0] = sets
+    if len(sets) == 2:
+        entry.unit.scope[TABLE] = table_of(words).own[TABLE]
+        function.addresses.add(TABLE)
+    function.parameters = []
+    entry.signature = Signature(function.returns, ())

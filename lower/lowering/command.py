@@ -1,0 +1,138 @@
+"""The command line of qrev-lower."""
+import argparse
+import gc
+import os
+import pathlib
+import stat
+import sys
+
+from .arguments import give_arguments
+from .linking import Program
+from .reader import TextReader
+from .refusals import Refused
+from .report import Report
+from .runtime import ENCODING
+from .symbols import Symbol
+from .tree import Text
+from .writing import ProgramWriter, map_of, text_of
+
+BAD_COMMAND_LINE, NOT_READ, LEFT_OVER = 64, 2, 1
+
+
+class Parser(argparse.ArgumentParser):
+    def error(self, message: str):
+        self.exit(BAD_COMMAND_LINE, f"qrev-lower: {message}\n")
+
+
+def options() -> Parser:
+    parser = Parser(prog="qrev-lower", description="Brings texts of QBE 1.2 into the language that qrev runs.",
+                    epilog="Status 1: a text was refused, and nothing was written; or something that would halt can be "
+                    "reached, or the program is too large. 2: a file can't be read or written. 64: a bad command line.")
+    parser.add_argument("--link", action="store_true", help="keep only what can be reached from the entry")
+    parser.add_argument("--entry", metavar="NAME", default="main", help="the function that is run, without its sigil")
+    parser.add_argument("--report", action="store_true", help="say on standard error what was rewritten")
+    parser.add_argument("--output", "-o", metavar="FILE", help="write the text there, and the map beside it")
+    parser.add_argument("--map", metavar="FILE", help="write the map there")
+    parser.add_argument("--arguments", metavar="WORD", nargs=argparse.REMAINDER,
+                        help="all that follows are words for the argc and argv of the entry")
+    parser.add_argument("files", metavar="FILE", nargs="+", help="a text of QBE")
+    return parser
+
+
+def read_text(path: str) -> Text:
+    return TextReader(pathlib.Path(path).read_bytes().decode(ENCODING), path).read()
+
+
+def map_beside(output: str | None) -> str | None:
+    """Where the map goes: beside the text, where this goes to a file."""
+    if output is not None:
+        return output + ".map"
+    opened = os.fstat(sys.stdout.fileno())
+    if not stat.S_ISREG(opened.st_mode):
+        return None
+    try:
+        path = os.readlink(f"/proc/self/fd/{sys.stdout.fileno()}")
+        # A file without a name, as one that was removed, has no map.
+        return path + ".map" if os.path.samestat(opened, os.stat(path)) else None
+    except OSError:
+        return None
+
+
+class Lowering:
+    """One run: the texts in, the text and its map out."""
+
+    def __init__(self, texts: list[Text], entry: str, is_linked: bool, words: list[str] | None = None):
+        """`words` are the arguments of the entry as texts, without the name of the program."""
+        self.report = Report()
+        self.program = Program(texts, self.report)
+        self.entry = self.entry_symbol("$" + entry)
+        if is_linked and self.entry is None:
+            raise Refused(texts[0].path, 1, f"no text exports a function ${entry}")
+        if words is not None and self.entry is not None:
+            give_arguments(self.entry, [pathlib.Path(texts[0].path).stem, *words])
+        first = self.program.keep_from(self.entry) if is_linked else self.keep_all()
+        self.program.give_names()
+        self.report.count("functions that are called before the entry", len(first))
+        self.count_dropped(texts)
+        self.program.reached = self.reached()
+        writer = ProgramWriter(self.program, self.report, self.entry, first)
+        self.chunks = writer.write()
+        self.program.note_outside()
+        self.text, self.map = text_of(self.chunks), map_of(self.chunks)
+        self.overflows = writer.overflows(len(self.text))
+
+    def entry_symbol(self, raw: str) -> Symbol | None:
+        """The entry; of one text also a function that isn't exported."""
+        units = self.program.units
+        symbol = self.program.exported.get(raw) or (units[0].own.get(raw) if len(units) == 1 else None)
+        return symbol if symbol is not None and symbol.is_function() else None
+
+    def keep_all(self) -> list[Symbol]:
+        program = self.program
+        program.keep(program.resolve(unit, definition.name) for unit in program.units
+                     for definition in unit.text.definitions)
+        return program.called_first() if self.entry is not None else []
+
+    def reached(self) -> dict[Symbol, None]:
+        """What can be reached from the entry; without one all."""
+        return self.program.kept if self.entry is None else self.program.reached_from([self.entry])
+
+    def count_dropped(self, texts: list[Text]) -> None:
+        for text in texts:
+            for what, number in text.dropped.items():
+                self.report.count({"debug lines": "debug lines as places of the map",
+                                   "thread data": "thread data as plain data"}[what], number)
+            for line in text.cut_numbers:
+                self.report.note(text.path, line, "a number of more than 64 bits is cut, as QBE does")
+
+
+def write_all(lowering: Lowering, output: str | None, map_path: str | None) -> None:
+    text = lowering.text.encode(ENCODING)
+    if output is None:
+        sys.stdout.buffer.write(text)
+        sys.stdout.buffer.flush()
+    else:
+        pathlib.Path(output).write_bytes(text)
+    if map_path is not None:
+        pathlib.Path(map_path).write_bytes(lowering.map.encode(ENCODING))
+
+
+def main(words: list[str]) -> int:
+    # A run is short, and its trees have no cycles worth collecting.
+    gc.disable()
+    given = options().parse_args(words)
+    try:
+        lowering = Lowering([read_text(path) for path in given.files], given.entry, given.link, given.arguments)
+        write_all(lowering, given.output, given.map or map_beside(given.output))
+    except Refused as refused:
+        print(refused, file=sys.stderr)
+        return LEFT_OVER
+    except OSError as error:
+        print(f"qrev-lower: {error.filename or 'standard output'}: {error.strerror}", file=sys.stderr)
+        return NOT_READ
+    for line in lowering.overflows:
+        print(f"qrev-lower: {line}", file=sys.stderr)
+    if given.report:
+        for line in lowering.report.lines():
+            print(line, file=sys.stderr)
+    return LEFT_OVER if lowering.overflows or lowering.report.would_halt() else 0

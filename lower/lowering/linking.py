@@ -1,0 +1,251 @@
+"""Makes one program of several texts: what each name stands for, and what is kept of it.
+
+What isn't exported is known in its own text alone. A name that a text doesn't define is what another text exports, else
+what the runtime has, else built in, else a function from outside, which halts.
+"""
+from collections.abc import Iterable
+
+from .names import Names
+from .refusals import Refused
+from .report import Report, Weight
+from .runtime import Runtime
+from .symbols import BUILT_IN, Signature, Symbol, Unit, references, signature_at, signature_of
+from .tree import Block, Call, Data, Definition, Function, Text, Value
+
+# The runtime's own function in the place of the built-in one, where its result or its address is used.
+COUNTED_PUTS = "$puts.counted"
+BEFORE_THE_ENTRY = ".init_array"
+
+
+class Program:
+    """The symbols of the texts; `kept` are those that are written, in the order in which they were met."""
+
+    def __init__(self, texts: list[Text], report: Report):
+        self.report = report
+        self.runtime = Runtime()
+        self.names = Names()
+        self.kept: dict[Symbol, None] = {}
+        self.exported: dict[str, Symbol] = {}
+        self.outside: dict[str, Symbol] = {}
+        self.built_in = {raw: Symbol(raw, None, None, signature, True, raw) for raw, signature in BUILT_IN.items()}
+        self.units = [self.unit_of(text) for text in texts]
+        self.replaced: dict[Symbol, Symbol] = {}
+        # What can be reached from the entry; without an entry all.
+        self.reached: dict[Symbol, None] = {}
+        self.replace_those_that_halt()
+
+    def unit_of(self, text: Text) -> Unit:
+        unit = Unit(text, False)
+        for definition in text.definitions:
+            signature = signature_of(definition, False) if isinstance(definition, Function) else None
+            symbol = Symbol(definition.name, unit, definition, signature)
+            unit.own[definition.name] = symbol
+            if definition.is_exported or is_common(symbol):
+                self.export(symbol)
+        return unit
+
+    def export(self, symbol: Symbol) -> None:
+        """Of common data of one name one object is kept, the largest."""
+        known = self.exported.get(symbol.raw)
+        if known is not None and not is_common(symbol):
+            if not is_common(known):
+                raise Refused(symbol.unit.text.path, symbol.definition.line,
+                              f"{symbol.raw} is exported a second time, after {known.unit.text.path}:{known.definition.line}")
+        elif known is not None and (not is_common(known) or size_of_common(known) >= size_of_common(symbol)):
+            symbol.unit.own[symbol.raw] = known
+            return
+        if known is not None:
+            known.unit.own[known.raw] = symbol
+        self.exported[symbol.raw] = symbol
+
+    # What names stand for.
+
+    def resolve(self, unit: Unit, raw: str) -> Symbol:
+        symbol = unit.scope.get(raw)
+        if symbol is None:
+            symbol = unit.own.get(raw) or self.resolve_beyond(unit, raw)
+            symbol = self.replaced.get(symbol, symbol)
+            unit.scope[raw] = symbol
+        return symbol
+
+    def resolve_beyond(self, unit: Unit, raw: str) -> Symbol:
+        if unit.is_runtime:
+            return self.built_in.get(raw) or self.runtime.symbol(raw)
+        found = self.exported.get(raw) or self.runtime.symbol(raw) or self.built_in.get(raw)
+        if found is None:
+            found = self.outside.setdefault(raw, Symbol(raw, None, None, None))
+        return found
+
+    def refer(self, unit: Unit, raw: str, as_address: bool) -> Symbol:
+        """What a name stands for where it isn't called for its effect alone."""
+        symbol = self.resolve(unit, raw)
+        if as_address and symbol is self.built_in["$puts"] and not unit.is_runtime:
+            return self.runtime.symbol(COUNTED_PUTS)
+        return symbol
+
+    def runtime_symbol(self, raw: str) -> Symbol:
+        """A function of the runtime that the text doesn't name: it is kept from here on."""
+        symbol = self.runtime.symbol(raw)
+        self.keep([symbol])
+        self.give_names()
+        return symbol
+
+    def fault_symbol(self, what: str) -> Symbol:
+        """A function that halts, and whose name says why."""
+        raw = f"$fault.{what}"
+        symbol = self.outside.setdefault(raw, Symbol(raw, None, None, Signature(None, ())))
+        self.keep([symbol])
+        self.give_names()
+        return symbol
+
+    def address_name(self, unit: Unit, raw: str) -> str:
+        symbol = self.refer(unit, raw, True)
+        if not symbol.name:
+            self.keep([symbol])
+            self.give_names()
+        return symbol.name
+
+    def called(self, unit: Unit, call: Call) -> Symbol | None:
+        """The function that a call names, or None where it is known by its address alone."""
+        if type(call.target) is not str or call.target[0] != "$":
+            return None
+        symbol = self.refer(unit, call.target, call.result is not None)
+        if symbol.is_data():
+            return None
+        if symbol.signature is None:
+            symbol.signature = signature_at(call)
+        if not symbol.name:
+            self.keep([symbol])
+            self.give_names()
+        return symbol
+
+    # What is kept.
+
+    def references_of(self, symbol: Symbol) -> Iterable[Symbol]:
+        if symbol.definition is None:
+            return []
+        return [self.resolve(symbol.unit, raw) for raw in sorted(references(symbol.definition))]
+
+    def reached_from(self, symbols: Iterable[Symbol], beside: Iterable[Symbol] = ()) -> dict[Symbol, None]:
+        """What these name, and what that names, and so on; not by way of those beside."""
+        reached = dict.fromkeys(symbols)
+        todo = list(reached)
+        while todo:
+            for symbol in self.references_of(todo.pop()):
+                if symbol not in reached:
+                    reached[symbol] = None
+                    if symbol not in beside:
+                        todo.append(symbol)
+        return reached
+
+    def keep(self, symbols: Iterable[Symbol]) -> None:
+        for symbol in self.reached_from(symbol for symbol in symbols if symbol not in self.kept):
+            self.kept[symbol] = None
+
+    def keep_from(self, entry: Symbol) -> list[Symbol]:
+        """Keeps what is reachable from the entry, and what the texts that it is in have to be called before it; these."""
+        self.keep([entry])
+        first: list[Symbol] = []
+        while True:
+            more = [symbol for symbol in self.called_first() if symbol not in first]
+            if not more:
+                return first
+            first += more
+            self.keep(more)
+
+    def called_first(self) -> list[Symbol]:
+        """The functions whose addresses lie in the section of those that are called before the entry."""
+        units = {symbol.unit for symbol in self.kept}
+        return [self.resolve(unit, item.value) for unit in self.units if unit in units
+                for definition in unit.text.definitions
+                if isinstance(definition, Data) and (definition.section or "").startswith(BEFORE_THE_ENTRY)
+                for item in definition.items if item.is_global]
+
+    def give_names(self) -> None:
+        """Names for all that is kept and has none: first those that can't be had otherwise."""
+        nameless = [symbol for symbol in self.kept if not symbol.name]
+        # What the runtime calls as built in can't be hidden by a definition of the same name.
+        self.names.taken.update(symbol.name for symbol in self.kept if symbol.is_built_in)
+        for symbol in sorted(nameless, key=lambda symbol: name_order(symbol, self)):
+            symbol.name = self.names.give(symbol.raw)
+            if symbol.name != symbol.raw:
+                self.report.count("names that were changed")
+                if symbol.unit is not None and not symbol.is_of_runtime():
+                    self.report.note(symbol.unit.text.path, symbol.definition.line,
+                                     f"{symbol.raw} is written as {symbol.name}")
+
+    # What would halt.
+
+    def replace_those_that_halt(self) -> None:
+        """A function of a text that needs the system is replaced by the runtime's of its name, where there is one."""
+        candidates = [symbol for symbol in self.exported.values() if symbol.raw in self.runtime.places]
+        halting = [symbol for symbol in candidates
+                   if any(other.is_outside() for other in self.reached_from([symbol], set(candidates)))]
+        for symbol in halting:
+            self.replaced[symbol] = self.runtime.symbol(symbol.raw)
+            self.report.count("functions that need the system, replaced by the runtime's")
+            self.report.note(symbol.unit.text.path, symbol.definition.line,
+                             f"{symbol.raw} needs functions from outside: the runtime's is taken", Weight.OTHER)
+        for unit in self.units:
+            unit.scope.clear()
+        self.outside.clear()
+
+    def weight_in(self, symbol: Symbol) -> Weight:
+        """What it means that something halts in what a symbol stands for."""
+        return Weight.HALTS if symbol in self.reached else Weight.OTHER
+
+    def note_outside(self) -> None:
+        """A note for each function from outside, at its first use in the texts."""
+        told: set[Symbol] = set()
+        for user in self.kept:
+            if user.unit is None or user.is_of_runtime():
+                continue
+            fresh = [symbol for symbol in self.references_of(user) if symbol.is_outside() and symbol not in told]
+            lines = lines_of_use(user.definition) if fresh else {}
+            for symbol in fresh:
+                self.report.note(user.unit.text.path, lines[symbol.raw],
+                                 f"{symbol.raw} is defined nowhere: a function that halts", self.weight_in(symbol))
+            told.update(fresh)
+        self.report.count("functions from outside, which halt", len(told))
+
+
+def name_order(symbol: Symbol, program: Program) -> int:
+    """Functions from outside and exported ones keep their names before the others of the texts, these before the
+    runtime's."""
+    if symbol.is_outside() or program.exported.get(symbol.raw) is symbol:
+        return 0
+    return 2 if symbol.is_of_runtime() else 1
+
+
+def is_common(symbol: Symbol) -> bool:
+    return isinstance(symbol.definition, Data) and symbol.definition.is_common
+
+
+def size_of_common(symbol: Symbol) -> int:
+    return sum(item.value for item in symbol.definition.items)
+
+
+def lines_of_use(definition: Definition) -> dict[str, int]:
+    """The line at which a definition first names each global."""
+    if isinstance(definition, Data):
+        named = [(item.value, item.line) for item in definition.items if item.is_global]
+    else:
+        named = [(value, line) for block in definition.blocks for value, line in values_of(block)]
+    found: dict[str, int] = {}
+    for value, line in named:
+        found.setdefault(value, line)
+    return found
+
+
+def values_of(block: Block) -> Iterable[tuple[Value | None, int]]:
+    """All values of a block, and their lines."""
+    for phi in block.phis:
+        yield from ((value, phi.line) for _, value in phi.sources)
+    for instruction in block.instructions:
+        if isinstance(instruction, Call):
+            yield instruction.target, instruction.line
+            yield instruction.environment, instruction.line
+            yield from ((value, instruction.line) for _, value in instruction.arguments)
+        else:
+            yield from ((value, instruction.line) for value in instruction.operands)
+    yield block.jump.value, block.jump.line

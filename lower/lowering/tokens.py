@@ -1,0 +1,121 @@
+"""Cuts a text of QBE into tokens.
+
+A token is a kind, a value and a line. The kinds are `%`, `@`, `$`, `:` (a name, whose value has its sigil), `word`,
+`number` (the value is an integer of 64 bits, signed), `float` (the bits of a constant), `string` (its bytes, as
+characters up to 255), `newline`, `end`, and each symbol as itself. A run of newlines and comments is one token.
+"""
+import itertools
+import re
+from typing import NamedTuple
+
+from .constants import constant_bits
+from .instructions import KEYWORDS
+from .refusals import Refused
+
+NAME = r"[A-Za-z._][A-Za-z0-9._$]*"
+FLOAT = (r"[sd]_[+-]?(?:0[xX](?:[0-9a-fA-F]+\.?[0-9a-fA-F]*|\.[0-9a-fA-F]+)(?:[pP][+-]?[0-9]+)?"
+         r"|(?:[0-9]+\.?[0-9]*|\.[0-9]+)(?:[eE][+-]?[0-9]+)?|[iI][nN][fF](?:[iI][nN][iI][tT][yY])?|[nN][aA][nN])")
+STRING = r'"(?:[^"\\]|\\.)*"'
+NEWLINE = r"(?:(?:#[^\n]*)?\n[ \t]*)+(?:#[^\n]*\Z)?|#[^\n]*\Z"
+SHAPES = (rf"[%@:]{NAME}", NEWLINE, FLOAT, NAME, r"[,={}()+]", r"-?[0-9]+", rf"\${NAME}", STRING, rf"\${STRING}",
+          # Whatever begins no token.
+          r"[^ \t]")
+TOKEN = re.compile(r"[ \t]*(" + "|".join(SHAPES) + ")", re.DOTALL)
+IS_FLOAT = re.compile(FLOAT)
+SYMBOLS = frozenset(",={}()+")
+LONG = (1 << 64) - 1
+DIGITS_AT_ONCE = 40
+LETTERS = {"b": "\b", "f": "\f", "n": "\n", "r": "\r", "t": "\t", "v": "\v"}
+ESCAPE = re.compile(r"\\([0-9]{1,3}|[xX][0-9a-fA-F]*|.)", re.DOTALL)
+
+
+class Tokens(NamedTuple):
+    """The tokens of a text, as three lists of one length; the last is the end."""
+
+    kinds: list[str]
+    values: list[str | int | None]
+    lines: list[int]
+    # The numbers of more than 64 bits, which are cut: their lines.
+    cut_numbers: list[int]
+
+
+def escaped(match: re.Match) -> str:
+    """What an escape stands for: QBE hands strings to the assembler as they are, and so it reads them."""
+    body = match.group(1)
+    if body[0] in "0123456789":
+        value = 0
+        for digit in body:
+            value = value * 8 + int(digit)
+        return chr(value & 255)
+    if body[0] in "xX":
+        return chr(int(body[1:] or "0", 16) & 255)
+    return LETTERS.get(body, body)
+
+
+def string_value(text: str) -> str:
+    body = text[1:-1]
+    return ESCAPE.sub(escaped, body) if "\\" in body else body
+
+
+def number_value(text: str) -> tuple[int, bool]:
+    """An integer of 64 bits, with its sign where it fits so, and whether it was cut for that."""
+    if len(text) < DIGITS_AT_ONCE:
+        number = int(text)
+        fits = -(1 << 63) <= number < 1 << 64
+        return number if fits else number & LONG, not fits
+    digits, number, is_cut = text.lstrip("-"), 0, False
+    for begin in range(0, len(digits), DIGITS_AT_ONCE):
+        part = digits[begin:begin + DIGITS_AT_ONCE]
+        number = number * 10 ** len(part) + int(part)
+        is_cut = is_cut or number > LONG
+        number &= LONG
+    return (-number & LONG if text.startswith("-") else number), is_cut
+
+
+def classified(token: str) -> tuple[str, str | int | None, int]:
+    """The kind of a token, its value, and how many newlines are in it; the kind is `bad` for what is none."""
+    first = token[0]
+    if first in SYMBOLS:
+        return token, token, 0
+    if first in "\n#":
+        return "newline", None, token.count("\n")
+    if first in "%@:" or first == "$" and token[1:2] != '"':
+        return (first if len(token) > 1 else "bad"), token, 0
+    if first == "$" or first == '"' and len(token) > 1:
+        text = string_value(token.removeprefix("$"))
+        return ("$", "$" + text, token.count("\n")) if first == "$" else ("string", text, token.count("\n"))
+    if token[-1] in "0123456789" and (first == "-" or first.isdigit()):
+        return "number", number_value(token)[0], 0
+    if IS_FLOAT.fullmatch(token):
+        return "float", constant_bits(token), 0
+    if token == "...":
+        return token, token, 0
+    return ("word" if token in KEYWORDS else "bad"), token, 0
+
+
+def bad_token(token: str, text: str, path: str, line: int) -> Refused:
+    first = token[0]
+    if first == '"' or token == "$" and '$"' in text:
+        return Refused(path, line, "the string has no end")
+    if first in "%@$:":
+        return Refused(path, line, f"`{first}` without a name behind it")
+    if len(token) > 1 or first in "._" or first.isalpha() and first.isascii():
+        return Refused(path, line, f"`{token}` is no word of the language")
+    shown = first if " " < first <= "~" else f"\\{ord(first):03o}"
+    return Refused(path, line, f"`{shown}` begins no token")
+
+
+def tokens_of(text: str, path: str) -> Tokens:
+    """The tokens of a text, each of whose characters stands for a byte. What a token is is worked out once for all that are
+    written alike."""
+    found = TOKEN.findall(text)
+    known = {token: classified(token) for token in set(found)}
+    newlines = {token: count for token, (_, _, count) in known.items()}
+    lines = list(itertools.accumulate(map(newlines.__getitem__, found), initial=1))
+    kinds = [known[token][0] for token in found]
+    if "bad" in kinds:
+        at = kinds.index("bad")
+        raise bad_token(found[at], text, path, lines[at])
+    cut = {token for token in known if known[token][0] == "number" and number_value(token)[1]}
+    cut_numbers = [line for token, line in zip(found, lines) if token in cut] if cut else []
+    return Tokens([*kinds, "end"], [known[token][1] for token in found] + [None], lines, cut_numbers)

@@ -1,0 +1,178 @@
+"""Writes a program: the text that qrev runs, and beside it the map that says where each of its lines comes from."""
+import os
+from dataclasses import dataclass
+
+from .adapters import Adapters
+from .data import DEFAULT_ALIGNMENT, size_of_data, written_data
+from .functions import FunctionWriter
+from .linking import Program
+from .report import Report
+from .runtime import ENCODING
+from .symbols import Signature, Symbol, carried_class
+from .tree import Data, Item, Place
+
+MOST_BYTES = MOST_DATA = 1 << 20
+MOST_FUNCTIONS = 1000
+FIRST_FUNCTION, FUNCTION_STEP, FIRST_DATA = 4096, 16, 65536
+# The data of the runtime from which memory is given: as much as the other data leaves, up to what it has.
+HEAP, HEAP_END = "$heap", "$heap.end"
+PAGE = 4096
+
+
+@dataclass(slots=True)
+class Chunk:
+    """The lines of a definition, and of each the line and the place that it comes from; its path."""
+
+    symbol: Symbol
+    texts: list[str]
+    origins: list[tuple[int, Place | None]]
+    path: str
+
+
+class ProgramWriter:
+    """Writes what a program keeps; `begin_with` are called at the beginning of the entry."""
+
+    def __init__(self, program: Program, report: Report, entry: Symbol | None, begin_with: list[Symbol]):
+        self.program, self.report, self.entry, self.begin_with = program, report, entry, begin_with
+        addressed = [symbol for symbol in self.addressed() if symbol.is_function() and not symbol.is_outside()]
+        program.keep(addressed)
+        program.give_names()
+        self.adapters = Adapters(program, addressed)
+        self.data: list[Symbol] = []
+        self.chunks: list[Chunk] = []
+        self.addresses: dict[Symbol, int] = {}
+
+    def addressed(self) -> list[Symbol]:
+        """What has its address taken somewhere in what is kept."""
+        found: dict[Symbol, None] = {}
+        for symbol in self.program.kept:
+            if symbol.definition is not None:
+                for raw in sorted(symbol.definition.addresses):
+                    found[self.program.refer(symbol.unit, raw, True)] = None
+        return list(found)
+
+    def write(self) -> list[Chunk]:
+        """The chunks: the texts' definitions in their order, then those of the runtime that these need."""
+        for symbol in self.in_order():
+            self.write_symbol(symbol)
+        done = set(self.in_order())
+        for adapter in filter(None, self.adapters.by_shape.values()):
+            # What it does is told where it is called.
+            self.write_function(adapter, Report())
+        while more := [symbol for symbol in self.program.kept if symbol not in done]:
+            for symbol in more:
+                self.write_symbol(symbol)
+            done.update(more)
+        self.fit_heap()
+        self.lay_out()
+        self.chunks[:0] = [self.data_chunk(symbol) for symbol in self.data]
+        return self.chunks
+
+    def in_order(self) -> list[Symbol]:
+        """What is kept of the texts, in their order."""
+        symbols = [unit.own[definition.name] for unit in self.program.units for definition in unit.text.definitions]
+        return [symbol for symbol in dict.fromkeys(symbols) if symbol in self.program.kept]
+
+    def write_symbol(self, symbol: Symbol) -> None:
+        if symbol.is_built_in:
+            return
+        if symbol.is_data():
+            self.data.append(symbol)
+        elif symbol.definition is None:
+            self.write_outside(symbol)
+        else:
+            self.write_function(symbol, self.report)
+
+    def write_function(self, symbol: Symbol, report: Report) -> None:
+        writer = FunctionWriter(self.program, self.adapters, symbol, report)
+        writer.write(self.begin_with if symbol is self.entry else [])
+        self.chunks.append(Chunk(symbol, writer.texts, writer.origins, symbol.unit.text.path))
+
+    def write_outside(self, symbol: Symbol) -> None:
+        """A function that halts, of the shape of its first call."""
+        signature = symbol.signature or Signature(None, ())
+        parameters = ["l %result"] if signature.gives_aggregate() else []
+        parameters += ["l %environment"] if signature.has_environment else []
+        parameters += [f"{carried_class(kind)} %a{number}" for number, kind in enumerate(signature.parameters, 1)]
+        gives = signature.carried_result()
+        texts = [f"function {gives + ' ' if gives else ''}{symbol.name}({', '.join(parameters)}) {{", "@start", "\thlt", "}"]
+        self.chunks.append(Chunk(symbol, texts, [(0, None)] * len(texts), ""))
+
+    # Data.
+
+    def data_chunk(self, symbol: Symbol) -> Chunk:
+        definition, unit = symbol.definition, symbol.unit
+        text = written_data(definition, symbol.name, lambda raw: self.program.address_name(unit, raw),
+                            lambda raw: self.addresses[self.program.refer(unit, raw, True)])
+        return Chunk(symbol, [text], [(definition.line, None)], unit.text.path)
+
+    def fit_heap(self) -> None:
+        """Makes the heap smaller where the data wouldn't fit otherwise."""
+        heap = next((symbol for symbol in self.data if symbol.raw == HEAP and symbol.is_of_runtime()), None)
+        if heap is None:
+            return
+        others = self.data_end([symbol for symbol in self.data if symbol is not heap]) - FIRST_DATA
+        size = min(size_of_data(heap.definition), (MOST_DATA - others - PAGE) // PAGE * PAGE)
+        heap.definition = with_items(heap.definition, [Item(heap.definition.line, "z", max(size, 0))])
+        end = heap.unit.own[HEAP_END]
+        end.definition = with_items(end.definition, [Item(end.definition.line, "l", HEAP, True, max(size, 0))])
+        # The heap is the last, so that it may be cut.
+        self.data.remove(heap)
+        self.data.append(heap)
+
+    def data_end(self, symbols: list[Symbol]) -> int:
+        """Lays objects out as qrev does, and gives where they end."""
+        at = FIRST_DATA
+        for symbol in symbols:
+            alignment = symbol.definition.alignment or DEFAULT_ALIGNMENT
+            at = -(-at // alignment) * alignment
+            self.addresses[symbol] = at
+            at += size_of_data(symbol.definition)
+        return at
+
+    def lay_out(self) -> None:
+        for index, chunk in enumerate(self.chunks):
+            self.addresses[chunk.symbol] = FIRST_FUNCTION + FUNCTION_STEP * index
+        for number, symbol in enumerate(self.program.built_in.values()):
+            self.addresses[symbol] = 1024 + 16 * number
+        self.data_bytes = self.data_end(self.data) - FIRST_DATA
+
+    def overflows(self, size: int) -> list[str]:
+        """What qrev will refuse of a text of so many bytes."""
+        found = []
+        for what, number, most in (("bytes", size, MOST_BYTES), ("bytes of data", self.data_bytes, MOST_DATA),
+                                   ("functions", len(self.chunks) - len(self.data), MOST_FUNCTIONS)):
+            if number > most:
+                found.append(f"the program has {number} {what}, and qrev takes at most {most}")
+        return found
+
+
+def with_items(data: Data, items: list[Item]) -> Data:
+    return Data(data.line, data.name, data.is_exported, data.is_common, data.section, data.alignment, items,
+                {item.value for item in items if item.is_global})
+
+
+def text_of(chunks: list[Chunk]) -> str:
+    return "".join("\n".join(chunk.texts) + "\n" for chunk in chunks)
+
+
+def escape(path: str) -> str:
+    """A path without a tabulator and a newline in it."""
+    return path.replace("\\", "\\\\").replace("\t", "\\t").replace("\n", "\\n")
+
+
+def map_of(chunks: list[Chunk]) -> str:
+    """A line for each line of the text: the file and the line that it comes from, and behind these the file, the line and
+    the column of the source that the debug lines tell, each behind a tabulator. A line without an origin is empty."""
+    lines = []
+    for chunk in chunks:
+        # A path as its bytes, each a character, as the text itself is.
+        path = escape(os.fsencode(chunk.path).decode(ENCODING))
+        for line, place in chunk.origins:
+            if line == 0:
+                lines.append("")
+            elif place is None:
+                lines.append(f"{path}\t{line}")
+            else:
+                lines.append(f"{path}\t{line}\t{escape(place.file)}\t{place.line}\t{place.column}")
+    return "\n".join(lines) + "\n" if lines else ""

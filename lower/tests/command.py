@@ -1,0 +1,153 @@
+"""The wrapper's --lower, which lowers and runs in one go, and the time that a large text takes."""
+import os
+import pathlib
+import shutil
+import subprocess
+import sys
+import tempfile
+
+from .running import DATA, FOLDER, LOWER, TOP, Results, Running, differ
+
+TEXT = """
+data $f = { b "%s %d\\n\\0" }
+data $s = { b "argument\\0" }
+export function w $main(w %a) {
+@start
+	%r =w call $printf(l $f, ..., l $s, w %a)
+	%x =w call $half(w %r)
+	ret %x
+}
+"""
+HALF = "export function w $half(w %x) {\n@start\n\t%d =d swtof %x\n\t%h =d div %d, d_2\n\t%r =w dtosi %h\n\tret %r\n}\n"
+ECHO = """
+export function w $main(w %argc, l %argv) {
+@start
+@loop
+	%at =l phi @start %argv, @word %next
+	%word =l loadl %at
+	%is.word =w cnel %word, 0
+	jnz %is.word, @word, @end
+@word
+	%w =w call $printf(l $f, ..., l %word)
+	%next =l add %at, 8
+	jmp @loop
+@end
+	%p =w call $putchar(w 10)
+	%bytes =l sub %at, %argv
+	%count =l div %bytes, 8
+	%wide =l extsw %argc
+	%rest =l sub %wide, %count
+	%r =w copy %rest
+	ret %r
+}
+data $f = { b "%s|\\0" }
+"""
+SECONDS_OF_A_MEBIBYTE = 2.0
+
+
+class Wrapper:
+    """The script at the top with the program as the released one, in a folder of its own."""
+
+    def __init__(self, place: str, running: Running):
+        self.top, self.running = pathlib.Path(place), running
+        shutil.copy(TOP / "qrev", self.top / "qrev")
+        (self.top / "lower").symlink_to(FOLDER)
+        (self.top / "release").mkdir()
+        (self.top / "release" / "qrev-x86_64-linux").symlink_to(running.program)
+        fits = self.top / "release" / "fits"
+        fits.write_text("#!/bin/sh\nexit 0\n")
+        fits.chmod(0o755)
+        (self.top / "tmp").mkdir()
+
+    def run(self, *words: str, script: str = "continue\nout\n") -> subprocess.CompletedProcess:
+        return subprocess.run([str(self.top / "qrev"), *words], input=script, capture_output=True, text=True, cwd=self.top,
+                              timeout=self.running.seconds, env=os.environ | {"TMPDIR": str(self.top / "tmp")})
+
+
+def wrapper_faults(running: Running) -> Results:
+    with tempfile.TemporaryDirectory(prefix="lower-") as place:
+        wrapper = Wrapper(place, running)
+        (wrapper.top / "a.ssa").write_text(TEXT)
+        (wrapper.top / "b.ssa").write_text(HALF)
+        (wrapper.top / "wrong.ssa").write_text(TEXT.replace("%x\n}", "%y\n}"))
+        # 12 bytes are written, of which the half is 6.
+        run = wrapper.run("--lower", "a.ssa", "b.ssa", "42", "--history", "10")
+        lines = run.stdout.split("\n")
+        yield "command/--lower", differ("run", (0, True, ['out 12 "argument 42\\012"', ""], ""),
+                                        (run.returncode, lines[-3].endswith(" done 6"), lines[-2:], run.stderr))
+        run = wrapper.run("--lower", "b.ssa", "9", "--entry", "half")
+        yield "command/--lower with an entry", differ("end", True, run.stdout.split("\n")[-3].endswith(" done 4"))
+        (wrapper.top / "echo.ssa").write_text(ECHO)
+        run = wrapper.run("--lower", "echo.ssa", "--", "a", "1", "--b c", "")
+        yield "command/--lower with texts for main", differ("output", 'out 17 "echo|a|1|--b c||\\012"',
+                                                            run.stdout.split("\n")[-2])
+        run = wrapper.run("--lower", "echo.ssa", "--")
+        yield "command/--lower without texts for main", differ("output", 'out 6 "echo|\\012"', run.stdout.split("\n")[-2])
+        run = wrapper.run("--lower", "wrong.ssa", "1")
+        told = "wrong.ssa:8: %y is used in `ret`, and nothing defines it\n"
+        yield "command/--lower refuses", differ("run", (1, "", told), (run.returncode, run.stdout, run.stderr))
+        run = wrapper.run("--lower", "--report", "a.ssa", "1")
+        yield "command/--lower with a report", None if "a.ssa:7: $half is defined nowhere" in run.stderr and \
+            "fault halted" in run.stdout else f"{run.stdout!r}, {run.stderr!r}"
+        run = wrapper.run("--lower", "nothing.ssa")
+        yield "command/--lower without the file", differ("status", (2, ""), (run.returncode, run.stdout))
+        yield "command/--lower leaves nothing", differ("files", [], list((wrapper.top / "tmp").iterdir()))
+
+
+def map_fault(running: Running) -> str | None:
+    """The map has a line for each line of the text, also where --map and --output say its place, and a pipe has none."""
+    with tempfile.TemporaryDirectory(prefix="lower-") as place:
+        folder = pathlib.Path(place)
+        (folder / "a.ssa").write_text(TEXT)
+        for words in (["--output", "one.ssa"], ["--output", "two.ssa", "--map", "two.map"]):
+            subprocess.run([sys.executable, str(LOWER), *words, "a.ssa"], cwd=folder, timeout=running.seconds)
+        piped = subprocess.run([sys.executable, str(LOWER), "a.ssa"], cwd=folder, capture_output=True,
+                               timeout=running.seconds).stdout
+        files = sorted(path.name for path in folder.iterdir())
+        text, found = (folder / "one.ssa").read_bytes(), (folder / "one.ssa.map").read_text()
+    return differ("files", ["a.ssa", "one.ssa", "one.ssa.map", "two.map", "two.ssa"], files) or \
+        differ("pipe", text, piped) or differ("lines", text.count(b"\n"), found.count("\n")) or \
+        differ("first", "a.ssa\t2", found.split("\n")[0])
+
+
+def mebibyte() -> str:
+    """A text of a mebibyte: a real one again and again, with names of its own each time."""
+    text = (DATA / "real" / "matrix.ssa").read_text().replace("$main", "$mainly")
+    parts = ["export function $main() {\n@start\n\tret\n}\n"]
+    size = 0
+    while size < 1 << 20:
+        part = text
+        for name in ("$strdata.1", "$strliteral.0", "$mainly", "$mul", ":type.7", ":type.8"):
+            part = part.replace(name, f"{name}.n{len(parts)}")
+        parts.append(part)
+        size += len(part)
+    return "".join(parts)
+
+
+def time_fault() -> str | None:
+    """The seconds of the processor, as the machine may have more to do."""
+    text = mebibyte()
+    with tempfile.TemporaryDirectory(prefix="lower-") as place:
+        folder = pathlib.Path(place)
+        (folder / "a.ssa").write_text(text)
+        best = min(timed(folder) for _ in range(2))
+        lowered = (folder / "out.ssa").read_bytes()
+    if lowered.count(b"function") < 300:
+        return f"{lowered.count(b'function')} functions"
+    return None if best < SECONDS_OF_A_MEBIBYTE else f"{len(text)} bytes took {best:.2f} s"
+
+
+def timed(folder: pathlib.Path) -> float:
+    """The seconds that the processor worked for it."""
+    process = subprocess.Popen([sys.executable, str(LOWER), "--output", "out.ssa", "a.ssa"], cwd=folder)
+    _, status, usage = os.wait4(process.pid, 0)
+    process.returncode = os.waitstatus_to_exitcode(status)
+    if process.returncode:
+        raise RuntimeError(f"status {process.returncode}")
+    return usage.ru_utime + usage.ru_stime
+
+
+def results(running: Running) -> Results:
+    yield from wrapper_faults(running)
+    yield "command/the map", map_fault(running)
+    yield "command/the time of a mebibyte", time_fault()

@@ -1,0 +1,217 @@
+"""Several texts as one program: names kept apart, what is reachable, what would halt, and the report."""
+import re
+
+from .running import Results, Running, differ
+
+MAIN = """
+data $count = { w 1 }
+function w $step(w %x) {
+@start
+	%c =w loadw $count
+	%r =w add %x, %c
+	ret %r
+}
+export function w $main() {
+@start
+	%a =w call $step(w 10)
+	%b =w call $other(w %a)
+	ret %b
+}
+function $unused() {
+@start
+	call $nowhere()
+	ret
+}
+"""
+OTHER = """
+data $count = { w 100 }
+function w $step(w %x) {
+@start
+	%c =w loadw $count
+	%r =w mul %x, %c
+	ret %r
+}
+export function w $other(w %x) {
+@start
+	%r =w call $step(w %x)
+	ret %r
+}
+export function w $idle() {
+@start
+	ret 0
+}
+"""
+# An object of the section of what is called first: only of texts of which something is kept.
+FIRST = """
+data $value = { w 5 }
+function $begin() {
+@start
+	storew 7, $value
+	ret
+}
+section ".init_array" data $first = { l $begin }
+export function w $get() {
+@start
+	%x =w loadw $value
+	ret %x
+}
+"""
+NOT_KEPT = """
+function $begin() {
+@start
+	call $exit(w 9)
+	ret
+}
+section ".init_array" data $first = { l $begin }
+export function $never() {
+@start
+	ret
+}
+"""
+GET = "export function w $main() {\n@start\n\t%x =w call $get()\n\tret %x\n}\n"
+# A function of the text in the place of the runtime's, which needs the system.
+SYSTEM = """
+export function l $malloc(l %size) {
+@start
+	%r =l call $mmap(l 0, l %size)
+	ret %r
+}
+export function w $strlen(l %text) {
+@start
+	ret 42
+}
+export function w $main() {
+@start
+	%p =l call $malloc(l 8)
+	storel 5, %p
+	%x =w loadw %p
+	%n =w call $strlen(l %p)
+	%r =w add %x, %n
+	ret %r
+}
+"""
+# A function of the name of a built-in one, which the runtime calls.
+PUTCHAR = """
+export function w $putchar(w %x) {
+@start
+	ret 99
+}
+data $f = { b "a%d\\0" }
+export function w $main() {
+@start
+	%n =w call $printf(l $f, ..., w 5)
+	%x =w call $putchar(w 65)
+	%r =w add %n, %x
+	ret %r
+}
+"""
+OUTSIDE = """
+export function w $main() {
+@start
+	%a =w call $getpid(l 1)
+	ret %a
+}
+"""
+UNREACHED = "export function w $main() {\n@start\n\tret 3\n}\nfunction $f() {\n@start\n\tcall $getpid()\n\tret\n}\n"
+
+
+def linked_fault(running: Running) -> str | None:
+    lowered = running.lower({"a.ssa": MAIN, "b.ssa": OTHER}, "--link", "--report")
+    run = running.run(lowered.text)
+    if "$idle" in lowered.text or "$unused" in lowered.text or "$nowhere" in lowered.text:
+        return "what isn't reachable is kept"
+    return differ("status", 0, lowered.status) or differ("end", "done 1100", run.end) or \
+        differ("renamed", ["$count.2", "$step.2"], sorted(set(re.findall(r"\$\w+\.2", lowered.text)))) or \
+        differ("report", True, "b.ssa:3: $step is written as $step.2" in lowered.errors)
+
+
+def unlinked_fault(running: Running) -> str | None:
+    """Without --link all is kept."""
+    lowered = running.lower({"a.ssa": MAIN, "b.ssa": OTHER})
+    kept = [name for name in ("$idle", "$unused", "$nowhere") if name in lowered.text]
+    return differ("kept", ["$idle", "$unused", "$nowhere"], kept) or \
+        differ("end", "done 1100", running.run(lowered.text).end) or differ("status", 0, lowered.status)
+
+
+def end_fault(running: Running, texts: dict[str, str], end: str, output: str = "", status: int = 0, *options: str) \
+        -> str | None:
+    lowered = running.lower(texts, "--link", *options)
+    run = running.run(lowered.text)
+    return differ("status", status, lowered.status) or differ("end", end, run.end) or differ("output", output, run.output)
+
+
+def outside_fault(running: Running) -> str | None:
+    """A function from outside halts under its own name, and the report tells the place of its first use."""
+    lowered = running.lower({"a.ssa": OUTSIDE}, "--link", "--report")
+    run = running.run(lowered.text, "continue\nwhere\ntemps\n")
+    note = "a.ssa:4: $getpid is defined nowhere: a function that halts (would halt)\n"
+    return differ("status", 1, lowered.status) or differ("end", "fault halted", run.end) or \
+        differ("where", ["$getpid @start 0", "$main @start 1", "%a1 = 1"], run.lines[-3:]) or \
+        differ("report", True, lowered.errors.endswith(note)) or \
+        differ("without a report", "", running.lower({"a.ssa": OUTSIDE}, "--link").errors)
+
+
+def unreached_fault(running: Running) -> str | None:
+    """What would halt and isn't reachable makes no status."""
+    lowered = running.lower({"a.ssa": UNREACHED}, "--report")
+    return differ("status", 0, lowered.status) or differ("end", "done 3", running.run(lowered.text).end) or \
+        differ("report", True, "a.ssa:7: $getpid is defined nowhere" in lowered.errors)
+
+
+def entry_fault(running: Running) -> str | None:
+    lowered = running.lower({"a.ssa": OTHER}, "--link", "--entry", "nothing")
+    return differ("refused", (1, "", "a.ssa:1: no text exports a function $nothing\n"),
+                  (lowered.status, lowered.text, lowered.errors))
+
+
+def counts_fault(running: Running) -> str | None:
+    """The report has a count for each kind, and a line for each place."""
+    text = """
+dbgfile "a.c"
+type :t = { l }
+function l $f(:t %p, w %x, ...) {
+@start
+	dbgloc 1
+	%y =l loadl %p
+	%d =d sltof %y
+	%e =d neg %d
+	%r =l dtosi %e
+	ret %r
+}
+export function l $main() {
+@start
+	%p =l alloc8 8
+	storel 5, %p
+	%r =l call $f(:t %p, l 7, ..., w 1)
+	ret %r
+}
+"""
+    lowered = running.lower({"a.ssa": text}, "--link", "--report")
+    wanted = ["1 arguments fitted to another class", "1 calls with arguments behind dots, in cells of memory",
+              "2 debug lines as places of the map", "2 float instructions, by calls of the runtime",
+              "1 float instructions, by their bits", "1 functions with dots, which take the address of cells",
+              "1 parameters that are aggregates, by address and copied", "a.ssa:17: argument 2 of $f is a l for a w: cut"]
+    return differ("status", 0, lowered.status) or differ("report", wanted, lowered.errors.split("\n")[:-1]) or \
+        differ("end", f"done {(1 << 64) - 5}", running.run(lowered.text).end)
+
+
+def large_fault(running: Running) -> str | None:
+    """What qrev will refuse for its size is told, and the status says so."""
+    text = "".join(f"export function $f{number}() {{\n@start\n\tret\n}}\n" for number in range(1001))
+    lowered = running.lower({"a.ssa": text})
+    return differ("status", 1, lowered.status) or \
+        differ("errors", "qrev-lower: the program has 1001 functions, and qrev takes at most 1000\n", lowered.errors)
+
+
+def results(running: Running) -> Results:
+    yield "linking/names of two texts", linked_fault(running)
+    yield "linking/all is kept", unlinked_fault(running)
+    yield "linking/called first", end_fault(running, {"a.ssa": GET, "b.ssa": FIRST, "c.ssa": NOT_KEPT}, "done 7")
+    yield "linking/needs the system", end_fault(running, {"a.ssa": SYSTEM}, "done 47")
+    yield "linking/putchar of the text", end_fault(running, {"a.ssa": PUTCHAR}, "done 101", "a5")
+    yield "linking/another entry", end_fault(running, {"a.ssa": OTHER.replace("$idle", "$main")}, "done 0")
+    yield "linking/a function from outside", outside_fault(running)
+    yield "linking/not reached", unreached_fault(running)
+    yield "linking/no entry", entry_fault(running)
+    yield "linking/counts", counts_fault(running)
+    yield "linking/too large", large_fault(running)

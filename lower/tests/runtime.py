@@ -1,0 +1,340 @@
+"""The functions of the runtime: values worked out by hand, random use against Python, and the faults by their names."""
+import random
+
+from .running import FOLDER, Results, Running, differ
+
+STRINGS = """
+data $a = { b "hello", b 0 }
+data $b = { b "help", b 0 }
+data $same = { b "hello\\0" }
+data $high = { b "h\\377", b 0 }
+data $to = { z 32 }
+data $f = { b "%d " , b 0 }
+function $tell(w %x) {
+@start
+	%r =w call $printf(l $f, ..., w %x)
+	ret
+}
+function w $sign(w %x) {
+@start
+	%up =w csgtw %x, 0
+	%down =w csltw %x, 0
+	%r =w sub %up, %down
+	ret %r
+}
+export function w $main() {
+@start
+	%n =l call $strlen(l $a)
+	call $tell(w %n)
+	%c =w call $strcmp(l $a, l $b)
+	%s =w call $sign(w %c)
+	call $tell(w %s)
+	%c =w call $strcmp(l $a, l $same)
+	call $tell(w %c)
+	%c =w call $strcmp(l $high, l $a)
+	%s =w call $sign(w %c)
+	call $tell(w %s)
+	%c =w call $strncmp(l $a, l $b, l 3)
+	call $tell(w %c)
+	%c =w call $strncmp(l $a, l $b, l 4)
+	%s =w call $sign(w %c)
+	call $tell(w %s)
+	%p =l call $strchr(l $a, w 108)
+	%o =l sub %p, $a
+	call $tell(w %o)
+	%p =l call $strchr(l $a, w 122)
+	call $tell(w %p)
+	%p =l call $strchr(l $a, w 0)
+	%o =l sub %p, $a
+	call $tell(w %o)
+	%p =l call $strcpy(l $to, l $a)
+	%x =w call $puts(l %p)
+	call $tell(w %x)
+	%c =w call $memcmp(l $a, l $b, l 3)
+	call $tell(w %c)
+	%c =w call $memcmp(l $b, l $a, l 5)
+	%s =w call $sign(w %c)
+	call $tell(w %s)
+	%p =l call $memset(l $to, w 65, l 11)
+	%x =w call $puts(l $to)
+	%w =l call $write(w 1, l $a, l 4)
+	call $tell(w %w)
+	%w =l call $write(w 2, l $a, l 0)
+	call $tell(w %w)
+	%x =w call $putchar(w 321)
+	call $tell(w %x)
+	call $exit(w 7)
+	ret 0
+}
+"""
+STRINGS_OUTPUT = "5 -1 0 1 0 -1 2 0 5 hello\n6 0 1 AAAAAAAAAAA\nhell4 0 A65 "
+
+
+# The calls that Hare's compiler makes of its own runtime; a slice of two words grows to three.
+HARE = """
+data $text = { b "hello" }
+data $one = { l $text 5 5 }
+data $two = { l $text 4 5 }
+data $vector = { l $text 2 $vector 3 }
+data $f = { b "%d " , b 0 }
+function $tell(w %x) {
+@start
+	%r =w call $printf(l $f, ..., w %x)
+	ret
+}
+export function w $main() {
+@start
+	%a =w call $rt.strcmp(l $one, l $two)
+	call $tell(w %a)
+	%b =w call $rt.strcmp(l $one, l $one)
+	call $tell(w %b)
+	%slice =l alloc8 24
+	%length =l add %slice, 8
+	%capacity =l add %slice, 16
+	%p =l call $rt.malloc(l 8)
+	storew 11, %p
+	storel %p, %slice
+	storel 3, %length
+	storel 2, %capacity
+	call $rt.ensure(l %slice, l 4)
+	%q =l loadl %slice
+	%c =w loadw %q
+	call $tell(w %c)
+	%d =w loadw %capacity
+	call $tell(w %d)
+	call $rt.unensure(l %slice, l 4)
+	call $rt.memset(l %q, l 65, l 3)
+	call $rt.memmove(l $text, l %q, l 2)
+	%w =l call $rt.syscall3(l 1, l 1, l $text, l 5)
+	%v =l call $rt.syscall3(l 20, l 1, l $vector, l 2)
+	call $tell(w %v)
+	%e =l call $rt.syscall3(l 16, l 1, l 0, l 0)
+	call $tell(w %e)
+	call $rt.free(l %q)
+	%r =l call $rt.syscall1(l 60, l 3)
+	ret 0
+}
+"""
+# Behind that come three bytes of an address, which aren't told here.
+HARE_OUTPUT = "0 1 11 4 AAlloAA"
+
+
+def in_main(body: str) -> str:
+    lines = "\n".join("\t" + line.strip() for line in body.strip().split("\n"))
+    return f"export function w $main() {{\n@start\n{lines}\n\tret 0\n}}\n"
+
+
+# What can't be done, and the function that halts.
+FAULTS = [
+    ("%w =l call $write(w 3, l 0, l 0)", "$write.to.another.descriptor @start 0"),
+    ("%p =l call $malloc(l 600000)", "$malloc.heap.is.full @start 0"),
+    ("%p =l call $malloc(l 8)\ncall $free(l %p)\ncall $free(l %p)", "$free.of.no.block.in.use @start 0"),
+    ("%p =l alloc16 32\n%q =l add %p, 16\ncall $free(l %q)", "$free.of.no.block.in.use @start 0"),
+    ("call $abort()", "$abort @start 0"),
+    ("%r =w call $printf(l $n, ..., l 0)", "$printf.has.no.such.conversion @start 0"),
+    ("%r =w call $printf(l $long, ..., l 0)", "$printf.has.no.long.double @start 0"),
+    ("%p =l alloc8 8\nvastart %p", "$fault.vastart.in.a.function.without.dots @start 0"),
+    ("call $rt.abort_fixed(l 0, l 1, l 2, l 3)", "$rt.abort_fixed @start 0"),
+]
+FAULT_DATA = 'data $n = { b "%n\\0" }\ndata $long = { b "%Lf\\0" }\n'
+
+
+def fault_fault(running: Running, body: str, place: str) -> str | None:
+    lowered = running.lower_here(FAULT_DATA + in_main(body))
+    if isinstance(lowered, str):
+        return lowered
+    run = running.run(lowered.text, "continue\nwhere\n")
+    return differ("end", "fault halted", run.end) or differ("where", place, run.lines[4])
+
+
+def copies_text(choice: random.Random, size: int) -> tuple[str, bytes]:
+    """Random memcpy, memmove and memset on an object of bytes, and what it holds at the end."""
+    memory = bytearray(choice.randrange(1, 256) for _ in range(size))
+    body = []
+    begin = " ".join(map(str, memory))
+    for index in range(60):
+        count = choice.choice((0, 1, 7, 8, 9, 15, 16, 17, choice.randrange(size // 2)))
+        to, source = choice.randrange(size - count), choice.randrange(size - count)
+        kind = choice.randrange(3)
+        if kind == 0 and abs(to - source) < count:
+            kind = 1
+        body += [f"%t{index} =l add $m, {to}", f"%s{index} =l add $m, {source}"]
+        if kind == 2:
+            value = choice.randrange(1, 256)
+            memory[to:to + count] = bytes([value]) * count
+            body.append(f"%r{index} =l call $memset(l %t{index}, w {value}, l {count})")
+        else:
+            memory[to:to + count] = memory[source:source + count]
+            body.append(f"%r{index} =l call ${'memmove' if kind else 'memcpy'}(l %t{index}, l %s{index}, l {count})")
+    body.append(f"%w =l call $write(w 1, l $m, l {size})")
+    return f"data $m = {{ b {begin} }}\n" + in_main("\n".join(body)), bytes(memory)
+
+
+def copies_fault(running: Running, seed: int) -> str | None:
+    text, wanted = copies_text(random.Random(seed), 200)
+    lowered = running.lower_here(text)
+    return lowered if isinstance(lowered, str) else \
+        differ("memory", wanted.decode("latin-1"), running.run(lowered.text).output)
+
+
+class HeapText:
+    """Random malloc, calloc, realloc and free of 12 places, each block filled with its own byte, which is looked at before it
+    goes; `total` is the sum of all bytes that are seen."""
+
+    def __init__(self, seed: int):
+        self.choice = random.Random(seed)
+        self.body: list[str] = []
+        self.sizes, self.values, self.total, self.made = [0] * 12, [0] * 12, 0, 0
+        for _ in range(160):
+            place = self.choice.randrange(12)
+            if self.sizes[place] == 0:
+                self.take(place)
+            elif self.choice.random() < 0.5:
+                self.give_back(place)
+            else:
+                self.change(place)
+
+    def loaded(self, place: int) -> str:
+        """The block of a place, as a temporary."""
+        self.made += 1
+        self.body += [f"%c{self.made} =l add $places, {8 * place}", f"%p{self.made} =l loadl %c{self.made}"]
+        return f"%p{self.made}"
+
+    def store(self, place: int, call: str) -> str:
+        self.made += 1
+        self.body += [f"%n{self.made} =l call {call}", f"%c{self.made} =l add $places, {8 * place}",
+                      f"storel %n{self.made}, %c{self.made}"]
+        return f"%n{self.made}"
+
+    def fill(self, place: int, size: int) -> None:
+        self.sizes[place], self.values[place] = size, self.choice.randrange(1, 256)
+        block = self.loaded(place)
+        self.made += 1
+        self.body.append(f"%m{self.made} =l call $memset(l {block}, w {self.values[place]}, l {size})")
+
+    def look(self, place: int, size: int) -> None:
+        self.body.append(f"call $look(l {self.loaded(place)}, l {size})")
+        self.total += size * self.values[place]
+
+    def size(self) -> int:
+        return self.choice.choice((1, 8, 16, 40, 100, 1000, 1024, 1025, 3000))
+
+    def take(self, place: int) -> None:
+        size = self.size()
+        if self.choice.random() < 0.5:
+            self.store(place, f"$malloc(l {size})")
+        else:
+            # What calloc gives is zero: it adds nothing to the sum.
+            self.body.append(f"call $look(l {self.store(place, f'$calloc(l {size}, l 1)')}, l {size})")
+        self.fill(place, size)
+
+    def give_back(self, place: int) -> None:
+        self.look(place, self.sizes[place])
+        self.body.append(f"call $free(l {self.loaded(place)})")
+        self.sizes[place] = 0
+
+    def change(self, place: int) -> None:
+        size = self.size()
+        self.store(place, f"$realloc(l {self.loaded(place)}, l {size})")
+        self.look(place, min(size, self.sizes[place]))
+        self.fill(place, size)
+
+    def text(self) -> str:
+        end = ["%sum =l loadl $sum", "%end =w call $printf(l $f, ..., l %sum)"]
+        return HEAP_FRONT + in_main("\n".join(self.body + end))
+
+
+HEAP_FRONT = """
+data $places = { z 96 }
+data $sum = { l 0 }
+data $f = { b "%ld\\0" }
+function $look(l %p, l %n) {
+@start
+	%end =l add %p, %n
+@loop
+	%at =l phi @start %p, @body %next
+	%c =w cnel %at, %end
+	jnz %c, @body, @end
+@body
+	%b =l loadub %at
+	%s =l loadl $sum
+	%t =l add %s, %b
+	storel %t, $sum
+	%next =l add %at, 1
+	jmp @loop
+@end
+	ret
+}
+"""
+
+
+def heap_fault(running: Running, seed: int) -> str | None:
+    heap = HeapText(seed)
+    lowered = running.lower_here(heap.text())
+    return lowered if isinstance(lowered, str) else differ("sum", str(heap.total), running.run(lowered.text).output)
+
+
+def reuse_fault(running: Running) -> str | None:
+    """Memory that is freed is given again: a thousand times 5,000 bytes fit."""
+    text = """
+export function w $main() {
+@start
+@loop
+	%i =w phi @start 0, @loop %j
+	%p =l call $malloc(l 5000)
+	%q =l call $realloc(l %p, l 6000)
+	call $free(l %q)
+	%z =l call $calloc(l 4611686018427387904, l 8)
+	%y =l call $malloc(l -1)
+	%x =l or %z, %y
+	%j =w add %i, 1
+	%c =w csltw %j, 1000
+	jnz %c, @loop, @end
+@end
+	ret %x
+}
+"""
+    lowered = running.lower_here(text)
+    return lowered if isinstance(lowered, str) else differ("end", "done 0", running.run(lowered.text).end)
+
+
+def small_heap_fault(running: Running) -> str | None:
+    """The heap is what the data of the program leaves."""
+    text = "data $large = { z 900000 }\n" + in_main("%p =l call $malloc(l 100000)\nstorel 1, $large\n%q =l call $malloc(l 1)")
+    lowered = running.lower_here(text)
+    if isinstance(lowered, str):
+        return lowered
+    heap = int(lowered.text.split("data $heap = align 16 { z ")[1].split(" ")[0])
+    return differ("end", "done 0", running.run(lowered.text).end) or \
+        (None if 0 <= (1 << 20) - 900000 - heap < 2 * 4096 + 1024 else f"the heap has {heap} bytes")
+
+
+def texts_fault(running: Running) -> str | None:
+    """The texts of the runtime are texts of the language as they stand: 1.5 and 2.25 are 3.75."""
+    text = "".join(path.read_text() for path in sorted((FOLDER / "runtime").glob("*.ssa")))
+    words = ("4609434218613702656", "4612248968380809216", "--entry", "float.add.d")
+    return differ("end", "done 4615626668101337088", running.run(text, "continue\n", words).end)
+
+
+def results(running: Running) -> Results:
+    yield "runtime/texts", texts_fault(running)
+    lowered = running.lower_here(STRINGS)
+    if isinstance(lowered, str):
+        yield "runtime/strings", lowered
+    else:
+        run = running.run(lowered.text)
+        yield "runtime/strings", differ("output", STRINGS_OUTPUT, run.output) or differ("end", "exit 7", run.end)
+    lowered = running.lower_here(HARE)
+    if isinstance(lowered, str):
+        yield "runtime/hare", lowered
+    else:
+        run = running.run(lowered.text)
+        yield "runtime/hare", differ("output", HARE_OUTPUT, run.output[:16]) or \
+            differ("end", "exit 3", run.end) or differ("count", "5 -25 ", run.output[-6:])
+    for body, place in FAULTS:
+        yield f"runtime/{place}", fault_fault(running, body, place)
+    for seed in range(8):
+        yield f"runtime/copies {seed}", copies_fault(running, seed)
+        yield f"runtime/heap {seed}", heap_fault(running, seed)
+    yield "runtime/reuse", reuse_fault(running)
+    yield "runtime/a small heap", small_heap_fault(running)

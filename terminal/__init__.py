@@ -1,0 +1,1 @@
+"""The front end of qrev at a terminal: docs/TERMINAL.md."""

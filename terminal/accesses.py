@@ -1,0 +1,161 @@
+"""Which instructions of a run touched some bytes of memory.
+
+The debugger has no watch for reads, and none for a write of the same value. So breakpoints at all loads, or all stores,
+give the positions at which these were run, many at a time, and then the addresses are asked, along these positions.
+"""
+from __future__ import annotations
+
+from dataclasses import dataclass
+from itertools import islice
+from typing import Iterator
+
+from .answers import read_bytes, read_value
+from .frames import steps_begun
+from .scratch import MOST_BYTES, Scratch
+from .text import BUILT_IN, LOADED, STORED, Instruction, Operand, Program
+from .timeline import Timeline
+
+MOST_STOPS = 60
+FIRST_BLOCK, MOST_BLOCK = 32, 8192
+
+
+@dataclass(frozen=True, eq=False)
+class Site:
+    """An instruction that touches memory, with its place in the text."""
+    function: str
+    label: str
+    index: int
+    instruction: Instruction
+
+
+@dataclass
+class Access:
+    """A move that touched memory: from which position on, by which instruction, which bytes."""
+    position: int
+    site: Site
+    address: int
+    count: int
+
+    def meets(self, address: int, count: int) -> bool:
+        return self.address < address + count and address < self.address + self.count
+
+
+class Accesses:
+    def __init__(self, program: Program, scratch: Scratch):
+        self.program, self.scratch = program, scratch
+
+    def sites(self, is_write: bool) -> list[Site]:
+        """The instructions that write to memory, or read it."""
+        found = []
+        for function in self.program.functions.values():
+            for label, index, instruction in function.places():
+                operation = instruction.operation
+                wanted = operation in (STORED if is_write else LOADED) or operation == "blit"
+                if operation == "call" and not is_write:
+                    wanted = self.program.called(instruction) in (None, "$puts")
+                if wanted and index >= 0:
+                    found.append(Site(function.name, label, index, instruction))
+        return found
+
+    def touching(self, is_write: bool, high: Timeline, low: int, address: int, count: int) -> Iterator[Access]:
+        """What touched these bytes by moves from `low` on and before `high`; the latest first for sixty places each."""
+        sites = [site for site in self.sites(is_write) if self.may_touch(site, is_write, address, count)]
+        for first in range(0, len(sites), MOST_STOPS):
+            for block in self.blocks(sites[first:first + MOST_STOPS], high, low):
+                yield from (access for access in self.looked_at(block, is_write, high) if access.meets(address, count))
+
+    def may_touch(self, site: Site, is_write: bool, address: int, count: int) -> bool:
+        """False where the text alone says that an instruction touches other bytes."""
+        instruction = site.instruction
+        if instruction.operation == "call":
+            return True
+        operand = instruction.operands[1 if is_write else 0].text
+        if operand.startswith("%"):
+            return True
+        begin = self.constant(operand)
+        return begin < address + count and address < begin + size_of(instruction)
+
+    def constant(self, text: str) -> int:
+        return self.program.addresses[text] if text.startswith("$") else int(text) % (1 << 64)
+
+    def blocks(self, sites: list[Site], high: Timeline, low: int) -> Iterator[list[tuple[int, Site]]]:
+        """The moves that ran one of these instructions, in blocks that grow, from the latest back."""
+        stops = [f"break {site.function} {site.label} {site.index}" for site in sites]
+        size, faulted = FIRST_BLOCK, self.faulted(high)
+        while stops:
+            hits = self.scratch.go(high).hits(False, stops, most=size, last=low)
+            block = list(islice(((hit.position, hit.stop) for hit in hits), size))
+            found = [(position, sites[stop]) for position, stop in block
+                     if stop is not None and position >= low and position != faulted and not high.poke_at(position)]
+            yield found
+            if not block or block[-1][1] is None or block[-1][0] <= low:
+                return
+            high, size = high.at(block[-1][0]), min(MOST_BLOCK, 4 * size)
+
+    def faulted(self, at: Timeline) -> int | None:
+        """The position of the move that ended in a fault, and so touched nothing, where a state is one."""
+        return steps_begun(at) - 1 if self.scratch.go(at).place.is_fault else None
+
+    def looked_at(self, block: list[tuple[int, Site]], is_write: bool, run: Timeline) -> Iterator[Access]:
+        """The bytes that each move of a block touched, by the operands' values that tell the address."""
+        if not block:
+            return
+        self.scratch.go(run.at(block[0][0]))
+        lines, at = [], block[0][0]
+        asked = {site: telling(site, is_write) for site in {site for _, site in block}}
+        for position, site in block:
+            if at > position:
+                lines.append(f"back {at - position}")
+            lines += [f"print {operand.text}" for operand in asked[site] if operand.is_temporary]
+            at = position
+        answers = self.scratch.ask(*lines)
+        index, at, moved = 0, block[0][0], None
+        read = []
+        for position, site in block:
+            if at > position:
+                moved, index, at = answers[index], index + 1, position
+            values = []
+            for operand in asked[site]:
+                if operand.is_temporary:
+                    values.append(read_value(answers[index][0]))
+                    index += 1
+                else:
+                    values.append(self.constant(operand.text))
+            read.append((position, site, values))
+        if moved:
+            self.scratch.after(moved, "back")
+        for position, site, values in read:
+            yield from self.access(position, site, values, run)
+
+    def access(self, position: int, site: Site, values: list[int | None], run: Timeline) -> Iterator[Access]:
+        address = values[-1]
+        if address is None:
+            return
+        if site.instruction.operation != "call":
+            yield Access(position, site, address, size_of(site.instruction))
+        elif values[0] == BUILT_IN["$puts"] and "$puts" in self.program.built_in and len(values) == 2:
+            yield Access(position, site, address, self.text_size(address, run.at(position)))
+
+    def text_size(self, address: int, at: Timeline) -> int:
+        """How many bytes `$puts` reads there: up to the zero byte."""
+        here, size = self.scratch.timeline, 0
+        self.scratch.go(at)
+        while True:
+            piece = read_bytes(self.scratch.ask(f"mem {address + size} {MOST_BYTES}")[0][0])
+            end = next((index for index, byte in enumerate(piece) if not byte), None)
+            if end is not None:
+                self.scratch.go(here)
+                return size + end + 1
+            size += MOST_BYTES
+
+
+def telling(site: Site, is_write: bool) -> tuple[Operand, ...]:
+    """The operands that tell which bytes are touched: the address, or what is called and its argument."""
+    operands = site.instruction.operands
+    return operands[:2] if site.instruction.operation == "call" else (operands[1 if is_write else 0],)
+
+
+def size_of(instruction: Instruction) -> int:
+    """How many bytes a load, a store or a blit touches."""
+    operation = instruction.operation
+    return instruction.count if operation == "blit" else STORED.get(operation) or LOADED[operation]

@@ -1,0 +1,294 @@
+"""Commands that ask about causes, and about the whole run. None of them moves the session."""
+from __future__ import annotations
+
+import pathlib
+from itertools import zip_longest
+
+from .accesses import Access
+from .answers import COMMANDS as LANGUAGE, Place, read_place
+from .causes import MOST_BYTES_ASKED, Cause, Question
+from .expressions import Unset, Wrong, evaluate, parts_of, temporaries_of
+from .pipe import Pipe
+from .scratch import Refused, frames_of
+from .session import MOVES
+from .shell import Shell, command
+from .stops import Answered, FixedState, questions_of
+from .timeline import Timeline, common
+from .values import BYTES, brief
+
+MOST_SHOWN = 1000
+CHANGES = (*MOVES, "break", "watch", "delete")
+
+
+@command("why", "why [%x | WIDTH ADDRESS | N ADDRESS | out N | jump | call | N | back]", "watch")
+def why(shell: Shell, rest: str) -> None:
+    """Says where a value comes from: the instruction that set it, with its operands; `why N` asks on about the N-th of
+    them, `why back` comes back. Alone it is about the end of the run or, before that, about how the run came here.
+    `why out N` is about a byte of the output (the first is 0), `why jump` and `why call` about how control came here.
+    `goto why` takes the session there."""
+    words = rest.split()
+    if words == ["back"]:
+        if len(shell.chain) < 2:
+            raise Refused("there is no cause before this one")
+        shell.chain.pop()
+    elif len(words) == 1 and words[0].strip("[]").isdigit():
+        shell.chain.append(shell.causes.of(question_numbered(shell, int(words[0].strip("[]")))))
+    else:
+        shell.chain = [asked(shell, words, rest)]
+    shell.say(*shell.chain[-1].shown())
+
+
+def question_numbered(shell: Shell, number: int) -> Question:
+    if not shell.chain:
+        raise Refused(f"{number}: nothing was asked yet; why, why %x or why WIDTH ADDRESS comes first")
+    questions = shell.chain[-1].questions
+    if not questions:
+        raise Refused("there is nothing more to ask about here; `why back` comes back to the cause before")
+    if not 1 <= number <= len(questions):
+        raise Wrong(f"{number}: a number from 1 to {len(questions)} was expected")
+    return questions[number - 1]
+
+
+def asked(shell: Shell, words: list[str], rest: str) -> Cause:
+    """The cause of what a line asks about in the session's own state."""
+    session, causes = shell.session, shell.causes
+    at = session.timeline
+    if words[:1] == ["out"]:
+        return of_output(shell, rest.partition("out")[2])
+    if not words and session.place.end:
+        return causes.of_end(at)
+    if words in ([], ["jump"], ["call"]):
+        there = shell.frames.frame(at, session.selected) if session.frames() else None
+        if not there:
+            raise Refused("the run is over: `why` alone asks about its end")
+        return causes.of(Question("call" if words == ["call"] else "control", there))
+    if len(words) == 1 and words[0].startswith("%"):
+        shell.temporary(words[0])
+        return causes.of(causes.temporary(words[0], shell.frames.frame(at, session.selected)))
+    if len(words) > 1 and (words[0] in BYTES or words[0].isdigit()):
+        count = BYTES.get(words[0]) or int(words[0])
+        if not 1 <= count <= MOST_BYTES_ASKED:
+            raise Wrong(f"{words[0]}: from 1 to {MOST_BYTES_ASKED} bytes were expected")
+        return causes.of(causes.memory(shell.number(rest.partition(words[0])[2]), count, at))
+    raise Wrong(f"{rest}: %TEMPORARY, WIDTH ADDRESS, N ADDRESS, out N, jump, call, back or a number was expected")
+
+
+def of_output(shell: Shell, text: str) -> Cause:
+    size = int(shell.session.ask("out")[0].split(" ")[1])
+    number = shell.evaluate(text).number if text.strip() else size - 1
+    if not 0 <= number < size:
+        expected = f"a byte from 0 to {size - 1} was expected" if size else "nothing was written yet"
+        raise Wrong(f"{text.strip() or 'out'}: {expected}")
+    return shell.causes.of_output(number, shell.session.timeline)
+
+
+def whole_run(shell: Shell) -> Timeline:
+    """The session's run up to here and on to its end, but no further than the limit of a run."""
+    here = shell.session.timeline
+    scratch = shell.session.scratch.go(here)
+    if not scratch.place.end:
+        scratch.after(scratch.ask(f"step {shell.launch.limit}")[0], "step")
+    return scratch.timeline
+
+
+def told_bounds(shell: Shell, run: Timeline) -> str:
+    scratch = shell.session.scratch.go(run)
+    return f"in the run from #0 to {scratch.place}" + ("" if scratch.place.end else ", which goes on")
+
+
+def counted(number: int, what: str) -> str:
+    return f"{number} {what}" + ("" if number == 1 else "s")
+
+
+def accesses(shell: Shell, rest: str, is_write: bool) -> None:
+    words = rest.split()
+    width = words[0] if len(words) > 1 and (words[0] in BYTES or words[0].isdigit()) else ""
+    address = shell.number(rest.partition(width)[2] if width else rest)
+    count = BYTES.get(width) or int(width or 1)
+    run = whole_run(shell)
+    found = sorted(shell.causes.accesses.touching(is_write, run, 0, address, count), key=lambda access: access.position)
+    lines = {access.position: access_told(shell, access, run) for access in found[:MOST_SHOWN]}
+    if is_write:
+        lines.update({poke.position: f"#{poke.position} by hand: {poke.line}" for poke in run.pokes
+                      if poke.line.startswith("poke")})
+    shell.say(*(lines[position] for position in sorted(lines)))
+    more = f" ({MOST_SHOWN} are shown)" if len(found) > MOST_SHOWN else ""
+    shell.say(f"{counted(len(found), 'write' if is_write else 'read')}{more} {told_bounds(shell, run)}")
+
+
+def access_told(shell: Shell, access: Access, run: Timeline) -> str:
+    """A line for a load or a store, with its operands' values."""
+    site, instruction = access.site, access.site.instruction
+    classes = shell.session.program.functions[site.function].temporaries
+    names = [operand.text for operand in instruction.operands if operand.is_temporary]
+    values = dict(zip(names, shell.session.scratch.go(run.at(access.position)).values(*names)))
+
+    def shown(operand) -> str:
+        if not operand.is_temporary:
+            return operand.text
+        value, width = values[operand.text], classes[operand.text]
+        name = shell.session.names.of(value) if width == "l" and value is not None else None
+        return f"{operand.text}={brief(value, width, name)}"
+    return (f"#{access.position} {site.function} {site.label} {site.index}  line {instruction.line}: "
+            f"{instruction.written(shown)}")
+
+
+@command("readers", "readers [WIDTH | N] ADDRESS", "expression", is_repeated=False)
+def readers(shell: Shell, rest: str) -> None:
+    """Lists all loads, blits and $puts of the run that read a byte, or one of a width or of N bytes, with positions."""
+    accesses(shell, rest, False)
+
+
+@command("writers", "writers [WIDTH | N] ADDRESS", "expression", is_repeated=False)
+def writers(shell: Shell, rest: str) -> None:
+    """Lists all stores, blits and pokes of the run that wrote there, also those that changed nothing, with positions."""
+    accesses(shell, rest, True)
+
+
+@command("when", "when CONDITION", "expression", is_repeated=False)
+def when(shell: Shell, rest: str) -> None:
+    """Lists the positions at which a condition of this function's temporaries and of memory begins to hold, and ceases
+    to. Of a recursive function the innermost frame counts. Where a value is unset or dead it doesn't hold."""
+    node = shell.parsed(rest)
+    program, frames = shell.session.program, shell.session.frames()
+    known = questions_of(node, program)
+    if known is None or any(part.kind == "word" for part in parts_of(node)):
+        raise Wrong(f"{rest}: addresses that are fixed, and no depth or position, were expected")
+    names = temporaries_of(node)
+    if names and not frames:
+        raise Refused("the run is over: go back to a frame of the function that is meant")
+    function = frames[shell.session.selected].function if frames else ""
+    for name in names:
+        shell.temporary(name)
+    stops = [f"watch {function} {name}" for name in names]
+    stops += [f"watch {part.text} {fixed_address(part, program)}" for part in parts_of(node) if part.kind == "memory"]
+    if not stops:
+        raise Wrong(f"{rest}: a condition of temporaries or memory was expected")
+    run = whole_run(shell)
+    spans = held_spans(shell, run, stops, ["where", *known], node, function if names else "")
+    for begin, end in spans[:MOST_SHOWN]:
+        shell.say(f"holds from #{begin}" + (f", no longer from #{end}" if end is not None else " on"))
+    shell.say(f"{counted(len(spans), 'time')} {told_bounds(shell, run)}")
+
+
+def fixed_address(part, program) -> int:
+    return evaluate(part.parts[0], FixedState(program)).number % (1 << 64)
+
+
+def held_spans(shell: Shell, run: Timeline, stops: list[str], questions: list[str], node,
+               function: str) -> list[tuple[int, int | None]]:
+    """The spans of positions in which a condition holds, by going back along the changes of what it is about."""
+    scratch = shell.session.scratch.go(run)
+    readings = Readings(shell, node, questions, function, run)
+    changes = [(run.position, readings.holds(scratch.place, scratch.ask(*questions)))]
+    changes += [(hit.position, readings.holds(hit.place, hit.answers)) for hit in scratch.hits(False, stops, questions)]
+    spans: list[tuple[int, int | None]] = []
+    end: int | None = None
+    was_held = False
+    for position, known in changes:
+        is_held = readings.in_caller(position) if known is None else known
+        if was_held and not is_held:
+            spans.append((position + 1, end))
+        elif is_held and not was_held:
+            end = None if position == run.position else position + 1
+        was_held = is_held
+    return (spans + [(0, end)] * was_held)[::-1]
+
+
+class Readings:
+    """Whether a condition holds at the changes of what it is about: a temporary of a function reads what it is in the
+    innermost frame of that function, which needn't be the innermost frame of all."""
+
+    def __init__(self, shell: Shell, node, questions: list[str], function: str, run: Timeline):
+        self.shell, self.node, self.questions, self.function, self.run = shell, node, questions, function, run
+        self.scratch, self.program = shell.session.scratch, shell.session.program
+
+    def holds(self, place, answers: list[list[str]]) -> bool | None:
+        """Of a state whose answers are known; None where the frame that is meant isn't the innermost one."""
+        known = dict(zip(self.questions, answers))
+        if self.function and place.function != self.function:
+            frames = frames_of(known["where"])
+            return None if any(frame.function == self.function for frame in frames) else False
+        return self.value(place, known)
+
+    def value(self, place: Place, known: dict[str, list[str]]) -> bool:
+        try:
+            return evaluate(self.node, Answered(self.program, place, known, self.scratch.ask)).number != 0
+        except Unset:
+            return False
+
+    def in_caller(self, position: int) -> bool:
+        """The temporaries of a frame that isn't the innermost are those of the state before its call."""
+        at = self.run.at(position)
+        frames = self.scratch.go(at).where()
+        known = dict(zip(self.questions, self.scratch.ask(*self.questions)))
+        index = next(index for index, frame in enumerate(frames) if frame.function == self.function)
+        names = [f"print {name}" for name in temporaries_of(self.node)]
+        known.update(zip(names, self.scratch.go(self.shell.frames.frame(at, index)).ask(*names)))
+        return self.value(Place(position, self.function), known)
+
+
+@command("compare", "compare FILE", "file", is_repeated=False)
+def compare(shell: Shell, rest: str) -> None:
+    """Says where this session parts from a recorded script: at which line, and from which position on the states are
+    others. Where FILE.script has a FILE.transcript beside it, also where that no longer is what the program answers."""
+    if not rest:
+        raise Wrong("compare FILE was expected")
+    try:
+        recorded = pathlib.Path(rest).read_text(errors="replace").split("\n")
+    except OSError as error:
+        raise Refused(f"{rest}: {error.strerror}") from None
+    there, lines, answers = played(shell, recorded)
+    here = shell.session.lines
+    parted = next((n for n, (one, other) in enumerate(zip_longest(here, lines)) if one != other), None)
+    if parted is None:
+        shell.say(f"the same {len(here)} lines")
+    else:
+        shell.say(f"line {parted + 1} that changes the session: here {told_line(here, parted)}, "
+                  f"there {told_line(lines, parted)}")
+    mine = shell.session.timeline
+    shared = common(mine, there)
+    if mine == there:
+        shell.say(f"the same state, #{mine.position}")
+    else:
+        shell.say(f"the same states up to #{shared}; here the session stands at #{mine.position}, "
+                  f"there at #{there.position}")
+    shell.say(*transcript_difference(rest, answers))
+
+
+def told_line(lines: list[str], index: int) -> str:
+    return f"`{lines[index]}`" if index < len(lines) else "the end"
+
+
+def played(shell: Shell, recorded: list[str]) -> tuple[Timeline, list[str], list[str]]:
+    """Where a script leads, those of its lines that changed the session, and all that was answered."""
+    pipe = Pipe(shell.launch.command(shell.launch.history), shell.waiting.check)
+    timeline, lines, answers = Timeline(), [], list(pipe.loaded)
+    try:
+        for line in recorded:
+            word = line.split()[0] if line.split() else ""
+            if word == "quit":
+                break
+            answer = pipe.ask(line)[0] if word in LANGUAGE else ["no: unknown command"] * bool(word)
+            answers += answer
+            if word in CHANGES and not answer[0].startswith("no: "):
+                lines.append(" ".join(line.split()))
+                place = answer[-1]
+                if word in MOVES:
+                    timeline = timeline.moved(read_place(place).position, line)
+    finally:
+        pipe.close()
+    return timeline, lines, answers
+
+
+def transcript_difference(file: str, answers: list[str]) -> list[str]:
+    """Where a transcript beside the script differs from what was answered now."""
+    path = pathlib.Path(file).with_suffix(".transcript")
+    if path == pathlib.Path(file) or not path.exists():
+        return []
+    record = path.read_text(errors="replace").split("\n")[:-1]
+    for number, (now, before) in enumerate(zip_longest(answers, record), 1):
+        if now != before:
+            return [f"{path.name} line {number}: now {now or 'the end'}, recorded {before or 'the end'}"]
+    return [f"{path.name} is what the program answers"]
+

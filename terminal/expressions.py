@@ -1,0 +1,227 @@
+"""Expressions of numbers, temporaries, names and memory, as in `%i > 3 && w[$table+4*%i] != 0`.
+
+Values are whole numbers without a bound. A temporary or a piece of memory counts as the signed number of its class;
+`u(..)` is the number without a sign. Equality looks at the bits of the narrower class, so that `%x == 4294967295` holds
+for -1.
+"""
+from __future__ import annotations
+
+import operator
+from dataclasses import dataclass
+from typing import Callable, Iterator, Protocol
+
+from .text import NAME
+from .values import BYTES, signed, unsigned
+
+SYMBOLS = ("<<", ">>", "<=", ">=", "==", "!=", "&&", "||", *"+-*/%&|^~!<>()[],")
+WORDS = ("depth", "position")
+LEVELS = (("||",), ("&&",), ("|",), ("^",), ("&",), ("==", "!="), ("<", "<=", ">", ">="), ("<<", ">>"), ("+", "-"),
+          ("*", "/", "%"))
+MOST_SHIFT, MOST_BITS = 64, 128
+
+
+class Wrong(Exception):
+    """What is wrong with a line, in words for whoever typed it."""
+
+
+class Unset(Exception):
+    """A value that can't be had in this state: a temporary that is unset or isn't there, or dead bytes."""
+
+
+class State(Protocol):
+    """Where an expression's values come from."""
+    def temporary(self, name: str) -> tuple[int, str]: ...
+    def bytes(self, address: int, count: int) -> int: ...
+    def address(self, name: str) -> int: ...
+    def word(self, name: str) -> int: ...
+
+
+@dataclass(frozen=True)
+class Value:
+    """A number, and the class whose bits it has, or none for a whole number."""
+    number: int
+    width: str = ""
+
+
+@dataclass(frozen=True)
+class Node:
+    """A part of an expression."""
+    kind: str
+    text: str = ""
+    parts: tuple[Node, ...] = ()
+
+
+def lexed(text: str) -> Iterator[str]:
+    """The words and symbols of an expression; `%` begins a temporary where a name follows at once."""
+    at = 0
+    while at < len(text):
+        if text[at].isspace():
+            at += 1
+            continue
+        behind = at + 1
+        is_name = text[at] in "$%" and behind < len(text) and text[behind] in NAME and not text[behind].isdigit()
+        if text[at] == "'" and len(text) > at + 2 and text[at + 2] == "'":
+            behind = at + 3
+        elif is_name or text[at] in NAME:
+            while behind < len(text) and text[behind] in NAME:
+                behind += 1
+        else:
+            behind = at + max((len(symbol) for symbol in SYMBOLS if text.startswith(symbol, at)), default=0)
+            if behind == at:
+                raise Wrong(f"{text[at:]!r}: an operator, a number, %temporary or $name was expected")
+        yield text[at:behind]
+        at = behind
+
+
+class Parser:
+    def __init__(self, text: str):
+        self.words = [*lexed(text), ""]
+        self.at = 0
+
+    def take(self, *wanted: str) -> str:
+        """The next word, where it is one of these or these are none; else nothing."""
+        word = self.words[self.at]
+        if not word or wanted and word not in wanted:
+            return ""
+        self.at += 1
+        return word
+
+    def expect(self, wanted: str) -> None:
+        if not self.take(wanted):
+            raise Wrong(f"{self.words[self.at] or 'the end'!r}: {wanted} was expected")
+
+    def binary(self, level: int = 0) -> Node:
+        if level == len(LEVELS):
+            return self.unary()
+        node = self.binary(level + 1)
+        while word := self.take(*LEVELS[level]):
+            node = Node("binary", word, (node, self.binary(level + 1)))
+        return node
+
+    def unary(self) -> Node:
+        word = self.take("-", "~", "!", "+")
+        return Node("unary", word, (self.unary(),)) if word else self.single()
+
+    def single(self) -> Node:
+        word = self.take()
+        if word == "(":
+            node = self.binary()
+            self.expect(")")
+            return node
+        if word in ("u", "s") and self.take("("):
+            node = Node(word, parts=(self.binary(),))
+            self.expect(")")
+            return node
+        if word in BYTES and self.take("["):
+            node = Node("memory", word, (self.binary(),))
+            self.expect("]")
+            return node
+        if word[:1] in ("$", "%") and len(word) > 1:
+            return Node("global" if word[0] == "$" else "temporary", word)
+        if word in WORDS:
+            return Node("word", word)
+        return Node("number", str(number(word)))
+
+
+def number(word: str) -> int:
+    """The value of a number: decimal, hexadecimal, octal (0o), binary (0b), or a character between single quotes."""
+    if len(word) == 3 and word[0] == word[2] == "'":
+        return ord(word[1])
+    try:
+        return int(word) if word.isdigit() else int(word, 0)
+    except ValueError:
+        expected = "a number, %temporary, $name or w[ADDRESS] was expected"
+        raise Wrong(f"{word or 'the end'!r}: {expected}") from None
+
+
+def parse(text: str) -> Node:
+    parser = Parser(text)
+    node = parser.binary()
+    if parser.words[parser.at]:
+        raise Wrong(f"{parser.words[parser.at]!r}: the end of the expression, or an operator, was expected")
+    return node
+
+
+def divided(a: int, b: int) -> int:
+    if b == 0:
+        raise Unset("division by zero")
+    quotient = abs(a) // abs(b)
+    return quotient if (a < 0) == (b < 0) else -quotient
+
+
+def shifted(call: Callable[[int, int], int]) -> Callable[[int, int], int]:
+    def shift(a: int, b: int) -> int:
+        if not 0 <= b < MOST_SHIFT:
+            raise Unset(f"a shift by {b}")
+        return call(a, b)
+    return shift
+
+
+BINARY: dict[str, Callable[[int, int], int]] = {
+    "+": operator.add, "-": operator.sub, "*": operator.mul, "/": divided, "%": lambda a, b: a - b * divided(a, b),
+    "<<": shifted(operator.lshift), ">>": shifted(operator.rshift), "&": operator.and_, "|": operator.or_,
+    "^": operator.xor, "<": operator.lt, "<=": operator.le, ">": operator.gt, ">=": operator.ge,
+}
+UNARY: dict[str, Callable[[int], int]] = {"-": operator.neg, "~": operator.invert, "+": operator.pos,
+                                          "!": lambda a: int(a == 0)}
+
+
+def is_equal(a: Value, b: Value) -> bool:
+    """Whether two values have the same bits in the narrower of their classes."""
+    width = "w" if "w" in (a.width, b.width) else "l" if "l" in (a.width, b.width) else ""
+    if width:
+        return unsigned(a.number, width) == unsigned(b.number, width)
+    return a.number == b.number
+
+
+def evaluate(node: Node, state: State) -> Value:
+    if node.kind == "number":
+        return Value(int(node.text))
+    if node.kind == "temporary":
+        value, width = state.temporary(node.text)
+        return Value(signed(value, width), width)
+    if node.kind == "global":
+        return Value(state.address(node.text), "l")
+    if node.kind == "word":
+        return Value(state.word(node.text))
+    if node.kind == "memory":
+        address = unsigned(evaluate(node.parts[0], state).number, "l")
+        width = "l" if node.text == "l" else "w"
+        return Value(signed(state.bytes(address, BYTES[node.text]), node.text), width)
+    first = evaluate(node.parts[0], state)
+    if node.kind in ("u", "s"):
+        cut = unsigned if node.kind == "u" else signed
+        return Value(cut(first.number, first.width or "l"))
+    if node.kind == "unary":
+        return Value(UNARY[node.text](first.number), first.width if node.text in "-~" else "")
+    return combined(node, first, state)
+
+
+def combined(node: Node, first: Value, state: State) -> Value:
+    """The value of a binary operation whose first operand is known; && and || look at the second where it counts."""
+    if node.text in ("&&", "||"):
+        if bool(first.number) == (node.text == "||"):
+            return Value(int(node.text == "||"))
+        return Value(int(bool(evaluate(node.parts[1], state).number)))
+    second = evaluate(node.parts[1], state)
+    if node.text in ("==", "!="):
+        return Value(int(is_equal(first, second) == (node.text == "==")))
+    result = int(BINARY[node.text](first.number, second.number))
+    if abs(result) >> MOST_BITS:
+        raise Unset(f"a value of more than {MOST_BITS} bits")
+    return Value(result, max(first.width, second.width, key=len) if node.text in "+-*/%&|^" else "")
+
+
+def parts_of(node: Node) -> Iterator[Node]:
+    yield node
+    for part in node.parts:
+        yield from parts_of(part)
+
+
+def temporaries_of(node: Node) -> list[str]:
+    return sorted({part.text for part in parts_of(node) if part.kind == "temporary"})
+
+
+def is_fixed(node: Node) -> bool:
+    """Whether an expression has the same value in each state."""
+    return all(part.kind in ("number", "global", "binary", "unary", "u", "s") for part in parts_of(node))

@@ -1,0 +1,331 @@
+"""Commands that look at the state where the session stands, and change nothing."""
+from __future__ import annotations
+
+import pathlib
+import shlex
+
+from .answers import read_output
+from .expressions import Unset, Wrong
+from .scratch import Refused
+from .shell import COMMANDS, Shell, command
+from .values import BYTES, FORMATS, formatted, shown_bytes
+
+MOST_UNITS = 4096
+AROUND_LIST = 5
+SIZES = {"b": "b", "h": "h", "w": "w", "l": "l", "g": "l"}
+PER_LINE = {"b": 8, "h": 8, "w": 4, "l": 2}
+
+
+@command("print p inspect", "print[/FORMAT] EXPRESSION", "expression")
+def print_(shell: Shell, rest: str) -> None:
+    """Shows a value: of a temporary of the selected frame (%i), of memory (w[$table+8]; b, h, w, l), of an expression.
+    FORMAT is d signed, u unsigned, x hexadecimal, o octal, t binary, c characters, f float, a address."""
+    letters, text = formatted_words(rest)
+    if not text:
+        raise Wrong("print EXPRESSION was expected")
+    try:
+        shell.say(shell.shown(text, letters))
+    except Unset as error:
+        shell.say(f"{text} unset" if str(error) == f"{text} is unset" else f"{text}: {error}")
+
+
+def formatted_words(rest: str) -> tuple[str, str]:
+    """The letters behind a slash, and the rest."""
+    if not rest.startswith("/"):
+        return "", rest.strip()
+    letters, _, text = rest[1:].partition(" ")
+    return letters, text.strip()
+
+
+@command("x", "x/NUF ADDRESS", "expression")
+def examine(shell: Shell, rest: str) -> None:
+    """Shows memory: N units of U (b, h, w, l; g is l) in the format F (d u x o t c f a, or s for a text up to its zero
+    byte), from an address on: x/4wx $table+8, x/s %text. Without an address it goes on behind the last one."""
+    letters, text = formatted_words(rest)
+    count, unit, letter = read_format(shell, letters)
+    address = shell.number(text) if text else shell.examined
+    if letter == "s":
+        shell.say(*texts_at(shell, address, count))
+        return
+    size = BYTES[unit]
+    found = shell.session.memory(address, count * size)
+    per_line = PER_LINE[unit]
+    for first in range(0, count, per_line):
+        shown = []
+        for at in range(first, min(first + per_line, count)):
+            piece = found[at * size:(at + 1) * size]
+            shown.append("--" if None in piece else unit_shown(shell, piece, unit, letter))
+        there = address + first * size
+        shell.say(f"{named(shell, there)}: {'  '.join(shown)}")
+    shell.examined = address + count * size
+    # An empty line goes on from there.
+    shell.last = f"x/{letters}"
+
+
+def read_format(shell: Shell, letters: str) -> tuple[int, str, str]:
+    """The count, unit and format of x; what isn't given is as it was."""
+    digits = letters[:len(letters) - len(letters.lstrip("0123456789"))]
+    count = int(digits) if digits else 1
+    for letter in letters[len(digits):]:
+        if letter in SIZES:
+            shell.unit = SIZES[letter]
+        elif letter in FORMATS:
+            shell.format = letter
+        else:
+            raise Wrong(f"/{letters}: a number, a unit of b h w l, and a format of {' '.join(FORMATS)} were expected")
+    if not 1 <= count <= MOST_UNITS:
+        raise Wrong(f"/{letters}: from 1 to {MOST_UNITS} units were expected")
+    return count, shell.unit, shell.format
+
+
+def unit_shown(shell: Shell, piece: list[int], unit: str, letter: str) -> str:
+    value = int.from_bytes(bytes(piece), "little")
+    if letter == "a":
+        return named(shell, value)
+    if letter == "x":
+        return f"0x{value:0{2 * BYTES[unit]}x}"
+    return formatted(value, unit, letter)
+
+
+def texts_at(shell: Shell, address: int, count: int) -> list[str]:
+    """Texts one behind the other, each up to its zero byte."""
+    found = []
+    for _ in range(count):
+        text, there = bytearray(), address
+        while len(text) < MOST_UNITS:
+            byte = shell.session.memory(address, 1)[0]
+            if not byte:
+                break
+            text.append(byte)
+            address += 1
+        address += 1
+        found.append(f"{named(shell, there)}: {shown_bytes(bytes(text))}")
+    shell.examined = address
+    return found
+
+
+def named(shell: Shell, address: int) -> str:
+    """An address with its name."""
+    name = shell.frames.name(address, "l", shell.session.timeline)
+    return f"{address} {name}" if name else str(address)
+
+
+@command("mem", "mem ADDRESS [N]", "expression")
+def mem(shell: Shell, rest: str) -> None:
+    """Shows N bytes (16 if it isn't said) in hexadecimal; -- is a byte that isn't live. `x` has other formats."""
+    address, count = (rest.rsplit(" ", 1) + ["16"])[:2] if " " in rest else (rest, "16")
+    shell.session.memory(shell.number(address), 1)
+    found = shell.session.memory(shell.number(address), shell.count(count, MOST_UNITS))
+    shell.say(" ".join("--" if byte is None else f"{byte:02x}" for byte in found))
+
+
+@command("display", "display[/FORMAT] [EXPRESSION]", "expression", is_repeated=False)
+def display(shell: Shell, rest: str) -> None:
+    """Shows an expression after each stop; without one, shows all that are displayed now."""
+    letters, text = formatted_words(rest)
+    if not text:
+        for number, (each, shown) in shell.displays.items():
+            shell.show_display(number, each, shown)
+        return
+    shell.parsed(text)
+    number = max(shell.displays, default=0) + 1
+    shell.displays[number] = (letters, text)
+    shell.show_display(number, letters, text)
+
+
+@command("undisplay", "undisplay [N]", is_repeated=False)
+def undisplay(shell: Shell, rest: str) -> None:
+    """Takes a display away by its number; without one, all."""
+    if not rest:
+        shell.displays.clear()
+    elif not rest.isdigit() or int(rest) not in shell.displays:
+        raise Wrong(f"{rest}: the number of a display was expected; there are: "
+                    f"{', '.join(map(str, shell.displays)) or 'none'}")
+    else:
+        del shell.displays[int(rest)]
+
+
+@command("bt backtrace where", "bt [N]", "")
+def backtrace(shell: Shell, rest: str) -> None:
+    """Shows the frames, or N of them, with the lines where they stand. The innermost is frame 0; the selected one is
+    marked."""
+    frames = shell.session.frames()
+    if not frames:
+        raise Refused("no frame: the run is over")
+    for index, place in enumerate(frames[:shell.count(rest, 1000, len(frames))]):
+        # A caller stands behind its call, which is the line to show.
+        at = place.index - (index > 0)
+        line = shell.session.program.line_of(place.function, place.label, at)
+        mark = ">" if index == shell.session.selected else " "
+        source = shell.screen.map.place(line)
+        text = shell.session.program.functions[place.function].at(place.label, at).written()
+        shell.say(f"{mark} {index}  {place.function} {place.label} {place.index}  line {line}: {text}"
+                  + (f"  ({source})" if source else ""))
+
+
+def select(shell: Shell, index: int) -> None:
+    frames = shell.session.frames()
+    if not frames:
+        raise Refused("no frame: the run is over")
+    if not 0 <= index < len(frames):
+        raise Refused("this is the innermost frame" if index < 0 else f"the outermost frame is {len(frames) - 1}")
+    shell.session.selected = index
+    place = frames[index]
+    shell.say(f"frame {index} {place.function} {place.label} {place.index}")
+    if index:
+        line = shell.session.program.line_of(place.function, place.label, place.index - 1)
+        shell.say(*shell.screen.text_lines(line - 2, line + 2, line, []))
+    else:
+        shell.say(*shell.screen.place_lines())
+
+
+@command("up", "up [N]")
+def up(shell: Shell, rest: str) -> None:
+    """Selects the frame that called this one, so that print, temps and expressions look there."""
+    select(shell, shell.session.selected + shell.count(rest, 1000))
+
+
+@command("down", "down [N]")
+def down(shell: Shell, rest: str) -> None:
+    """Selects the frame that this one called."""
+    select(shell, shell.session.selected - shell.count(rest, 1000))
+
+
+@command("frame f", "frame [N]")
+def frame(shell: Shell, rest: str) -> None:
+    """Selects a frame by its number in `bt`; without one, shows the selected frame."""
+    if rest and not rest.isdigit():
+        raise Wrong(f"{rest}: the number of a frame was expected")
+    select(shell, int(rest) if rest else shell.session.selected)
+
+
+@command("temps locals", "temps")
+def temps(shell: Shell, rest: str) -> None:
+    """Shows all temporaries of the selected frame."""
+    frames = shell.session.frames()
+    if not frames:
+        raise Refused("no frame: the run is over")
+    session = shell.session
+    scratch = session.scratch.go(shell.frames.frame(session.timeline, session.selected))
+    values = scratch.temporaries()
+    if not values:
+        shell.say("none")
+    for name, value in values.items():
+        shell.say(f"{name} unset" if value is None else shell.shown(name, ""))
+
+
+@command("list l", "list [LINE | $f | @b]", "place")
+def list_(shell: Shell, rest: str) -> None:
+    """Shows the text around where the run stands, then on from there; or around a line, a function or a label."""
+    program, place = shell.session.program, shell.session.place
+    here = 0
+    frames = shell.session.frames()
+    if frames:
+        here = program.line_of(frames[0].function, frames[0].label, frames[0].index)
+    if rest:
+        middle = shell.line_of(rest)
+    elif shell.line_shown:
+        middle = shell.line_shown + AROUND_LIST + 1
+    else:
+        middle = here or 1 + AROUND_LIST
+    if middle - AROUND_LIST > len(program.lines):
+        raise Refused(f"the text has {len(program.lines)} lines")
+    beside = []
+    if here and not place.end and abs(middle - here) <= AROUND_LIST:
+        instruction = program.functions[place.function].at(place.label, place.index)
+        beside = shell.screen.operands(place.function, instruction) + shell.screen.jump_said(place, instruction)
+    shell.say(*shell.screen.text_lines(middle - AROUND_LIST, middle + AROUND_LIST, here, beside))
+    shell.line_shown = middle + AROUND_LIST
+
+
+@command("out", "out")
+def out(shell: Shell, rest: str) -> None:
+    """Shows all that the program has written up to here."""
+    written = read_output(shell.session.ask("out")[0])
+    shell.say(f"{len(written)} bytes", *(shown_bytes(line) for line in written.splitlines(keepends=True)))
+
+
+@command("info i", "info stops|locals|frame|display|checkpoints|functions|data|symbol ADDRESS|session", "info")
+def info(shell: Shell, rest: str) -> None:
+    """Shows the stops, the temporaries, the frame, what is displayed, the checkpoints, the functions, the data, whose an
+    address is, or how large the session is."""
+    word, _, more = rest.partition(" ")
+    known = {"stops": "stops", "breakpoints": "stops", "b": "stops", "watchpoints": "stops", "locals": "temps",
+             "temps": "temps", "display": "display", "frame": "frame", "f": "frame", "out": "out"}
+    if word in known:
+        COMMANDS[known[word]].call(shell, "")
+    elif word in OTHERS:
+        shell.say(*OTHERS[word](shell, more))
+    else:
+        expected = sorted({*known.values(), *OTHERS})
+        raise Wrong(f"{word or 'info'}: one of {', '.join(expected)} was expected")
+
+
+def functions_told(shell: Shell, _rest: str) -> list[str]:
+    return [f"line {function.line}: {name}({', '.join(' '.join(each) for each in function.parameters)})"
+            for name, function in shell.session.program.functions.items()]
+
+
+def data_told(shell: Shell, _rest: str) -> list[str]:
+    return [f"line {data.line}: {data.name} {data.address}, {data.size} bytes"
+            for data in shell.session.program.data] or ["none"]
+
+
+def symbol_told(shell: Shell, rest: str) -> list[str]:
+    return [named(shell, shell.number(rest))]
+
+
+def checkpoints_told(shell: Shell, _rest: str) -> list[str]:
+    return [f"{name}: #{there.position}" for name, there in shell.checkpoints.items()] or ["none"]
+
+
+def session_told(shell: Shell, _rest: str) -> list[str]:
+    session = shell.session
+    return [f"{shlex.join(shell.named)}: #{session.place.position}, {len(session.lines)} lines, "
+            f"{session.memory_taken() // (1 << 20)} MB"]
+
+
+OTHERS = {"functions": functions_told, "data": data_told, "symbol": symbol_told, "checkpoints": checkpoints_told,
+          "session": session_told}
+
+
+@command("save", "save FILE", "file", is_repeated=False)
+def save(shell: Shell, rest: str) -> None:
+    """Writes the session's lines to a file: a script that leads to the same state, and says how to play it."""
+    if not rest:
+        raise Wrong("save FILE was expected")
+    try:
+        pathlib.Path(rest).write_text("".join(line + "\n" for line in shell.session.lines))
+    except OSError as error:
+        raise Refused(f"{rest}: {error.strerror}") from None
+    shell.say(f"{len(shell.session.lines)} lines; to play them: {shell.replayed(rest)}")
+
+
+@command("help h", "help [COMMAND]", "command", is_repeated=False)
+def help_(shell: Shell, rest: str) -> None:
+    """Lists the commands, or tells what one does."""
+    if rest:
+        found = shell.command_named(rest)
+        names = f"   also: {', '.join(found.names[1:])}" if len(found.names) > 1 else ""
+        shell.say(found.usage + names, *shell.screen.filled(found.help, "    "))
+        return
+    for title, names in TOPICS.items():
+        shell.say(*shell.screen.filled(f"{title}: " + ", ".join(short(name) for name in names.split()), "  "))
+    shell.say(*shell.screen.filled(HELP, ""))
+
+
+def short(name: str) -> str:
+    """A command with the shortest of its other names."""
+    others = [other for other in COMMANDS[name].names if len(other) <= 2 and other != name]
+    return f"{name} ({others[0]})" if others else name
+
+
+HELP = "An empty line repeats. `help COMMAND` tells more; Ctrl-C stops a run; docs/TERMINAL.md has it all."
+TOPICS = {
+    "move": "step next finish continue run back reverse-next reverse-finish reverse goto checkpoint restart",
+    "look": "print x display undisplay bt up down frame temps list mem out info",
+    "stop": "break tbreak watch ignore condition stops delete",
+    "ask": "why readers writers when compare",
+    "change": "set poke",
+    "session": "save help quit",
+}

@@ -1,0 +1,133 @@
+"""The debugger at a pipe.
+
+A command's answer ends where that of the next line begins. So behind commands goes a line that is none: it changes nothing
+and is answered by `no: unknown command`, which no command of the language answers and no other answer contains as a line.
+"""
+from __future__ import annotations
+
+import fcntl
+import os
+import select
+import subprocess
+import time
+from typing import Callable
+
+MARK = b"?\n"
+MARKED_LINE = "no: unknown command"
+MARKED = MARKED_LINE.encode() + b"\n"
+# Commands whose answers have as many lines as there are frames, temporaries, instructions or stops.
+UNBOUNDED = frozenset(("where", "temps", "list", "stops"))
+# The debugger reads so many bytes of a script and no more (docs/DEBUGGER.md).
+MOST_SENT = 1 << 24
+PIECE = WIDE = 1 << 18
+PULSE = 0.1
+# Bytes that are sent with many commands, and how long their answers may gather, in seconds.
+PIECE_OF_MANY, MOMENT = 1 << 10, 0.0005
+
+
+class Ended(Exception):
+    """The debugger's process ended, with that status."""
+
+    def __init__(self, status: int):
+        super().__init__(f"status {status}" if status >= 0 else f"signal {-status}")
+        self.status = status
+
+
+class Pipe:
+    """A process of the debugger, in a process group of its own, so that Ctrl-C at the terminal doesn't reach it."""
+
+    def __init__(self, words: list[str], pulse: Callable[[], None] = lambda: None):
+        self.process = subprocess.Popen(["qrev", *words[1:]], executable=words[0], stdin=subprocess.PIPE,
+                                        stdout=subprocess.PIPE, start_new_session=True)
+        os.set_blocking(self.process.stdin.fileno(), False)
+        self.widen()
+        self.pulse, self.sent = pulse, 0
+        try:
+            self.loaded = self.exchange(MARK, 1)[:-len(MARKED)].decode("latin-1").splitlines()
+        except Ended as end:
+            self.loaded = self.rest.decode("latin-1").splitlines()
+            self.refused = end
+        else:
+            self.refused = None
+
+    def widen(self) -> None:
+        """Lets more stand in the pipes than the system gives at first, so that neither side waits for the other often."""
+        for stream in (self.process.stdin, self.process.stdout):
+            try:
+                fcntl.fcntl(stream.fileno(), fcntl.F_SETPIPE_SZ, WIDE)
+            except (OSError, AttributeError):
+                pass
+
+    def exchange(self, sent: bytes, marks: int) -> bytes:
+        """Writes all of it while it reads, until the answer to a mark came so many times."""
+        source, sink = self.process.stdout.fileno(), self.process.stdin.fileno()
+        left, self.rest = memoryview(sent), bytearray()
+        self.sent += len(sent)
+        while marks:
+            ready, room, _ = select.select([source], [sink] if left else [], [], PULSE)
+            self.pulse()
+            if room:
+                try:
+                    left = left[os.write(sink, left[:PIECE]):]
+                except BrokenPipeError:
+                    left = left[:0]
+            if ready:
+                if len(sent) > PIECE_OF_MANY:
+                    # Each answer comes for itself: after a moment many can be read at once.
+                    time.sleep(MOMENT)
+                piece = os.read(source, PIECE)
+                if not piece:
+                    raise Ended(self.process.wait())
+                # A mark may have begun in the piece before, but can't have been whole there.
+                begin = max(0, len(self.rest) - len(MARKED) + 1)
+                self.rest += piece
+                marks -= self.rest.count(MARKED, begin)
+        return bytes(self.rest)
+
+    def ask(self, *lines: str) -> list[list[str]]:
+        """The lines of the answer to each command.
+
+        Most answers tell by their first line how many there are; a mark is needed behind the others, and at the end.
+        """
+        if not lines:
+            return []
+        sent = "".join(line + ("\n?\n" if line in UNBOUNDED else "\n") for line in lines).encode("latin-1", "replace")
+        marks = 1 + sum(line in UNBOUNDED for line in lines)
+        told = self.exchange(sent + MARK, marks).decode("latin-1").split("\n")
+        answers, at = [], 0
+        for line in lines:
+            if line in UNBOUNDED:
+                behind = told.index(MARKED_LINE, at)
+                answers.append(told[at:behind])
+                at = behind + 1
+            else:
+                behind = at + (2 if told[at].startswith("stop: ") else 1)
+                answers.append(told[at:behind])
+                at = behind
+        return answers
+
+    def ask_text(self, text: str) -> str:
+        """All that is answered to some lines, for answers that tell themselves where they end."""
+        return self.exchange(text.encode("latin-1") + MARK, 1)[:-len(MARKED)].decode("latin-1")
+
+    def has_room(self, size: int) -> bool:
+        """Whether so many bytes more may be sent."""
+        return self.sent + size + len(MARK) < MOST_SENT
+
+    def memory(self) -> int:
+        """How many bytes of memory the process holds, or 0 where the system doesn't tell."""
+        try:
+            with open(f"/proc/{self.process.pid}/statm", "rb") as told:
+                return int(told.read().split()[1]) * os.sysconf("SC_PAGE_SIZE")
+        except (OSError, ValueError, IndexError):
+            return 0
+
+    def close(self) -> None:
+        """Ends the process, whatever it does."""
+        self.process.kill()
+        self.process.wait()
+        for stream in (self.process.stdin, self.process.stdout):
+            try:
+                stream.close()
+            except BrokenPipeError:
+                pass

@@ -1,0 +1,258 @@
+"""A second process of the debugger, in which questions are asked that must not move the session.
+
+It goes to where the session stands, or stood, by steps and the pokes that were made, and finds places of the run by
+breakpoints and watches: many hits at a time go through the pipe, with what is asked at each of them.
+"""
+from __future__ import annotations
+
+import re
+import time
+from dataclasses import dataclass
+from typing import Callable, Iterator, NamedTuple, TypeVar
+
+from .answers import Place, read_bytes, read_moved, read_place, read_value
+from .pipe import Ended, Pipe
+from .timeline import Timeline, lines_between
+from .waiting import Interrupted, Waiting
+
+SLICE = 1_000_000
+MOST_AT_ONCE = 4096
+# A batch that took less than this, in seconds, is followed by a larger one.
+SHORT = 0.03
+MOST_BYTES = 256
+# A stop as it is told: why, by which stop if by one, and where.
+TOLD = re.compile(r"stop: (\w+)(?: (\d+))?\n(#(\d+) .*)\n")
+ENDS = ("end", "start", "memory")
+# What is told where a history with a bound begins.
+OLDEST, OLDER = "stop: oldest", "no: history ends"
+
+
+class Refused(Exception):
+    """What a command can't do, in words for whoever typed it."""
+
+
+Answer = TypeVar("Answer")
+
+
+@dataclass(frozen=True)
+class Launch:
+    """How a session is begun: the debugger, the copy of the program's text, and the words behind it."""
+    debugger: str
+    file: str
+    words: tuple[str, ...]
+    limit: int = SLICE
+    history: int | None = None
+
+    def command(self, history: int | None) -> list[str]:
+        bound = ["--history", str(history)] if history else []
+        file = [self.file] if self.file else []
+        return [self.debugger, *file, *self.words, "--limit", str(self.limit), *bound]
+
+
+class Hit(NamedTuple):
+    """A stop of a run: where, by which of the lines that were given (None at the end), and what was answered there."""
+    position: int
+    stop: int | None
+    line: str
+    answers: list[list[str]]
+
+    @property
+    def place(self) -> Place:
+        return read_place(self.line)
+
+
+class Scratch:
+    def __init__(self, launch: Launch, waiting: Waiting):
+        self.launch, self.waiting = launch, waiting
+        self.pipe: Pipe | None = None
+        self.timeline, self.place = Timeline(), Place(0)
+        self.stops: list[str] = []
+        self.numbers: dict[int, int] = {}
+
+    @property
+    def history(self) -> int | None:
+        """Where the session keeps its last moves only, so does this one, a million at least; it begins anew for more."""
+        return max(SLICE, self.launch.history) if self.launch.history else None
+
+    def drop(self) -> None:
+        if self.pipe:
+            self.pipe.close()
+        self.pipe, self.timeline, self.numbers = None, Timeline(), {}
+
+    def start(self) -> None:
+        self.drop()
+        self.pipe = Pipe(self.launch.command(self.history), self.waiting.check)
+        if self.pipe.refused:
+            raise self.pipe.refused
+        self.place = read_place(self.pipe.loaded[1])
+
+    def ask(self, *lines: str) -> list[list[str]]:
+        """Answers of the process that is there. Where it is broken off it is gone, and the next question begins another."""
+        return self.asked(sum(map(len, lines)) + 3 * len(lines), lambda pipe: pipe.ask(*lines))
+
+    def ask_text(self, text: str) -> str:
+        """All that is answered to lines whose answers tell where they end."""
+        return self.asked(len(text), lambda pipe: pipe.ask_text(text))
+
+    def asked(self, size: int, call: Callable[[Pipe], Answer]) -> Answer:
+        """What a call of the process gives, which sends so many bytes."""
+        if not self.pipe:
+            self.start()
+        if not self.pipe.has_room(size):
+            self.begin_anew()
+        try:
+            return call(self.pipe)
+        except (Interrupted, Ended):
+            self.drop()
+            raise
+
+    def go(self, there: Timeline) -> Scratch:
+        """Goes to another state of the session's run; where the process was ended meanwhile, with another one."""
+        if not self.pipe or self.pipe.process.poll() is not None:
+            self.start()
+        if self.timeline != there and not self.move(there):
+            self.start()
+            self.move(there)
+        return self
+
+    def move(self, there: Timeline) -> bool:
+        """Whether the moves led there; they don't where they are no longer kept."""
+        for line in lines_between(self.timeline, there):
+            word, _, count = line.partition(" ")
+            left = int(count) if word in ("step", "back") else 0
+            while left > 4 * SLICE:
+                self.waiting.tell(self.after(self.ask(f"{word} {4 * SLICE}")[0], line))
+                left -= 4 * SLICE
+            self.after(self.ask(f"{word} {left}" if left else line)[0], line)
+        return self.timeline == there
+
+    def after(self, answer: list[str], line: str) -> int:
+        moved = read_moved(answer)
+        if moved.place:
+            self.place = moved.place
+            self.timeline = self.timeline.moved(moved.place.position, line)
+        return self.timeline.position
+
+    # What is asked of the state where it stands.
+
+    def where(self) -> list[Place]:
+        return frames_of(self.ask("where")[0])
+
+    def values(self, *names: str) -> list[int | None]:
+        """The values of temporaries of the innermost frame, None for one that is unset or unknown."""
+        return [read_value(answer[0]) for answer in self.ask(*(f"print {name}" for name in names))]
+
+    def temporaries(self) -> dict[str, int | None]:
+        answer = self.ask("temps")[0]
+        return {line.split(" ")[0]: read_value(line) for line in answer if line.startswith("%")}
+
+    def memory(self, address: int, count: int) -> list[int | None]:
+        lines = [f"mem {address + at} {min(MOST_BYTES, count - at)}" for at in range(0, count, MOST_BYTES)]
+        return [byte for answer in self.ask(*lines) for byte in read_bytes(answer[0])]
+
+    # Runs.
+
+    def set_stops(self, lines: list[str]) -> None:
+        """Takes all stops away and sets others, of which it keeps the number of each."""
+        answers = self.ask(*(f"delete {number}" for number in self.numbers), *lines)[-len(lines):] if lines else []
+        self.stops, self.numbers = lines, {}
+        for index, answer in enumerate(answers):
+            if answer[0].startswith("no: "):
+                raise Refused(f"{lines[index]}: {answer[0][4:]}")
+            self.numbers[int(answer[0].split(" ")[1])] = index
+
+    def hits(self, is_forward: bool, stops: list[str], questions: list[str] = [], most: int = MOST_AT_ONCE,
+             last: int | None = None) -> Iterator[Hit]:
+        """The stops of a run from here on, with the answers at each; the last one is the end, or the start.
+
+        Where `last` is given the run doesn't go on past that position, though hits behind it may still come.
+        While they are taken the process may be further on: whoever goes on asking goes to where he wants to be first.
+        """
+        if questions:
+            yield from self.asked_hits(is_forward, stops, questions, most, last)
+            return
+        for text in self.texts(is_forward, stops, most, last):
+            for reason, number, line, position in TOLD.findall(text):
+                if number:
+                    yield Hit(int(position), self.numbers[int(number)], line, [])
+                elif reason in ENDS:
+                    yield Hit(int(position), None, line, [])
+                    return
+
+    def texts(self, is_forward: bool, stops: list[str], most: int = MOST_AT_ONCE,
+              last: int | None = None) -> Iterator[str]:
+        """What a run tells of its stops, many at a time, as it is written."""
+        self.set_stops(stops)
+        command = "continue" if is_forward else "reverse"
+        size = 1
+        while True:
+            begun = time.monotonic()
+            text = self.ask_text((command + "\n") * size)
+            at = text.rfind("\n#") + 1
+            is_oldest = OLDEST in text or OLDER in text
+            if not self.followed(text[at:text.index("\n", at)] if at else "", command, is_oldest):
+                return
+            yield text
+            if self.is_far_enough(last, is_forward, is_oldest):
+                return
+            size = next_size(size, most, begun)
+
+    def asked_hits(self, is_forward: bool, stops: list[str], questions: list[str], most: int,
+                   last: int | None) -> Iterator[Hit]:
+        """The stops of a run, with questions that are asked at each."""
+        self.set_stops(stops)
+        command = "continue" if is_forward else "reverse"
+        size, width = 1, 1 + len(questions)
+        while True:
+            begun = time.monotonic()
+            answers = self.ask(*[command, *questions] * size)
+            moves = answers[::width]
+            is_oldest = [OLDER] in moves or moves[-1][0] == OLDEST
+            if not self.followed(next((move[1] for move in reversed(moves) if len(move) == 2), ""), command, is_oldest):
+                return
+            for index, move in enumerate(moves):
+                told = TOLD.match("\n".join((*move, "")))
+                if told:
+                    reason, number, line, position = told.groups()
+                    stop = self.numbers[int(number)] if number else None
+                    if number or reason in ENDS:
+                        yield Hit(int(position), stop, line, answers[index * width + 1:(index + 1) * width])
+                    if reason in ENDS:
+                        return
+            if self.is_far_enough(last, is_forward, is_oldest):
+                return
+            size = next_size(size, most, begun)
+
+    def followed(self, line: str, command: str, is_oldest: bool) -> bool:
+        """Keeps where the process is behind a run, by its last place line; False where it made no move, at an end."""
+        if line:
+            self.place = read_place(line)
+            self.timeline = self.timeline.moved(self.place.position, command)
+        return bool(line) or is_oldest
+
+    def is_far_enough(self, last: int | None, is_forward: bool, is_oldest: bool) -> bool:
+        """Whether a run came as far as it is to go; else it can go on."""
+        if last is not None and (self.timeline.position >= last) == is_forward:
+            return True
+        self.waiting.stop_if_pressed()
+        self.waiting.tell(self.timeline.position)
+        if is_oldest:
+            self.begin_anew()
+        return False
+
+    def begin_anew(self) -> None:
+        """Another process that leads to here: where this one keeps no earlier moves, or was sent as much as it reads."""
+        here, stops = self.timeline, self.stops
+        self.start()
+        self.go(here)
+        self.set_stops(stops)
+
+
+def next_size(size: int, most: int, begun: float) -> int:
+    """How many stops are asked for at a time, by how long the last ones took."""
+    return min(most, size * 4) if time.monotonic() - begun < SHORT else max(1, size // 2)
+
+
+def frames_of(answer: list[str]) -> list[Place]:
+    """The frames that `where` shows, the innermost first; none after the end."""
+    return [] if answer == ["none"] else [read_place(f"#0 {line}") for line in answer]

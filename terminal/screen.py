@@ -1,0 +1,172 @@
+"""What a stop shows: the place, the lines of the text around it, the values of operands, and the place in the source."""
+from __future__ import annotations
+
+import pathlib
+import re
+import shutil
+import sys
+import textwrap
+from typing import Iterator
+
+from .answers import Place
+from .frames import Frames, allocations_of
+from .session import Session
+from .text import Instruction
+from .values import brief, is_stack
+
+AROUND = 2
+TAB = 4
+WIDTH = 100
+GAP = "    "
+# Beyond so many moves the frames of callers aren't looked for at each stop: that goes back along all of them.
+MOST_MOVES = 1_000_000
+ESCAPE = re.compile(r"\\([\\tn])")
+
+
+def unescaped(match: re.Match) -> str:
+    """A character that would part the fields or the lines of a map."""
+    return {"t": "\t", "n": "\n"}.get(match.group(1), "\\")
+
+
+class SourceMap:
+    """The map that lower/qrev-lower writes of a text: the n-th line is about the text's n-th (docs/REAL_COMPILERS.md)."""
+
+    def __init__(self, file: pathlib.Path):
+        try:
+            self.lines = file.read_text(errors="replace").split("\n")
+        except OSError:
+            self.lines = []
+
+    def place(self, line: int) -> str:
+        """`FILE:LINE`, and `: FILE:LINE:COLUMN` of the source if the map has that; nothing for a line without a place."""
+        fields = self.lines[line - 1].split("\t") if 1 <= line <= len(self.lines) else []
+        places = [f"{ESCAPE.sub(unescaped, fields[at])}:{fields[at + 1]}" for at in range(0, len(fields) - 1, 2)]
+        if len(fields) == 5 and fields[4] != "0":
+            places[1] += f":{fields[4]}"
+        return ": ".join(places)
+
+
+class Screen:
+    def __init__(self, session: Session, frames: Frames, file: str):
+        self.session, self.frames = session, frames
+        self.map = SourceMap(pathlib.Path(file + ".map"))
+
+    @property
+    def width(self) -> int | None:
+        """The columns of the terminal; without one nothing is cut."""
+        return max(shutil.get_terminal_size().columns, 10) if sys.stdout.isatty() else None
+
+    def cut(self, line: str) -> str:
+        width = self.width
+        return line if width is None or len(line) <= width else line[:width - 2] + ".."
+
+    def filled(self, text: str, indent: str) -> list[str]:
+        """A text in lines as wide as the terminal."""
+        first = indent if indent.isspace() and len(indent) > 2 else ""
+        return textwrap.wrap(text, self.width or WIDTH, initial_indent=first, subsequent_indent=indent,
+                             break_on_hyphens=False)
+
+    # Values.
+
+    def name(self, value: int, width: str) -> str | None:
+        """The name of an address in the state where the session stands."""
+        if width != "l":
+            return None
+        found = self.session.names.of(value)
+        if found or not is_stack(value):
+            return found
+        if self.session.place.position <= MOST_MOVES:
+            return self.short_owner(value)
+        return self.own_allocation(value)
+
+    def short_owner(self, value: int) -> str | None:
+        """The alloc that an address belongs to, as its temporary alone where the frame is the innermost one."""
+        owner = self.frames.owner(value, self.session.timeline)
+        return owner and (owner.partition(" alloc ")[2] if owner.startswith("frame 0 ") else owner)
+
+    def own_allocation(self, value: int) -> str | None:
+        """As above, of the innermost frame alone, which needs no move."""
+        frames = self.session.frames()
+        if not frames:
+            return None
+        for name, size in allocations_of(self.session.program, frames[0].function).items():
+            begin = self.session.value(name)
+            if begin is not None and begin <= value < begin + size < 1 << 63:
+                return f"{name}+{value - begin}"
+        return None
+
+    def operands(self, function: str, instruction: Instruction) -> list[str]:
+        """Each temporary that an instruction reads, with its value, as `%x=5`."""
+        classes = self.session.program.functions[function].temporaries
+        found = []
+        for operand in instruction.operands:
+            if operand.is_temporary:
+                value = self.session.value(operand.text)
+                name = self.name(value, classes[operand.text]) if value is not None else None
+                found.append(f"{operand.text}={brief(value, classes[operand.text], name)}")
+        return list(dict.fromkeys(found))
+
+    def jump_said(self, place: Place, instruction: Instruction) -> list[str]:
+        """Where a jump goes, and what its phis will set."""
+        if not instruction.labels:
+            return []
+        label = instruction.labels[0]
+        if instruction.operation == "jnz":
+            value = self.known(instruction.operands[0].text)
+            if value is None:
+                return []
+            label = instruction.labels[0 if value % (1 << 32) else 1]
+        found = [f"-> {label}"]
+        function = self.session.program.functions[place.function]
+        for phi in function.blocks[label].phis:
+            operand = phi.operands[phi.labels.index(place.label)]
+            value = self.known(operand.text)
+            width = "l" if phi.type == "l" else "w"
+            shown = "unset" if value is None else brief(value, width, self.name(value, width))
+            found.append(f"{phi.result}={shown}")
+        return found
+
+    def known(self, text: str) -> int | None:
+        """The value of an operand: a number, a temporary of the innermost frame, or an address."""
+        if text.startswith("%"):
+            return self.session.value(text)
+        return self.session.program.addresses[text] if text.startswith("$") else int(text) % (1 << 64)
+
+    # Lines of the text.
+
+    def text_lines(self, first: int, last: int, marked: int, beside: list[str]) -> Iterator[str]:
+        """Lines of the text with their numbers, one of them marked, and what stands beside that."""
+        lines = self.session.program.lines
+        digits = len(str(min(last, len(lines))))
+        for number in range(max(first, 1), min(last, len(lines)) + 1):
+            line = f"{'>' if number == marked else ' '} {number:{digits}}  {lines[number - 1].expandtabs(TAB)}"
+            if number == marked and beside:
+                yield from self.with_values(line, beside)
+            else:
+                yield self.cut(line)
+
+    def with_values(self, line: str, beside: list[str]) -> Iterator[str]:
+        """A line with values beside it, or on lines below where the terminal is too narrow."""
+        said = ", ".join(beside)
+        if self.width is None or len(line) + len(GAP) + len(said) <= self.width:
+            yield line + GAP + said
+            return
+        yield self.cut(line)
+        for value in beside:
+            yield GAP + value
+
+    def place_lines(self, place: Place | None = None) -> list[str]:
+        """The text around a place; without one around that where the session stands, with the values of operands."""
+        is_here = place is None
+        place = place or self.session.place
+        if not place.function:
+            frames = self.session.frames()
+            if not frames:
+                return []
+            place = frames[0]
+        instruction = self.session.program.functions[place.function].at(place.label, place.index)
+        beside = self.operands(place.function, instruction) + self.jump_said(place, instruction) if is_here else []
+        source = self.map.place(instruction.line)
+        lines = [f"  source: {source}"] if source else []
+        return lines + list(self.text_lines(instruction.line - AROUND, instruction.line + AROUND, instruction.line, beside))
+

@@ -1,0 +1,306 @@
+"""The prompt's lines: what each does, and what it says. The commands themselves stand in modules by their kinds."""
+from __future__ import annotations
+
+import shlex
+import sys
+from dataclasses import dataclass
+from typing import Callable, Sequence
+
+from .answers import Place
+from .causes import Cause, Causes
+from .expressions import Node, Unset, Value, Wrong, evaluate, parse, parts_of
+from .frames import Frames
+from .pipe import Ended
+from .runs import STOPPED, Outcome, Runs
+from .scratch import SLICE, Launch, Refused
+from .screen import Screen
+from .session import Session
+from .timeline import Timeline
+from .values import FORMATS, formatted, remarks, unsigned
+from .waiting import Interrupted, Waiting
+
+MEGABYTE = 1 << 20
+FAULT = "a fault of the front end"
+MEMORY_TOLD = 512
+
+
+@dataclass(frozen=True)
+class Command:
+    """A command: its names, the first of which it is told by, how it is used, and what completes its words."""
+    names: tuple[str, ...]
+    usage: str
+    call: Callable[[Shell, str], None]
+    completes: str
+    is_repeated: bool
+
+    @property
+    def help(self) -> str:
+        return " ".join((self.call.__doc__ or "").split())
+
+
+COMMANDS: dict[str, Command] = {}
+
+
+def command(names: str, usage: str, completes: str = "", is_repeated: bool = True):
+    """Makes a function of the shell and the rest of the line a command."""
+    def register(call):
+        made = Command(tuple(names.split()), usage, call, completes, is_repeated)
+        for name in made.names:
+            COMMANDS[name] = made
+        return call
+    return register
+
+
+class Leave(Exception):
+    """The session is to end."""
+
+
+class FrameState:
+    """The state of the selected frame, as expressions look at it."""
+
+    def __init__(self, shell: Shell):
+        self.shell = shell
+
+    def temporary(self, name: str) -> tuple[int, str]:
+        value, width = self.shell.temporary(name)
+        if value is None:
+            raise Unset(f"{name} is unset")
+        return value, width
+
+    def bytes(self, address: int, count: int) -> int:
+        found = self.shell.session.memory(address, count)
+        if None in found:
+            raise Unset(f"address {address} isn't live")
+        return int.from_bytes(bytes(found), "little")
+
+    def address(self, name: str) -> int:
+        return self.shell.address_of(name)
+
+    def word(self, name: str) -> int:
+        session = self.shell.session
+        return len(session.frames()) if name == "depth" else session.place.position
+
+
+class Shell:
+    def __init__(self, launch: Launch, file: str, source: bytes, waiting: Waiting, budget: int | None = None,
+                 memory_told: int = MEMORY_TOLD, lowered: Sequence[str] = ()):
+        self.launch, self.waiting = launch, waiting
+        # What stands for the program on a command line of ./qrev, and what comes last there.
+        end = lowered.index("--") if "--" in lowered else len(lowered)
+        self.named, self.texts = ["--lower", *lowered[:end]] if lowered else [file], lowered[end:]
+        self.session = Session(launch, source, waiting)
+        if self.session.pipe.refused:
+            return
+        self.frames = Frames(self.session.program, self.session.names, self.session.scratch)
+        self.runs = Runs(self.session, self.frames, budget)
+        self.screen = Screen(self.session, self.frames, file)
+        self.causes = Causes(self.session.program, self.session.names, self.frames, self.session.scratch,
+                             self.screen.map.place)
+        self.memory_told = memory_told * MEGABYTE
+        self.displays: dict[int, tuple[str, str]] = {}
+        self.checkpoints: dict[str, Timeline] = {}
+        self.chain: list[Cause] = []
+        self.line_shown = 0
+        self.examined, self.unit, self.format = 0, "w", "x"
+        self.last = ""
+        self.has_said_end = False
+
+    # What is said.
+
+    def say(self, *lines: str) -> None:
+        self.waiting.clear()
+        sys.stdout.write("".join(line + "\n" for line in lines))
+        sys.stdout.flush()
+
+    def begin(self) -> None:
+        """What is said before the first line."""
+        self.say(*self.session.pipe.loaded[:1])
+        self.show()
+        self.say("`help` lists the commands")
+
+    def replayed(self, script: str) -> str:
+        """The command that plays a saved script to the same state."""
+        words = [*self.named, *self.launch.words]
+        words += ["--limit", str(self.launch.limit)] if self.launch.limit != SLICE else []
+        words += ["--history", str(self.launch.history)] if self.launch.history else []
+        return f"./qrev {shlex.join([*words, *self.texts])} < {shlex.quote(script)}"
+
+    def line_of(self, text: str) -> int:
+        """The line of a number, a function, a label of the selected frame's function, or data."""
+        program, frames = self.session.program, self.session.frames()
+        word = text.split()[0]
+        if word.isdigit():
+            return min(max(int(word), 1), len(program.lines))
+        if word in program.functions:
+            return program.functions[word].line
+        blocks = program.functions[frames[self.session.selected].function].blocks if frames else {}
+        if word in blocks:
+            return blocks[word].line
+        found = [data.line for data in program.data if data.name == word]
+        if not found:
+            raise Wrong(f"{word}: a line, a function, data, or a label of this function was expected")
+        return found[0]
+
+    def show(self, reason: str = "") -> None:
+        """A stop: why, the place line, the text around it, and what is displayed."""
+        if reason:
+            self.say(f"stop: {reason}")
+        self.say(str(self.session.place), *self.screen.place_lines())
+        self.line_shown = 0
+        for number, (letters, text) in self.displays.items():
+            self.show_display(number, letters, text)
+        self.tell_memory()
+
+    def show_display(self, number: int, letters: str, text: str) -> None:
+        try:
+            shown = self.shown(text, letters)
+        except (Wrong, Unset, Refused) as error:
+            shown = f"{text}: {error}"
+        self.say(f"{number}: {shown}")
+
+    def outcome(self, outcome: Outcome) -> None:
+        """Shows how a run ended; where it made no move, says why."""
+        if outcome.refusal:
+            raise Refused(REFUSALS.get(outcome.refusal, outcome.refusal))
+        self.show(outcome.reason)
+        if outcome.reason == "end" and not self.has_said_end:
+            self.has_said_end = True
+            self.say("the run is over: `why` says what it comes of, `back` goes back into it")
+
+    def tell_memory(self) -> None:
+        taken = self.session.memory_taken()
+        if taken > self.memory_told:
+            self.memory_told = 2 * taken
+            self.say(f"the session takes {taken // MEGABYTE} MB, some 28 bytes a move; with --history 1000000 it would "
+                     "keep the last million moves only, in 28 MB, and `back` would end there")
+
+    # What lines are made of.
+
+    def temporary(self, name: str) -> tuple[int | None, str]:
+        """The value of a temporary of the selected frame, and its class."""
+        frames = self.session.frames()
+        if not frames:
+            raise Refused("the run is over and no frame is left; `back` goes to before the last return")
+        function = frames[self.session.selected].function
+        classes = self.session.program.functions[function].temporaries
+        if name not in classes:
+            raise Wrong(f"{name}: {function} has no such temporary")
+        if self.session.selected == 0:
+            return self.session.value(name), classes[name]
+        there = self.frames.frame(self.session.timeline, self.session.selected)
+        return self.session.scratch.go(there).values(name)[0], classes[name]
+
+    def address_of(self, name: str) -> int:
+        addresses = self.session.program.addresses
+        if name not in addresses:
+            raise Wrong(f"{name}: the program has no such data or function")
+        return addresses[name]
+
+    def evaluate(self, text: str) -> Value:
+        return evaluate(self.parsed(text), FrameState(self))
+
+    def parsed(self, text: str) -> Node:
+        if not text.strip():
+            raise Wrong("an expression was expected")
+        node = parse(text)
+        for part in parts_of(node):
+            if part.kind == "global":
+                self.address_of(part.text)
+        return node
+
+    def number(self, text: str) -> int:
+        """The value of an expression as 64 bits."""
+        value = self.evaluate(text).number
+        if not -(1 << 63) <= value < 1 << 64:
+            raise Wrong(f"{text}: {value} doesn't fit into 64 bits")
+        return value % (1 << 64)
+
+    def count(self, text: str, most: int, default: int = 1) -> int:
+        """A number of times, as a command takes it."""
+        value = self.evaluate(text).number if text.strip() else default
+        if not 1 <= value <= most:
+            raise Wrong(f"{text.strip()}: a number from 1 to {most} was expected")
+        return value
+
+    def shown(self, text: str, letters: str) -> str:
+        """An expression and its value, in the format of a letter or as it is read best."""
+        value = self.evaluate(text)
+        width = value.width or "l"
+        if letters and letters not in FORMATS:
+            raise Wrong(f"/{letters}: one of {', '.join('/' + letter for letter in FORMATS)} was expected")
+        number = unsigned(value.number, width)
+        if letters and letters != "a":
+            return f"{text} = {formatted(number, width, letters)}"
+        name = self.frames.name(number, "l" if letters else value.width, self.session.timeline)
+        if letters:
+            return f"{text} = {number}" + (f" {name}" if name else "")
+        said = remarks(number, value.width, name) if value.width else []
+        return f"{text} = {number if value.width else value.number}" + (f" ({', '.join(said)})" if said else "")
+
+    # Lines.
+
+    def run(self, line: str) -> None:
+        """Does what a line asks, and says what came of it or what is wrong with it."""
+        self.waiting.begin()
+        before = self.session.place
+        try:
+            self.do(line)
+        except (Wrong, Unset, Refused) as error:
+            self.say(str(error))
+            self.show_if_moved(before)
+        except Interrupted:
+            self.say(STOPPED)
+            self.show_if_moved(before)
+        except Ended as end:
+            self.say(f"the debugger ended ({end}); `save FILE` still writes the session's lines")
+        except RecursionError:
+            self.say("the expression is nested too deeply")
+        except Leave:
+            raise
+        except Exception as error:
+            self.fault(error)
+        finally:
+            self.waiting.clear()
+            for news in self.session.news:
+                self.say(news)
+            self.session.news.clear()
+
+    def fault(self, error: Exception) -> None:
+        """A fault of this program itself, which isn't to cost whoever typed the line the session."""
+        self.say(f"{FAULT}: {error!r}; the session goes on")
+        self.session.scratch.drop()
+
+    def show_if_moved(self, before: Place) -> None:
+        """Where a command got no further than a part of its way."""
+        if self.session.place != before:
+            self.show()
+
+    def do(self, line: str) -> None:
+        line = line.strip()
+        if not line:
+            line = self.last
+            if not line:
+                return
+        word, _, rest = line.partition(" ")
+        word, slash, letters = word.partition("/")
+        found = self.command_named(word)
+        self.last = line if found.is_repeated else ""
+        found.call(self, (slash + letters + " " if slash else "") + rest.strip())
+
+    def command_named(self, word: str) -> Command:
+        """The command of that name, or the only one whose full name begins so."""
+        if word in COMMANDS:
+            return COMMANDS[word]
+        begun = {found.names[0]: found for name, found in COMMANDS.items() if name.startswith(word) and word}
+        if len(begun) == 1:
+            return next(iter(begun.values()))
+        if begun:
+            raise Wrong(f"{word}: could be {', '.join(sorted(begun))}")
+        raise Wrong(f"{word}: no such command; `help` lists them")
+
+
+REFUSALS = {
+    "at end": "the run is over; `back` and `reverse` go back, `run` begins again",
+    "at start": "this is the start of the run",
+    "history ends": "the moves before are no longer kept (--history)",
+}

@@ -1,0 +1,180 @@
+"""Commands about stops: breakpoints, watches, and what is asked before one of them counts."""
+from __future__ import annotations
+
+from .expressions import Node, Wrong, temporaries_of
+from .moving import address_word
+from .scratch import Refused
+from .shell import Shell, command
+from .stops import FrameWatch, MemoryWatch, Stop
+from .values import BYTES
+
+PIECES = (("l", 8), ("w", 4), ("h", 2), ("b", 1))
+MOST_RANGE = 512
+
+
+def with_condition(shell: Shell, rest: str) -> tuple[str, Node | None, str]:
+    """What stands before `if`, and the condition behind it."""
+    what, has_condition, text = f" {rest} ".partition(" if ")
+    if not has_condition:
+        return rest.strip(), None, ""
+    return what.strip(), shell.parsed(text), text.strip()
+
+
+def place_of(shell: Shell, text: str) -> tuple[str, str, int]:
+    """A place: of a line, $f, @b in this function, $f @b, with an index behind; without a word that of the run."""
+    session, words = shell.session, text.split()
+    frames = session.frames()
+    if not words:
+        if not frames:
+            raise Refused("the run is over: a line, $f or $f @b was expected")
+        return frames[0].function, frames[0].label, frames[0].index
+    if words[0].isdigit() and len(words) == 1:
+        found = session.program.place_at(int(words[0]))
+        if not found:
+            raise Wrong(f"{text}: no code at that line or behind it; the text has {len(session.program.lines)} lines")
+        return found
+    if words[0].startswith("@"):
+        if not frames:
+            raise Refused(f"{text}: the run is over; write the function before the label")
+        words.insert(0, frames[session.selected].function)
+    return checked_place(shell, words)
+
+
+def checked_place(shell: Shell, words: list[str]) -> tuple[str, str, int]:
+    functions = shell.session.program.functions
+    if words[0] not in functions:
+        raise Wrong(f"{words[0]}: a line, $f, @b or $f @b was expected, of {', '.join(functions)}"[:240])
+    function = functions[words[0]]
+    label = words[1] if len(words) > 1 else function.first
+    if label not in function.blocks:
+        raise Wrong(f"{label}: {function.name} has no such label; it has {', '.join(function.blocks)}"[:240])
+    index = words[2] if len(words) > 2 else "0"
+    most = len(function.blocks[label].body) - 1
+    if not index.isdigit() or int(index) > most:
+        raise Wrong(f"{index}: an index from 0 to {most} was expected")
+    if len(words) > 3:
+        raise Wrong(f"{words[3]}: nothing more was expected, but `if`")
+    return function.name, label, int(index)
+
+
+def add_breakpoint(shell: Shell, rest: str, is_once: bool) -> None:
+    what, condition, text = with_condition(shell, rest)
+    place = place_of(shell, what)
+    if condition:
+        known = shell.session.program.functions[place[0]].temporaries
+        for name in temporaries_of(condition):
+            if name not in known:
+                raise Wrong(f"{name}: {place[0]} has no such temporary")
+    line = shell.session.program.line_of(*place)
+    stop = Stop(f"{place[0]} {place[1]} {place[2]} (line {line})", [f"break {place[0]} {place[1]} {place[2]}"], [], place,
+                condition, text, is_once=is_once)
+    shell.say(f"break {shell.runs.add(stop)}")
+
+
+@command("break b br", "break [LINE | $f | @b | $f @b [K]] [if CONDITION]", "place", is_repeated=False)
+def break_(shell: Shell, rest: str) -> None:
+    """A breakpoint at a line, a function, a label, or the K-th instruction behind a label. With a condition it stops only
+    where that holds: `b @loop if %i > 3`, also `if depth == 2` for one depth of frames."""
+    add_breakpoint(shell, rest, False)
+
+
+@command("tbreak tb", "tbreak PLACE [if CONDITION]", "place", is_repeated=False)
+def tbreak(shell: Shell, rest: str) -> None:
+    """A breakpoint that is taken away when it stopped once."""
+    add_breakpoint(shell, rest, True)
+
+
+@command("watch w", "watch %x | $f %x | WIDTH ADDRESS | N ADDRESS [if CONDITION]", "watch", is_repeated=False)
+def watch(shell: Shell, rest: str) -> None:
+    """Stops where a value changes: %x of this frame alone, %x of any frame of $f, memory of a WIDTH b h w l, or a range of
+    N bytes. A write of the same value is no change; on the stack bytes that are dead in between aren't either."""
+    what, condition, text = with_condition(shell, rest)
+    words = what.split()
+    if not words:
+        raise Wrong("watch %TEMPORARY, $FUNCTION %TEMPORARY, WIDTH ADDRESS or N ADDRESS was expected")
+    if len(words) == 2 and words[0].startswith("$") and words[1].startswith("%"):
+        stop = Stop(what, [f"watch {what}"], [])
+    elif len(words) == 1 and words[0].startswith("%"):
+        stop = frame_watch(shell, words[0])
+    elif words[0] in BYTES or words[0].isdigit():
+        stop = memory_watch(shell, words[0], what.partition(" ")[2])
+    else:
+        raise Wrong(f"{words[0]}: %TEMPORARY, $FUNCTION %TEMPORARY, a width (b, h, w, l) or a number of bytes was expected")
+    stop.condition, stop.condition_text = condition, text
+    shell.say(f"watch {shell.runs.add(stop)}")
+
+
+def frame_watch(shell: Shell, name: str) -> Stop:
+    """A watch of a temporary of the selected frame."""
+    value, _ = shell.temporary(name)
+    frames = shell.session.frames()[shell.session.selected:]
+    function = frames[0].function
+    back = frames[1] if len(frames) > 1 else None
+    first = shell.session.program.functions[function].first
+    stop = Stop(f"{name} of this call of {function}", [f"watch {function} {name}"], [])
+    entry = shell.frames.entry(shell.frames.frame(shell.session.timeline, shell.session.selected)).position
+    stop.frame = FrameWatch(name, function, len(frames), back, first, entry, value)
+    return stop
+
+
+def memory_watch(shell: Shell, width: str, text: str) -> Stop:
+    """A watch of memory, by as many of the debugger's as it takes."""
+    if not text.strip():
+        raise Wrong(f"watch {width}: an address was expected")
+    address, count = shell.number(text), BYTES.get(width) or int(width)
+    if not 1 <= count <= MOST_RANGE:
+        raise Wrong(f"{width}: from 1 to {MOST_RANGE} bytes were expected")
+    name = shell.frames.name(address, "l", shell.session.timeline) or str(address)
+    if width in BYTES:
+        lines = [f"watch {width} {address_word(shell, text.strip())}"]
+    else:
+        lines, at = [], 0
+        while at < count:
+            letter, size = next(piece for piece in PIECES if piece[1] <= count - at)
+            lines.append(f"watch {letter} {address + at}")
+            at += size
+    return Stop(f"{width} {name}" if width in BYTES else f"{count} bytes from {name}", lines, [],
+                memory=MemoryWatch(address, count))
+
+
+def stop_named(shell: Shell, text: str) -> Stop:
+    known = {str(stop.number): stop for stop in shell.runs.stops}
+    if text not in known:
+        raise Wrong(f"{text or 'nothing'}: the number of a stop was expected; there are: {', '.join(known) or 'none'}")
+    return known[text]
+
+
+@command("delete d", "delete [N ..]", is_repeated=False)
+def delete(shell: Shell, rest: str) -> None:
+    """Takes stops away by their numbers; without one, all."""
+    for stop in [stop_named(shell, word) for word in rest.split()] or list(shell.runs.stops):
+        shell.runs.delete(stop)
+        shell.say(f"deleted {stop.number}")
+
+
+@command("stops", "stops", is_repeated=False)
+def stops(shell: Shell, rest: str) -> None:
+    """Lists the stops, with their conditions and how often they stopped."""
+    shell.say(*map(str, shell.runs.stops) if shell.runs.stops else ["none"])
+
+
+@command("ignore", "ignore N COUNT", is_repeated=False)
+def ignore(shell: Shell, rest: str) -> None:
+    """Passes a stop over the next COUNT times that it would stop."""
+    number, _, count = rest.partition(" ")
+    stop = stop_named(shell, number)
+    value = shell.evaluate(count).number
+    if not 0 <= value < 1 << 32:
+        raise Wrong(f"{count}: a number from 0 was expected")
+    stop.ignored = value
+    shell.say(str(stop))
+
+
+@command("condition", "condition N [CONDITION]", is_repeated=False)
+def condition(shell: Shell, rest: str) -> None:
+    """Gives a stop a condition, or takes it away."""
+    number, _, text = rest.partition(" ")
+    stop = stop_named(shell, number)
+    stop.condition = shell.parsed(text) if text.strip() else None
+    stop.condition_text = text.strip()
+    shell.say(str(stop))

@@ -1,0 +1,254 @@
+"""Stops of a session: breakpoints and watches of the debugger, and what is asked besides before one of them counts."""
+from __future__ import annotations
+
+from dataclasses import dataclass, field
+from typing import Callable
+
+from .answers import Place, read_bytes, read_value
+from .expressions import Node, Unset, evaluate, is_fixed, parts_of, temporaries_of
+from .scratch import frames_of
+from .text import STACK, Program
+from .values import BYTES
+
+FRAME_OVER = "its frame is over"
+# Bytes that are shown as one number.
+MOST_NUMBER = 8
+
+
+@dataclass
+class Stop:
+    """A stop: the lines that make it and the debugger's numbers of them, of which the first is its own."""
+    what: str
+    lines: list[str]
+    numbers: list[int]
+    place: tuple[str, str, int] | None = None
+    condition: Node | None = None
+    condition_text: str = ""
+    ignored: int = 0
+    is_once: bool = False
+    memory: MemoryWatch | None = None
+    frame: FrameWatch | None = None
+    hits: int = 0
+
+    @property
+    def number(self) -> int:
+        return self.numbers[0]
+
+    @property
+    def is_plain(self) -> bool:
+        """Whether the debugger's own runs stop at it each time and for nothing else."""
+        return not (self.condition or self.ignored or self.frame or self.memory and self.memory.is_on_stack)
+
+    def __str__(self) -> str:
+        parts = [f"{self.number}: {self.what}"]
+        if self.condition:
+            parts.append(f"if {self.condition_text}")
+        if self.ignored:
+            parts.append(f"the next {self.ignored} are passed over")
+        if self.is_once:
+            parts.append("once")
+        if self.hits:
+            parts.append(f"stopped {self.hits} times" if self.hits > 1 else "stopped once")
+        return ", ".join(parts)
+
+
+@dataclass
+class FrameWatch:
+    """A temporary of one frame: its depth, the place to which it returns, and the position at which it began.
+
+    Whether a run begins inside the frame, before it or behind it is looked at each time.
+    """
+    temporary: str
+    function: str
+    depth: int
+    back: Place | None
+    first: str
+    entry: int
+    value: int | None = None
+    is_over: bool = False
+
+
+@dataclass
+class MemoryWatch:
+    """Bytes, and what they were when they were live last."""
+    address: int
+    count: int
+    value: list[int | None] = field(default_factory=list)
+
+    @property
+    def is_on_stack(self) -> bool:
+        return self.address + self.count > STACK
+
+    @property
+    def question(self) -> str:
+        return f"mem {self.address} {self.count}"
+
+
+@dataclass
+class Answered:
+    """The state at a hit: what was asked of it before, and who is asked for the rest while it stands there."""
+    program: Program
+    place: Place
+    answers: dict[str, list[str]]
+    ask: Callable[..., list[list[str]]]
+
+    @property
+    def depth(self) -> int:
+        return len(frames_of(self.answers["where"]))
+
+    def temporary(self, name: str) -> tuple[int, str]:
+        answer = self.answers[f"print {name}"][0]
+        value = None if answer.startswith("no: ") else read_value(answer)
+        if value is None:
+            raise Unset(name)
+        return value, self.program.functions[self.place.function].temporaries[name]
+
+    def bytes(self, address: int, count: int) -> int:
+        line = f"mem {address} {count}"
+        if line not in self.answers:
+            self.answers[line] = self.ask(line)[0]
+        found = read_bytes(self.answers[line][0])
+        if None in found:
+            raise Unset(f"dead address {address}")
+        return int.from_bytes(bytes(found), "little")
+
+    def address(self, name: str) -> int:
+        return self.program.addresses[name]
+
+    def word(self, name: str) -> int:
+        return self.depth if name == "depth" else self.place.position
+
+
+class FixedState:
+    """A state of which nothing is known: for expressions that are the same everywhere."""
+
+    def __init__(self, program: Program):
+        self.program = program
+
+    def address(self, name: str) -> int:
+        return self.program.addresses[name]
+
+
+def questions_of(node: Node, program: Program) -> list[str] | None:
+    """What is to be asked at a hit for a condition, or None where an address in it depends on the state."""
+    asked = [f"print {name}" for name in temporaries_of(node)]
+    asked += ["where"] if any(part.text == "depth" for part in parts_of(node)) else []
+    for part in parts_of(node):
+        if part.kind == "memory":
+            if not is_fixed(part.parts[0]):
+                return None
+            address = evaluate(part.parts[0], FixedState(program)).number % (1 << 64)
+            asked.append(f"mem {address} {BYTES[part.text]}")
+    return asked
+
+
+class Filter:
+    """Decides at the hits of one run which stop counts, if any."""
+
+    def __init__(self, stops: list[Stop], program: Program, is_forward: bool):
+        self.stops, self.program, self.is_forward = stops, program, is_forward
+        self.lines: list[str] = []
+        self.owners: list[Stop] = []
+        # Of several reasons the debugger tells one: watches whose values aren't asked come first.
+        watches = [stop for stop in stops if not stop.place]
+        watches.sort(key=lambda stop: bool(stop.memory or stop.frame))
+        for stop in watches + [stop for stop in stops if stop.place]:
+            for line in stop.lines + self.frame_ends(stop):
+                self.lines.append(line)
+                self.owners.append(stop)
+        self.left = {id(stop): stop.ignored for stop in stops}
+
+    def frame_ends(self, stop: Stop) -> list[str]:
+        """Where a run leaves the frame of a watch: by its return, or back by its call."""
+        frame = stop.frame
+        if not frame:
+            return []
+        if not self.is_forward:
+            return [f"break {frame.function} {frame.first} 0"]
+        return [f"break {frame.back.function} {frame.back.label} {frame.back.index}"] if frame.back else []
+
+    def questions(self, more: list[str]) -> tuple[list[str], bool]:
+        """What is asked at each hit besides, and whether all of it can be known before."""
+        asked, is_known = list(more), True
+        for stop in self.stops:
+            found = questions_of(stop.condition, self.program) if stop.condition else []
+            is_known = is_known and found is not None
+            asked += found or [f"print {name}" for name in temporaries_of(stop.condition)] if stop.condition else []
+            asked += [stop.memory.question] if stop.memory else []
+            asked += ["where", f"print {stop.frame.temporary}"] if stop.frame else []
+        return list(dict.fromkeys(asked)), is_known
+
+    def chosen(self, index: int, state: Answered) -> tuple[Stop | None, str]:
+        """The stop that counts at a hit of the line with that index, with what there is to say of it."""
+        told = self.owners[index] if index < len(self.owners) else None
+        here = (state.place.function, state.place.label, state.place.index)
+        for stop in self.stops:
+            said = self.looked_at(stop, stop is told or stop.place == here, state)
+            if said is not None and self.holds(stop, state):
+                return stop, said
+        return None, ""
+
+    def looked_at(self, stop: Stop, is_told: bool, state: Answered) -> str | None:
+        """What a stop says of a state: nothing where it isn't about it."""
+        if stop.frame:
+            return self.frame_said(stop.frame, state)
+        if stop.memory:
+            return self.memory_said(stop.memory, state)
+        return "" if is_told else None
+
+    def frame_said(self, frame: FrameWatch, state: Answered) -> str | None:
+        if frame.is_over or state.place.position < frame.entry:
+            return None
+        depth = state.depth
+        if depth < frame.depth:
+            return FRAME_OVER
+        if depth > frame.depth:
+            return None
+        answer = state.answers[f"print {frame.temporary}"][0]
+        value = None if answer.startswith("no: ") else read_value(answer)
+        if value != frame.value:
+            said = self.change(shown(frame.value), shown(value))
+            frame.value = value
+            return said
+        return "its frame begins here" if state.place.position == frame.entry and not self.is_forward else None
+
+    def memory_said(self, watch: MemoryWatch, state: Answered) -> str | None:
+        """A change of live bytes: one to dead bytes, and back to what they were, is none."""
+        found = read_bytes(state.answers[watch.question][0])
+        if None in found or found == watch.value:
+            return None
+        before, watch.value = watch.value, found
+        return self.memory_change(before, found)
+
+    def memory_change(self, before: list[int | None], after: list[int | None]) -> str:
+        if len(after) <= MOST_NUMBER:
+            return self.change(as_number(before), as_number(after))
+        if None in before or None in after or len(before) != len(after):
+            return self.change(as_number(before), as_number(after))
+        at = next(at for at, (one, other) in enumerate(zip(before, after)) if one != other)
+        return f"byte {at} {self.change(str(before[at]), str(after[at]))}"
+
+    def change(self, before: str, after: str) -> str:
+        """What a run came from and what it came to, in the order of time."""
+        return f"{before} -> {after}" if self.is_forward else f"{after} -> {before}"
+
+    def holds(self, stop: Stop, state: Answered) -> bool:
+        """Whether its condition holds, and it isn't passed over."""
+        try:
+            is_held = not stop.condition or evaluate(stop.condition, state).number != 0
+        except Unset:
+            is_held = False
+        if is_held and self.left[id(stop)]:
+            self.left[id(stop)] -= 1
+            return False
+        return is_held
+
+
+def shown(value: int | None) -> str:
+    return "unset" if value is None else str(value)
+
+
+def as_number(found: list[int | None]) -> str:
+    if not found or None in found:
+        return "dead"
+    return str(int.from_bytes(bytes(found), "little")) if len(found) <= MOST_NUMBER else "live"

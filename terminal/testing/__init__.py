@@ -1,0 +1,1 @@
+"""What terminal/test tests the front end with."""

@@ -1,0 +1,489 @@
+"""Tests of what a session at a terminal does besides its commands: Ctrl-C, completion, bad input, what breaks, and speed.
+
+Each gives what is wrong, or None.
+"""
+from __future__ import annotations
+
+import os
+import pathlib
+import re
+import shlex
+import signal
+import subprocess
+import tempfile
+import time
+
+from .harness import PROMPT, TOP, Held, Silent, Terminal, last_place
+from .sessions import EXAMPLES, SQUARES
+
+ENDLESS = """export function w $main() {
+@start
+	jmp @loop
+@loop
+	%i =l phi @start 0, @loop %j
+	%j =l add %i, 1
+	jmp @loop
+}
+"""
+# Seconds after which a prompt waits for keys.
+READY = 0.2
+# What is typed for a run of so many moves, and how many seconds of a processor `why` may take behind it.
+SPEEDS = ((1_000_000, 1.0), (10_000_000, 5.0))
+# A round of the loop below takes eight moves, and stores at an address that only the run tells.
+LONG = """data $first = align 4 {{ w 0 }}
+export function w $main() {{
+@start
+	%sum =l alloc8 8
+	storew 7, $first
+	jmp @loop
+@loop
+	%i =l phi @start 0, @body %next
+	%more =w csltl %i, {rounds}
+	jnz %more, @body, @end
+@body
+	%old =l loadl %sum
+	%new =l add %old, 1
+	storel %new, %sum
+	%next =l add %i, 1
+	%same =w loadw $first
+	jmp @loop
+@end
+	%r =w loadw $first
+	ret %r
+}}
+"""
+
+
+# Each of 900 calls hands the address of a variable of $main on.
+DEEP = """function w $down(w %n, l %at) {
+@start
+	%local =l alloc4 4
+	storew %n, %local
+	jnz %n, @more, @bottom
+@bottom
+	%value =w loadw %at
+	ret %value
+@more
+	%less =w sub %n, 1
+	%result =w call $down(w %less, l %at)
+	ret %result
+}
+export function w $main() {
+@start
+	%variable =l alloc4 4
+	storew 5, %variable
+	%result =w call $down(w 900, l %variable)
+	ret %result
+}
+"""
+# Seconds of a processor that a stop may take there.
+AT_ONCE = 2.0
+
+
+def written(folder: str, name: str, text: str) -> str:
+    path = pathlib.Path(folder) / name
+    path.write_text(text)
+    return str(path)
+
+
+def missing(text: str, *wanted: str) -> str | None:
+    absent = [each for each in wanted if each not in text]
+    return f"{text!r} lacks {absent[0]!r}" if absent else None
+
+
+def interrupted(program: str) -> str | None:
+    """Ctrl-C in a run without an end stops it, with its progress shown before; the session goes on from there."""
+    with tempfile.TemporaryDirectory(prefix="endless-") as folder:
+        session = Held(program, written(folder, "endless.ssa", ENDLESS), "--history", "1000")
+        try:
+            session.type("c\n")
+            session.wait_for("million moves a second")
+            session.type("\x03")
+            answer = session.wait_for(PROMPT)
+            position = re.search(r"^#(\d+) \$main", answer, re.MULTILINE)
+            if "stopped by Ctrl-C" not in answer or not position or int(position[1]) < 1_000_000:
+                return f"Ctrl-C shows {answer!r}"
+            if f"#{int(position[1]) + 2} $main" not in session.do("s 2"):
+                return "the session doesn't go on behind Ctrl-C"
+            session.do("b @loop if %i < 0")
+            session.type("c\n")
+            session.wait_for("million moves a second")
+            session.type("\x03")
+            answer = session.wait_for(PROMPT)
+            session.place = last_place(answer) or session.place
+            return missing(answer, "stopped by Ctrl-C") or session.replayed_fault()
+        finally:
+            session.close()
+
+
+def interrupted_at_the_prompt(program: str) -> str | None:
+    """The second Ctrl-C asks whether to leave, and leaves where that is wished."""
+    session = Held(program, str(SQUARES))
+
+    def press() -> None:
+        # The library of the prompt doesn't see a key between writing the prompt and waiting for one.
+        time.sleep(READY)
+        session.type("\x03")
+    try:
+        for answer in "ny":
+            press()
+            session.wait_for(PROMPT)
+            press()
+            session.wait_for("leave the session? (y or n) ")
+            session.type(answer + "\n")
+            if answer == "n":
+                session.wait_for(PROMPT)
+                fault = missing(session.do("s"), "#1 $fill @start 0")
+        return fault or (None if session.status() == 0 else "another status than 0")
+    finally:
+        session.close()
+
+
+def left(program: str) -> str | None:
+    """`quit` and the end of the input end a session."""
+    for keys in ("quit\n", "q\n", "\x04"):
+        session = Held(program, str(SQUARES))
+        try:
+            session.type(keys)
+            if session.status() != 0:
+                return f"{keys!r}: another status than 0"
+        finally:
+            session.close()
+    return None
+
+
+def completed(program: str) -> str | None:
+    """Commands, temporaries of the frame, functions, data, labels and checkpoints are completed by the tabulator."""
+    session = Held(program, str(SQUARES))
+    try:
+        for keys, wanted in (("conti\t\n", "#88 done 30"), ("watch w $bi\t\n", "watch 1: w $bias+0"),
+                             ("reverse-c\t\n", "#44 $fill @body 4"),
+                             ("p %squ\t\n", "%square = 16"), ("b $fi\t @bo\t\n", "$fill @body 0"),
+                             ("checkpoint here\n", "here"), ("restart he\t\n", "#44"), ("help undis\t\n", "undisplay [N]"),
+                             ("p $bias+%squ\t*2\n", "= 65584"), ("info chec\t\n", "here: #44")):
+            session.type(keys)
+            answer = session.wait_for(PROMPT)
+            session.place = last_place(answer) or session.place
+            fault = missing(answer, wanted)
+            if fault:
+                return f"{keys!r}: {fault}"
+        # Two lines up is the command before the last.
+        session.type("\x10\x10\n")
+        session.wait_for("= 65584")
+        session.wait_for(PROMPT)
+        return session.replayed_fault()
+    finally:
+        session.close()
+
+
+WRONG = [
+    "frob", "step x", "step 0", "step 99999999999", "back -1", "b", "b 999", "b $none", "b $main @none",
+    "b $main @start 99", "b @none", "b 3 if", "b 3 if %zz > 1", "b 3 4 5", "watch", "watch q", "watch w",
+    "watch w $none", "watch 600 $bias", "watch $fill %zz", "watch $none %i", "watch %zz", "delete 9", "delete x",
+    "ignore 1", "condition 7 1", "set", "set %zz 1", "set %i", "set i 1", "set %more 99999999999999999999999", "poke",
+    "poke w", "poke q 1 1", "poke w $bias", "poke w 1 1", "p", "p %", "p (1", "p 1 +", "p 1 2", "p @", "p/z 1",
+    "p 1/0", "p 1 << 99", "p w[", "p w[1", "p 'ab'", "x/q 1", "x/0x 1", "x/99999x 1", "x", "mem", "mem $none",
+    "mem 0 0", "display %", "undisplay 4", "frame x", "frame 9", "up 99", "down", "list @none", "list 0x", "info",
+    "info frob", "goto", "goto x", "goto -1", "restart", "restart no", "why %zz", "why q", "why 3", "why w",
+    "why out 5", "why back", "why 99 $bias", "readers", "readers $none", "writers w", "when", "when 1",
+    "when depth > 1", "when %zz", "compare", "compare /nowhere", "save", "save /nowhere/x", "help frob",
+    "checkpoint a b", "\x01\x02", "p " + "(" * 60, "s " * 300, "é", "p é", "b $fill if é", "p %i%", "p --", "x/4w",
+    "b 14 if w[$none] > 1", "p $none", "p " + "(" * 2000, "p " + "1+" * 1500 + "1", "p " + "9" * 3000,
+    "p " + "*".join(["99999999999999999999"] * 100), "when w[$none]", "condition 1 w[$none]",
+    "why out", "d $fill", "c 0", "stops 1 2", "f -1", "/", "p/", "x/", "$", "%", "@", ";", "p $", "watch 0 $bias",
+    "watch w 5 6",
+]
+
+
+def bad_lines(program: str) -> str | None:
+    """Any line is answered in words, and the session stands where it stood."""
+    session = Held(program, str(SQUARES))
+    try:
+        session.do("s 2")
+        for line in WRONG:
+            answer = session.do(line.replace("\x01", "").replace("\x02", ""))
+            if "Traceback" in answer or PROMPT in answer:
+                return f"{line!r} shows {answer!r}"
+        # Two words of them name what they are about and what was expected.
+        fault = missing(session.do("watch q"), "q: ", "was expected")
+        fault = fault or missing(session.do("b @none"), "@none: $fill has no such label")
+        return fault or missing(session.do("info session"), "#2,") or session.replayed_fault()
+    finally:
+        session.close()
+
+
+def refused(program: str) -> str | None:
+    """A program that is refused is shown beside its line, and the status is the debugger's."""
+    with tempfile.TemporaryDirectory(prefix="refused-") as folder:
+        text = SQUARES.read_text().replace("mul %i, %i", "mul %i, %j")
+        words = [os.path.join(TOP, "terminal", "main"), "--debugger", program, "--"]
+        for file, wanted, status in ((written(folder, "a.ssa", text), "a.ssa:14: C6: ", 1),
+                                     (os.path.join(folder, "none.ssa"), "cannot read program", 2),
+                                     (written(folder, "b.ssa", ""), "S1", 1)):
+            terminal = Terminal([*words, file])
+            try:
+                terminal.wait_for(wanted)
+                if terminal.status() != status:
+                    return f"{file}: another status than {status}"
+            finally:
+                terminal.close()
+        for more in (["--limit", "0"], ["--history", "x"], ["--nothing"], [str(SQUARES), "7", "8"]):
+            run = subprocess.run([*words, *more], capture_output=True, text=True, stdin=subprocess.DEVNULL, timeout=20)
+            if run.returncode not in (1, 64) or "Traceback" in run.stderr:
+                return f"{more}: {run}"
+    return None
+
+
+def children_of(process: int) -> list[int]:
+    return [int(word) for word in pathlib.Path(f"/proc/{process}/task/{process}/children").read_text().split()]
+
+
+def processor_seconds(session: Held) -> float:
+    """What the front end and its processes have used of the processor: other work on the machine isn't in it."""
+    used = 0.0
+    for process in (session.child, *children_of(session.child)):
+        fields = pathlib.Path(f"/proc/{process}/stat").read_text().rpartition(")")[2].split()
+        used += (int(fields[11]) + int(fields[12])) / os.sysconf("SC_CLK_TCK")
+    return used
+
+
+def broken(program: str) -> str | None:
+    """Where the debugger's process is ended, another one is led to the same state."""
+    session = Held(program, str(SQUARES))
+    try:
+        session.do("watch w $bias")
+        session.do("c")
+        for child in children_of(session.child):
+            os.kill(child, signal.SIGKILL)
+        fault = missing(session.do("p w[$squares+4]"), "= 1", "the debugger ended (signal 9)")
+        fault = fault or missing(session.do("why w $bias"), "#44 $fill @body 4")
+        for child in children_of(session.child):
+            os.kill(child, signal.SIGKILL)
+        return fault or missing(session.do("rc"), "#44 $fill @body 4") or session.replayed_fault()
+    finally:
+        session.close()
+
+
+def narrow(program: str) -> str | None:
+    """At a terminal of 20 columns the text is cut and values stand below it."""
+    session = Held(program, str(SQUARES), columns=20)
+    try:
+        session.do("goto 44")
+        answer = session.do("goto 44")
+        wide = [line for line in answer.split("\n") if re.match(r"[> ] +\d+  ", line) and len(line) > 20]
+        return f"{wide[0]!r} is too wide" if wide else missing(answer, "%square=16", "%place=$bias+0") or \
+            missing(session.do("help"), "break (b)") or session.replayed_fault()
+    finally:
+        session.close()
+
+
+def without_readline(program: str) -> str | None:
+    with tempfile.TemporaryDirectory(prefix="plain-") as folder:
+        written(folder, "readline.py", "raise ImportError('none here')\n")
+        session = Held(program, str(SQUARES), PYTHONPATH=folder)
+        try:
+            return missing(session.do("c"), "#88 done 30") or session.replayed_fault()
+        finally:
+            session.close()
+
+
+def wrapped(program: str) -> str | None:
+    """The script at the top starts the front end at a terminal; behind --plain, and with a script, it doesn't."""
+    wrapper = str(TOP / "qrev")
+    for words in ([], ["--plain"], ["--prompt"]):
+        terminal = Terminal([wrapper, *words, str(SQUARES)], seconds=60)
+        try:
+            terminal.wait_for("#0 $main @start 0")
+            if words != ["--plain"]:
+                terminal.wait_for(PROMPT)
+            terminal.type("continue\n")
+            if PROMPT in terminal.wait_for("#88 done 30\n"):
+                return f"{words}: a prompt before the answer"
+        finally:
+            terminal.close()
+    with tempfile.TemporaryDirectory(prefix="python-") as folder:
+        os.chmod(written(folder, "python3", "#!/bin/sh\nexit 1\n"), 0o755)
+        run = subprocess.run([wrapper, "--prompt", str(SQUARES)], input="continue\n", capture_output=True, text=True,
+                             timeout=60, env={**os.environ, "PATH": f"{folder}:{os.environ['PATH']}"})
+    fault = missing(run.stderr, "lines are read plainly") or missing(run.stdout, "stop: end\n#88 done 30")
+    if fault:
+        return fault
+    run = subprocess.run([wrapper, "--prompt", str(SQUARES)], input="c\nwhy\n", capture_output=True, text=True, timeout=60)
+    return missing(run.stdout, "#88 done 30", "[1] %total = 30") or ("a prompt at a pipe" if PROMPT in run.stdout else None)
+
+
+def memory_told(program: str) -> str | None:
+    session = Held(program, str(SQUARES), memory=1)
+    try:
+        return missing(session.do("c") + session.told, " MB", "--history 1000000") or session.replayed_fault()
+    finally:
+        session.close()
+
+
+def bounded(program: str) -> str | None:
+    """With few moves kept a cause is found all the same, and what can't be gone back to is said."""
+    with tempfile.TemporaryDirectory(prefix="bounded-") as folder:
+        session = Held(program, written(folder, "long.ssa", LONG.format(rounds=200_000)), "--history", "10")
+        try:
+            fault = missing(session.do("c"), "done 7") or missing(session.do("why"), "[1] %r = 7")
+            fault = fault or missing(session.do("why w $first"), "line 5: storew 7, $first", "#1 $main @start 1")
+            oldest = int(session.place[1:].split()[0]) - 10
+            fault = fault or missing(session.do("goto 5"), "keeps its last 10 moves, which end here", f"#{oldest} $main")
+            return fault or session.replayed_fault()
+        finally:
+            session.close()
+
+
+def fast(program: str) -> str | None:
+    """What `why` takes behind runs of many moves, the way of the second process to the end included."""
+    for moves, seconds in SPEEDS:
+        with tempfile.TemporaryDirectory(prefix="long-") as folder:
+            session = Held(program, written(folder, "long.ssa", LONG.format(rounds=moves // 8 + 1)), memory=4096)
+            try:
+                fault = missing(session.do("c"), "done 7")
+                if fault or int(session.place[1:].split()[0]) < moves:
+                    return fault or f"{session.place} is before #{moves}"
+                for line, wanted in (("why", "[1] %r = 7"), ("why 1", "[1] w $first+0 = 7"),
+                                     ("why 1", "line 5: storew 7, $first"),
+                                     ("back", "%r=7"), ("why l %sum", "storel %new, %sum"), ("why %i", "for @body"),
+                                     ("why %sum", "line 4: %sum =l alloc8 8"), ("why w $first", "line 5: storew 7, $first")):
+                    begun = processor_seconds(session)
+                    fault = missing(session.do(line), wanted)
+                    taken = processor_seconds(session) - begun
+                    if fault or taken > seconds:
+                        return fault or f"{line} takes {taken:.2f} seconds behind {moves} moves"
+            finally:
+                session.close()
+    return None
+
+
+def deep(program: str) -> str | None:
+    """Far inside calls an address is named by its frame, callers are looked at, and no stop takes long for it."""
+    with tempfile.TemporaryDirectory(prefix="deep-") as folder:
+        session = Held(program, written(folder, "deep.ssa", DEEP))
+        try:
+            session.do("b $down @bottom")
+            begun = processor_seconds(session)
+            fault = missing(session.do("c"), "%at=frame 901 $main alloc %variable+0")
+            taken = processor_seconds(session) - begun
+            if taken > AT_ONCE:
+                return f"the stop takes {taken:.2f} seconds"
+            fault = fault or missing(session.do("up 450"), "frame 450 $down @more 2")
+            fault = fault or missing(session.do("p %n"), "%n = 450")
+            fault = fault or missing(session.do("p %local"), "(frame 450 $down alloc %local+0)")
+            fault = fault or missing(session.do("why %at"), "[2] %at = 16777216 (frame 450 $main alloc %variable+0)")
+            return fault or missing(session.do("fin"), "given back: %result = 5") or session.replayed_fault()
+        finally:
+            session.close()
+
+
+def saved_and_compared(program: str) -> str | None:
+    """A saved script with another limit, what a recorded script parts by, and a transcript that no longer holds."""
+    with tempfile.TemporaryDirectory(prefix="compared-") as folder:
+        recorded = written(folder, "a.script", (EXAMPLES / "squares.script").read_text())
+        transcript = (EXAMPLES / "squares.transcript").read_text()
+        written(folder, "a.transcript", transcript)
+        session = Held(program, str(SQUARES), "--limit", "50")
+        try:
+            session.do("c")
+            if session.place != "#50 $main @start 1":
+                return f"the limit of 50 leads to {session.place}"
+            fault = session.replayed_fault()
+            fault = fault or missing(session.do(f"compare {recorded}"), "here the end, there `watch w $bias`")
+            fault = fault or missing(session.do(f"save {folder}/b.script"), "--limit 50")
+        finally:
+            session.close()
+        session = Held(program, str(SQUARES))
+        try:
+            for line in (EXAMPLES / "squares.script").read_text().split("\n"):
+                session.do(line)
+            fault = fault or missing(session.do(f"compare {recorded}"), "the same 6 lines", "the same state, #89",
+                                     "a.transcript is what the program answers")
+            session.do("goto 40")
+            fault = fault or missing(session.do(f"compare {recorded}"), "the same states up to #40")
+            written(folder, "a.transcript", transcript.replace("%i = 4", "%i = 5"))
+            return fault or missing(session.do(f"compare {recorded}"), "now %i = 4, recorded %i = 5")
+        finally:
+            session.close()
+
+
+def mapped(program: str) -> str | None:
+    """The places that a map has for a line are shown: of the text that was lowered, and of the source."""
+    with tempfile.TemporaryDirectory(prefix="mapped-") as folder:
+        file = written(folder, "a.ssa", SQUARES.read_text())
+        places = [f"my\\tsquares.ssa\t{number // 2}" if number > 5 else "" for number in range(1, 50)]
+        places[17 - 1] += "\tlib\\\\a.my\t3\t0"
+        places[18 - 1] += "\tsquares.my\t4\t7"
+        written(folder, "a.ssa.map", "\n".join(places) + "\n")
+        session = Held(program, file)
+        try:
+            fault = missing(session.do("goto 44"), "  source: my\tsquares.ssa:9: squares.my:4:7\n")
+            fault = fault or missing(session.do("bt"), "(my\tsquares.ssa:13)\n")
+            fault = fault or missing(session.do("why %place"), "  (my\tsquares.ssa:8: lib\\a.my:3)\n")
+            return fault or session.replayed_fault()
+        finally:
+            session.close()
+
+
+COUNT = """export function w $main(w %count, l %texts) {
+@start
+	ret %count
+}
+"""
+
+
+def lowered(program: str) -> str | None:
+    """Texts of whole QBE: the places of their own lines, and saved scripts that say how to play them."""
+    struct = "lower/test-data/real/structval.ssa"
+    with tempfile.TemporaryDirectory(prefix="lowered-") as folder:
+        count = written(folder, "count.ssa", COUNT)
+        # The function `add` begins on line 76 of its text. The name of the program is a text of `main` too.
+        return played(folder, [struct], "b $add\nc\n", f"  source: {struct}:76\n", "#14 $add @start.") or \
+            played(folder, [count, "--", "a", "b c"], "c\n", "done 3\n", " done 3\n")
+
+
+def played(folder: str, words: list[str], lines: str, shown: str, place: str) -> str | None:
+    """What a session over lowered texts shows otherwise, or where its saved script leads otherwise; or None."""
+    scratch, script = pathlib.Path(folder) / "scratch", pathlib.Path(folder) / "saved.script"
+    scratch.mkdir(exist_ok=True)
+    session = Terminal([str(TOP / "qrev"), "--lower", *words], seconds=60, folder=str(TOP), TMPDIR=str(scratch))
+    try:
+        session.wait_for(PROMPT)
+        session.type(lines)
+        session.wait_for(shown)
+        session.type(f"save {script}\n")
+        session.wait_for("to play them: ")
+        told = session.wait_for("\n")
+        session.type("quit\n")
+        status = session.status()
+    finally:
+        session.close()
+    wanted = f"./qrev {shlex.join(['--lower', *words])} < {script}"
+    run = subprocess.run(["bash", "-c", told], text=True, capture_output=True, cwd=TOP, timeout=60)
+    left_over = list(scratch.iterdir())
+    return missing(run.stdout, place) or (f"{told!r} in place of {wanted!r}" if told != wanted else None) or \
+        (f"status {status}, and {left_over} are left" if status or left_over else None)
+
+
+def bare(program: str) -> str | None:
+    """Without a program the script at the top says what is wrong, and starts nothing."""
+    session = Terminal([str(TOP / "qrev")], seconds=60)
+    try:
+        session.wait_for("Usage: qrev")
+        status = session.status()
+        return None if status == 64 else f"status {status}"
+    finally:
+        session.close()
+
+
+HABITS = {call.__name__.replace("_", " "): call for call in (
+    interrupted, interrupted_at_the_prompt, left, completed, bad_lines, refused, broken, narrow, without_readline, wrapped,
+    memory_told, bounded, fast, deep, saved_and_compared, mapped, lowered, bare)}
+
+
+def tried(call, program: str) -> str | None:
+    try:
+        return call(program)
+    except (Silent, OSError, subprocess.SubprocessError) as error:
+        return f"{error}"
+

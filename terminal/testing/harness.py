@@ -1,0 +1,130 @@
+"""A session of the front end at a pseudo-terminal, for tests."""
+from __future__ import annotations
+
+import fcntl
+import os
+import pathlib
+import pty
+import re
+import select
+import signal
+import struct
+import subprocess
+import sys
+import tempfile
+import termios
+import time
+
+from terminal.shell import FAULT
+
+FOLDER = pathlib.Path(__file__).resolve().parent.parent
+TOP = FOLDER.parent
+PROMPT = "(qrev) "
+PLACE = re.compile(r"#\d+ (?:[$]\S+ @\S+ \d+|done.*|exit.*|fault.*)")
+
+
+class Silent(Exception):
+    """What was waited for didn't come."""
+
+
+class Terminal:
+    """A command at a terminal of its own."""
+
+    def __init__(self, words: list[str], columns: int = 200, seconds: float = 30, folder: str = ".", **environment: str):
+        self.seconds, self.shown = seconds, ""
+        self.home = tempfile.TemporaryDirectory(prefix="terminal-")
+        variables = {**os.environ, "HOME": self.home.name, "TERM": "dumb", "INPUTRC": "/dev/null",
+                     "PYTHONDONTWRITEBYTECODE": "1", **environment}
+        variables.pop("COLUMNS", None)
+        size = struct.pack("HHHH", 40, columns, 0, 0)
+        # Tests run in threads: behind the fork nothing is done that could wait for one.
+        self.child, self.device = pty.fork()
+        if self.child == 0:
+            fcntl.ioctl(0, termios.TIOCSWINSZ, size)
+            os.chdir(folder)
+            os.execvpe(words[0], words, variables)
+
+    def wait_for(self, text: str) -> str:
+        """What came up to the text, without the text itself."""
+        end = time.monotonic() + self.seconds
+        while text not in self.shown:
+            if not select.select([self.device], [], [], max(0, end - time.monotonic()))[0]:
+                raise Silent(f"no {text!r} in {self.shown[-400:]!r}")
+            try:
+                piece = os.read(self.device, 65536)
+            except OSError:
+                piece = b""
+            if not piece:
+                raise Silent(f"the end, and no {text!r} in {self.shown[-400:]!r}")
+            self.shown += piece.decode(errors="replace").replace("\r\n", "\n")
+        before, _, self.shown = self.shown.partition(text)
+        return before
+
+    def type(self, keys: str) -> None:
+        os.write(self.device, keys.encode())
+
+    def status(self) -> int:
+        """The exit status, once the command ended by itself."""
+        end = time.monotonic() + self.seconds
+        while time.monotonic() < end:
+            found, status = os.waitpid(self.child, os.WNOHANG)
+            if found:
+                self.child = 0
+                return os.waitstatus_to_exitcode(status)
+            time.sleep(0.01)
+        raise Silent("it doesn't end")
+
+    def close(self) -> None:
+        os.close(self.device)
+        if self.child:
+            os.kill(self.child, signal.SIGKILL)
+            os.waitpid(self.child, 0)
+        self.home.cleanup()
+
+
+class Held(Terminal):
+    """A session of the front end: lines are typed, and what each shows is kept."""
+
+    def __init__(self, program: str, *words: str, columns: int = 200, memory: int = 512, folder: str = ".",
+                 lowered: tuple[str, ...] = (), **environment: str):
+        own = [sys.executable, str(FOLDER / "main"), "--debugger", program, "--memory", str(memory)]
+        super().__init__([*own, *(f"--lowered={file}" for file in lowered), "--", *words], columns, folder=folder,
+                         **environment)
+        self.program, self.words, self.folder = program, words, folder
+        self.told = self.wait_for(PROMPT)
+        self.place = last_place(self.told)
+
+    def do(self, line: str) -> str:
+        """What a line shows."""
+        self.type(line + "\n")
+        answer = self.wait_for(PROMPT).partition("\n")[2]
+        if FAULT in answer:
+            raise Silent(f"{line!r} shows {answer!r}")
+        self.place = last_place(answer) or self.place
+        return answer
+
+    def replayed_fault(self) -> str | None:
+        """What the session's saved script leads to otherwise than to where it stands, or None."""
+        script = pathlib.Path(self.home.name) / "saved.script"
+        self.do(f"save {script}")
+        self.do("frame 0")
+        asked = "where\ntemps\nout\n"
+        run = subprocess.run([self.program, *self.words], input=script.read_text() + asked, capture_output=True,
+                             text=True, timeout=self.seconds, cwd=self.folder)
+        told = run.stdout.split("\n")
+        place = [line for line in told if PLACE.fullmatch(line)][-1]
+        if place != self.place:
+            return f"the saved script leads to {place}, and the session stands at {self.place}"
+        values = {line.split(" ")[0]: line.split(" ")[-1] for line in told[last_index(told, place):] if line[:1] == "%"}
+        shown = {line.split(" ")[0]: re.sub(r" \(.*", "", line).split(" ")[-1]
+                 for line in self.do("temps").split("\n") if line[:1] == "%"} if values else {}
+        return None if shown == values else f"the saved script gives {values}, and the session has {shown}"
+
+
+def last_place(text: str) -> str | None:
+    found = [line for line in text.split("\n") if PLACE.fullmatch(line)]
+    return found[-1] if found else None
+
+
+def last_index(lines: list[str], line: str) -> int:
+    return len(lines) - 1 - lines[::-1].index(line)

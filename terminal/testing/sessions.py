@@ -1,0 +1,255 @@
+"""Sessions that terminal/test types: what is typed, and what must be shown of each line.
+
+Positions and values are those of the pages docs/STORIES.md and docs/QUESTIONS.md, or are worked out by hand: in
+examples/squares.ssa a round of `$fill` is nine moves, the first of which begins at #2.
+"""
+from __future__ import annotations
+
+import math
+import pathlib
+import struct
+
+TOP = pathlib.Path(__file__).resolve().parent.parent.parent
+EXAMPLES = TOP / "examples"
+OWN = pathlib.Path(__file__).resolve().parent
+SQUARES = EXAMPLES / "squares.ssa"
+PI = struct.unpack("<Q", struct.pack("<d", math.pi))[0]
+HALF = struct.unpack("<I", struct.pack("<f", 0.5))[0]
+
+Lines = list[tuple[str, list[str]]]
+
+# The first session of README.md, then its cause asked for.
+FIRST: Lines = [
+    ("c", ["stop: end", "#88 done 30"]), ("watch w $bias", ["watch 1: w $bias+0"]),
+    ("rc", ["stop: watch 1, w $bias+0: 0 -> 16", "#44 $fill @body 4", "> 18 ", "%square=16, %place=$bias+0"]),
+    ("bt", ["> 0  $fill @body 4  line 18", "  1  $main @start 1  line 27"]), ("p %i", ["%i = 4"]),
+    ("s", ["#45 $fill @body 5"]), ("poke w $bias 0", ["#46 $fill @body 5"]), ("c", ["#89 done 14"]),
+]
+
+MOVES: Lines = [
+    ("n", ["#50 $main @start 1", "> 28 "]), ("reverse-next", ["#0 $main @start 0"]), ("s", ["#1 $fill @start 0"]),
+    ("step 43", ["#44 $fill @body 4"]), ("fin", ["#50 $main @start 1"]), ("rs 6", ["#44 $fill @body 4"]),
+    ("", ["#38 $fill @loop 0"]), ("rf", ["#0 $main @start 0"]), ("back", ["this is the start of the run"]),
+    ("goto 44", ["#44 $fill @body 4"]), ("checkpoint here", ["checkpoint here: #44 $fill @body 4"]),
+    ("set %i 9", ["#45 $fill @body 4"]), ("checkpoint", ["checkpoint 1: #45"]),
+    ("set var %i = %i * 2", ["#46"]), ("p %i", ["= 18"]), ("set %i=9", ["#47"]), ("back 2", ["#45"]),
+    ("info checkpoints", ["here: #44", "1: #45"]),
+    ("goto 20", ["taken back: set %i 9 (#44)", "#20 $fill @loop 0"]), ("restart 1", ["#45 $fill @body 4"]),
+    ("p %i", ["%i = 9"]), ("restart here", ["taken back: set %i 9", "#44 $fill @body 4"]), ("p %i", ["%i = 4"]),
+    ("tbreak $fill @body if %i == 2", ["break 1: $fill @body 0 (line 14), if %i == 2, once"]),
+    ("run", ["stop: break 1", "#22 $fill @body 0"]), ("stops", ["none"]), ("goto #31", ["#31 $fill @body 0"]),
+    ("rn 2", ["#29 $fill @loop 0"]), ("goto 10**9", ["was expected"]),
+    ("goto 1000000", ["the run is over before #1000000", "#88 done 30"]),
+    ("s", ["the run is over"]), ("rs", ["#87 $main @end 2", "%total=30"]), ("up", ["the outermost frame is 0"]),
+    ("goto 3", ["#3 $fill @loop 1"]), ("up", ["frame 1 $main @start 1", "> 27 "]), ("p %total", ["%total unset"]),
+    ("p %square", ["%square unset"]), ("down", ["frame 0 $fill @loop 1"]), ("frame 1", ["frame 1 $main"]),
+    ("fin", ["#88 done 30"]), ("rc", ["stop: start", "#0 $main @start 0"]),
+]
+
+# On the stack of examples/digits.ssa after 101 moves: docs/LANGUAGE.md has the picture.
+VALUES: Lines = [
+    ("goto 101", ["#101 $number @digit 3", "%t2=49, %at.next=frame 1 $main alloc %count+3"]),
+    ("p %value", ["%value = 12345"]), ("p/x %value", ["%value = 0x3039"]), ("p/o 8", ["8 = 010"]),
+    ("p/t 5", ["5 = 0b101"]),
+    ("p %buffer", ["%buffer = 16777220 (frame 0 $number alloc %buffer+0)"]),
+    ("p %at.next", ["%at.next = 16777219 (frame 1 $main alloc %count+3)"]), ("p/c %t2", ['%t2 = "1"']),
+    ("p/a %at.next", ["= 16777219 frame 1 $main alloc %count+3"]), ("p 7305076", ["7305076 = 7305076"]),
+    ("p/c 7305076", ['"two"']), (f"p/f {PI}", [f"= {math.pi!r}"]), ("p -1", ["-1 = -1"]),
+    ("p/u -1", ["= 18446744073709551615"]),
+    ("p %rest * 2 + 'a' % 10", [f"= {2 * 1 + 97 % 10}"]), ("p (1 << 40) - 1", [f"= {(1 << 40) - 1}"]),
+    ("p 7 / -2", ["= -3"]), ("p -7 % 3", ["= -1"]), ("p !0 && 3 > 2", ["= 1"]), ("p ~0", ["= -1"]),
+    ("p 0x10 == 16 || 1 / 0", ["= 1"]), ("p b[%at.next + 2]", ["= 51"]), ("p $numbers+8", ["= 65544 ($numbers+8)"]),
+    ("p w[$numbers+8]", ["= 12345"]), ("p w[65535]", ["address 65535 isn't live"]), ("p %t3", ["%t3 unset"]),
+    ("p $number", ["= 4096 ($number)"]), ("x/3wd $numbers", ["65536 $numbers+0: 7  42  12345"]),
+    ("x/4xb %buffer", ["frame 0 $number alloc %buffer+0: 0x32  0x33  0x34  0x35"]), ("", ["16777224: --  --  --  --"]),
+    ("x/2hu $numbers+8", ["$numbers+8: 12345  0"]), ("x/gx $numbers", ["0x0000002a00000007"]),
+    ("mem $numbers 4", ["07 00 00 00"]),
+    ("up", ["frame 1 $main @body 2"]), ("p %count", ["%count = 16777216 (frame 1 $main alloc %count+0)"]),
+    ("p %place", ["%place = 65544 ($numbers+8)"]), ("temps", ["%t3 = 12345", "%t4 = 1", "%t6 unset"]),
+    ("down", ["frame 0"]),
+    ("info symbol 16777217", ["frame 1 $main alloc %count+1"]), ("info symbol 4112", ["4112 $main"]),
+    ("info data", ["line 4: $numbers 65536, 12 bytes"]),
+    ("info functions", ["line 6: $number(w %value)", "line 32: $main()"]),
+    ("display %rest", ["1: %rest = 1"]), ("display/x w[%count]", ["has no such temporary"]), ("s", ["1: %rest = 1"]),
+    ("undisplay 1", []), ("info display", []), ("out", ["5 bytes", '"7\\n"', '"42\\n"']), ("l", ["> 18 ", "%rest=1"]),
+    ("list $main", [" 32 "]), ("list @write", [" 20  @write"]), ("list 1", [" 1  # Writes"]), ("list 999", ["54"]),
+    ("back 3", ["#99 $number @digit 1"]), ("p depth", ["depth = 2"]), ("p position", ["position = 99"]),
+    (f"poke w $numbers {HALF}", ["#100"]), ("p/f w[$numbers]", ["= 0.5"]),
+    ("info session", ["#100"]),
+]
+
+STOPS: Lines = [
+    ("b 14 if %i > 2", ["break 1: $fill @body 0 (line 14), if %i > 2"]), ("c", ["stop: break 1", "#31 $fill @body 0"]),
+    ("c", ["stop: break 1", "#40 $fill @body 0"]), ("rc", ["stop: break 1", "#31 $fill @body 0"]),
+    ("condition 1", ["1: $fill @body 0 (line 14)"]),
+    ("run", ["stop: break 1", "#4 $fill @body 0"]), ("ignore 1 2", ["the next 2 are passed over"]),
+    ("c", ["#31 $fill @body 0"]),
+    ("delete 1", ["deleted 1"]), ("stops", ["none"]), ("watch %i", ["watch 2: %i of this call of $fill"]),
+    ("c", ["stop: watch 2, %i of this call of $fill: 3 -> 4", "#38 $fill @loop 0"]),
+    ("rc", ["3 -> 4", "#37 $fill @body 6"]), ("c 3", ["its frame is over", "#50 $main @start 1"]),
+    ("stops", ["none"]), ("watch 16 $squares", ["watch 3: 16 bytes from $squares+0"]),
+    ("rc", ["stop: watch 3, 16 bytes from $squares+0: byte 12 0 -> 9", "#35 $fill @body 4"]),
+    ("rc", ["byte 8 0 -> 4", "#26 $fill @body 4"]),
+    ("d", ["deleted 3"]), ("watch w $squares+12 if w[$squares+4] == 1", ["watch 5: w $squares+12, if"]),
+    ("c", ["0 -> 9", "#36 $fill @body 5"]),
+    ("d 5", ["deleted 5"]), ("watch $fill %i", ["watch 6: $fill %i"]), ("run", ["#2 $fill @loop 0"]),
+    ("c", ["#11 $fill @loop 0"]),
+    ("c", ["#20 $fill @loop 0"]), ("b", ["break 7: $fill @loop 0 (line 11)"]),
+    ("b @end", ["break 8: $fill @end 0 (line 22)"]),
+    ("b $main @loop 1", ["break 9: $main @loop 1 (line 33)"]), ("info b", ["6: $fill %i", "9: $main @loop 1"]),
+    ("d 6 7", ["deleted 6", "deleted 7"]),
+    ("c", ["stop: break 8", "#49 $fill @end 0"]), ("c", ["stop: break 9", "#52 $main @loop 1"]),
+    ("b $fill if depth == 2", ["break 10"]),
+    ("rc", ["stop: break 8"]), ("d 8", []), ("rc", ["stop: break 10", "#1 $fill @start 0"]),
+    ("b 29", ["$main @loop 0 (line 32)"]),
+]
+
+# A stack variable of a loop: its bytes are dead between two calls, and are written with the same value.
+STACK: Lines = [
+    ("b $number @digit", ["break 1"]), ("c", ["$number @digit 0"]), ("d", []),
+    ("watch b %buffer+3", ["watch 2: b frame 0 $number alloc %buffer+3"]), ("c", ["stop: watch 2", ": 0 -> 55"]),
+    ("c", ["stop: watch 2", ": 55 -> 0", "%buffer"]), ("c", [": 0 -> 50"]), ("rc", [": 0 -> 50", "storeb"]),
+    ("d", ["deleted 2"]),
+]
+
+ASKED: Lines = [
+    ("writers w $balance", ["#36 $charge @start 2  line 10: storew %t2=199, $balance",
+                            "#39 $pay @start 3  line 19: storew %t2=300, $balance",
+                            "6 writes in the run from #0 to #47 done 300"]),
+    ("readers $balance", ["#32 $pay @start 0", "#45 $main @end 0", "7 reads in the run from #0 to #47 done 300"]),
+    ("goto 38", ["#38 $pay @start 2"]), ("when %amount == 100", ["3 times in the run from #0 to #47 done 300"]),
+    ("when w[$balance] == 199", ["holds from #37, no longer from #40", "1 time in the run"]), ("p %t1", ["%t1 = 200"]),
+    ("why", ["$pay was called by", "line 31: call $pay(w 100)"]), ("why call", ["$pay was called by"]),
+    ("why jump", ["$pay was called by"]), ("why 4 $balance", ["w $balance+0 = 199: stored by", "#36 $charge @start 2"]),
+    ("why w $balance", ["#36 $charge @start 2"]), ("why 1", ["%t2 = 199 was set by"]),
+    ("why back", ["#36 $charge @start 2"]),
+    ("goto why", ["#36 $charge @start 2"]), ("up", ["frame 1 $pay"]),
+    ("why %amount", ["%amount = 100 is argument 1 of 1 of the call"]),
+    ("set %t2 1", ["innermost frame"]), ("frame 0", []), ("set %t2 1", ["#37 $charge @start 2"]),
+    ("why %t2", ["%t2 = 1 was set by hand: #36 set %t2 1"]), ("poke w $balance %t2+4", ["#38"]),
+    ("s", ["#39 $charge @start 3"]),
+    ("why w $balance", ["w $balance+0 = 1: stored by", "#38"]), ("back", ["#38"]),
+    ("why w $balance", ["by hand: #37 poke w $balance 5"]),
+]
+
+FIBONACCI: Lines = [
+    ("b $fib if depth == 4", ["break 1"]), ("c", ["stop: break 1", "$fib @start 0"]), ("p %n", ["%n = 4"]),
+    ("p depth", ["= 4"]),
+    ("up 2", ["frame 2 $fib"]), ("p %n", ["%n = 6"]), ("down 2", ["frame 0"]), ("d", []),
+    ("fin", ["given back: %a = 3"]),
+    ("n 2", []), ("p %b", ["%b = 2"]), ("rn", ["%n2=3"]), ("fin", ["given back: %a = 5"]),
+    ("rf", ["#0 $main @start 0"]), ("c", ["done 8"]),
+]
+
+# docs/QUESTIONS.md, "What would happen if this value were another?": -1 squared is stored at 4 bytes before $squares.
+HAND: Lines = [
+    ("goto 2", ["#2 $fill @loop 0"]), ("set %i -1", ["#3 $fill @loop 0", "%i=-1"]), ("c", ["#10 fault dead address 65532"]),
+    ("why", ["storew %square, %place", "the nearest data is $squares, of 16 bytes: $squares-4", "[2] %place = 65532"]),
+    ("why 2", ["[1] %bytes = 18446744073709551612 (-4)"]), ("why 1", ["%offset = 18446744073709551615 (-1)"]),
+    ("why 1", ["%offset =l extsw %i", "[1] %i = 4294967295 (-1)"]), ("why 1", ["was set by hand: #2 set %i -1"]),
+    ("back", ["#9 $fill @body 4"]), ("rn 4", ["#5 $fill @body 0"]), ("when %i < 0", ["holds from #3 on"]),
+]
+
+# A round takes 14 moves, and the first comes to its alloc at #8 (docs/STORIES.md has the last two).
+BUFFERS: Lines = [
+    ("goto 3578", ["#3578 $main @body 0"]), ("info symbol 16777224", ["frame 0 $main alloc %buffer+0 of #8"]),
+    ("info symbol 16781321", ["frame 0 $main alloc %buffer+1 of #22"]), ("info symbol 16777223", ["alloc %sum+3"]),
+    ("p %buffer", ["%buffer = 17817608 (frame 0 $main alloc %buffer+0)"]), ("info symbol 17825792", ["17825792"]),
+]
+
+# 6 + 7 * 256 is 1798, and a store of the same value is the last one.
+COPY: Lines = [
+    ("c", ["exit 1798"]), ("why", ["line 20: call $exit(w %again)", "[1] %again = 1798"]),
+    ("why 1", ["[1] %word = 65552 ($to+8)", "[2] w $to+8 = 1798"]),
+    ("why 2", ["w $to+8 = 1798: stored by", "#8 $main @start 8", "[1] %value = 1798"]),
+    ("why 1", ["[2] w $to+8 = 1798"]),
+    ("why 2", ["byte 1 of w $to+8", "#3 $main @start 3  line 11: storeb 7, %byte", "bytes 0, 2, 3 of w $to+8",
+               "#1 $main @start 1  line 9: blit $from, %to, 8", "[4] w $from+4 = 6"]),
+    ("why 4", ["w $from+4 = 6 so since the start: line 3, $from"]),
+    ("writers w $to+8", ["#1 ", "#3 ", "#6 ", "#7 ", "#8 ", "5 writes"]),
+    ("readers $from+4", ["#1 $main @start 1", "1 read in"]),
+    ("back", ["#11 $main @end 1"]),
+    ("why 12 $to", ["bytes 8, 9, 10, 11 of 12 bytes at $to+0", "#8 $main", "#1 $main",
+                    "so since the start: line 4, $to"]),
+]
+
+# Each bug found by `why` alone. The last line is where right operands make a wrong value, or a wrong thing is done.
+CAUSES: dict[pathlib.Path, Lines] = {
+    # The loop goes round once too often, and writes the square of 4 over $bias.
+    SQUARES: [
+        ("c", ["done 30"]), ("why", ["line 44: ret %total", "[1] %total = 30"]),
+        ("why 1", ["[1] %sum = 14", "[2] %bias = 16"]),
+        ("why 2", ["%bias =w loadsw $bias", "[1] w $bias+0 = 16"]),
+        ("why 1", ["#44 $fill @body 4", "storew %square, %place", "[2] %place = 65552 ($bias+0)"]),
+        ("why 3", ["control came to @body by", "jnz %more, @body, @end", "[1] %more = 1"]),
+        ("why 1", ["%more =w cslew %i, 4", "[1] %i = 4"]),
+    ],
+    # The index of row 1, column 2 is made with 2 in the place of 3.
+    EXAMPLES / "transpose.ssa": [
+        ("c", ["done 5"]), ("why", ["[1] %t2 = 5"]), ("why 1", ["[2] w $to+20 = 5"]),
+        ("why 2", ["#105 $transpose @body 11", "[1] %t8 = 5"]),
+        ("why 1", ["%t8 =w loadsw %t7", "[1] %t7 = 65552 ($from+16)", "[2] w $from+16 = 5"]),
+        ("why 1", ["[1] %t6 = 16"]), ("why 1", ["[1] %t5 = 4"]),
+        ("why 1", ["[1] %t4 = 4"]), ("why 1", ["[1] %t3 = 2", "[2] %column = 2"]),
+        ("why 1", ["%t3 =w mul %row, 2", "[1] %row = 1"]),
+    ],
+    # The balance was read before the fee changed it.
+    EXAMPLES / "account.ssa": [
+        ("c", ["done 300"]), ("why", []), ("why 1", ["[1] w $balance+0 = 300"]),
+        ("why 1", ["#39 $pay @start 3", "[1] %t2 = 300"]),
+        ("why 1", ["[1] %t1 = 200", "[2] %amount = 100"]),
+        ("why 1", ["#32 $pay @start 0", "but memory was changed since, before #38, by", "#36 $charge @start 2",
+                   "[3] w $balance+0 = 199"]),
+    ],
+    # For @body the phi takes %t5, the number that wasn't larger.
+    EXAMPLES / "largest.ssa": [
+        ("c", ["done 4"]), ("why", ["[1] %t1 = 4"]), ("why 1", ["was given back by", "line 29: ret %best"]),
+        ("why 1", ["was taken for @next by"]),
+        ("why 1", ["was taken for @larger by", "[1] %best = 4"]), ("why 1", ["was taken for @next by"]),
+        ("why 1", ["%best.next = 4 was taken for @body by", "phi @body %t5, @larger %best", "#21 $largest @body 5",
+                   "[1] %t5 = 4", "[2] %t6 = 0"]),
+    ],
+    # A byte of a buffer of four is written before its beginning, over the count.
+    EXAMPLES / "digits.ssa": [
+        ("c", ["done 822083587"]), ("why", []), ("why 1", ["[2] w frame 0 $main alloc %count+0 = 822083587"]),
+        ("why 2", ["[1] %t5 = 822083587"]),
+        ("why 1", ["[1] %t4 = 822083586"]), ("why 1", ["[2] w frame 0 $main alloc %count+0 = 822083586"]),
+        ("why 2", ["byte 3 of w frame 0 $main alloc %count+0", "#101 $number @digit 3",
+                   "%at.next = 16777219 (frame 1 $main alloc %count+3)", "bytes 0, 1, 2 of w"]),
+        ("why 2", ["%at.next =l sub %at, 1", "[1] %at = 16777220 (frame 0 $number alloc %buffer+0)"]),
+    ],
+    # The way over @february sets %t2 alone.
+    EXAMPLES / "months.ssa": [
+        ("c", ["fault unset temporary %days"]), ("why", ["[1] %days unset"]),
+        ("why 1", ["nothing set it in this call of $days", "line 15 (@april), line 18 (@other)"]),
+        ("why 1", ["control came to @end by", "#20 $days @february 1"]),
+    ],
+    # 255 allocs in a loop.
+    EXAMPLES / "buffers.ssa": [
+        ("c", ["fault stack full"]), ("why", ["line 15: %buffer =l alloc8 4096: 255", "line 6: %i =l alloc4 4: 1"]),
+        ("why 1", ["control came to @body by"]),
+    ],
+    # A byte of 195 is extended by its sign, to -61.
+    OWN / "bytes.ssa": [
+        ("c", ["done 0"]), ("why", ["[1] %count = 0"]), ("why 1", ["[1] %count.next = 0"]),
+        ("why 1", ["[1] %count = 0", "[2] %is.high = 0"]),
+        ("why 2", ["line 8: ret %is.high"]), ("why 1", ["%is.high =w csgtw %byte, 127", "%byte = 4294967209 (-87)"]),
+        ("why 1", ["is argument 1 of 1"]),
+        ("why 1", ["%byte =w loadsb %at", "[2] b $text+4 = 169 (-87)"]),
+        ("why 2", ["so since the start: line 3, $text"]),
+    ],
+    # The first product is gone before it is added.
+    OWN / "reuse.ssa": [
+        ("c", ["done 32"]), ("why", []), ("why 1", ["%t2 =w add %t1, %t1", "[1] %t1 = 16"]),
+        ("why 1", ["line 8: %t1 =w mul %b, %b", "[3] %t1 = 9  before #3, when it was set again"]),
+        ("why 3", ["line 7: %t1 =w mul %a, %a"]),
+    ],
+    # The two arguments stand in each other's place.
+    OWN / "order.ssa": [
+        ("c", ["done 0"]), ("why out 0", ['byte 0 of the output, 40 ("("), was written by', "[1] %digit = 40"]),
+        ("why 1", ["[1] %left = 4294967288 (-8)"]),
+        ("why 1", ["line 6: ret %rest"]), ("why 1", ["%rest =w sub %from, %what", "[1] %from = 2", "[2] %what = 10"]),
+        ("why 1", ["%from = 2 is argument 1 of 2 of the call", "[1] %small = 2  -> %from of $less",
+                   "[2] %large = 10  -> %what of $less"]),
+    ],
+}

@@ -1,0 +1,73 @@
+"""What happens while the debugger runs: Ctrl-C, and the progress of what takes over a second."""
+from __future__ import annotations
+
+import signal
+import sys
+import time
+
+SHOWN_AFTER = 1.0
+SHOWN_EVERY = 0.2
+# How long after Ctrl-C a question may still take before its process is ended, in seconds.
+PATIENCE = 0.3
+
+
+class Interrupted(Exception):
+    """Ctrl-C was pressed while a question was asked."""
+
+
+class Waiting:
+    """Ctrl-C at the prompt breaks the line off; while a command runs it is only marked, and looked at between moves."""
+
+    def __init__(self):
+        self.pressed_at: float | None = None
+        self.is_at_prompt = False
+        self.is_shown = False
+        self.begun = self.shown_at = time.monotonic()
+        self.first: int | None = None
+
+    def install(self) -> None:
+        signal.signal(signal.SIGINT, self.handle)
+        # Where the terminal is closed, or the process is asked to end, what it has made is cleared away.
+        for number in (signal.SIGHUP, signal.SIGTERM):
+            signal.signal(number, lambda number, _frame: sys.exit(128 + number))
+
+    def handle(self, _number, _frame) -> None:
+        if self.is_at_prompt:
+            raise KeyboardInterrupt
+        if self.pressed_at is None:
+            self.pressed_at = time.monotonic()
+
+    @property
+    def is_pressed(self) -> bool:
+        return self.pressed_at is not None
+
+    def begin(self) -> None:
+        """A command begins."""
+        self.pressed_at, self.first = None, None
+        self.begun = self.shown_at = time.monotonic()
+
+    def check(self) -> None:
+        """Breaks a question off once its process was given time to answer."""
+        if self.pressed_at is not None and time.monotonic() - self.pressed_at > PATIENCE:
+            raise Interrupted
+
+    def stop_if_pressed(self) -> None:
+        if self.is_pressed:
+            raise Interrupted
+
+    def tell(self, position: int, what: str = "") -> None:
+        """Shows how far a run is, where it takes over a second."""
+        now = time.monotonic()
+        if self.first is None:
+            self.first, self.begun = position, min(self.begun, now)
+        if now - self.begun < SHOWN_AFTER or now - self.shown_at < SHOWN_EVERY or not sys.stdout.isatty():
+            return
+        self.shown_at, self.is_shown = now, True
+        rate = abs(position - self.first) / (now - self.begun) / 1e6
+        sys.stdout.write(f"\r\x1b[K{what}#{position}, {rate:.1f} million moves a second; Ctrl-C stops")
+        sys.stdout.flush()
+
+    def clear(self) -> None:
+        if self.is_shown:
+            sys.stdout.write("\r\x1b[K")
+            self.is_shown = False
