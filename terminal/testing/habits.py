@@ -100,6 +100,7 @@ def interrupted(program: str) -> str | None:
             session.wait_for("million moves a second")
             session.type("\x03")
             answer = session.wait_for(PROMPT)
+            session.settle(READY)
             position = re.search(r"^#(\d+) \$main", answer, re.MULTILINE)
             if "stopped by Ctrl-C" not in answer or not position or int(position[1]) < 1_000_000:
                 return f"Ctrl-C shows {answer!r}"
@@ -110,6 +111,7 @@ def interrupted(program: str) -> str | None:
             session.wait_for("million moves a second")
             session.type("\x03")
             answer = session.wait_for(PROMPT)
+            session.settle(READY)
             session.place = last_place(answer) or session.place
             return missing(answer, "stopped by Ctrl-C") or session.replayed_fault()
         finally:

@@ -56,9 +56,16 @@ class Terminal:
                 piece = b""
             if not piece:
                 raise Silent(f"the end, and no {text!r} in {self.shown[-400:]!r}")
-            self.shown += piece.decode(errors="replace").replace("\r\n", "\n")
+            # The two bytes that end a line may come apart.
+            self.shown = (self.shown + piece.decode(errors="replace")).replace("\r\n", "\n")
         before, _, self.shown = self.shown.partition(text)
         return before
+
+    def settle(self, seconds: float) -> None:
+        """Waits until nothing has come for so long, and forgets what came: Ctrl-C may make a second prompt."""
+        while select.select([self.device], [], [], seconds)[0]:
+            os.read(self.device, 65536)
+        self.shown = ""
 
     def type(self, keys: str) -> None:
         os.write(self.device, keys.encode())
