@@ -9,8 +9,8 @@ mod stops;
 mod timeline;
 
 pub use laws::{
-    call_faults_in_order, fault_changes_status, final_states_stay, output_is_bounded, phis_swap,
-    dead_byte_comes_before_full_output, text_is_up_to_zero,
+    call_faults_in_order, dead_byte_comes_before_full_output, fault_changes_status,
+    final_states_stay, output_is_bounded, phis_swap, text_is_up_to_zero,
 };
 pub use reason::Reason;
 pub use start::StartFault;

@@ -19,18 +19,18 @@ shares_one s t n o =
     let before = source_before_end s t n o in
     let after = target_before_end s t n o in
     ⊎_elim
-        (λ lt. (t, (omega (arith, lt), omega (arith, after)), (omega arith, omega (arith, lt, after))))
-        (λ ge. (s, (omega arith, omega (arith, ge, before)), (omega (arith, ge), omega (arith, before))))
-        (cases_lt s t)
+    (λ lt. (t, (omega (arith, lt), omega (arith, after)), (omega arith, omega (arith, lt, after))))
+    (λ ge. (s, (omega arith, omega (arith, ge, before)), (omega (arith, ge), omega (arith, before))))
+    (cases_lt s t)
 
 has_other : (s t n : ℕ) → overlap s t n ≡ true → HasOther s t n
 has_other s t n o =
     let before = source_before_end s t n o in
     let after = target_before_end s t n o in
     ⊎_elim
-        (λ lt. (s, (omega arith, omega (arith, lt, after)), λ among. absurd (omega (arith, lt, among.0))))
-        (λ ge. let more = differ s t n o ge in (s + n - 1, (omega (arith, more, before), omega (arith, more, before)), λ among. absurd (omega (arith, more, before, among.1))))
-        (cases_lt s t)
+    (λ lt. (s, (omega arith, omega (arith, lt, after)), λ among. absurd (omega (arith, lt, among.0))))
+    (λ ge. let more = differ s t n o ge in (s + n - 1, (omega (arith, more, before), omega (arith, more, before)), λ among. absurd (omega (arith, more, before, among.1))))
+    (cases_lt s t)
 
 overlap_of : (s t n a b : ℕ) → IsIn s n a → IsIn t n a → IsIn s n b → ¬ (IsIn t n b) → overlap s t n ≡ true
 overlap_of s t n a b first second other lacks =
