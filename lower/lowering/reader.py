@@ -14,10 +14,10 @@ MOST_ALIGNMENT = 4096
 
 
 class Links:
-    """What stands before a definition: `export`, `thread`, `common`, `section`."""
+    """What stands before a definition: `export`, `thread`, `section`."""
 
     def __init__(self) -> None:
-        self.is_exported = self.is_thread = self.is_common = self.are_any = False
+        self.is_exported = self.is_thread = self.are_any = False
         self.section: str | None = None
 
 
@@ -58,7 +58,7 @@ class TextReader(BodyReader):
         while True:
             self.skip_newlines()
             word = self.values[self.at] if self.kind() == "word" else None
-            if word not in ("export", "thread", "common", "section"):
+            if word not in ("export", "thread", "section"):
                 return links
             self.at += 1
             links.are_any = True
@@ -66,8 +66,6 @@ class TextReader(BodyReader):
                 links.is_exported = True
             elif word == "thread":
                 links.is_thread = True
-            elif word == "common":
-                links.is_common = True
             else:
                 if links.section is not None:
                     self.refuse("only one section is allowed")
@@ -92,11 +90,11 @@ class TextReader(BodyReader):
         name_line = self.line()
         name = self.expect("$", "the name of the function")
         self.begin_function(returns)
-        parameters, environment, has_dots = self.read_parameters()
+        parameters, environment, self.has_dots = self.read_parameters()
         self.skip_newlines()
         self.expect("{")
         blocks = self.read_blocks()
-        function = Function(name_line, name, links.is_exported, returns, parameters, environment, has_dots, blocks,
+        function = Function(name_line, name, links.is_exported, returns, parameters, environment, self.has_dots, blocks,
                             self.used_aggregates, self.callees, self.addresses)
         check_function(function, self.path)
         return function
@@ -190,11 +188,9 @@ class TextReader(BodyReader):
         self.expect_over_lines("{")
         self.addresses = set()
         items = self.read_items()
-        if links.is_common and any(item.letter != "z" for item in items):
-            self.refuse("common data can only be zeros", line)
         if links.is_thread:
             self.count("thread data")
-        return Data(line, name, links.is_exported, links.is_common, links.section, alignment, items, self.addresses)
+        return Data(line, name, links.is_exported, links.section, alignment, items, self.addresses)
 
     def read_alignment_of_data(self) -> int:
         self.skip_newlines()

@@ -513,10 +513,6 @@ export function w $main() {
 	ret %r
 }
 """, "done 15"),
-    Case("common data", "common data $c = { z 8 }\n" + in_main("""
-storew 4, $c
-%x =w loadw $c
-ret %x"""), "done 4"),
     Case("a temporary of both integer classes", in_main("""
 %x =w copy 1
 %x =l copy 4294967298

@@ -54,7 +54,7 @@ TEXTS = [
     ("data $a = { l $b +\n 4 }", 1, "what is added"),
     ("data $a = { z -1 }", 1, "zeros"),
     ("data $a = { b 1 }\n\ndata $a = { b 2 }", 3, "a second time"),
-    ("common data $a = { w 1 }", 1, "zeros"),
+    ("common data $a = { z 8 }", 1, "no word of the language"),
     # Functions.
     ("function $f(w) {\n@s\n\tret\n}", 1, "a parameter"),
     ("function $f(w 1) {\n@s\n\tret\n}", 1, "a parameter"),
@@ -82,7 +82,8 @@ TEXTS = [
     (in_main("%x =w phi @start 1"), 3, "beginning of a block"),
     (in_main("%n =l copy 8", "blit 0, 0, %n"), 4, "blit"),
     (in_main("blit 0, 0, -1"), 3, "blit"),
-    (in_main("vastart"), 3, "a value"),
+    (in_main("vastart"), 3, "without dots"), ("function $f(...) {\n@s\n\tvastart\n\tret\n}", 3, "a value"),
+    (in_main("%p =l alloc8 24", "vastart %p"), 4, "without dots"),
     (in_main("call $f(w 1, ..., w 2, ...)"), 3, "only one `...`"),
     (in_main("call $f(1)"), 3, "a type"),
     (in_main("call $f(:t %x)"), 3, ":t isn't defined"),
