@@ -136,8 +136,7 @@ class FunctionWriter(CallWriter):
         self.origin = (phi.line, phi.place)
         sources = ", ".join(f"{label} {self.operand(value)}" for label, value in phi.sources if label in self.labels)
         cls = CARRIED[self.function.classes[phi.result]]
-        # Nothing leads to the block of a phi without values.
-        self.emit(f"\t{phi.result} ={cls} phi {sources}" if sources else f"\t{phi.result} ={cls} copy 0")
+        self.emit(f"\t{phi.result} ={cls} phi {sources}")
 
     def write_jump(self, jump: Jump) -> None:
         self.origin = (jump.line, jump.place)

@@ -125,13 +125,10 @@ class TextReader(BodyReader):
             self.aggregates[name] = Aggregate(name, size, alignment, "struct")
 
     def read_alignment_of_type(self) -> int:
-        """The power of two that QBE makes of it: the greatest that isn't above."""
+        """The power of two that QBE makes of it: the greatest that isn't above, without the sign, and 1 for 0."""
         self.skip_newlines()
-        line = self.line()
         number = self.expect("number", "the alignment")
-        if number <= 0:
-            self.refuse("the alignment isn't a positive number", line)
-        return 1 << number.bit_length() - 1
+        return 1 << max(number.bit_length() - 1, 0)
 
     def read_union(self, name: str, alignment: int) -> Aggregate:
         size = 0
@@ -196,11 +193,11 @@ class TextReader(BodyReader):
         self.skip_newlines()
         line = self.line()
         alignment = self.expect("number", "the alignment")
-        if alignment <= 0 or alignment & alignment - 1:
+        if alignment < 0 or alignment & alignment - 1:
             self.refuse("the alignment isn't a power of two", line)
         if alignment > MOST_ALIGNMENT:
             self.refuse(f"the alignment is above {MOST_ALIGNMENT}", line)
-        return alignment
+        return max(alignment, 1)
 
     def read_items(self) -> list[Item]:
         items: list[Item] = []

@@ -531,22 +531,6 @@ export function w $main() {
 	ret %y
 }
 """, "done 7"),
-    Case("a value from a block that nothing leads to", """
-export function w $main() {
-@start
-	%x =w copy 1
-	jnz %x, @end, @use
-@use
-	%z =w add %y, 1
-	ret %z
-@dead
-	%p =w phi
-	%y =w copy 7
-	jmp @end
-@end
-	ret 5
-}
-""", "done 5"),
     Case("alloc in other words", in_main("""
 %p =l alloc1 4
 %q =l alloc2 4
