@@ -124,8 +124,12 @@ class ValueChecker:
 
     def group(self, name: str) -> str:
         """The temporary that stands for those that phis join with this one; it is the one that isn't in `joined`."""
-        while name in self.joined:
-            name = self.joined[name]
+        joined = self.joined
+        while name in joined:
+            # The next time the way is half as long.
+            above = joined[name]
+            joined[name] = joined.get(above, above)
+            name = above
         return name
 
     # Stack slots.

@@ -106,7 +106,7 @@ TEXTS = [
     (in_main("%x =w add %y, 1", "%y =w copy 1"), 3, "before it is defined"),
     (in_main("%p =l alloc4 4", "%x =w loadw %p"), 3, "never stored to"),
     (in_main("%p =l alloc4 -4", "storew 1, %p"), 3, "bytes"),
-    ("function $f(w %a) {\n@s\n\tjnz %a, @one, @two\n@one\n\t%p =l alloc4 -4\n\tcall $g(l %p)\n\tret\n@two\n\tret\n}", 5, "bytes"),
+    (blocks("@one", "\t%p =l alloc4 -4", "\tcall $g(l %p)", "@two", "\tret 0"), 5, "bytes"),
     # A slot that is kept in a temporary has its value from the store.
     (in_main("%p =l alloc4 4", "%x =w loadw %p", "storew 1, %p"), 4, "before it is defined"),
     # In a block to which control comes, and defined in one to which it doesn't.
