@@ -17,10 +17,10 @@ def table_of(words: list[str]) -> Unit:
     texts = [os.fsencode(word).decode("latin-1") for word in words]
     unit = Unit(Text("", [], {}, []), False)
     names = [f"$argument.{number}" for number in range(len(texts))]
-    objects = {name: Data(0, name, False, False, None, 1, [Item(0, "b", text), Item(0, "b", 0)], set())
+    objects = {name: Data(0, name, False, None, 1, [Item(0, "b", text), Item(0, "b", 0)], set())
                for name, text in zip(names, texts)}
     items = [Item(0, "l", name, True) for name in names] + [Item(0, "l", 0)]
-    objects[TABLE] = Data(0, TABLE, False, False, None, None, items, set(names))
+    objects[TABLE] = Data(0, TABLE, False, None, None, items, set(names))
     for name, definition in objects.items():
         unit.own[name] = Symbol(name, unit, definition, None)
     return unit

@@ -24,6 +24,7 @@ class BodyReader:
         self.place: Place | None = None
         # The block in which a debug line was read last: a phi can't follow it there.
         self.moved_in: Block | None = None
+        self.has_dots = False
         self.dropped: dict[str, int] = {}
         self.begin_function(None)
 
@@ -257,6 +258,8 @@ class BodyReader:
     def read_effect(self, block: Block, word: str) -> None:
         line = self.lines[self.at]
         self.at += 1
+        if word == "vastart" and not self.has_dots:
+            self.refuse("`vastart` in a function without dots", line)
         count = 3 if word == "blit" else len(WITHOUT_RESULT[word])
         operands = self.read_operands(word, count)
         if word == "blit" and (not isinstance(operands[2], int) or not 0 <= operands[2] < 1 << 28):

@@ -136,8 +136,7 @@ class FunctionWriter(CallWriter):
         self.origin = (phi.line, phi.place)
         sources = ", ".join(f"{label} {self.operand(value)}" for label, value in phi.sources if label in self.labels)
         cls = CARRIED[self.function.classes[phi.result]]
-        # Nothing leads to the block of a phi without values.
-        self.emit(f"\t{phi.result} ={cls} phi {sources}" if sources else f"\t{phi.result} ={cls} copy 0")
+        self.emit(f"\t{phi.result} ={cls} phi {sources}")
 
     def write_jump(self, jump: Jump) -> None:
         self.origin = (jump.line, jump.place)
@@ -189,9 +188,6 @@ class FunctionWriter(CallWriter):
         self.take_result(instruction.result, wanted, gives, f"call {target.name}({arguments})")
 
     def write_vastart(self, instruction: Instruction) -> None:
-        if self.cells is None:
-            self.halt("vastart.in.a.function.without.dots", "`vastart` in a function without dots")
-            return
         self.emit(f"\tstorel {self.cells}, {self.operand(instruction.operands[0])}")
 
     def write_vaarg(self, instruction: Instruction) -> None:
@@ -203,8 +199,3 @@ class FunctionWriter(CallWriter):
         self.emit(f"\tstorel {behind}, {list_address}")
         self.assign(instruction.result, CARRIED[instruction.cls], f"{LOADS[instruction.cls]} {cell}")
         self.report.count("`vaarg` as loads of cells")
-
-    def halt(self, name: str, what: str) -> None:
-        target = self.program.fault_symbol(name)
-        self.emit(f"\tcall {target.name}()")
-        self.note(what, self.program.weight_in(self.symbol))

@@ -52,7 +52,7 @@ WITH_RESULT = with_result()
 WITHOUT_RESULT = {name: (value, "l") for name, value in STORES.items()} | {"vastart": ("l",), "blit": ("l", "l")}
 NAMES = frozenset(name for name, _ in WITH_RESULT)
 KEYWORDS = NAMES | frozenset(WITHOUT_RESULT) | frozenset(CLASSES) | frozenset(SUBWORDS) | frozenset((
-    "export", "thread", "common", "section", "function", "type", "data", "align", "dbgfile", "dbgloc", "env", "call",
+    "export", "thread", "section", "function", "type", "data", "align", "dbgfile", "dbgloc", "env", "call",
     "phi", "jmp", "jnz", "ret", "hlt", "b", "h", "z"))
 
 # What a value of a class is carried in: floats as their bits.

@@ -9,7 +9,7 @@ from .names import Names
 from .refusals import Refused
 from .report import Report, Weight
 from .runtime import Runtime
-from .symbols import BUILT_IN, Signature, Symbol, Unit, references, signature_at, signature_of
+from .symbols import BUILT_IN, Symbol, Unit, references, signature_at, signature_of
 from .tree import Block, Call, Data, Definition, Function, Text, Value
 
 # The runtime's own function in the place of the built-in one, where its result or its address is used.
@@ -40,23 +40,15 @@ class Program:
             signature = signature_of(definition, False) if isinstance(definition, Function) else None
             symbol = Symbol(definition.name, unit, definition, signature)
             unit.own[definition.name] = symbol
-            if definition.is_exported or is_common(symbol):
+            if definition.is_exported:
                 self.export(symbol)
         return unit
 
     def export(self, symbol: Symbol) -> None:
-        """Of common data of one name one object is kept, the largest."""
-        known = self.exported.get(symbol.raw)
-        if known is not None and not is_common(symbol):
-            if not is_common(known):
-                raise Refused(symbol.unit.text.path, symbol.definition.line,
-                              f"{symbol.raw} is exported a second time, after {known.unit.text.path}:{known.definition.line}")
-        elif known is not None and (not is_common(known) or size_of_common(known) >= size_of_common(symbol)):
-            symbol.unit.own[symbol.raw] = known
-            return
-        if known is not None:
-            known.unit.own[known.raw] = symbol
-        self.exported[symbol.raw] = symbol
+        known = self.exported.setdefault(symbol.raw, symbol)
+        if known is not symbol:
+            raise Refused(symbol.unit.text.path, symbol.definition.line,
+                          f"{symbol.raw} is exported a second time, after {known.unit.text.path}:{known.definition.line}")
 
     # What names stand for.
 
@@ -86,14 +78,6 @@ class Program:
     def runtime_symbol(self, raw: str) -> Symbol:
         """A function of the runtime that the text doesn't name: it is kept from here on."""
         symbol = self.runtime.symbol(raw)
-        self.keep([symbol])
-        self.give_names()
-        return symbol
-
-    def fault_symbol(self, what: str) -> Symbol:
-        """A function that halts, and whose name says why."""
-        raw = f"$fault.{what}"
-        symbol = self.outside.setdefault(raw, Symbol(raw, None, None, Signature(None, ())))
         self.keep([symbol])
         self.give_names()
         return symbol
@@ -215,14 +199,6 @@ def name_order(symbol: Symbol, program: Program) -> int:
     if symbol.is_outside() or program.exported.get(symbol.raw) is symbol:
         return 0
     return 2 if symbol.is_of_runtime() else 1
-
-
-def is_common(symbol: Symbol) -> bool:
-    return isinstance(symbol.definition, Data) and symbol.definition.is_common
-
-
-def size_of_common(symbol: Symbol) -> int:
-    return sum(item.value for item in symbol.definition.items)
 
 
 def lines_of_use(definition: Definition) -> dict[str, int]:

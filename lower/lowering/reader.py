@@ -14,10 +14,10 @@ MOST_ALIGNMENT = 4096
 
 
 class Links:
-    """What stands before a definition: `export`, `thread`, `common`, `section`."""
+    """What stands before a definition: `export`, `thread`, `section`."""
 
     def __init__(self) -> None:
-        self.is_exported = self.is_thread = self.is_common = self.are_any = False
+        self.is_exported = self.is_thread = self.are_any = False
         self.section: str | None = None
 
 
@@ -58,7 +58,7 @@ class TextReader(BodyReader):
         while True:
             self.skip_newlines()
             word = self.values[self.at] if self.kind() == "word" else None
-            if word not in ("export", "thread", "common", "section"):
+            if word not in ("export", "thread", "section"):
                 return links
             self.at += 1
             links.are_any = True
@@ -66,8 +66,6 @@ class TextReader(BodyReader):
                 links.is_exported = True
             elif word == "thread":
                 links.is_thread = True
-            elif word == "common":
-                links.is_common = True
             else:
                 if links.section is not None:
                     self.refuse("only one section is allowed")
@@ -92,11 +90,11 @@ class TextReader(BodyReader):
         name_line = self.line()
         name = self.expect("$", "the name of the function")
         self.begin_function(returns)
-        parameters, environment, has_dots = self.read_parameters()
+        parameters, environment, self.has_dots = self.read_parameters()
         self.skip_newlines()
         self.expect("{")
         blocks = self.read_blocks()
-        function = Function(name_line, name, links.is_exported, returns, parameters, environment, has_dots, blocks,
+        function = Function(name_line, name, links.is_exported, returns, parameters, environment, self.has_dots, blocks,
                             self.used_aggregates, self.callees, self.addresses)
         check_function(function, self.path)
         return function
@@ -127,13 +125,10 @@ class TextReader(BodyReader):
             self.aggregates[name] = Aggregate(name, size, alignment, "struct")
 
     def read_alignment_of_type(self) -> int:
-        """The power of two that QBE makes of it: the greatest that isn't above."""
+        """The power of two that QBE makes of it: the greatest that isn't above, without the sign, and 1 for 0."""
         self.skip_newlines()
-        line = self.line()
         number = self.expect("number", "the alignment")
-        if number <= 0:
-            self.refuse("the alignment isn't a positive number", line)
-        return 1 << number.bit_length() - 1
+        return 1 << max(number.bit_length() - 1, 0)
 
     def read_union(self, name: str, alignment: int) -> Aggregate:
         size = 0
@@ -190,21 +185,19 @@ class TextReader(BodyReader):
         self.expect_over_lines("{")
         self.addresses = set()
         items = self.read_items()
-        if links.is_common and any(item.letter != "z" for item in items):
-            self.refuse("common data can only be zeros", line)
         if links.is_thread:
             self.count("thread data")
-        return Data(line, name, links.is_exported, links.is_common, links.section, alignment, items, self.addresses)
+        return Data(line, name, links.is_exported, links.section, alignment, items, self.addresses)
 
     def read_alignment_of_data(self) -> int:
         self.skip_newlines()
         line = self.line()
         alignment = self.expect("number", "the alignment")
-        if alignment <= 0 or alignment & alignment - 1:
+        if alignment < 0 or alignment & alignment - 1:
             self.refuse("the alignment isn't a power of two", line)
         if alignment > MOST_ALIGNMENT:
             self.refuse(f"the alignment is above {MOST_ALIGNMENT}", line)
-        return alignment
+        return max(alignment, 1)
 
     def read_items(self) -> list[Item]:
         items: list[Item] = []

@@ -115,7 +115,6 @@ class Data:
     line: int
     name: str
     is_exported: bool
-    is_common: bool
     section: str | None
     alignment: int | None
     items: list[Item]

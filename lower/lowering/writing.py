@@ -148,7 +148,7 @@ class ProgramWriter:
 
 
 def with_items(data: Data, items: list[Item]) -> Data:
-    return Data(data.line, data.name, data.is_exported, data.is_common, data.section, data.alignment, items,
+    return Data(data.line, data.name, data.is_exported, data.section, data.alignment, items,
                 {item.value for item in items if item.is_global})
 
 

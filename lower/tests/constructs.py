@@ -513,10 +513,6 @@ export function w $main() {
 	ret %r
 }
 """, "done 15"),
-    Case("common data", "common data $c = { z 8 }\n" + in_main("""
-storew 4, $c
-%x =w loadw $c
-ret %x"""), "done 4"),
     Case("a temporary of both integer classes", in_main("""
 %x =w copy 1
 %x =l copy 4294967298
@@ -535,22 +531,6 @@ export function w $main() {
 	ret %y
 }
 """, "done 7"),
-    Case("a value from a block that nothing leads to", """
-export function w $main() {
-@start
-	%x =w copy 1
-	jnz %x, @end, @use
-@use
-	%z =w add %y, 1
-	ret %z
-@dead
-	%p =w phi
-	%y =w copy 7
-	jmp @end
-@end
-	ret 5
-}
-""", "done 5"),
     Case("alloc in other words", in_main("""
 %p =l alloc1 4
 %q =l alloc2 4

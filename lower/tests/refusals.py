@@ -47,14 +47,14 @@ TEXTS = [
     # Data.
     ("data $a = { w }", 1, "a constant"),
     ("data $a = align 3 { w 1 }", 1, "power of two"),
-    ("data $a = align 0 { w 1 }", 1, "power of two"),
+    ("data $a = align -8 { w 1 }", 1, "power of two"),
     ('data $a = { w "text" }', 1, "strings"),
     ("data $a = { w 1 l 2 }", 1, "`,` or `}`"),
     ("data $a = { sb 1 }", 1, "the size"),
     ("data $a = { l $b +\n 4 }", 1, "what is added"),
     ("data $a = { z -1 }", 1, "zeros"),
     ("data $a = { b 1 }\n\ndata $a = { b 2 }", 3, "a second time"),
-    ("common data $a = { w 1 }", 1, "zeros"),
+    ("common data $a = { z 8 }", 1, "no word of the language"),
     # Functions.
     ("function $f(w) {\n@s\n\tret\n}", 1, "a parameter"),
     ("function $f(w 1) {\n@s\n\tret\n}", 1, "a parameter"),
@@ -82,7 +82,8 @@ TEXTS = [
     (in_main("%x =w phi @start 1"), 3, "beginning of a block"),
     (in_main("%n =l copy 8", "blit 0, 0, %n"), 4, "blit"),
     (in_main("blit 0, 0, -1"), 3, "blit"),
-    (in_main("vastart"), 3, "a value"),
+    (in_main("vastart"), 3, "without dots"), ("function $f(...) {\n@s\n\tvastart\n\tret\n}", 3, "a value"),
+    (in_main("%p =l alloc8 24", "vastart %p"), 4, "without dots"),
     (in_main("call $f(w 1, ..., w 2, ...)"), 3, "only one `...`"),
     (in_main("call $f(1)"), 3, "a type"),
     (in_main("call $f(:t %x)"), 3, ":t isn't defined"),
@@ -105,6 +106,19 @@ TEXTS = [
     (in_main("%x =w add %y, 1", "%y =w copy 1"), 3, "before it is defined"),
     (in_main("%p =l alloc4 4", "%x =w loadw %p"), 3, "never stored to"),
     (in_main("%p =l alloc4 -4", "storew 1, %p"), 3, "bytes"),
+    (blocks("@one", "\t%p =l alloc4 -4", "\tcall $g(l %p)", "@two", "\tret 0"), 5, "bytes"),
+    # A slot that is kept in a temporary has its value from the store.
+    (in_main("%p =l alloc4 4", "%x =w loadw %p", "storew 1, %p"), 4, "before it is defined"),
+    # In a block to which control comes, and defined in one to which it doesn't.
+    (blocks("@one", "@two", "\t%x =w add %y, 1", "\tret %x", "@dead", "\t%y =w copy 7", "\tjmp @two"), 6, "before it is"),
+    # By a phi, which QBE doesn't rename, and in a block that has another way to it.
+    (blocks("@one", "\t%x =w phi @start 1", "@two", "\tret %x"), 7, "before it is defined"),
+    # A value of a phi isn't renamed either.
+    (blocks("@one", "\t%x =w copy 1", "\tjmp @two", "@two", "\t%x =w copy 2", "\tjmp @end", "@end",
+            "\t%y =w phi @two %x", "\tret %y"), 8, "more than once"),
+    # It is used in other blocks than those behind its definition.
+    (blocks("@one", "\t%x =w copy 1", "\tret %x", "@two", "\tret %x"), 8, "before it is defined"),
+    (blocks("@one", "\t%x =w add %x, 1", "\t%x =w add %x, 1", "@two", "\tret 0"), 5, "before it is defined"),
     # Blocks.
     (blocks("@one", "@two", "@one", "\tret 0"), 6, "a second time"),
     (blocks("@one", "\tret 0"), 3, "@two is used"),
@@ -120,6 +134,7 @@ TEXTS = [
 ACCEPTED = [
     'data $a = { b "\\\xb2\\8\xff" }', "data $a = { w 1-2, l $a+-8 }",
     "", "# nothing\n", "export\n\nfunction\tw $main() {\n@start\n\tret 0 # end\n}", "data $a = {}data $b = { w 1, }",
+    "data $a = align 0 { w 1 }", "type :t = align 0 { w }\ntype :u = align -8 { 3 }",
     "type :t = { w, }\ntype :u = align 4 { 3 }\ntype :v = { { :t } { :u 2 } }\n",
     in_main("%x =w call $f(w 1, )"), in_main("%x =w copy 1", "%x =l copy 2", "storew %x, 0"),
     in_main("dbgloc 1", "dbgloc 2, 3"), "function $f(w %a,\tenv %b, ...)\n\n{ @s\n\tret\n}\n",

@@ -133,7 +133,6 @@ FAULTS = [
     ("call $abort()", "$abort @start 0"),
     ("%r =w call $printf(l $n, ..., l 0)", "$printf.has.no.such.conversion @start 0"),
     ("%r =w call $printf(l $long, ..., l 0)", "$printf.has.no.long.double @start 0"),
-    ("%p =l alloc8 8\nvastart %p", "$fault.vastart.in.a.function.without.dots @start 0"),
     ("call $rt.abort_fixed(l 0, l 1, l 2, l 3)", "$rt.abort_fixed @start 0"),
 ]
 FAULT_DATA = 'data $n = { b "%n\\0" }\ndata $long = { b "%Lf\\0" }\n'
