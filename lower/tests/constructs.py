@@ -88,6 +88,16 @@ type :over = {
 }
 """
 
+# A pair whose first item is the argument.
+MAKE = AGGREGATES + """
+function :pair $make(w %a) {
+@start
+	%p =l alloc8 16
+	storew %a, %p
+	ret %p
+}
+"""
+
 # A caller's bytes stay as they are, whatever the callee writes to its copy.
 STRUCTURES = [
     Case("an aggregate is copied", AGGREGATES + """
@@ -171,14 +181,7 @@ export function w $main() {
 }
 data $format = { b "%d " , b 0 }
 """, "done 0", "16 6 32 12 16 20 "),
-    Case("a call by an address gives an aggregate", AGGREGATES + """
-function :pair $make(w %a) {
-@start
-	%p =l alloc8 16
-	storew %a, %p
-	ret %p
-}
-export function w $main() {
+    Case("a call by an address gives an aggregate", MAKE + """export function w $main() {
 @start
 	%f =l copy $make
 	%r =:pair call %f(w 42)
@@ -186,14 +189,7 @@ export function w $main() {
 	ret %x
 }
 """, "done 42"),
-    Case("a slot for each call, also in a loop", AGGREGATES + """
-function :pair $make(w %a) {
-@start
-	%p =l alloc8 16
-	storew %a, %p
-	ret %p
-}
-export function w $main() {
+    Case("a slot for each call, also in a loop", MAKE + """export function w $main() {
 @start
 	%first =l copy 0
 @loop

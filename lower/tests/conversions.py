@@ -136,20 +136,11 @@ def batch_fault(running: Running, inputs: list[int]) -> str | None:
     records = [record(bits) for bits in inputs]
     middle, last = len(records) // 2, len(CONVERSIONS) - 1
     records[middle] = records[middle][:-1] + bytes([records[middle][-1] ^ 1])
-    lowered = running.lower_here(program(records))
-    if isinstance(lowered, str) or lowered.overflows:
-        return lowered if isinstance(lowered, str) else lowered.overflows[0]
-    run = running.run(lowered.text)
-    if run.end != f"done {len(records)}":
-        return run.end
-    told = run.output.split("\n")[:-1]
-    if told == [f"{middle} {last}"]:
-        return None
-    other = next((line for line in told if line != f"{middle} {last}"), None)
-    if other is None:
-        return "the planted record isn't told"
-    index, number = map(int, other.split())
-    return f"{len(told)} told, the first {CONVERSIONS[number]} of {inputs[index]:#x}"
+    fault, others = running.told_of_batch(program(records), len(records), f"{middle} {last}")
+    if fault or not others:
+        return fault
+    index, number = map(int, others[0].split())
+    return f"{len(others)} told, the first {CONVERSIONS[number]} of {inputs[index]:#x}"
 
 
 def results(running: Running) -> Results:

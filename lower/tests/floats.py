@@ -290,20 +290,10 @@ def batch_fault(running: Running, cls: str, records: list[bytes]) -> str | None:
     """What is wrong in a batch: the one record that is planted, in the middle, must be told and no other."""
     middle, first_result = place_for_plant(cls, records), {"s": 8, "d": 16}[cls]
     records = records[:middle] + [planted(records[middle], first_result)] + records[middle:]
-    lowered = running.lower_here(pair_program(cls, records))
-    if isinstance(lowered, str) or lowered.overflows:
-        return lowered if isinstance(lowered, str) else lowered.overflows[0]
-    run = running.run(lowered.text)
-    if run.end != f"done {len(records)}":
-        return run.end
-    told = run.output.split("\n")[:-1]
-    if told == [f"{middle} 1"]:
-        return None
-    first = next((line for line in told if line != f"{middle} 1"), None)
-    if first is None:
-        return "the planted record isn't told"
-    shown = records[int(first.split()[0])].hex()
-    return f"{len(told)} records, the first {first}: {shown}"
+    fault, others = running.told_of_batch(pair_program(cls, records), len(records), f"{middle} 1")
+    if fault or not others:
+        return fault
+    return f"{len(others)} records, the first {others[0]}: {records[int(others[0].split()[0])].hex()}"
 
 
 def batches(running: Running, cls: str, make: Callable[[int, int], bytes], at_once: int, pairs: Iterable[tuple[int, int]]) \

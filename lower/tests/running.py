@@ -84,6 +84,23 @@ class Running:
         except Refused as refused:
             return str(refused)
 
+    def told_of_batch(self, program: str, records: int, planted: str) -> tuple[str | None, list[str]]:
+        """Runs a text that checks records and tells the wrong ones, of which one was planted: a fault of the whole, if
+        there is one, and the lines told besides the planted one's."""
+        lowered = self.lower_here(program)
+        if isinstance(lowered, str):
+            return lowered, []
+        if lowered.overflows:
+            return lowered.overflows[0], []
+        run = self.run(lowered.text)
+        if run.end != f"done {records}":
+            return run.end, []
+        told = run.output.split("\n")[:-1]
+        if planted not in told:
+            return "the planted record isn't told", []
+        told.remove(planted)
+        return None, told
+
     def run(self, text: str, script: str = "continue\nout\n", words: tuple[str, ...] = (),
             keeps_history: bool = False) -> Run:
         """Runs a lowered text under a script."""
