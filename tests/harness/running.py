@@ -1,5 +1,6 @@
 """Which program is asked, a run of it, what it did otherwise than it must, and the count of what passed."""
 import itertools
+import os
 import pathlib
 import subprocess
 import sys
@@ -58,6 +59,22 @@ class Running(NamedTuple):
             except subprocess.TimeoutExpired:
                 return None
         return run.stdout, run.stderr, run.returncode
+
+    def timed(self, text, script=b"", words=()):
+        """The processor's seconds that a run takes, and its transcript. A run that doesn't end well is an error."""
+        with tempfile.NamedTemporaryFile(prefix="hostile-", suffix=".ssa") as file, tempfile.TemporaryFile() as lines, \
+                tempfile.TemporaryFile() as transcript:
+            file.write(text)
+            file.flush()
+            lines.write(script)
+            lines.seek(0)
+            process = subprocess.Popen([self.program, file.name, *words], stdin=lines, stdout=transcript)
+            _, status, used = os.wait4(process.pid, 0)
+            process.returncode = os.waitstatus_to_exitcode(status)
+            if process.returncode != 0:
+                raise ValueError(f"status {process.returncode}")
+            transcript.seek(0)
+            return used.ru_utime + used.ru_stime, transcript.read()
 
     def fault(self, text, script, words, transcript, status):
         """What the program does otherwise than it must, or None. Nothing may come on standard error."""

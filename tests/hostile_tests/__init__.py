@@ -9,6 +9,7 @@
     sessions.py      scripts: long ones, and random ones against the model of tests/reference
     single_lines.py  scripts of a line or two: the shapes of words, and how many there are
     edges.py         loads and stores at the edges of live memory, and calls of each kind of address
+    pace.py          that a step back takes no longer than what it undoes
     devices.py       standard input and output that are slow, closed or fail
     memory.py        each allocation refused in turn
     counts.py        how many allocations moves and commands take

@@ -4,11 +4,8 @@ The file colliding-names has names of seven letters that agree in the place and 
 fixed seed, as a text's author could search for them. The tables hash with keys that are drawn when the program starts, so
 that here they are names like any other; under the fixed seed the time of such a text grew with the square of its names.
 """
-import os
 import pathlib
 import string
-import subprocess
-import tempfile
 from random import Random
 
 from harness.running import Case
@@ -46,24 +43,11 @@ def do_collide(_running):
     return None if len(places) == 1 and len(set(NAMES)) == len(NAMES) > 7000 else f"{len(NAMES)} names, {len(places)} places"
 
 
-def loaded_in(running, text):
-    """The processor's seconds that a load takes."""
-    with tempfile.NamedTemporaryFile("w", prefix="names-", suffix=".ssa") as file:
-        file.write(text)
-        file.flush()
-        process = subprocess.Popen([running.program, file.name], stdin=subprocess.DEVNULL, stdout=subprocess.DEVNULL)
-        _, status, used = os.wait4(process.pid, 0)
-        process.returncode = os.waitstatus_to_exitcode(status)
-    if process.returncode != 0:
-        raise ValueError(f"status {process.returncode}")
-    return used.ru_utime + used.ru_stime
-
-
 def take_no_longer(running, kind):
     random = Random(7)
     others = ["".join(random.choices(string.ascii_letters, k=7)) for _ in NAMES]
     colliding, plain = TEXTS[kind](NAMES), TEXTS[kind](others)
-    times = [(loaded_in(running, colliding), loaded_in(running, plain)) for _ in range(ROUNDS)]
+    times = [(running.timed(colliding.encode())[0], running.timed(plain.encode())[0]) for _ in range(ROUNDS)]
     taken, beside = min(one for one, _ in times), min(other for _, other in times)
     return None if taken <= FACTOR * beside + SLACK else f"{taken:.3f} seconds, and {beside:.3f} for names at random"
 
