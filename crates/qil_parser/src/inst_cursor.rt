@@ -181,7 +181,8 @@ impl<'t, 'a> Cursor<'t, 'a> {
             }
             self.separator()?;
         }
-        Ok(Items::new(items))
+        let all = Items::new(items);
+        Ok(all)
     }
 
     /// What is called, and its arguments.

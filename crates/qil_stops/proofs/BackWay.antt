@@ -31,7 +31,7 @@ gone-step t [] (suc k) d new e = absurd cc
 gone-step t (x ∷ xs) zero d new e = let same : record t { now = x; past = xs } ≡ new = cc in sym same
 gone-step t (x ∷ xs) (suc k) d new e = gone-step t xs k d new e
 
-gone-more : (k : ℕ) (t now new : Timeline) → now ≡ gone k t → back now ≡ Some new → new ≡ gone (k + 1) t
+pub gone-more : (k : ℕ) (t now new : Timeline) → now ≡ gone k t → back now ≡ Some new → new ≡ gone (k + 1) t
 unfolding gone
 gone-more k t now new e f =
     let one : k + 1 ≡ suc k = omega arith in
@@ -59,13 +59,13 @@ same_bottom n m true false x y e f g = absurd (grind (arith, nat_tests, e, f, g)
 same_bottom n m false true x y e f g = absurd (grind (arith, nat_tests, e, f, g))
 
 -- the bottom is the same from the start and from here
-bottom-here : (t now : Timeline) (k : ℕ) → length now.past + k ≡ length t.past → now.forgotten ≡ t.forgotten → bottom t k ≡ bottom now 0
+pub bottom-here : (t now : Timeline) (k : ℕ) → length now.past + k ≡ length t.past → now.forgotten ≡ t.forgotten → bottom t k ≡ bottom now 0
 bottom-here t now k left same =
     let reached : (length t.past == k) ≡ (length now.past == 0) = same_bottom (length t.past) k (length t.past == k) (length now.past == 0) (length now.past) 0 refl refl (omega (arith, left)) in
     ap (λ b. if_holds b (cond (oldest t == 0) Start Oldest)) reached ∙ ap (λ n. if_holds (length now.past == 0) (cond (n == 0) Start Oldest)) (sym same)
 
 -- what a move told of the state that it led back to
-back-next : (stops : List Numbered) (k : ℕ) (t now new : Timeline) (found : Option Reason) → now ≡ gone k t → new ≡ gone (k + 1) t → found ≡ stopped stops now.now new.now →
+pub back-next : (stops : List Numbered) (k : ℕ) (t now new : Timeline) (found : Option Reason) → now ≡ gone k t → new ≡ gone (k + 1) t → found ≡ stopped stops now.now new.now →
     stop_back stops t (k + 1) ≡ option_or found (bottom t (k + 1))
 unfolding stop_back
 back-next stops k t now new found e f is =
@@ -78,10 +78,10 @@ back-next stops k t now new found e f is =
     ∙ ap (λ n. option_or found (bottom t n)) (sym one)
 
 -- where something is left there is no reason
-going : (stops : List Numbered) (t : Timeline) (k : ℕ) (now : Timeline) → IsBackWay stops t k now → 0 < length now.past → stop_back stops t k ≡ None
+pub going : (stops : List Numbered) (t : Timeline) (k : ℕ) (now : Timeline) → IsBackWay stops t k now → 0 < length now.past → stop_back stops t k ≡ None
 going stops t k now way some = way.here ∙ some_left now some
 
-moved_back : (old new : Timeline) → back old ≡ Some new → 0 < length old.past
+pub moved_back : (old new : Timeline) → back old ≡ Some new → 0 < length old.past
 moved_back old new e = let l = (back-left old new e).0 in omega (arith, l)
 
 pub back-more : (stops : List Numbered) (k : ℕ) (t now new : Timeline) → IsBackWay stops t k now → back now ≡ Some new → None ≡ stopped stops now.now new.now → IsBackWay stops t (k + 1) new

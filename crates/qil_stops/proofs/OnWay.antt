@@ -77,13 +77,13 @@ pub on-begun : {A : Type 0} (p : Program A) (stops : List Numbered) (t : Timelin
 unfolding moved stop_on
 on-begun p stops t = record { moves = refl; passed = λ j lt. absurd (omega (arith, lt)); here = refl }
 
-moved-more : {A : Type 0} (p : Program A) (k : ℕ) (t now new : Timeline) → now ≡ moved p k t → new ≡ forward p now → new ≡ moved p (k + 1) t
+pub moved-more : {A : Type 0} (p : Program A) (k : ℕ) (t now new : Timeline) → now ≡ moved p k t → new ≡ forward p now → new ≡ moved p (k + 1) t
 unfolding moved
 moved-more p k t now new e f =
     let one : k + 1 ≡ suc k = omega arith in
     f ∙ (ap (λ (u : Timeline). forward p u) e ∙ ap (λ n. moved p n t) (sym one))
 
-on-next : {A : Type 0} (p : Program A) (stops : List Numbered) (k : ℕ) (t now new : Timeline) (found : Option Reason) → now ≡ moved p k t → new ≡ forward p now → found ≡ stopped stops now.now new.now →
+pub on-next : {A : Type 0} (p : Program A) (stops : List Numbered) (k : ℕ) (t now new : Timeline) (found : Option Reason) → now ≡ moved p k t → new ≡ forward p now → found ≡ stopped stops now.now new.now →
     stop_on p stops t (k + 1) ≡ option_or (if_holds (at_end new) End) found
 unfolding stop_on moved
 on-next p stops k t now new found e f is =
@@ -95,7 +95,7 @@ on-next p stops k t now new found e f is =
     ∙ ap (λ o. option_or (if_holds (at_end new) End) o) (sym is)
 
 -- where the run isn't over there is no reason
-running : {A : Type 0} (p : Program A) (stops : List Numbered) (t : Timeline) (k : ℕ) (now : Timeline) → IsOnWay p stops t k now → at_end now ≡ false → stop_on p stops t k ≡ None
+pub running : {A : Type 0} (p : Program A) (stops : List Numbered) (t : Timeline) (k : ℕ) (now : Timeline) → IsOnWay p stops t k now → at_end now ≡ false → stop_on p stops t k ≡ None
 running p stops t k now way goes = way.here ∙ ap (λ b. if_holds b End) goes
 
 pub on-more : {A : Type 0} (p : Program A) (stops : List Numbered) (k : ℕ) (t now new : Timeline) → IsOnWay p stops t k now → at_end now ≡ false → new ≡ forward p now → None ≡ stopped stops now.now new.now →

@@ -8,6 +8,7 @@ mod running;
 mod stop;
 mod stops;
 
-pub use running::{run, run_back};
+pub use found::{is_over, readings};
+pub use running::{bottom_or_limit, end_or, run, run_back, stopped_here};
 pub use stop::{Place, Stop, StopKind, Watched};
 pub use stops::{StopError, Stops};

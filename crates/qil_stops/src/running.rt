@@ -89,7 +89,7 @@ fn run_watching<'c, A: Allocator + Copy + 'c, H: History<A, Machine<'c, 'c, A>>>
 
 /// The stop that holds where the history stands, after a move from a state that is told by what was read there.
 #[inline(always)]
-fn stopped_here<'c, A: Allocator + Copy + 'c, H: History<A, Machine<'c, 'c, A>>>(
+pub fn stopped_here<'c, A: Allocator + Copy + 'c, H: History<A, Machine<'c, 'c, A>>>(
     history: &H,
     list: &[Stop],
     before: &[Option<u64>],
@@ -102,7 +102,7 @@ fn stopped_here<'c, A: Allocator + Copy + 'c, H: History<A, Machine<'c, 'c, A>>>
 }
 
 /// Why a run stops after a move: the end comes before each other reason.
-fn end_or<'c, A: Allocator + Copy + 'c, H: History<A, Machine<'c, 'c, A>>>(
+pub fn end_or<'c, A: Allocator + Copy + 'c, H: History<A, Machine<'c, 'c, A>>>(
     history: &H,
     other: Reason,
 ) -> Reason
@@ -184,7 +184,7 @@ fn back_watching<'c, A: Allocator + Copy + 'c, H: History<A, Machine<'c, 'c, A>>
 }
 
 /// Why a run back stops after its last move, where no stop holds.
-fn bottom_or_limit<'c, A: Allocator + Copy + 'c, H: History<A, Machine<'c, 'c, A>>>(
+pub fn bottom_or_limit<'c, A: Allocator + Copy + 'c, H: History<A, Machine<'c, 'c, A>>>(
     history: &H,
 ) -> Reason
     ensures { result ≡ unwrap_or (bottom (H.timeline history.now) 0) Reason.Limit }

@@ -1,14 +1,15 @@
 -- What the tables say of the rules of one text.
-use Rattle.std.proofs.Common.{◌≡◌, ◌≢◌, ◌∙◌, ◌↔◌, sym, ap, refl, subst, not, IsTrue, nat_eq, ℕ, ◌<◌, List, Some, None, Bool, true, false, slice_get, arith}
+use Rattle.std.proofs.Common.{◌≡◌, ◌≢◌, ◌∙◌, ◌↔◌, sym, ap, refl, subst, not, IsTrue, nat_eq, ℕ, ◌<◌, inl, inr, List, Some, None, option_map, Bool, true, false, slice_get, arith}
 use Rattle.std.proofs.lemmas.Bool.Decides.{nat_tests}
 use Rattle.std.proofs.lemmas.Slice.Eq.{bytes_eq-Decides}
 use Rattle.std.specs.Str.{bytes_eq}
+use Rattle.qil_tree.specs.declared.ops.Class.{Class}
 use Rattle.qil_tree.specs.declared.tree.PhiSource.{PhiSource}
 use Rattle.qil_checker.specs.declared.lookup.Kind.TheVariants.{Labels}
-use Rattle.qil_rules.specs.declared.mention.What.TheVariants.{Label, PhiOf}
+use Rattle.qil_rules.specs.declared.mention.What.TheVariants.{Label, PhiLabel, PhiOf, Uses}
 use Rattle.qil_rules.specs.declared.mention.Mention.{Mention}
 use Rattle.qil_rules.specs.Text.{Stands, LacksLabel, IsFirstLabel, ArePredecessors, labels_of}
-use Rattle.qil_rules.specs.Rules.{IsSecondLabel, IsWrongPhi}
+use Rattle.qil_rules.specs.Rules.{IsSecondLabel, IsLostLabel, IsUndefinedUse, IsWrongPhi}
 use Rattle.qil_checker.specs.Tables.{first, is_named}
 use Rattle.qil_checker.proofs.Texts.Places.{mention_stands, one_what, label_found, label_absent}
 
@@ -43,6 +44,26 @@ no_label text x k m there is e = label_absent text x e k (mention_stands text k 
 
 pub has_label : (text : List Mention) (x : List ℕ) (k : ℕ) → first (is_named Labels x) 0 text ≡ Some k → LacksLabel text x → ⊥
 has_label text x k e lacks = lacks k (label_found text x k e).0
+
+-- a phi's label is lost exactly if the text lacks it
+pub lost_phi_label : (text : List Mention) (x : List ℕ) (k : ℕ) (m : Mention) (b : Bool) → slice_get text k ≡ Some m → m.what ≡ PhiLabel x
+    → (IsTrue b ↔ LacksLabel text x) → IsTrue b ↔ IsLostLabel text k
+lost_phi_label text x k m b there is lacks =
+    let here : Stands text k (PhiLabel x) = mention_stands text k m (PhiLabel x) there is in (
+      λ t. (x, inr here, lacks.0 t),
+      λ lost. lacks.1 (subst (LacksLabel text) (elim lost.1 [
+        | inl edge ↦ (let other = some_same (sym edge.1 ∙ here) in absurd cc)
+        | inr phi ↦ (let same = some_same (sym phi ∙ here) in cc)
+      ]) lost.2),
+    )
+
+-- ---- uses
+
+-- where no use stands none is undefined
+pub no_use : (text : List Mention) (k : ℕ) (m : Mention) → slice_get text k ≡ Some m → ((x : List ℕ) (c : Class) → m.what ≡ Uses x c → ⊥)
+    → IsTrue false ↔ IsUndefinedUse text k
+no_use text k m there other =
+    (λ t. absurd cc, λ undefined. absurd (other undefined.0 undefined.1 (some_same (sym (ap (λ o. option_map (λ (n : Mention). n.what) o) there) ∙ undefined.2))))
 
 -- the label at the first place that has one is the first label
 pub first_label : (text : List Mention) (x y : List ℕ) (k : ℕ) (m : Mention) → slice_get text k ≡ Some m → m.what ≡ Label y

@@ -1,0 +1,12 @@
+//! Why a run over calls ended.
+
+use qil_meaning::Reason;
+
+/// Why a run over calls ended.
+#[derive(Clone, Copy, Debug, PartialEq, Eq)]
+pub enum DepthEnd {
+    /// No more calls are open than were asked for.
+    Depth,
+    /// There is a reason of every run.
+    Stopped(Reason),
+}
