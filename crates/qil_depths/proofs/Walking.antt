@@ -1,5 +1,5 @@
 -- Runs to a depth, move by move.
-use Rattle.std.proofs.Common.{◌≡◌, refl, sym, ap, ◌∙◌, subst, ℕ, ◌+◌, ◌<◌, ◌≤◌, Bool, true, false, cond, List, length, inl, inr, Option, Some, None, arith}
+use Rattle.std.proofs.Common.{◌≡◌, refl, sym, ap, ◌∙◌, subst, ℕ, suc, [], ◌∷◌, ◌+◌, ◌<◌, ◌≤◌, Bool, true, false, cond, List, length, inl, inr, Option, Some, None, arith}
 use Rattle.std.specs.Option.{option_or}
 use borrow.Author.Count.{below_more}
 use Rattle.qil_tree.specs.declared.tree.Program.{Program}
@@ -8,11 +8,20 @@ use Rattle.qil_meaning.specs.Stops.{Numbered, stopped}
 use Rattle.qil_meaning.specs.Runs.{if_holds, stop_on, stop_back, bottom}
 use Rattle.qil_meaning.specs.declared.reason.Reason.{Reason}
 use Rattle.qil_meaning.specs.declared.reason.Reason.TheVariants.{End, Start, Oldest, Limit, Memory}
+use Rattle.qil_frames.specs.Frames.{SlotFrame}
+use Rattle.qil_state.specs.State.{frames_state}
 use Rattle.qil_stops.proofs.OnWay as on
 use Rattle.qil_stops.proofs.BackWay as off
 use Rattle.qil_depths.specs.declared.depth_end.DepthEnd.{DepthEnd}
 use Rattle.qil_depths.specs.declared.depth_end.DepthEnd.TheVariants.{Depth, Stopped}
 use Rattle.qil_depths.specs.Depths.{depth, Passes, Ends, RunsToDepth, RunsBackToDepth, bottom_or_depth}
+
+-- ---- frames
+
+-- a state has as many frames as a machine that stands for it
+pub as_many : {A : Type 0} (p : Program A) (fs : List SlotFrame) → length fs ≡ length (frames_state p fs)
+as_many p [] = refl
+as_many p (f ∷ fs) = ap suc (as_many p fs)
 
 -- ---- depths so far
 

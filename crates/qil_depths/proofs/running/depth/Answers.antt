@@ -1,0 +1,11 @@
+-- A machine's frames are those of the state that it stands for.
+use Rattle.std.proofs.Common.{◌∙◌, ap, length}
+use Rattle.std.proofs.lemmas.List.{length-reverse}
+use Rattle.qil_meaning.specs.State.{State}
+use Rattle.qil_depths.proofs.Walking.{as_many}
+use Rattle.qil_depths.proofs.running.depth.Goals as goal
+
+pub returns : goal.returns
+returns g c =
+    let w = c.machine.result.now in
+    ap length c.frames.ensures.value ∙ length-reverse w.frames ∙ as_many w.program w.frames ∙ ap (λ (s : State). length s.frames) c.machine.ensures.now
