@@ -4,7 +4,8 @@ import tempfile
 from harness.preloaded import Run, library
 from harness.running import FIRST, LOADED, LOOP, Case, difference
 
-# A copy of 64 bytes is the third step, an allocation the fourth. Then there is no end, and steps take no memory.
+# A copy of 64 bytes is the third step, an allocation the fourth; then the same of 32 bytes. Then there is no end, and steps
+# take no memory.
 MOVES = b"""data $d = { z 192 }
 function $main() {
 @s
@@ -12,16 +13,53 @@ function $main() {
 	%p =l add $d, 64
 	blit $d, %p, 64
 	%q =l alloc16 4096
+	blit $d, %p, 32
+	%q =l alloc16 32
 	jmp @l
 @l
 	jmp @l
 }
 """
 
-# How many steps come first, what is asked for then, and how many allocations that takes: the first move makes the list of
-# records, and copies and allocations keep what they overwrite in two blocks of their own.
-ASKED = [(0, b"step", 1), (0, b"set %x 9", 1), (0, b"poke l 65536 9", 1), (1, b"step", 0), (1, b"set %x 9", 0),
-         (1, b"poke l 65536 9", 0), (2, b"step", 2), (3, b"step", 2)]
+# The second step goes to three phis, the third to four, the fourth to five, and the fifth to none.
+PHIS = b"""function $main() {
+@s
+	%x =w copy 1
+	jmp @three
+@three
+	%a =w phi @s 1
+	%b =w phi @s 2
+	%c =w phi @s 3
+	jmp @four
+@four
+	%d =w phi @three 1
+	%e =w phi @three 2
+	%f =w phi @three 3
+	%g =w phi @three 4
+	jmp @five
+@five
+	%h =w phi @four 1
+	%i =w phi @four 2
+	%j =w phi @four 3
+	%k =w phi @four 4
+	%m =w phi @four 5
+	jmp @l
+@l
+	jmp @l
+}
+"""
+
+# How many steps come first, what is asked for then, and how many allocations that takes besides those of the list of records.
+# What copies and allocations overwrite is kept in a block, and more than 32 bytes of it in a second one; so are the slots of
+# three phis and more, in a second block where these are more than four.
+ASKED = {
+    MOVES: [(0, b"step", 0), (0, b"set %x 9", 0), (0, b"poke l 65536 9", 0), (1, b"step", 0), (1, b"set %x 9", 0),
+            (1, b"poke l 65536 9", 0), (2, b"step", 2), (3, b"step", 2), (4, b"step", 1), (5, b"step", 1), (6, b"step", 0)],
+    PHIS: [(0, b"step", 0), (1, b"step", 1), (2, b"step", 1), (3, b"step", 2), (4, b"step", 0)],
+}
+
+# The moves that make the list of records longer: the first, and the first that finds it full.
+LENGTHENING = (0, 4)
 
 # Moves forward and back of which none takes memory of its own.
 PLAIN = b"data $d = { l 5 }\nfunction $main() {\n@s\n\t%x =w copy 1\n\tstorel 1, $d\n\tjmp @l\n@l\n\tjmp @l\n}\n"
@@ -112,13 +150,13 @@ def quiet(running, name, history):
         return difference(said, counting.run(before + lines).written) or (f"{taken} allocations" if taken else None)
 
 
-def of_each_move(running, history):
+def of_each_move(running, text, history):
     """Each kind of move takes the allocations that it is to; with a bound none for the list."""
     with library() as made:
-        counting = Counting(running, made, MOVES, history)
-        for count, line, wanted in ASKED:
-            if history is not None and count == 0:
-                wanted = 0
+        counting = Counting(running, made, text, history)
+        for count, line, wanted in ASKED[text]:
+            if history is None and count in LENGTHENING:
+                wanted += 1
             taken = counting.more(steps(count), line + b"\n")
             if taken != wanted:
                 return f"{taken} allocations of {line} behind {count} steps in place of {wanted}"
@@ -177,7 +215,8 @@ def cases():
         for history in (None, 3):
             yield Case(f"{name} takes no memory, --history {history}", quiet, (name, history))
     for history in (None, 3):
-        yield Case(f"what each kind of move takes, --history {history}", of_each_move, (history,))
+        yield Case(f"what each kind of move takes, --history {history}", of_each_move, (MOVES, history))
+        yield Case(f"what jumps with phis take, --history {history}", of_each_move, (PHIS, history))
     yield Case("growths of the list of records", growths)
     yield Case("3,000 moves take few allocations", long_run, (None, 20))
     yield Case("3,000 moves with --history 3 take none", long_run, (3, 0))

@@ -12,6 +12,7 @@ abbrev pub kept_slots : {A : Type 0} → KeptSlots A → List SavedSlot
 kept_slots kept.None = []
 kept_slots (kept.One s v) = record { slot = s; value = v } ∷ []
 kept_slots (kept.Two s t v w) = record { slot = s; value = Some v } ∷ record { slot = t; value = Some w } ∷ []
+kept_slots (kept.Short ks) = ks.value.items
 kept_slots (kept.Many ks) = ks.value.items
 
 -- the slots with the values written that phis gathered, or the first slot that is unset

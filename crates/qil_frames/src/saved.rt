@@ -6,6 +6,7 @@ ghost use Rattle.qil_frames.specs.Enter.{AreSlots, Fits};
 ghost use Rattle.qil_frames.specs.Kept.{kept_slots};
 
 use crate::frames::Frames;
+use arrayvec::ArrayVec;
 use qil_numbering::{BlockId, Slot};
 use std::alloc::Allocator;
 use std::marker::Model;
@@ -17,6 +18,16 @@ pub struct SavedSlot {
     pub value: Option<u64>,
 }
 
+/// What stands in places of a short list that aren't used.
+impl Default for SavedSlot {
+    fn default() -> SavedSlot {
+        SavedSlot {
+            slot: Slot { index: 0 },
+            value: None,
+        }
+    }
+}
+
 /// Why a block wasn't entered.
 #[derive(Clone, Copy, Debug, PartialEq, Eq)]
 pub enum PhiFault {
@@ -25,7 +36,8 @@ pub enum PhiFault {
     OutOfMemory,
 }
 
-/// What the slots held that phis wrote, in the order of the text. Only many take memory.
+/// What the slots held that phis wrote, in the order of the text. Up to one takes no memory, nor do two that were set; up
+/// to four take one allocation, and more take two.
 #[derive(Drop)]
 pub enum KeptSlots<A: Allocator> {
     None,
@@ -33,6 +45,7 @@ pub enum KeptSlots<A: Allocator> {
     One(Slot, Option<u64>),
     /// Two slots that were set, and their values.
     Two(Slot, Slot, u64, u64),
+    Short(Box<ArrayVec<SavedSlot, 4>, A>),
     Many(Box<Vec<SavedSlot, A>, A>),
 }
 
@@ -47,6 +60,7 @@ impl<A: Allocator> KeptSlots<A> {
             KeptSlots::Two(first, second, _, _) => {
                 usize::from(first.index) < count && usize::from(second.index) < count
             }
+            KeptSlots::Short(kept) => kept.iter().all(|kept| usize::from(kept.slot.index) < count),
             KeptSlots::Many(kept) => kept.iter().all(|kept| usize::from(kept.slot.index) < count),
         }
     }

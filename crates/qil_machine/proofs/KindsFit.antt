@@ -9,6 +9,7 @@ use Rattle.qil_machine.specs.declared.delta.Copied.{Copied}
 use Rattle.qil_machine.specs.Kinds.{grown_move, copied_move}
 use Rattle.qil_machine.specs.Deltas.{move_of}
 use Rattle.std.specs.declared.vec.Vec.{Vec}
+use Rattle.arrayvec.specs.ArrayVec.{ArrayVec}
 
 -- a kind that is another has its move
 same_move : {A : Type 0} (k v : Kind A) (d e : Move) → move_of k ≡ d → k ≡ v → e ≡ move_of v → e ≡ d
@@ -27,6 +28,9 @@ kind_undone k v d e m w view is made h = h ∙ ap (λ x. undone x m) (same_move 
 
 pub kept_items : {X A : Type 0} (a b : Vec X A) → a ≡ b → a.items ≡ b.items
 kept_items a b e = ap (λ v. v.items) e
+
+pub short_items : {X : Type 0} (a b : ArrayVec X) → a ≡ b → a.items ≡ b.items
+short_items a b e = ap (λ v. v.items) e
 
 pub grown_same : {A : Type 0} (a b : Grown A) → a ≡ b → grown_move a.index a.slot a.value a.saved ≡ grown_move b.index b.slot b.value b.saved
 grown_same a b e = ap (λ k. grown_move k.index k.slot k.value k.saved) e

@@ -12,6 +12,7 @@ move_of (kinds.Stored count index address number) = bytes_move index address (lo
 move_of (kinds.Left block) = slots_move (end_of block) []
 move_of (kinds.LeftOne block slot value) = slots_move (end_of block) (one slot value)
 move_of (kinds.LeftTwo block a b x y) = slots_move (end_of block) (record { slot = a; value = Some x } ∷ record { slot = b; value = Some y } ∷ [])
+move_of (kinds.LeftShort block kept) = slots_move (end_of block) kept.value.items
 move_of (kinds.LeftMany block kept) = slots_move (end_of block) kept.value.items
 move_of (kinds.Called index) = called_move index
 move_of (kinds.Returned set top value frame) = returned_move frame top (value_of set value)
@@ -27,6 +28,7 @@ move_of (kinds.PokedBytes count address number) = poked_bytes_move address (low_
 abbrev pub IsKind : {A : Type 0} → Kind A → Type 0
 IsKind (kinds.Stored count index address number) = count ≤ 8
 IsKind (kinds.PokedBytes count address number) = count ≤ 8
+IsKind (kinds.LeftShort block kept) = length kept.value.items < 2 ^ 32
 IsKind (kinds.LeftMany block kept) = length kept.value.items < 2 ^ 32
 IsKind (kinds.Grew grown) = length grown.value.saved.bytes ≤ 2 ^ 32
 IsKind (kinds.Copied copied) = length copied.value.saved.bytes ≤ 2 ^ 32

@@ -1,4 +1,4 @@
-//! What a move keeps, so that it can be undone: 24 bytes, and one allocation at most for most of what doesn't fit.
+//! What a move keeps, so that it can be undone: 24 bytes, and one allocation for what doesn't fit, or two where it is long.
 
 ghost use Rattle.std.specs.Prelude.{◌≡◌, ◌<◌, ◌≤◌, ◌^◌, [], length};
 ghost use Rattle.qil_layout.specs.Layout.{low_bytes};
@@ -6,6 +6,7 @@ ghost use Rattle.qil_machine.specs.Moves.{at, end_of, weight};
 ghost use Rattle.qil_machine.specs.Deltas.{move_of};
 ghost use Rattle.qil_machine.specs.Kinds.{slots_move, one, bytes_move, called_move, returned_move, grown_move, copied_move, wrote_move, ended_move, poked_slot_move, poked_bytes_move};
 
+use arrayvec::ArrayVec;
 use qil_frames::{Frame, KeptSlots, PhiSaved, SavedSlot};
 use qil_memory::Saved;
 use qil_numbering::Slot;
@@ -41,6 +42,8 @@ pub enum Kind<A: Allocator> {
     LeftOne(u16, Slot, Option<u64>),
     /// Both slots were set.
     LeftTwo(u16, Slot, Slot, u64, u64),
+    /// Up to four slots.
+    LeftShort(u16, Box<ArrayVec<SavedSlot, 4>, A>),
     LeftMany(u16, Box<Vec<SavedSlot, A>, A>),
     /// The caller's index.
     Called(u32),
@@ -113,6 +116,9 @@ impl<A: Allocator> Delta<A> {
             },
             KeptSlots::Two(a, b, x, y) => Delta {
                 kind: Kind::LeftTwo(block, a, b, x, y),
+            },
+            KeptSlots::Short(kept) => Delta {
+                kind: Kind::LeftShort(block, kept),
             },
             KeptSlots::Many(kept) => Delta {
                 kind: Kind::LeftMany(block, kept),
@@ -232,6 +238,7 @@ impl<A: Allocator> Delta<A> {
             Kind::Left(_) => 4,
             Kind::LeftOne(_, _, _) => 6,
             Kind::LeftTwo(_, _, _, _, _) => 8,
+            Kind::LeftShort(_, kept) => 4 + 2 * (kept.len() as u64),
             Kind::LeftMany(_, kept) => 4 + 2 * (kept.len() as u64),
             Kind::Called(_) => 4,
             Kind::Returned(_, _, _, frame) => {

@@ -33,6 +33,7 @@ impl<A: Allocator + Copy> Delta<A> {
             Kind::Left(block) => machine.fits_left(*block, &[]),
             Kind::LeftOne(block, slot, value) => machine.fits_left_one(*block, *slot, *value),
             Kind::LeftTwo(block, a, b, x, y) => machine.fits_left_two(*block, *a, *b, *x, *y),
+            Kind::LeftShort(block, kept) => machine.fits_left(*block, kept.as_slice()),
             Kind::LeftMany(block, kept) => machine.fits_left(*block, kept.as_slice()),
             Kind::Called(index) => machine.fits_called(*index),
             Kind::Returned(set, top, value, frame) => {

@@ -36,6 +36,7 @@ impl<'c, 'a, A: Allocator + Copy> Machine<'c, 'a, A> {
                 self.undo_left(block, KeptSlots::One(slot, value));
             }
             Kind::LeftTwo(block, a, b, x, y) => self.undo_left(block, KeptSlots::Two(a, b, x, y)),
+            Kind::LeftShort(block, kept) => self.undo_left(block, KeptSlots::Short(kept)),
             Kind::LeftMany(block, kept) => self.undo_left(block, KeptSlots::Many(kept)),
             Kind::Called(index) => self.undo_called(index),
             Kind::Returned(set, top, value, frame) => {

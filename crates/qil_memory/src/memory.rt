@@ -189,7 +189,7 @@ impl<A: Allocator + Copy> Memory<A> {
     }
 
     /// Copies `n` bytes from one address to another (QBE IL, Memory). No bytes are copied from and to anywhere, live or
-    /// not. Up to eight bytes take no memory.
+    /// not. Up to 32 bytes take no memory.
     ///
     /// # Errors
     ///
@@ -198,7 +198,7 @@ impl<A: Allocator + Copy> Memory<A> {
     pub fn blit(&mut self, source: u64, target: u64, n: u64) -> Result<Saved<A>, BlitFault>
         ensures ok { OnOk result (blitted (live self.old) source target n ≡ Ok (live self.new)) }
         ensures fault { IfErr result (λ e. Explains e (blitted (live self.old) source target n)) }
-        ensures few { n ≤ 8 → result ≢ Err BlitFault.OutOfMemory }
+        ensures few { n ≤ 32 → result ≢ Err BlitFault.OutOfMemory }
         ensures top { self.new.top ≡ self.old.top }
         ensures kept { IfOk result (λ saved. length saved.bytes ≡ n) }
         ensures fits { IfOk result (λ saved. Fits saved self.new) }
@@ -224,7 +224,7 @@ impl<A: Allocator + Copy> Memory<A> {
     }
 
     /// Makes `n` bytes on top of the stack, at the least multiple of `align` that isn't below the top, and answers their
-    /// address (QBE IL, Memory). They are zero, and so are those that are skipped. Up to eight bytes in all take no
+    /// address (QBE IL, Memory). They are zero, and so are those that are skipped. Up to 32 bytes in all take no
     /// memory.
     ///
     /// # Errors
@@ -237,7 +237,7 @@ impl<A: Allocator + Copy> Memory<A> {
         ensures top { OnOk result (self.new.top ≡ rounded align self.old.top + n) }
         ensures bytes { OnOk result (live self.new ≡ laid (live self.old) self.old.top (zeros (self.new.top - self.old.top))) }
         ensures full { (result ≡ Err AllocFault.Full) ↔ (stack_end < rounded align self.old.top + n) }
-        ensures few { rounded align self.old.top + n ≤ self.old.top + 8 → result ≢ Err AllocFault.OutOfMemory }
+        ensures few { rounded align self.old.top + n ≤ self.old.top + 32 → result ≢ Err AllocFault.OutOfMemory }
         ensures kept { IfOk result (λ r. length r.1.bytes ≡ self.new.top - self.old.top) }
         ensures fits { IfOk result (λ r. Fits r.1 self.new) }
         ensures undo { IfOk result (λ r. undone r.1 self.new ≡ self.old) }
@@ -451,6 +451,7 @@ impl<A: Allocator + Copy> Memory<A> {
             KeptBytes::Few(count, number) => {
                 self.put_back(address, u64::from(*count), *number);
             }
+            KeptBytes::Short(bytes) => self.put(address, bytes),
             KeptBytes::Many(bytes) => self.put(address, bytes),
         }
     }

@@ -3,10 +3,12 @@
 use crate::answer::Answer;
 use crate::record::kind_of;
 use crate::refusals::{Poked, allocations, leads_back, poke_data, poke_slot, step};
+use qil_deltas::Deltas;
 use qil_frames::Frame;
 use qil_machine::{Delta, Machine, MoveError};
 use qil_memory::Saved;
 use qil_numbering::{Code, NumberedInst, Source};
+use qil_snapshots::Snapshots;
 use refusing::{Refusing, refuse_each};
 use std::alloc::{AllocError, Allocator, Global};
 use std::mem::size_of;
@@ -107,7 +109,49 @@ fn copy_refusals<B: Allocator, A: Allocator + Copy>(
     refuse_each(heap, |_| copied(machine))
 }
 
-/// Tells how many allocations a start and a copy take: false where one went on without memory.
+/// Begins the history of all deltas at a copy of a machine.
+fn begun_deltas<A: Allocator + Copy>(
+    machine: &Machine<'_, '_, A>,
+    alloc: A,
+) -> Result<(), AllocError> {
+    let _ = Deltas::new(alloc, machine.try_clone()?);
+    Ok(())
+}
+
+/// Begins the history of clones at a copy of a machine.
+fn begun_clones<A: Allocator + Copy>(
+    machine: &Machine<'_, '_, A>,
+    alloc: A,
+) -> Result<(), AllocError> {
+    let _ = Snapshots::new(alloc, machine.try_clone()?);
+    Ok(())
+}
+
+/// Begins two histories at copies of a machine, with each allocation refused in turn, and tells how many they take besides
+/// those of the copy: false where one went on without memory.
+fn tell_histories<R: Print, B: Allocator, A: Allocator + Copy>(
+    rt: &R,
+    heap: &Refusing<B>,
+    alloc: A,
+    machine: &Machine<'_, '_, A>,
+    copies: u64,
+) -> anyhow::Result<bool> {
+    let (Ok(deltas), Ok(clones)) = (
+        refuse_each(heap, |_| begun_deltas(machine, alloc)),
+        refuse_each(heap, |_| begun_clones(machine, alloc)),
+    ) else {
+        println!(rt; "a history begun without memory")?;
+        return Ok(false);
+    };
+    let deltas = deltas.saturating_sub(copies);
+    let clones = clones.saturating_sub(copies);
+    println!(rt;
+        "histories: deltas begun with allocations {deltas}, clones with allocations {clones}"
+    )?;
+    Ok(true)
+}
+
+/// Tells how many allocations a start and a copy take, and the begin of a history: false where one went on without memory.
 fn tell_start<R: Print, B: Allocator, A: Allocator + Copy>(
     rt: &R,
     heap: &Refusing<B>,
@@ -123,7 +167,7 @@ fn tell_start<R: Print, B: Allocator, A: Allocator + Copy>(
         return Ok(false);
     };
     println!(rt; "start: allocations {starts}; copy: allocations {copies}")?;
-    Ok(true)
+    tell_histories(rt, heap, alloc, machine, copies)
 }
 
 /// Tells how many bytes a record takes, what it keeps of bytes, a frame's handle, an operand and an instruction.

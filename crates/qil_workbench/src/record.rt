@@ -1,5 +1,6 @@
 //! What a record keeps, part by part, and nothing else.
 
+use arrayvec::ArrayVec;
 use qil_frames::{Frame, KeptSlots, SavedSlot};
 use qil_machine::{Copied, Grown, Kind};
 use qil_memory::{KeptBytes, Saved};
@@ -19,6 +20,13 @@ fn left<A: Allocator>(block: u16, slots: KeptSlots<A>) -> &'static str {
             let _: (Slot, Slot, u64, u64) = (first, second, one, other);
             "jump with two phis"
         }
+        KeptSlots::Short(kept) => {
+            for saved in kept.iter() {
+                let SavedSlot { slot, value } = *saved;
+                let _: (Slot, Option<u64>) = (slot, value);
+            }
+            "jump with many phis"
+        }
         KeptSlots::Many(kept) => {
             for saved in kept.iter() {
                 let SavedSlot { slot, value } = *saved;
@@ -36,6 +44,9 @@ fn name_bytes<A: Allocator>(saved: Saved<A>) {
     match bytes {
         KeptBytes::Few(count, number) => {
             let _: (u8, u64) = (count, number);
+        }
+        KeptBytes::Short(list) => {
+            let _: ArrayVec<u8, 32> = list;
         }
         KeptBytes::Many(list) => {
             let _: Vec<u8, A> = list;
@@ -60,6 +71,7 @@ pub fn kind_of<A: Allocator>(kind: Kind<A>) -> &'static str {
         Kind::LeftTwo(block, first, second, one, other) => {
             left::<A>(block, KeptSlots::Two(first, second, one, other))
         }
+        Kind::LeftShort(block, kept) => left(block, KeptSlots::Short(kept)),
         Kind::LeftMany(block, kept) => left(block, KeptSlots::Many(kept)),
         Kind::Called(index) => {
             let _: u32 = index;

@@ -2,7 +2,7 @@
 use Rattle.std.proofs.Common.{refl, ap, ◌∙◌}
 use Rattle.qil_machine.specs.Moves.{end_of}
 use Rattle.qil_machine.specs.Kinds.{slots_move, one, returned_move, wrote_move, poked_slot_move}
-use Rattle.qil_machine.proofs.KindsFit.{kind_fits, kept_items, grown_same, copied_same}
+use Rattle.qil_machine.proofs.KindsFit.{kind_fits, kept_items, short_items, grown_same, copied_same}
 use Rattle.qil_machine.proofs.delta.Delta.fits.Goals as goal
 
 pub returns-in-Assigned : goal.returns-in-Assigned
@@ -20,8 +20,11 @@ returns-in-LeftOne g c = kind_fits _ _ _ _ c.args.machine.now _ c.self.view_is c
 pub returns-in-LeftTwo : goal.returns-in-LeftTwo
 returns-in-LeftTwo g c = kind_fits _ _ _ _ c.args.machine.now _ c.self.view_is c.in-LeftTwo.is refl c.fits_left_two.ensures
 
+pub returns-in-LeftShort : goal.returns-in-LeftShort
+returns-in-LeftShort g c = kind_fits _ _ _ _ c.args.machine.now _ c.self.view_is c.in-LeftShort.is (ap (slots_move (end_of c.in-LeftShort.block)) (c.as_slice.ensures.value ∙ short_items _ _ c.deref.ensures)) c.fits_left-in-LeftShort.ensures
+
 pub returns-in-LeftMany : goal.returns-in-LeftMany
-returns-in-LeftMany g c = kind_fits _ _ _ _ c.args.machine.now _ c.self.view_is c.in-LeftMany.is (ap (slots_move (end_of c.in-LeftMany.block)) (c.as_slice.ensures.value ∙ kept_items _ _ c.deref.ensures)) c.fits_left-in-LeftMany.ensures
+returns-in-LeftMany g c = kind_fits _ _ _ _ c.args.machine.now _ c.self.view_is c.in-LeftMany.is (ap (slots_move (end_of c.in-LeftMany.block)) (c.as_slice-in-LeftMany.ensures.value ∙ kept_items _ _ c.deref-in-LeftMany.ensures)) c.fits_left-in-LeftMany.ensures
 
 pub returns-in-Called : goal.returns-in-Called
 returns-in-Called g c = kind_fits _ _ _ _ c.args.machine.now _ c.self.view_is c.in-Called.is refl c.fits_called.ensures

@@ -35,6 +35,12 @@ undo_left-requires-in-LeftTwo-clause-fits g c = fits_kind _ _ _ _ _ c.delta.view
 pub returns-in-LeftTwo : goal.returns-in-LeftTwo
 returns-in-LeftTwo g c = kind_undone _ _ _ _ _ _ c.delta.view_is c.in-LeftTwo.is refl c.undo_left-in-LeftTwo.ensures
 
+pub undo_left-requires-in-LeftShort-clause-fits : goal.undo_left-requires-in-LeftShort-clause-fits
+undo_left-requires-in-LeftShort-clause-fits g c = fits_kind _ _ _ _ _ c.delta.view_is c.in-LeftShort.is refl c.requires
+
+pub returns-in-LeftShort : goal.returns-in-LeftShort
+returns-in-LeftShort g c = kind_undone _ _ _ _ _ _ c.delta.view_is c.in-LeftShort.is refl c.undo_left-in-LeftShort.ensures
+
 pub undo_left-requires-in-LeftMany-clause-fits : goal.undo_left-requires-in-LeftMany-clause-fits
 undo_left-requires-in-LeftMany-clause-fits g c = fits_kind _ _ _ _ _ c.delta.view_is c.in-LeftMany.is refl c.requires
 
