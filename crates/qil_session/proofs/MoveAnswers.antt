@@ -1,41 +1,41 @@
--- The answers to `step`, `back`, `continue` and `reverse`, by what was put and where the timeline was left.
-use Rattle.std.proofs.Common.{◌≡◌, refl, sym, ap, ◌∙◌, subst, inl, inr, ◌⊎◌, ℕ, ◌<◌, ◌≤◌, Bool, true, false, cond, List, [], ◌++◌, length, Option, Some, None, Result, Ok, eq-eqb, arith}
-use Rattle.std.specs.Prelude.{◌==◌, codes, is_some}
+-- The replies to `step`, `back`, `continue` and `reverse`, by where the timeline was left.
+use Rattle.std.proofs.Common.{◌≡◌, refl, sym, ap, ◌∙◌, subst, inl, inr, ◌⊎◌, ℕ, ◌<◌, ◌≤◌, Bool, true, false, cond, length, Option, Some, None, Ok, eq-eqb, arith}
+use Rattle.std.specs.Prelude.{◌==◌, is_some}
 use Rattle.std.proofs.lemmas.Bool.{ne_eqb, cases_lt}
 use Rattle.qil_tree.specs.declared.tree.Program.{Program}
 use Rattle.qil_commands.specs.declared.command.Command.TheVariants.{Step, Back, Continue, Reverse}
-use Rattle.qil_streams.specs.Device.{Puts}
-use Rattle.qil_streams.specs.Text.{line}
 use Rattle.qil_meaning.specs.Timeline.{Timeline, position, oldest, at_end, moved, gone}
 use Rattle.qil_meaning.specs.Moves.{forward_by, back_by}
 use Rattle.qil_meaning.specs.Runs.{if_holds, within, target, stop_on, stop_back, stopping, IsLeast, RunsOn, RunsBack}
 use Rattle.qil_meaning.specs.declared.reason.Reason.{Reason}
 use Rattle.qil_meaning.specs.declared.reason.Reason.TheVariants.{End, Start, Oldest, Watch, Break, Limit, Memory}
-use Rattle.qil_answers.specs.Texts.{place_line}
 use Rattle.qil_stops.specs.Listed.{Listed}
 use Rattle.qil_stops.specs.Named.{named_stops}
 use Rattle.qil_stops.proofs.OnWay.{least-within}
+use Rattle.qil_replies.specs.declared.reply.Refusal.{Refusal}
+use Rattle.qil_replies.specs.declared.reply.Refusal.TheVariants.{AtEnd, AtStart, HistoryEnds}
+use Rattle.qil_replies.specs.declared.reply.Reply.{Reply}
+use Rattle.qil_replies.specs.declared.reply.Reply.TheVariants.{Refused, Place, Stopped}
 use Rattle.qil_session.specs.Situation.{Situation, sits}
-use Rattle.qil_session.specs.Texts.{reason_line}
-use Rattle.qil_session.specs.Answers.{Answer, Answers, answer, says, goes_to, if_back, back_refusal, reversed, IsLawful}
+use Rattle.qil_session.specs.Answers.{Answer, Replies, answer, refuses, goes_to, if_back, back_refusal, stopped_for, reversed, IsLawful}
 use Rattle.qil_session.proofs.Walks.{least-is}
 
 -- ---- `step N`
 
-pub answers_end : {A T E : Type 0} (p : Program A) (t u : Timeline) (stops : Listed) (limit n : ℕ) (r : Result T E) (a b : Option (List ℕ)) →
-    at_end t ≡ true → u ≡ t → Puts r a b (line (codes "no: at end")) → Answers (sits p t stops limit) (sits p u stops limit) (Ok (Some (Step n))) r a b
+pub replies_end : {A : Type 0} (p : Program A) (t : Timeline) (stops : Listed) (limit n : ℕ) →
+    at_end t ≡ true → Replies (sits p t stops limit) (sits p t stops limit) (Ok (Some (Step n))) (Refused AtEnd)
 unfolding answer IsLawful
-answers_end p t u stops limit n r a b over same text = record { want = None; lawful = tt; text = rw over text; left = rw (over, same) refl }
+replies_end p t stops limit n over = record { want = None; lawful = tt; reply = rw over refl; left = rw over refl }
 
-pub answers_step : {A T E : Type 0} (p : Program A) (t u : Timeline) (stops : Listed) (limit n : ℕ) (r : Result T E) (a b : Option (List ℕ)) →
-    at_end t ≡ false → u ≡ forward_by p n t → Puts r a b (place_line u) → Answers (sits p t stops limit) (sits p u stops limit) (Ok (Some (Step n))) r a b
+pub replies_step : {A : Type 0} (p : Program A) (t u : Timeline) (stops : Listed) (limit n : ℕ) →
+    at_end t ≡ false → u ≡ forward_by p n t → Replies (sits p t stops limit) (sits p u stops limit) (Ok (Some (Step n))) Place
 unfolding answer IsLawful
-answers_step p t u stops limit n r a b goes moves text = record { want = None; lawful = tt; text = rw (goes, ← moves) text; left = rw (goes, moves) refl }
+replies_step p t u stops limit n goes moves = record { want = None; lawful = tt; reply = rw goes refl; left = rw (goes, moves) refl }
 
-pub answers_step_wants : {A T E : Type 0} (p : Program A) (t u : Timeline) (stops : Listed) (limit n k : ℕ) (r : Result T E) (a b : Option (List ℕ)) →
-    k < n → u ≡ forward_by p k t → at_end u ≡ false → Puts r a b (reason_line Memory ++ place_line u) → Answers (sits p t stops limit) (sits p u stops limit) (Ok (Some (Step n))) r a b
+pub replies_step_wants : {A : Type 0} (p : Program A) (t u : Timeline) (stops : Listed) (limit n k : ℕ) →
+    k < n → u ≡ forward_by p k t → at_end u ≡ false → Replies (sits p t stops limit) (sits p u stops limit) (Ok (Some (Step n))) (Stopped Memory)
 unfolding answer IsLawful
-answers_step_wants p t u stops limit n k r a b lt moves goes text = record { want = Some k; lawful = (lt, rw moves at goes); text = rw (← moves) text; left = rw moves refl }
+replies_step_wants p t u stops limit n k lt moves goes = record { want = Some k; lawful = (lt, rw moves at goes); reply = refl; left = rw moves refl }
 
 -- ---- whether there is a way back
 
@@ -45,67 +45,67 @@ none_kept t = elim (cases_lt 0 (length t.past)) [
   | inr g ↦ (eq-eqb (position t) (oldest t) (omega (arith, g)) ∙ sym (eq-eqb (length t.past) 0 (omega (arith, g))))
 ]
 
--- the line by position and oldest state, as `if_back` says it
-abbrev pub back_line : Timeline → Option (List ℕ)
-back_line t = cond (position t == 0) (Some (codes "no: at start")) (cond (length t.past == 0) (Some (codes "no: history ends")) None)
+-- why there is none, as `if_back` says it
+abbrev pub no_way : Timeline → Option Refusal
+no_way t = cond (position t == 0) (Some AtStart) (cond (length t.past == 0) (Some HistoryEnds) None)
 
-back_line_is : (t : Timeline) (at old : ℕ) → at ≡ position t → old ≡ oldest t → back_refusal at old ≡ back_line t
-back_line_is t at old e f = rw (e, f, none_kept t) refl
+no_way_is : (t : Timeline) (at old : ℕ) → at ≡ position t → old ≡ oldest t → back_refusal at old ≡ no_way t
+no_way_is t at old e f = rw (e, f, none_kept t) refl
 
 -- what `no_way_back` gave says whether there is a way
-pub back_told : (t : Timeline) (at old : ℕ) (o told : Option (List ℕ)) → at ≡ position t → old ≡ oldest t → o ≡ back_refusal at old → o ≡ told → back_line t ≡ told
-back_told t at old o told e f is h = sym (back_line_is t at old e f) ∙ sym is ∙ h
+pub back_told : (t : Timeline) (at old : ℕ) (o told : Option Refusal) → at ≡ position t → old ≡ oldest t → o ≡ back_refusal at old → o ≡ told → no_way t ≡ told
+back_told t at old o told e f is h = sym (no_way_is t at old e f) ∙ sym is ∙ h
 
-refused_by : {A : Type 0} (s : Situation A) (one : Answer A) (text : List ℕ) (start none : Bool) →
-    cond start (Some (codes "no: at start")) (cond none (Some (codes "no: history ends")) None) ≡ Some text →
-    cond start (says s (line (codes "no: at start"))) (cond none (says s (line (codes "no: history ends"))) one) ≡ says s (line text)
-refused_by s one text true none e = let same : codes "no: at start" ≡ text = cc in ap (λ (x : List ℕ). says s (line x)) same
-refused_by s one text false true e = let same : codes "no: history ends" ≡ text = cc in ap (λ (x : List ℕ). says s (line x)) same
-refused_by s one text false false e = absurd cc
+refused_by : {A : Type 0} (s : Situation A) (one : Answer A) (why : Refusal) (start none : Bool) →
+    cond start (Some AtStart) (cond none (Some HistoryEnds) None) ≡ Some why →
+    cond start (refuses s AtStart) (cond none (refuses s HistoryEnds) one) ≡ refuses s why
+refused_by s one why true none e = let same : AtStart ≡ why = cc in ap (λ (x : Refusal). refuses s x) same
+refused_by s one why false true e = let same : HistoryEnds ≡ why = cc in ap (λ (x : Refusal). refuses s x) same
+refused_by s one why false false e = absurd cc
 
-refused_back : {A : Type 0} (s : Situation A) (one : Answer A) (text : List ℕ) → back_line s.timeline ≡ Some text → if_back s one ≡ says s (line text)
-refused_back s one text e = refused_by s one text (position s.timeline == 0) (length s.timeline.past == 0) e
+refused_back : {A : Type 0} (s : Situation A) (one : Answer A) (why : Refusal) → no_way s.timeline ≡ Some why → if_back s one ≡ refuses s why
+refused_back s one why e = refused_by s one why (position s.timeline == 0) (length s.timeline.past == 0) e
 
 goes_by : {A : Type 0} (s : Situation A) (one : Answer A) (start none : Bool) →
-    cond start (Some (codes "no: at start")) (cond none (Some (codes "no: history ends")) None) ≡ None →
-    cond start (says s (line (codes "no: at start"))) (cond none (says s (line (codes "no: history ends"))) one) ≡ one
+    cond start (Some AtStart) (cond none (Some HistoryEnds) None) ≡ None →
+    cond start (refuses s AtStart) (cond none (refuses s HistoryEnds) one) ≡ one
 goes_by s one true none e = absurd cc
 goes_by s one false true e = absurd cc
 goes_by s one false false e = refl
 
-goes_back : {A : Type 0} (s : Situation A) (one : Answer A) → back_line s.timeline ≡ None → if_back s one ≡ one
+goes_back : {A : Type 0} (s : Situation A) (one : Answer A) → no_way s.timeline ≡ None → if_back s one ≡ one
 goes_back s one e = goes_by s one (position s.timeline == 0) (length s.timeline.past == 0) e
 
 -- an answer behind `if_back`, as it is or refused
-record IsSaid {A T E : Type 0} (after : Situation A) (one : Answer A) (r : Result T E) (a b : Option (List ℕ)) : Type 0 where
-  text : Puts r a b one.text
+record IsSaid {A : Type 0} (after : Situation A) (one : Answer A) (told : Reply) : Type 0 where
+  reply : told ≡ one.reply
   left : after ≡ one.left
 
-said_instead : {A T E : Type 0} (after : Situation A) (one other : Answer A) (r : Result T E) (a b : Option (List ℕ)) → one ≡ other → IsSaid after other r a b → IsSaid after one r a b
-said_instead {A} after one other r a b e h = record {
-  text = subst (λ (x : Answer A). Puts r a b x.text) (sym e) h.text;
+said_instead : {A : Type 0} (after : Situation A) (one other : Answer A) (told : Reply) → one ≡ other → IsSaid after other told → IsSaid after one told
+said_instead {A} after one other told e h = record {
+  reply = h.reply ∙ sym (ap (λ (x : Answer A). x.reply) e);
   left = h.left ∙ sym (ap (λ (x : Answer A). x.left) e);
 }
 
 -- ---- `back N`
 
-pub answers_no_back : {A T E : Type 0} (p : Program A) (t : Timeline) (stops : Listed) (limit n : ℕ) (text : List ℕ) (r : Result T E) (a b : Option (List ℕ)) →
-    back_line t ≡ Some text → Puts r a b (line text) → Answers (sits p t stops limit) (sits p t stops limit) (Ok (Some (Back n))) r a b
+pub replies_no_back : {A : Type 0} (p : Program A) (t : Timeline) (stops : Listed) (limit n : ℕ) (why : Refusal) →
+    no_way t ≡ Some why → Replies (sits p t stops limit) (sits p t stops limit) (Ok (Some (Back n))) (Refused why)
 unfolding answer IsLawful
-answers_no_back p t stops limit n text r a b ends told =
+replies_no_back p t stops limit n why ends =
     let s = sits p t stops limit in
-    let one = goes_to s [] (back_by n t) in
-    let said = said_instead s (if_back s one) (says s (line text)) r a b (refused_back s one text ends) (record { text = told; left = refl }) in
-    record { want = None; lawful = tt; text = said.text; left = said.left }
+    let one = goes_to s Place (back_by n t) in
+    let said = said_instead s (if_back s one) (refuses s why) (Refused why) (refused_back s one why ends) (record { reply = refl; left = refl }) in
+    record { want = None; lawful = tt; reply = said.reply; left = said.left }
 
-pub answers_back : {A T E : Type 0} (p : Program A) (t u : Timeline) (stops : Listed) (limit n : ℕ) (r : Result T E) (a b : Option (List ℕ)) →
-    back_line t ≡ None → u ≡ back_by n t → Puts r a b (place_line u) → Answers (sits p t stops limit) (sits p u stops limit) (Ok (Some (Back n))) r a b
+pub replies_back : {A : Type 0} (p : Program A) (t u : Timeline) (stops : Listed) (limit n : ℕ) →
+    no_way t ≡ None → u ≡ back_by n t → Replies (sits p t stops limit) (sits p u stops limit) (Ok (Some (Back n))) Place
 unfolding answer IsLawful
-answers_back p t u stops limit n r a b way moves text =
+replies_back p t u stops limit n way moves =
     let s = sits p t stops limit in
-    let one = goes_to s [] (back_by n t) in
-    let said = said_instead (sits p u stops limit) (if_back s one) one r a b (goes_back s one way) (record { text = rw (← moves) text; left = rw moves refl }) in
-    record { want = None; lawful = tt; text = said.text; left = said.left }
+    let one = goes_to s Place (back_by n t) in
+    let said = said_instead (sits p u stops limit) (if_back s one) one Place (goes_back s one way) (record { reply = refl; left = rw moves refl }) in
+    record { want = None; lawful = tt; reply = said.reply; left = said.left }
 
 -- ---- the target of a run
 
@@ -136,69 +136,65 @@ below_limit stop limit k h = elim (cases_lt k limit) [
 
 -- ---- `continue`
 
-pub answers_run_end : {A T E : Type 0} (p : Program A) (t : Timeline) (stops : Listed) (limit : ℕ) (r : Result T E) (a b : Option (List ℕ)) →
-    at_end t ≡ true → Puts r a b (line (codes "no: at end")) → Answers (sits p t stops limit) (sits p t stops limit) (Ok (Some Continue)) r a b
+pub replies_run_end : {A : Type 0} (p : Program A) (t : Timeline) (stops : Listed) (limit : ℕ) →
+    at_end t ≡ true → Replies (sits p t stops limit) (sits p t stops limit) (Ok (Some Continue)) (Refused AtEnd)
 unfolding answer IsLawful
-answers_run_end p t stops limit r a b over text = record { want = None; lawful = tt; text = rw over text; left = rw over refl }
+replies_run_end p t stops limit over = record { want = None; lawful = tt; reply = rw over refl; left = rw over refl }
 
-run_stops : {A T E : Type 0} (p : Program A) (t u : Timeline) (stops : Listed) (limit k : ℕ) (why : Reason) (r : Result T E) (a b : Option (List ℕ)) →
+run_stops : {A : Type 0} (p : Program A) (t u : Timeline) (stops : Listed) (limit k : ℕ) (why : Reason) →
     at_end t ≡ false → u ≡ moved p k t → target (stop_on p (named_stops p stops.kept) t) limit ≡ k → within limit k (stop_on p (named_stops p stops.kept) t k) ≡ Some why →
-    Puts r a b (reason_line why ++ place_line u) → Answers (sits p t stops limit) (sits p u stops limit) (Ok (Some Continue)) r a b
+    Replies (sits p t stops limit) (sits p u stops limit) (Ok (Some Continue)) (Stopped why)
 unfolding answer IsLawful
-run_stops p t u stops limit k why r a b goes moves at told text = record {
+run_stops p t u stops limit k why goes moves at told = record {
   want = None;
   lawful = tt;
-  text = rw (goes, at, told, ← moves) text;
+  reply = rw (goes, at, told) refl;
   left = rw (goes, at, moves) refl;
 }
 
-run_wants : {A T E : Type 0} (p : Program A) (t u : Timeline) (stops : Listed) (limit k : ℕ) (why : Reason) (r : Result T E) (a b : Option (List ℕ)) →
-    why ≡ Memory → RunsOn p (named_stops p stops.kept) limit t why k u →
-    Puts r a b (reason_line why ++ place_line u) → Answers (sits p t stops limit) (sits p u stops limit) (Ok (Some Continue)) r a b
+run_wants : {A : Type 0} (p : Program A) (t u : Timeline) (stops : Listed) (limit k : ℕ) (why : Reason) →
+    why ≡ Memory → RunsOn p (named_stops p stops.kept) limit t why k u → Replies (sits p t stops limit) (sits p u stops limit) (Ok (Some Continue)) (Stopped why)
 unfolding answer IsLawful
-run_wants p t u stops limit k why r a b wants run text =
-    let wanting : Puts r a b (reason_line Memory ++ place_line u) = subst (λ (x : Reason). Puts r a b (reason_line x ++ place_line u)) wants text in
+run_wants p t u stops limit k why wants run =
     let l : IsLeast (stop_on p (named_stops p stops.kept) t) limit k Memory = subst (λ (x : Reason). IsLeast (stop_on p (named_stops p stops.kept) t) limit k x) wants run.least in
     record {
       want = Some k;
       lawful = (below_limit (stop_on p (named_stops p stops.kept) t) limit k l, l);
-      text = rw (← run.moves) wanting;
+      reply = ap (λ (x : Reason). Stopped x) wants;
       left = rw run.moves refl;
     }
 
-pub answers_run : {A T E : Type 0} (p : Program A) (t u : Timeline) (stops : Listed) (limit k : ℕ) (why : Reason) (r : Result T E) (a b : Option (List ℕ)) →
-    at_end t ≡ false → RunsOn p (named_stops p stops.kept) limit t why k u →
-    Puts r a b (reason_line why ++ place_line u) → Answers (sits p t stops limit) (sits p u stops limit) (Ok (Some Continue)) r a b
-answers_run p t u stops limit k why r a b goes run text = elim (known why) [
-  | inl plain ↦ run_stops p t u stops limit k why r a b goes run.moves (target_is (stop_on p (named_stops p stops.kept) t) limit k why run.least plain) (run.least.reached ∙ plain) text
-  | inr wants ↦ run_wants p t u stops limit k why r a b wants run text
+pub replies_run : {A : Type 0} (p : Program A) (t u : Timeline) (stops : Listed) (limit k : ℕ) (why : Reason) →
+    at_end t ≡ false → RunsOn p (named_stops p stops.kept) limit t why k u → Replies (sits p t stops limit) (sits p u stops limit) (Ok (Some Continue)) (Stopped why)
+replies_run p t u stops limit k why goes run = elim (known why) [
+  | inl plain ↦ run_stops p t u stops limit k why goes run.moves (target_is (stop_on p (named_stops p stops.kept) t) limit k why run.least plain) (run.least.reached ∙ plain)
+  | inr wants ↦ run_wants p t u stops limit k why wants run
 ]
 
 -- ---- `reverse`
 
-pub answers_no_reverse : {A T E : Type 0} (p : Program A) (t : Timeline) (stops : Listed) (limit : ℕ) (text : List ℕ) (r : Result T E) (a b : Option (List ℕ)) →
-    back_line t ≡ Some text → Puts r a b (line text) → Answers (sits p t stops limit) (sits p t stops limit) (Ok (Some Reverse)) r a b
+pub replies_no_reverse : {A : Type 0} (p : Program A) (t : Timeline) (stops : Listed) (limit : ℕ) (why : Refusal) →
+    no_way t ≡ Some why → Replies (sits p t stops limit) (sits p t stops limit) (Ok (Some Reverse)) (Refused why)
 unfolding answer IsLawful
-answers_no_reverse p t stops limit text r a b ends told =
+replies_no_reverse p t stops limit why ends =
     let s = sits p t stops limit in
     let one = reversed s (target (stop_back (named_stops p stops.kept) t) limit) in
-    let said = said_instead s (if_back s one) (says s (line text)) r a b (refused_back s one text ends) (record { text = told; left = refl }) in
-    record { want = None; lawful = tt; text = said.text; left = said.left }
+    let said = said_instead s (if_back s one) (refuses s why) (Refused why) (refused_back s one why ends) (record { reply = refl; left = refl }) in
+    record { want = None; lawful = tt; reply = said.reply; left = said.left }
 
-reverse_stops : {A T E : Type 0} (p : Program A) (t u : Timeline) (stops : Listed) (limit k : ℕ) (why : Reason) (r : Result T E) (a b : Option (List ℕ)) →
-    back_line t ≡ None → u ≡ gone k t → target (stop_back (named_stops p stops.kept) t) limit ≡ k → within limit k (stop_back (named_stops p stops.kept) t k) ≡ Some why →
-    Puts r a b (reason_line why ++ place_line u) → Answers (sits p t stops limit) (sits p u stops limit) (Ok (Some Reverse)) r a b
+reverse_stops : {A : Type 0} (p : Program A) (t u : Timeline) (stops : Listed) (limit k : ℕ) (why : Reason) →
+    no_way t ≡ None → u ≡ gone k t → target (stop_back (named_stops p stops.kept) t) limit ≡ k → within limit k (stop_back (named_stops p stops.kept) t k) ≡ Some why →
+    Replies (sits p t stops limit) (sits p u stops limit) (Ok (Some Reverse)) (Stopped why)
 unfolding answer IsLawful
-reverse_stops p t u stops limit k why r a b way moves at told text =
+reverse_stops p t u stops limit k why way moves at told =
     let s = sits p t stops limit in
     let one = reversed s (target (stop_back (named_stops p stops.kept) t) limit) in
-    let said = said_instead (sits p u stops limit) (if_back s one) one r a b (goes_back s one way) (record { text = rw (at, told, ← moves) text; left = rw (at, moves) refl }) in
-    record { want = None; lawful = tt; text = said.text; left = said.left }
+    let said = said_instead (sits p u stops limit) (if_back s one) one (Stopped why) (goes_back s one way) (record { reply = rw (at, told) refl; left = rw (at, moves) refl }) in
+    record { want = None; lawful = tt; reply = said.reply; left = said.left }
 
 -- going back takes no memory, so it never wants it
-pub answers_reverse : {A T E : Type 0} (p : Program A) (t u : Timeline) (stops : Listed) (limit k : ℕ) (why : Reason) (r : Result T E) (a b : Option (List ℕ)) →
-    back_line t ≡ None → RunsBack (named_stops p stops.kept) limit t why k u →
-    Puts r a b (reason_line why ++ place_line u) → Answers (sits p t stops limit) (sits p u stops limit) (Ok (Some Reverse)) r a b
-answers_reverse p t u stops limit k why r a b way run text =
-    reverse_stops p t u stops limit k why r a b way run.moves
-    (target_is (stop_back (named_stops p stops.kept) t) limit k why run.least run.no_memory) (run.least.reached ∙ run.no_memory) text
+pub replies_reverse : {A : Type 0} (p : Program A) (t u : Timeline) (stops : Listed) (limit k : ℕ) (why : Reason) →
+    no_way t ≡ None → RunsBack (named_stops p stops.kept) limit t why k u → Replies (sits p t stops limit) (sits p u stops limit) (Ok (Some Reverse)) (Stopped why)
+replies_reverse p t u stops limit k why way run =
+    reverse_stops p t u stops limit k why way run.moves
+    (target_is (stop_back (named_stops p stops.kept) t) limit k why run.least run.no_memory) (run.least.reached ∙ run.no_memory)

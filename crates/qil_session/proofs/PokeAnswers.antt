@@ -1,14 +1,12 @@
--- The answers to `set` and `poke`, by what was put and where the timeline was left.
-use Rattle.std.proofs.Common.{◌≡◌, refl, sym, ap, ◌∙◌, subst, ℕ, ◌+◌, ◌<◌, ◌^◌, List, [], ◌∷◌, ◌++◌, Option, Some, None, Result, Ok, Err, arith}
-use Rattle.std.specs.Prelude.{◌↔◌, codes, IsOk}
+-- The replies to `set` and `poke`, by where the timeline was left.
+use Rattle.std.proofs.Common.{◌≡◌, refl, sym, ap, ◌∙◌, subst, ℕ, ◌+◌, ◌<◌, ◌^◌, List, [], ◌∷◌, Option, Some, None, Result, Ok, Err, arith}
+use Rattle.std.specs.Prelude.{◌↔◌, IsOk}
 use Rattle.qil_tree.specs.declared.ops.Class.{Class}
 use Rattle.qil_tree.specs.declared.ops.Width.{Width}
 use Rattle.qil_tree.specs.declared.tree.Program.{Program}
 use Rattle.qil_layout.specs.Layout.{width_bytes}
 use Rattle.qil_commands.specs.declared.command.Address.{Address}
 use Rattle.qil_commands.specs.declared.command.Command.TheVariants.{Set, Poke}
-use Rattle.qil_streams.specs.Device.{Puts}
-use Rattle.qil_streams.specs.Text.{line}
 use Rattle.qil_meaning.specs.State.{Name, Frame, State}
 use Rattle.qil_meaning.specs.Timeline.{Timeline, position, to, poked}
 use Rattle.qil_meaning.specs.Poke.{PokeFault, no_frame, dead_bytes, unknown_temporary, poke_in, poke_frames, poke_temp, poke_memory, remembered, temp_class}
@@ -20,32 +18,33 @@ use Rattle.qil_machine.specs.declared.error.PokeError.TheVariants.{NoFrame, Unkn
 use Rattle.qil_memory.specs.declared.fault.Dead.{Dead}
 use Rattle.qil_memory.specs.Live.{Live}
 use Rattle.qil_memory.specs.Calls.{stored}
-use Rattle.qil_answers.specs.Texts.{place_line}
 use Rattle.qil_stops.specs.Listed.{Listed}
+use Rattle.qil_replies.specs.declared.reply.Refusal.{Refusal}
+use Rattle.qil_replies.specs.declared.reply.Refusal.TheVariants.{UnknownPlace}
+use Rattle.qil_replies.specs.declared.reply.Reply.{Reply}
+use Rattle.qil_replies.specs.declared.reply.Reply.TheVariants.{Refused, Place, Stopped}
 use Rattle.qil_session.specs.Situation.{sits, address_said}
-use Rattle.qil_session.specs.Texts.{reason_line}
-use Rattle.qil_session.specs.Answers.{Answers, answer, IsLawful, poke_answer, poke_refusal}
+use Rattle.qil_session.specs.Answers.{Replies, answer, IsLawful, poke_answer, poke_refusal}
 
 -- ---- what comes of a poke
 
--- the text and the session that is left are those of a poke with this outcome
-record IsPoke {A T E : Type 0} (p : Program A) (t u : Timeline) (stops : Listed) (limit : ℕ) (outcome : Result State PokeFault) (r : Result T E) (a b : Option (List ℕ)) : Type 0 where
-  text : Puts r a b (poke_answer (sits p t stops limit) outcome).text
+-- the reply and the session that is left are those of a poke with this outcome
+record IsPoke {A : Type 0} (p : Program A) (t u : Timeline) (stops : Listed) (limit : ℕ) (outcome : Result State PokeFault) (told : Reply) : Type 0 where
+  reply : told ≡ (poke_answer (sits p t stops limit) outcome).reply
   left : sits p u stops limit ≡ (poke_answer (sits p t stops limit) outcome).left
 
-poke_moves : {A T E : Type 0} (p : Program A) (t u : Timeline) (stops : Listed) (limit : ℕ) (outcome : Result State PokeFault) (r : Result T E) (a b : Option (List ℕ)) →
-    poked t outcome ≡ Ok u → Puts r a b (place_line u) → IsPoke p t u stops limit outcome r a b
-poke_moves {A} p t u stops limit (Ok s) r a b e text =
+poke_moves : {A : Type 0} (p : Program A) (t u : Timeline) (stops : Listed) (limit : ℕ) (outcome : Result State PokeFault) → poked t outcome ≡ Ok u → IsPoke p t u stops limit outcome Place
+poke_moves {A} p t u stops limit (Ok s) e =
     let same : to s t ≡ u = cc in
-    record { text = subst (λ (v : Timeline). Puts r a b (place_line v)) (sym same) text; left = ap (λ (v : Timeline). sits p v stops limit) (sym same) }
-poke_moves p t u stops limit (Err why) r a b e text = absurd cc
+    record { reply = refl; left = ap (λ (v : Timeline). sits p v stops limit) (sym same) }
+poke_moves p t u stops limit (Err why) e = absurd cc
 
-poke_refused : {A T E : Type 0} (p : Program A) (t u : Timeline) (stops : Listed) (limit : ℕ) (outcome : Result State PokeFault) (why : PokeFault) (r : Result T E) (a b : Option (List ℕ)) →
-    outcome ≡ Err why → u ≡ t → Puts r a b (poke_refusal why) → IsPoke p t u stops limit outcome r a b
-poke_refused p t u stops limit (Ok s) why r a b e same text = absurd cc
-poke_refused p t u stops limit (Err other) why r a b e same text =
+poke_refused : {A : Type 0} (p : Program A) (t u : Timeline) (stops : Listed) (limit : ℕ) (outcome : Result State PokeFault) (why : PokeFault) →
+    outcome ≡ Err why → u ≡ t → IsPoke p t u stops limit outcome (Refused (poke_refusal why))
+poke_refused p t u stops limit (Ok s) why e same = absurd cc
+poke_refused p t u stops limit (Err other) why e same =
     let here : other ≡ why = cc in
-    record { text = subst (λ (x : PokeFault). Puts r a b (poke_refusal x)) (sym here) text; left = ap (λ (v : Timeline). sits p v stops limit) same }
+    record { reply = ap (λ (x : PokeFault). Refused (poke_refusal x)) (sym here); left = ap (λ (v : Timeline). sits p v stops limit) same }
 
 poked_position : (t u : Timeline) (outcome : Result State PokeFault) → poked t outcome ≡ Ok u → position u ≡ position t + 1
 poked_position t u (Ok s) e = let same : to s t ≡ u = cc in sym (ap position same) ∙ position-to t s
@@ -77,66 +76,66 @@ memory_by s (Err why) r e dead = let other = dead.1 refl in absurd cc
 
 -- ---- `set %x N`
 
-pub answers_set : {A T E : Type 0} (p : Program A) (t u : Timeline) (stops : Listed) (limit : ℕ) (x : Name) (v : ℕ) (r : Result T E) (a b : Option (List ℕ)) →
-    poked t (poke_temp p t.now x v) ≡ Ok u → Puts r a b (place_line u) → Answers (sits p t stops limit) (sits p u stops limit) (Ok (Some (Set x v))) r a b
+pub replies_set : {A : Type 0} (p : Program A) (t u : Timeline) (stops : Listed) (limit : ℕ) (x : Name) (v : ℕ) →
+    poked t (poke_temp p t.now x v) ≡ Ok u → Replies (sits p t stops limit) (sits p u stops limit) (Ok (Some (Set x v))) Place
 unfolding answer IsLawful
-answers_set p t u stops limit x v r a b moved text =
-    let made = poke_moves p t u stops limit (poke_temp p t.now x v) r a b moved text in
-    record { want = None; lawful = tt; text = made.text; left = made.left }
+replies_set p t u stops limit x v moved =
+    let made = poke_moves p t u stops limit (poke_temp p t.now x v) moved in
+    record { want = None; lawful = tt; reply = made.reply; left = made.left }
 
-pub answers_set_refused : {A T E : Type 0} (p : Program A) (t u : Timeline) (stops : Listed) (limit : ℕ) (x : Name) (v : ℕ) (why : PokeFault) (r : Result T E) (a b : Option (List ℕ)) →
-    poke_temp p t.now x v ≡ Err why → u ≡ t → Puts r a b (poke_refusal why) → Answers (sits p t stops limit) (sits p u stops limit) (Ok (Some (Set x v))) r a b
+pub replies_set_refused : {A : Type 0} (p : Program A) (t u : Timeline) (stops : Listed) (limit : ℕ) (x : Name) (v : ℕ) (why : PokeFault) →
+    poke_temp p t.now x v ≡ Err why → u ≡ t → Replies (sits p t stops limit) (sits p u stops limit) (Ok (Some (Set x v))) (Refused (poke_refusal why))
 unfolding answer IsLawful
-answers_set_refused p t u stops limit x v why r a b refused same text =
-    let made = poke_refused p t u stops limit (poke_temp p t.now x v) why r a b refused same text in
-    record { want = None; lawful = tt; text = made.text; left = made.left }
+replies_set_refused p t u stops limit x v why refused same =
+    let made = poke_refused p t u stops limit (poke_temp p t.now x v) why refused same in
+    record { want = None; lawful = tt; reply = made.reply; left = made.left }
 
-pub answers_set_wants : {A T E : Type 0} (p : Program A) (t u : Timeline) (stops : Listed) (limit : ℕ) (x : Name) (v : ℕ) (told : Result (Unit {0}) PokeError) (r : Result T E) (a b : Option (List ℕ)) →
+pub replies_set_wants : {A : Type 0} (p : Program A) (t u : Timeline) (stops : Listed) (limit : ℕ) (x : Name) (v : ℕ) (told : Result (Unit {0}) PokeError) →
     told ≡ Err OutOfMemory → (told ≡ Err NoFrame) ↔ (poke_temp p t.now x v ≡ Err no_frame) → (told ≡ Err UnknownTemporary) ↔ (poke_temp p t.now x v ≡ Err unknown_temporary) →
-    u ≡ t → Puts r a b (reason_line Memory ++ place_line u) → Answers (sits p t stops limit) (sits p u stops limit) (Ok (Some (Set x v))) r a b
+    u ≡ t → Replies (sits p t stops limit) (sits p u stops limit) (Ok (Some (Set x v))) (Stopped Memory)
 unfolding answer IsLawful
-answers_set_wants p t u stops limit x v told r a b is frame unknown same text = record {
+replies_set_wants p t u stops limit x v told is frame unknown same = record {
   want = Some 0;
   lawful = (refl, temp_by (poke_temp p t.now x v) told is frame unknown (frames_plain p t.now t.now.frames x v));
-  text = subst (λ (w : Timeline). Puts r a b (reason_line Memory ++ place_line w)) same text;
+  reply = refl;
   left = ap (λ (w : Timeline). sits p w stops limit) same;
 }
 
 -- ---- `poke W ADDR N`
 
-pub answers_nowhere : {A T E : Type 0} (p : Program A) (t : Timeline) (stops : Listed) (limit : ℕ) (w : Width) (at : Address) (v : ℕ) (r : Result T E) (a b : Option (List ℕ)) →
-    address_said p at ≡ None → Puts r a b (line (codes "no: unknown place")) → Answers (sits p t stops limit) (sits p t stops limit) (Ok (Some (Poke w at v))) r a b
+pub replies_nowhere : {A : Type 0} (p : Program A) (t : Timeline) (stops : Listed) (limit : ℕ) (w : Width) (at : Address) (v : ℕ) →
+    address_said p at ≡ None → Replies (sits p t stops limit) (sits p t stops limit) (Ok (Some (Poke w at v))) (Refused UnknownPlace)
 unfolding answer IsLawful
-answers_nowhere p t stops limit w at v r a b is text = record { want = None; lawful = tt; text = rw is text; left = rw is refl }
+replies_nowhere p t stops limit w at v is = record { want = None; lawful = tt; reply = rw is refl; left = rw is refl }
 
-pub answers_poke : {A T E : Type 0} (p : Program A) (t u : Timeline) (stops : Listed) (limit : ℕ) (w : Width) (at : Address) (v start n : ℕ) (r : Result T E) (a b : Option (List ℕ)) →
+pub replies_poke : {A : Type 0} (p : Program A) (t u : Timeline) (stops : Listed) (limit : ℕ) (w : Width) (at : Address) (v start n : ℕ) →
     address_said p at ≡ Some start → n ≡ width_bytes w →
-    poked t (poke_memory t.now start n v) ≡ Ok u → Puts r a b (place_line u) → Answers (sits p t stops limit) (sits p u stops limit) (Ok (Some (Poke w at v))) r a b
+    poked t (poke_memory t.now start n v) ≡ Ok u → Replies (sits p t stops limit) (sits p u stops limit) (Ok (Some (Poke w at v))) Place
 unfolding answer IsLawful
-answers_poke p t u stops limit w at v start n r a b is wide moved text =
+replies_poke p t u stops limit w at v start n is wide moved =
     let there = subst (λ i. poked t (poke_memory t.now start i v) ≡ Ok u) wide moved in
-    let made = poke_moves p t u stops limit (poke_memory t.now start (width_bytes w) v) r a b there text in
-    record { want = None; lawful = tt; text = rw is made.text; left = rw is made.left }
+    let made = poke_moves p t u stops limit (poke_memory t.now start (width_bytes w) v) there in
+    record { want = None; lawful = tt; reply = rw is made.reply; left = rw is made.left }
 
-pub answers_poke_dead : {A T E : Type 0} (p : Program A) (t u : Timeline) (stops : Listed) (limit : ℕ) (w : Width) (at : Address) (v start n : ℕ) (r : Result T E) (a b : Option (List ℕ)) →
+pub replies_poke_dead : {A : Type 0} (p : Program A) (t u : Timeline) (stops : Listed) (limit : ℕ) (w : Width) (at : Address) (v start n : ℕ) →
     address_said p at ≡ Some start → n ≡ width_bytes w →
-    poke_memory t.now start n v ≡ Err dead_bytes → u ≡ t → Puts r a b (line (codes "no: dead address")) → Answers (sits p t stops limit) (sits p u stops limit) (Ok (Some (Poke w at v))) r a b
+    poke_memory t.now start n v ≡ Err dead_bytes → u ≡ t → Replies (sits p t stops limit) (sits p u stops limit) (Ok (Some (Poke w at v))) (Refused (poke_refusal dead_bytes))
 unfolding answer IsLawful
-answers_poke_dead p t u stops limit w at v start n r a b is wide refused same text =
+replies_poke_dead p t u stops limit w at v start n is wide refused same =
     let there = subst (λ i. poke_memory t.now start i v ≡ Err dead_bytes) wide refused in
-    let made = poke_refused p t u stops limit (poke_memory t.now start (width_bytes w) v) dead_bytes r a b there same text in
-    record { want = None; lawful = tt; text = rw is made.text; left = rw is made.left }
+    let made = poke_refused p t u stops limit (poke_memory t.now start (width_bytes w) v) dead_bytes there same in
+    record { want = None; lawful = tt; reply = rw is made.reply; left = rw is made.left }
 
-pub answers_poke_wants : {A T E : Type 0} (p : Program A) (t u : Timeline) (stops : Listed) (limit : ℕ) (w : Width) (at : Address) (v start n : ℕ) (told : Result (Unit {0}) PokeError) (r : Result T E) (a b : Option (List ℕ)) →
+pub replies_poke_wants : {A : Type 0} (p : Program A) (t u : Timeline) (stops : Listed) (limit : ℕ) (w : Width) (at : Address) (v start n : ℕ) (told : Result (Unit {0}) PokeError) →
     address_said p at ≡ Some start → n ≡ width_bytes w →
-    told ≡ Err OutOfMemory → (told ≡ Err DeadAddress) ↔ (poke_memory t.now start n v ≡ Err dead_bytes) → u ≡ t → Puts r a b (reason_line Memory ++ place_line u) →
-    Answers (sits p t stops limit) (sits p u stops limit) (Ok (Some (Poke w at v))) r a b
+    told ≡ Err OutOfMemory → (told ≡ Err DeadAddress) ↔ (poke_memory t.now start n v ≡ Err dead_bytes) → u ≡ t →
+    Replies (sits p t stops limit) (sits p u stops limit) (Ok (Some (Poke w at v))) (Stopped Memory)
 unfolding answer IsLawful
-answers_poke_wants p t u stops limit w at v start n told r a b is wide wants dead same text =
+replies_poke_wants p t u stops limit w at v start n told is wide wants dead same =
     let there = subst (λ i. (told ≡ Err DeadAddress) ↔ (poke_memory t.now start i v ≡ Err dead_bytes)) wide dead in
     record {
       want = Some 0;
       lawful = (refl, start, is, memory_by t.now (stored t.now.memory start (width_bytes w) v) told wants there);
-      text = subst (λ (w : Timeline). Puts r a b (reason_line Memory ++ place_line w)) same text;
+      reply = refl;
       left = ap (λ (w : Timeline). sits p w stops limit) same;
     }

@@ -1,54 +1,66 @@
--- The answers to commands that change nothing, and to lines that spell none.
-use Rattle.std.proofs.Common.{refl, ℕ, List, [], Option, Some, None, Result, Ok, Err}
+-- The replies to commands that change nothing and to lines that spell none, and an answer by its reply.
+use Rattle.std.proofs.Common.{◌≡◌, refl, sym, ap, ◌∙◌, subst, ℕ, List, Option, Some, None, Result, Ok, Err}
 use Rattle.qil_commands.specs.declared.command.Address.{Address}
-use Rattle.qil_commands.specs.declared.command.Command.TheVariants.{Stops, Print, Temps, Mem, Where, List as ListBlock, Out, Quit}
+use Rattle.qil_commands.specs.declared.command.Command.{Command}
+use Rattle.qil_commands.specs.declared.command.Command.TheVariants as commands
 use Rattle.qil_commands.specs.declared.command.Refused.{Refused}
 use Rattle.qil_streams.specs.Device.{Puts}
-use Rattle.qil_streams.specs.Text.{line}
 use Rattle.qil_meaning.specs.State.{Name}
-use Rattle.qil_answers.specs.Shown.{printed, temps_shown, frames_shown, output_shown}
-use Rattle.qil_answers.specs.Listing.{block_shown}
-use Rattle.qil_session.specs.Situation.{Situation, address_said}
-use Rattle.qil_session.specs.Texts.{refusal_text}
-use Rattle.qil_session.specs.Answers.{Answers, answer, IsLawful, memory_text, stops_shown}
+use Rattle.qil_replies.specs.declared.reply.Refusal.TheVariants.{Line}
+use Rattle.qil_replies.specs.declared.reply.Reply.{Reply}
+use Rattle.qil_replies.specs.declared.reply.Reply.TheVariants as replies
+use Rattle.qil_session.specs.Situation.{Situation, address_said, text_in}
+use Rattle.qil_session.specs.Answers.{Answers, Replies, answer, answer_text, IsLawful, memory_reply}
 
-pub answers_stops : {A T E : Type 0} (s : Situation A) (r : Result T E) (a b : Option (List ℕ)) → Puts r a b (stops_shown s) → Answers s s (Ok (Some Stops)) r a b
+pub replies_stops : {A : Type 0} (s : Situation A) → Replies s s (Ok (Some commands.Stops)) replies.Stops
 unfolding answer IsLawful
-answers_stops s r a b text = record { want = None; lawful = tt; text = text; left = refl }
+replies_stops s = record { want = None; lawful = tt; reply = refl; left = refl }
 
-pub answers_print : {A T E : Type 0} (s : Situation A) (x : Name) (r : Result T E) (a b : Option (List ℕ)) → Puts r a b (printed s.program s.timeline.now.frames x) → Answers s s (Ok (Some (Print x))) r a b
+pub replies_print : {A : Type 0} (s : Situation A) (x : Name) → Replies s s (Ok (Some (commands.Print x))) (replies.Temporary x)
 unfolding answer IsLawful
-answers_print s x r a b text = record { want = None; lawful = tt; text = text; left = refl }
+replies_print s x = record { want = None; lawful = tt; reply = refl; left = refl }
 
-pub answers_temps : {A T E : Type 0} (s : Situation A) (r : Result T E) (a b : Option (List ℕ)) → Puts r a b (temps_shown s.program s.timeline.now.frames) → Answers s s (Ok (Some Temps)) r a b
+pub replies_temps : {A : Type 0} (s : Situation A) → Replies s s (Ok (Some commands.Temps)) replies.Temporaries
 unfolding answer IsLawful
-answers_temps s r a b text = record { want = None; lawful = tt; text = text; left = refl }
+replies_temps s = record { want = None; lawful = tt; reply = refl; left = refl }
 
-pub answers_mem : {A T E : Type 0} (s : Situation A) (at : Address) (n : ℕ) (r : Result T E) (a b : Option (List ℕ)) →
-    Puts r a b (memory_text s.timeline.now n (address_said s.program at)) → Answers s s (Ok (Some (Mem at n))) r a b
+pub replies_mem : {A : Type 0} (s : Situation A) (at : Address) (n : ℕ) (told : Reply) → told ≡ memory_reply n (address_said s.program at) → Replies s s (Ok (Some (commands.Mem at n))) told
 unfolding answer IsLawful
-answers_mem s at n r a b text = record { want = None; lawful = tt; text = text; left = refl }
+replies_mem s at n told is = record { want = None; lawful = tt; reply = is; left = refl }
 
-pub answers_where : {A T E : Type 0} (s : Situation A) (r : Result T E) (a b : Option (List ℕ)) → Puts r a b (frames_shown s.timeline.now.frames) → Answers s s (Ok (Some Where)) r a b
+pub replies_where : {A : Type 0} (s : Situation A) → Replies s s (Ok (Some commands.Where)) replies.Frames
 unfolding answer IsLawful
-answers_where s r a b text = record { want = None; lawful = tt; text = text; left = refl }
+replies_where s = record { want = None; lawful = tt; reply = refl; left = refl }
 
-pub answers_list : {A T E : Type 0} (s : Situation A) (r : Result T E) (a b : Option (List ℕ)) → Puts r a b (block_shown s.program s.timeline.now.frames) → Answers s s (Ok (Some ListBlock)) r a b
+pub replies_list : {A : Type 0} (s : Situation A) → Replies s s (Ok (Some commands.List)) replies.Block
 unfolding answer IsLawful
-answers_list s r a b text = record { want = None; lawful = tt; text = text; left = refl }
+replies_list s = record { want = None; lawful = tt; reply = refl; left = refl }
 
-pub answers_out : {A T E : Type 0} (s : Situation A) (r : Result T E) (a b : Option (List ℕ)) → Puts r a b (output_shown s.timeline.now.output) → Answers s s (Ok (Some Out)) r a b
+pub replies_out : {A : Type 0} (s : Situation A) → Replies s s (Ok (Some commands.Out)) replies.Output
 unfolding answer IsLawful
-answers_out s r a b text = record { want = None; lawful = tt; text = text; left = refl }
+replies_out s = record { want = None; lawful = tt; reply = refl; left = refl }
 
-pub answers_quit : {A T E : Type 0} (s : Situation A) (r : Result T E) (a b : Option (List ℕ)) → Puts r a b [] → Answers s s (Ok (Some Quit)) r a b
+pub replies_quit : {A : Type 0} (s : Situation A) → Replies s s (Ok (Some commands.Quit)) replies.Nothing
 unfolding answer IsLawful
-answers_quit s r a b text = record { want = None; lawful = tt; text = text; left = refl }
+replies_quit s = record { want = None; lawful = tt; reply = refl; left = refl }
 
-pub answers_nothing : {A T E : Type 0} (s : Situation A) (r : Result T E) (a b : Option (List ℕ)) → Puts r a b [] → Answers s s (Ok None) r a b
+pub replies_nothing : {A : Type 0} (s : Situation A) → Replies s s (Ok None) replies.Nothing
 unfolding answer IsLawful
-answers_nothing s r a b text = record { want = None; lawful = tt; text = text; left = refl }
+replies_nothing s = record { want = None; lawful = tt; reply = refl; left = refl }
 
-pub answers_refusal : {A T E : Type 0} (s : Situation A) (refused : Refused) (r : Result T E) (a b : Option (List ℕ)) → Puts r a b (line (refusal_text refused)) → Answers s s (Err refused) r a b
+pub replies_refusal : {A : Type 0} (s : Situation A) (refused : Refused) → Replies s s (Err refused) (replies.Refused (Line refused))
 unfolding answer IsLawful
-answers_refusal s refused r a b text = record { want = None; lawful = tt; text = text; left = refl }
+replies_refusal s refused = record { want = None; lawful = tt; reply = refl; left = refl }
+
+-- what was put is the text of the reply, in the session that is left
+pub answers_by : {A T E : Type 0} (old new : Situation A) (said : Result (Option Command) Refused) (told : Reply) (r : Result T E) (a b : Option (List ℕ)) →
+    Replies old new said told → Puts r a b (text_in new told) → Answers old new said r a b
+answers_by {A} old new said told r a b is text =
+    let one = answer old said is.want in
+    let there = subst (λ (s : Situation A). Puts r a b (text_in s told)) is.left text in
+    record {
+      want = is.want;
+      lawful = is.lawful;
+      text = subst (λ (x : Reply). Puts r a b (text_in one.left x)) is.reply there;
+      left = is.left;
+    }

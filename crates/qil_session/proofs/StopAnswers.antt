@@ -1,7 +1,6 @@
--- The answers to `break`, `watch`, `delete` and `stops`.
-use Rattle.std.proofs.Common.{◌≡◌, refl, ap, subst, inl, inr, ◌⊎◌, ℕ, ◌+◌, ◌^◌, Bool, true, false, List, [], ◌∷◌, ◌++◌, length, map, Option, Some, None, Result, Ok, Err, eq-eqb}
-use Rattle.std.specs.Prelude.{◌↔◌, ◌==◌, ◌||◌, codes, IfOk, OnOk, OnErr}
-use Rattle.std.specs.List.{flat_map}
+-- The replies to `break`, `watch` and `delete`.
+use Rattle.std.proofs.Common.{◌≡◌, refl, ap, ◌∙◌, subst, inl, inr, ◌⊎◌, ℕ, ◌+◌, ◌^◌, Bool, true, false, length, Option, Some, None, Result, Ok, Err, eq-eqb}
+use Rattle.std.specs.Prelude.{◌↔◌, ◌==◌, ◌||◌, IfOk, OnOk, OnErr}
 use Rattle.std.proofs.lemmas.Bool.{ne_eqb}
 use Rattle.qil_tree.specs.declared.ops.Width.{Width}
 use Rattle.qil_tree.specs.declared.tree.Program.{Program}
@@ -9,12 +8,8 @@ use Rattle.qil_layout.specs.Layout.{width_bytes}
 use Rattle.qil_commands.specs.declared.command.Address.{Address}
 use Rattle.qil_commands.specs.declared.command.BreakPlace.{BreakPlace}
 use Rattle.qil_commands.specs.declared.command.Command.TheVariants.{Break, WatchBytes, WatchTemp, Delete}
-use Rattle.qil_streams.specs.Device.{Puts}
-use Rattle.qil_streams.specs.Text.{line}
 use Rattle.qil_meaning.specs.State.{Name}
 use Rattle.qil_meaning.specs.Timeline.{Timeline}
-use Rattle.qil_answers.specs.Texts.{text_of}
-use Rattle.qil_answers.specs.Shown.{or_none}
 use Rattle.qil_stops.specs.declared.stop.Place.{Place}
 use Rattle.qil_stops.specs.declared.stop.Watched.{Watched}
 use Rattle.qil_stops.specs.declared.stop.Watched.TheVariants as watches
@@ -23,9 +18,11 @@ use Rattle.qil_stops.specs.declared.stop.StopKind.TheVariants as kinds
 use Rattle.qil_stops.specs.declared.stops.StopError.{StopError}
 use Rattle.qil_stops.specs.declared.stops.StopError.TheVariants.{UnknownPlace, TooMany, NoSuchStop}
 use Rattle.qil_stops.specs.Listed.{Listed, IsFull, added, is_listed, without}
+use Rattle.qil_replies.specs.declared.reply.Refusal.TheVariants as refusals
+use Rattle.qil_replies.specs.declared.reply.Reply.{Reply}
+use Rattle.qil_replies.specs.declared.reply.Reply.TheVariants.{Refused, Added, Deleted}
 use Rattle.qil_session.specs.Situation.{sits, address_said, place_said, temp_said, has_kind, is_full}
-use Rattle.qil_session.specs.Texts.{stop_line, deleted_line}
-use Rattle.qil_session.specs.Answers.{Answers, answer, IsLawful, stop_answer, made_text}
+use Rattle.qil_session.specs.Answers.{Replies, answer, IsLawful, stop_answer, made_reply}
 
 pub not_false : (b : Bool) → (b ≡ false → ⊥) → b ≡ true
 not_false true h = refl
@@ -53,96 +50,81 @@ pub record IsMade {A : Type 0} (p : Program A) (old new : Listed) (kind : StopKi
   pub only : made ≡ Err NoSuchStop → ⊥
   pub err : OnErr made (new ≡ old)
 
--- the text and the session that is left are those of a stop that is wanted
-record IsAdded {A T E : Type 0} (p : Program A) (t : Timeline) (old new : Listed) (limit : ℕ) (kind : StopKind) (r : Result T E) (a b : Option (List ℕ)) : Type 0 where
-  text : Puts r a b (stop_answer (sits p t old limit) (Some kind)).text
+-- the reply and the session that is left are those of a stop that is wanted
+record IsAdded {A : Type 0} (p : Program A) (t : Timeline) (old new : Listed) (limit : ℕ) (kind : StopKind) (told : Reply) : Type 0 where
+  reply : told ≡ (stop_answer (sits p t old limit) (Some kind)).reply
   left : sits p t new limit ≡ (stop_answer (sits p t old limit) (Some kind)).left
 
-stop_made : {A T E : Type 0} (p : Program A) (t : Timeline) (old new : Listed) (limit : ℕ) (kind : StopKind) (made : Result ℕ StopError) (r : Result T E) (a b : Option (List ℕ)) →
-    IsMade p old new kind made → Puts r a b (made_text p made kind) → IsAdded p t old new limit kind r a b
-stop_made p t old new limit kind (Ok n) r a b is text =
+stop_made : {A : Type 0} (p : Program A) (t : Timeline) (old new : Listed) (limit : ℕ) (kind : StopKind) (made : Result ℕ StopError) →
+    IsMade p old new kind made → IsAdded p t old new limit kind (made_reply made kind)
+stop_made p t old new limit kind (Ok n) is =
     let has : has_kind p kind ≡ true = not_false (has_kind p kind) (λ e. let other = is.unknown.1 e in absurd cc) in
     let room : is_full old ≡ false = none_is (length old.kept) old.given 64 (2 ^ 62) (λ f. let other = is.many.1 (has, f) in absurd cc) in
-    let told = subst (λ i. Puts r a b (stop_line p i kind)) is.number text in
-    record { text = rw (has, room) told; left = rw (has, room) (ap (λ (stops : Listed). sits p t stops limit) is.ok) }
-stop_made p t old new limit kind (Err UnknownPlace) r a b is text =
+    record { reply = rw (has, room) (ap (λ i. Added i kind) is.number); left = rw (has, room) (ap (λ (stops : Listed). sits p t stops limit) is.ok) }
+stop_made p t old new limit kind (Err UnknownPlace) is =
     let has : has_kind p kind ≡ false = is.unknown.0 refl in
-    record { text = rw has text; left = rw has (ap (λ (stops : Listed). sits p t stops limit) is.err) }
-stop_made p t old new limit kind (Err TooMany) r a b is text =
+    record { reply = rw has refl; left = rw has (ap (λ (stops : Listed). sits p t stops limit) is.err) }
+stop_made p t old new limit kind (Err TooMany) is =
     let has : has_kind p kind ≡ true = (is.many.0 refl).0 in
     let room : is_full old ≡ true = one_is (length old.kept) old.given 64 (2 ^ 62) (is.many.0 refl).1 in
-    record { text = rw (has, room) text; left = rw (has, room) (ap (λ (stops : Listed). sits p t stops limit) is.err) }
-stop_made p t old new limit kind (Err NoSuchStop) r a b is text = absurd (is.only refl)
+    record { reply = rw (has, room) refl; left = rw (has, room) (ap (λ (stops : Listed). sits p t stops limit) is.err) }
+stop_made p t old new limit kind (Err NoSuchStop) is = absurd (is.only refl)
 
 -- ---- `break $f @b K`
 
-pub answers_no_place : {A T E : Type 0} (p : Program A) (t : Timeline) (old : Listed) (limit : ℕ) (func : Name) (at : Option BreakPlace) (r : Result T E) (a b : Option (List ℕ)) →
-    place_said p func at ≡ None → Puts r a b (line (codes "no: unknown place")) → Answers (sits p t old limit) (sits p t old limit) (Ok (Some (Break func at))) r a b
+pub replies_no_place : {A : Type 0} (p : Program A) (t : Timeline) (old : Listed) (limit : ℕ) (func : Name) (at : Option BreakPlace) →
+    place_said p func at ≡ None → Replies (sits p t old limit) (sits p t old limit) (Ok (Some (Break func at))) (Refused refusals.UnknownPlace)
 unfolding answer IsLawful
-answers_no_place p t old limit func at r a b is text = record { want = None; lawful = tt; text = rw is text; left = rw is refl }
+replies_no_place p t old limit func at is = record { want = None; lawful = tt; reply = rw is refl; left = rw is refl }
 
-pub answers_break : {A T E : Type 0} (p : Program A) (t : Timeline) (old new : Listed) (limit : ℕ) (func : Name) (at : Option BreakPlace) (place : Place) (made : Result ℕ StopError) (r : Result T E) (a b : Option (List ℕ)) →
-    place_said p func at ≡ Some place → IsMade p old new (kinds.Break place) made → Puts r a b (made_text p made (kinds.Break place)) →
-    Answers (sits p t old limit) (sits p t new limit) (Ok (Some (Break func at))) r a b
+pub replies_break : {A : Type 0} (p : Program A) (t : Timeline) (old new : Listed) (limit : ℕ) (func : Name) (at : Option BreakPlace) (place : Place) (made : Result ℕ StopError) (told : Reply) →
+    place_said p func at ≡ Some place → IsMade p old new (kinds.Break place) made → told ≡ made_reply made (kinds.Break place) →
+    Replies (sits p t old limit) (sits p t new limit) (Ok (Some (Break func at))) told
 unfolding answer IsLawful
-answers_break p t old new limit func at place made r a b is how text =
-    let one = stop_made p t old new limit (kinds.Break place) made r a b how text in
-    record { want = None; lawful = tt; text = rw is one.text; left = rw is one.left }
+replies_break p t old new limit func at place made told is how so =
+    let one = stop_made p t old new limit (kinds.Break place) made how in
+    record { want = None; lawful = tt; reply = rw is (so ∙ one.reply); left = rw is one.left }
 
 -- ---- `watch W ADDR`
 
-pub answers_no_bytes : {A T E : Type 0} (p : Program A) (t : Timeline) (old : Listed) (limit : ℕ) (w : Width) (at : Address) (r : Result T E) (a b : Option (List ℕ)) →
-    address_said p at ≡ None → Puts r a b (line (codes "no: unknown place")) → Answers (sits p t old limit) (sits p t old limit) (Ok (Some (WatchBytes w at))) r a b
+pub replies_no_bytes : {A : Type 0} (p : Program A) (t : Timeline) (old : Listed) (limit : ℕ) (w : Width) (at : Address) →
+    address_said p at ≡ None → Replies (sits p t old limit) (sits p t old limit) (Ok (Some (WatchBytes w at))) (Refused refusals.UnknownPlace)
 unfolding answer IsLawful
-answers_no_bytes p t old limit w at r a b is text = record { want = None; lawful = tt; text = rw is text; left = rw is refl }
+replies_no_bytes p t old limit w at is = record { want = None; lawful = tt; reply = rw is refl; left = rw is refl }
 
-pub answers_watch_bytes : {A T E : Type 0} (p : Program A) (t : Timeline) (old new : Listed) (limit : ℕ) (w : Width) (at : Address) (start n : ℕ) (made : Result ℕ StopError) (r : Result T E) (a b : Option (List ℕ)) →
-    address_said p at ≡ Some start → n ≡ width_bytes w → IsMade p old new (kinds.Watch (watches.Bytes start n)) made → Puts r a b (made_text p made (kinds.Watch (watches.Bytes start n))) →
-    Answers (sits p t old limit) (sits p t new limit) (Ok (Some (WatchBytes w at))) r a b
+pub replies_watch_bytes : {A : Type 0} (p : Program A) (t : Timeline) (old new : Listed) (limit : ℕ) (w : Width) (at : Address) (start n : ℕ) (made : Result ℕ StopError) (told : Reply) →
+    address_said p at ≡ Some start → n ≡ width_bytes w → IsMade p old new (kinds.Watch (watches.Bytes start n)) made → told ≡ made_reply made (kinds.Watch (watches.Bytes start n)) →
+    Replies (sits p t old limit) (sits p t new limit) (Ok (Some (WatchBytes w at))) told
 unfolding answer IsLawful
-answers_watch_bytes p t old new limit w at start n made r a b is wide how text =
+replies_watch_bytes p t old new limit w at start n made told is wide how so =
     let there = subst (λ i. IsMade p old new (kinds.Watch (watches.Bytes start i)) made) wide how in
-    let told = subst (λ i. Puts r a b (made_text p made (kinds.Watch (watches.Bytes start i)))) wide text in
-    let one = stop_made p t old new limit (kinds.Watch (watches.Bytes start (width_bytes w))) made r a b there told in
-    record { want = None; lawful = tt; text = rw is one.text; left = rw is one.left }
+    let said = subst (λ i. told ≡ made_reply made (kinds.Watch (watches.Bytes start i))) wide so in
+    let one = stop_made p t old new limit (kinds.Watch (watches.Bytes start (width_bytes w))) made there in
+    record { want = None; lawful = tt; reply = rw is (said ∙ one.reply); left = rw is one.left }
 
 -- ---- `watch $f %x`
 
-pub answers_no_temp : {A T E : Type 0} (p : Program A) (t : Timeline) (old : Listed) (limit : ℕ) (func x : Name) (r : Result T E) (a b : Option (List ℕ)) →
-    temp_said p func x ≡ None → Puts r a b (line (codes "no: unknown place")) → Answers (sits p t old limit) (sits p t old limit) (Ok (Some (WatchTemp func x))) r a b
+pub replies_no_temp : {A : Type 0} (p : Program A) (t : Timeline) (old : Listed) (limit : ℕ) (func x : Name) →
+    temp_said p func x ≡ None → Replies (sits p t old limit) (sits p t old limit) (Ok (Some (WatchTemp func x))) (Refused refusals.UnknownPlace)
 unfolding answer IsLawful
-answers_no_temp p t old limit func x r a b is text = record { want = None; lawful = tt; text = rw is text; left = rw is refl }
+replies_no_temp p t old limit func x is = record { want = None; lawful = tt; reply = rw is refl; left = rw is refl }
 
-pub answers_watch_temp : {A T E : Type 0} (p : Program A) (t : Timeline) (old new : Listed) (limit : ℕ) (func x : Name) (watched : Watched) (made : Result ℕ StopError) (r : Result T E) (a b : Option (List ℕ)) →
-    temp_said p func x ≡ Some watched → IsMade p old new (kinds.Watch watched) made → Puts r a b (made_text p made (kinds.Watch watched)) →
-    Answers (sits p t old limit) (sits p t new limit) (Ok (Some (WatchTemp func x))) r a b
+pub replies_watch_temp : {A : Type 0} (p : Program A) (t : Timeline) (old new : Listed) (limit : ℕ) (func x : Name) (watched : Watched) (made : Result ℕ StopError) (told : Reply) →
+    temp_said p func x ≡ Some watched → IsMade p old new (kinds.Watch watched) made → told ≡ made_reply made (kinds.Watch watched) →
+    Replies (sits p t old limit) (sits p t new limit) (Ok (Some (WatchTemp func x))) told
 unfolding answer IsLawful
-answers_watch_temp p t old new limit func x watched made r a b is how text =
-    let one = stop_made p t old new limit (kinds.Watch watched) made r a b how text in
-    record { want = None; lawful = tt; text = rw is one.text; left = rw is one.left }
+replies_watch_temp p t old new limit func x watched made told is how so =
+    let one = stop_made p t old new limit (kinds.Watch watched) made how in
+    record { want = None; lawful = tt; reply = rw is (so ∙ one.reply); left = rw is one.left }
 
 -- ---- `delete N`
 
-pub answers_deleted : {A T E : Type 0} (p : Program A) (t : Timeline) (old new : Listed) (limit n : ℕ) (r : Result T E) (a b : Option (List ℕ)) →
-    is_listed n old.kept ≡ true → new ≡ record old { kept = without n old.kept } → Puts r a b (deleted_line n) → Answers (sits p t old limit) (sits p t new limit) (Ok (Some (Delete n))) r a b
+pub replies_deleted : {A : Type 0} (p : Program A) (t : Timeline) (old new : Listed) (limit n : ℕ) →
+    is_listed n old.kept ≡ true → new ≡ record old { kept = without n old.kept } → Replies (sits p t old limit) (sits p t new limit) (Ok (Some (Delete n))) (Deleted n)
 unfolding answer IsLawful
-answers_deleted p t old new limit n r a b is less text = record { want = None; lawful = tt; text = rw is text; left = rw is (ap (λ (stops : Listed). sits p t stops limit) less) }
+replies_deleted p t old new limit n is less = record { want = None; lawful = tt; reply = rw is refl; left = rw is (ap (λ (stops : Listed). sits p t stops limit) less) }
 
-pub answers_unlisted : {A T E : Type 0} (p : Program A) (t : Timeline) (old new : Listed) (limit n : ℕ) (r : Result T E) (a b : Option (List ℕ)) →
-    is_listed n old.kept ≡ false → new ≡ old → Puts r a b (line (codes "no: no such stop")) → Answers (sits p t old limit) (sits p t new limit) (Ok (Some (Delete n))) r a b
+pub replies_unlisted : {A : Type 0} (p : Program A) (t : Timeline) (old new : Listed) (limit n : ℕ) →
+    is_listed n old.kept ≡ false → new ≡ old → Replies (sits p t old limit) (sits p t new limit) (Ok (Some (Delete n))) (Refused refusals.NoSuchStop)
 unfolding answer IsLawful
-answers_unlisted p t old new limit n r a b is same text = record { want = None; lawful = tt; text = rw is text; left = rw is (ap (λ (stops : Listed). sits p t stops limit) same) }
-
--- ---- `stops`
-
-lines_of : {X : Type 0} (f : X → List ℕ) (xs : List X) → text_of (map f xs) ≡ flat_map f xs
-lines_of f [] = refl
-lines_of f (x ∷ xs) = ap (λ t. f x ++ t) (lines_of f xs)
-
-pub lines_none : {X : Type 0} (f : X → List ℕ) (xs : List X) → length xs ≡ 0 → or_none (map f xs) ≡ line (codes "none")
-lines_none f [] e = refl
-lines_none f (x ∷ xs) e = absurd cc
-
-pub lines_some : {X : Type 0} (f : X → List ℕ) (xs : List X) → (length xs ≡ 0 → ⊥) → or_none (map f xs) ≡ flat_map f xs
-lines_some f [] h = absurd (h refl)
-lines_some f (x ∷ xs) h = lines_of f (x ∷ xs)
+replies_unlisted p t old new limit n is same = record { want = None; lawful = tt; reply = rw is refl; left = rw is (ap (λ (stops : Listed). sits p t stops limit) same) }

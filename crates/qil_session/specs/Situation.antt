@@ -1,5 +1,5 @@
 -- A session as its answers see it, and what the words of commands name.
-use Rattle.std.specs.Prelude.{ℕ, ◌+◌, ◌%◌, ◌^◌, ◌==◌, ◌||◌, Bool, length, Option, Some, None, option_map}
+use Rattle.std.specs.Prelude.{ℕ, ◌+◌, ◌%◌, ◌^◌, ◌==◌, ◌||◌, Bool, List, length, Option, Some, None, option_map}
 use Rattle.std.specs.Option.{option_and_then}
 use Rattle.qil_tree.specs.declared.tree.Program.{Program}
 use Rattle.qil_layout.specs.Layout.{address_of}
@@ -8,7 +8,7 @@ use Rattle.qil_commands.specs.declared.command.Address.TheVariants as addresses
 use Rattle.qil_commands.specs.declared.command.BreakPlace.{BreakPlace}
 use Rattle.qil_names.specs.Numbers.{place_of}
 use Rattle.qil_meaning.specs.State.{Name}
-use Rattle.qil_meaning.specs.Timeline.{Timeline}
+use Rattle.qil_meaning.specs.Timeline.{Timeline, position}
 use Rattle.qil_numbering.specs.Numbered.{names_of}
 use Rattle.qil_numbering.specs.Reading.{func_names, labels_at}
 use Rattle.qil_stops.specs.declared.stop.Place.{Place}
@@ -18,6 +18,8 @@ use Rattle.qil_stops.specs.declared.stop.StopKind.{StopKind}
 use Rattle.qil_stops.specs.declared.stop.StopKind.TheVariants as kinds
 use Rattle.qil_stops.specs.Listed.{Listed}
 use Rattle.qil_stops.specs.Named.{has_place, has_watched}
+use Rattle.qil_replies.specs.declared.reply.Reply.{Reply}
+use Rattle.qil_replies.specs.Reply.{reply_text}
 
 -- The program, the timeline of its run, the stops by number, and how many moves `continue` and `reverse` make at most.
 pub record Situation (A : Type 0) : Type 0 where
@@ -28,6 +30,10 @@ pub record Situation (A : Type 0) : Type 0 where
 
 abbrev pub sits : {A : Type 0} → Program A → Timeline → Listed → ℕ → Situation A
 sits p t stops limit = record { program = p; timeline = t; stops = stops; limit = limit }
+
+-- the text of a reply that leaves this situation
+abbrev pub text_in : {A : Type 0} → Situation A → Reply → List ℕ
+text_in s reply = reply_text s.program (position s.timeline) s.timeline.now s.stops.kept reply
 
 -- ---- what words name, if the program has it
 

@@ -1,6 +1,7 @@
 //! A session: a history, stops, and how many moves a run makes at most; and its answer to each line of a script.
 //!
-//! `specs/Answers.antt` says what each command is answered, and what it does to the timeline and to the stops.
+//! `specs/Answers.antt` says what each command is replied, and what it does to the timeline and to the stops. `Session::reply` gives
+//! the reply as a value, and `Session::answer` puts its text.
 #![tactic(auto)]
 
 mod answer;
@@ -9,7 +10,6 @@ mod poking;
 mod session;
 mod showing;
 mod stopping;
-mod texts;
 mod walk;
 mod words;
 

@@ -4,17 +4,19 @@ ghost use Rattle.std.specs.Prelude.{◌≡◌, ◌+◌, ◌-◌, ◌^◌, ◌<�
 ghost use Rattle.qil_meaning.specs.Timeline.{position};
 ghost use Rattle.qil_streams.specs.Device.{Counts, Puts};
 ghost use Rattle.qil_answers.specs.Texts.{place_line};
-ghost use Rattle.qil_session.specs.Answers.{Answers};
+ghost use Rattle.qil_session.specs.Situation.{text_in};
+ghost use Rattle.qil_session.specs.Answers.{Answers, Replies};
 ghost use Rattle.qil_session.specs.Kept.{situation};
 
-use crate::moves::{back, go_back, go_on, put_now, step};
+use crate::moves::{answer_continue, answer_reverse, back, step};
 use crate::poking::{poke, set};
-use crate::showing::{show_block, show_bytes, show_frames, show_output, show_printed, show_temps};
-use crate::stopping::{add_break, delete, put_stops, watch_bytes, watch_temp};
-use crate::texts::put_refusal;
+use crate::showing::show_bytes;
+use crate::stopping::{add_break, delete, watch_bytes, watch_temp};
+use qil_answers::put_place;
 use qil_commands::{Command, Refused};
 use qil_history::History;
 use qil_machine::Machine;
+use qil_replies::{Refusal, Reply, put_reply};
 use qil_stops::Stops;
 use qil_streams::{Put, PutError};
 use std::alloc::{AllocError, Allocator};
@@ -60,6 +62,29 @@ impl<A: Allocator, H: Drop> Session<A, H> {
     }
 }
 
+impl<A: Allocator, H> Session<A, H> {
+    /// The history that commands move along.
+    pub fn history(&self) -> &H
+        ensures { result.now ≡ self.now.history }
+    {
+        &self.history
+    }
+
+    /// The stops.
+    pub fn stops(&self) -> &Stops<A>
+        ensures { result.now ≡ self.now.stops }
+    {
+        &self.stops
+    }
+
+    /// How many moves `continue` and `reverse` make at most.
+    pub fn limit(&self) -> u64
+        ensures { result ≡ self.now.limit }
+    {
+        self.limit
+    }
+}
+
 impl<'c, A: Allocator + Copy + 'c, H: History<A, Machine<'c, 'c, A>>> Session<A, H> {
     /// Puts the line of the place where the session stands.
     pub fn put_now<P: Put>(&self, out: &mut P) -> Result<(), PutError>
@@ -68,51 +93,86 @@ impl<'c, A: Allocator + Copy + 'c, H: History<A, Machine<'c, 'c, A>>> Session<A,
         ensures counted { Counts result (P.stops out.old) (P.stops out.new) }
         ensures device { P.device out.new ≡ P.device out.old }
     {
-        put_now(&self.history, out)
+        put_place(out, self.history.position(), self.history.machine())
     }
 
-    /// Answers a command. Where the writing stops the session has moved all the same.
-    fn answer_command<P: Put>(&mut self, command: Command<'_>, out: &mut P) -> Result<(), PutError>
-        requires stops { P.stops out.old < 2 ^ 64 - 1 }
+    /// Replies to a command.
+    fn reply_command<'t>(&mut self, command: Command<'t>) -> Reply<'t>
         requires before { position (H.timeline self.old.history) < 2 ^ 61 }
         requires limit { self.old.limit ≤ 4294967295 }
         ensures near { position (H.timeline self.new.history) < position (H.timeline self.old.history) + 2 ^ 32 }
         ensures limit { self.new.limit ≡ self.old.limit }
-        ensures answered { Answers (situation H.program H.timeline self.old) (situation H.program H.timeline self.new) (Ok (Some command.entry)) result (P.written out.old) (P.written out.new) }
-        ensures counted { Counts result (P.stops out.old) (P.stops out.new) }
-        ensures device { P.device out.new ≡ P.device out.old }
+        ensures replied { Replies (situation H.program H.timeline self.old) (situation H.program H.timeline self.new) (Ok (Some command.entry)) result }
     {
         match command {
-            Command::Step(count) => step(&mut self.history, count, out),
-            Command::Back(count) => back(&mut self.history, count, out),
-            Command::Continue => go_on(&mut self.history, &self.stops, self.limit, out),
-            Command::Reverse => go_back(&mut self.history, &self.stops, self.limit, out),
-            Command::Set(name, value) => set(&mut self.history, name.bytes(), value, out),
+            Command::Step(count) => step(&mut self.history, count),
+            Command::Back(count) => back(&mut self.history, count),
+            Command::Continue => answer_continue(&mut self.history, &self.stops, self.limit),
+            Command::Reverse => answer_reverse(&mut self.history, &self.stops, self.limit),
+            Command::Set(name, value) => set(&mut self.history, name.bytes(), value),
             Command::Poke(width, address, value) => {
-                poke(&mut self.history, width, address, value, out)
+                poke(&mut self.history, width, address, value)
             }
             Command::Break(func, at) => {
                 let code = self.history.machine().code();
-                add_break(&mut self.stops, code, func.bytes(), at, out)
+                add_break(&mut self.stops, code, func.bytes(), at)
             }
             Command::WatchBytes(width, address) => {
                 let code = self.history.machine().code();
-                watch_bytes(&mut self.stops, code, width, address, out)
+                watch_bytes(&mut self.stops, code, width, address)
             }
             Command::WatchTemp(func, name) => {
                 let code = self.history.machine().code();
-                watch_temp(&mut self.stops, code, func.bytes(), name.bytes(), out)
+                watch_temp(&mut self.stops, code, func.bytes(), name.bytes())
             }
-            Command::Delete(number) => delete(&mut self.stops, number, out),
-            Command::Stops => put_stops(&self.stops, self.history.machine().code(), out),
-            Command::Print(name) => show_printed(&self.history, name.bytes(), out),
-            Command::Temps => show_temps(&self.history, out),
-            Command::Mem(address, count) => show_bytes(&self.history, &address, count, out),
-            Command::Where => show_frames(&self.history, out),
-            Command::List => show_block(&self.history, out),
-            Command::Out => show_output(&self.history, out),
-            Command::Quit => Ok(()),
+            Command::Delete(number) => delete(&mut self.stops, number),
+            Command::Stops => Reply::Stops,
+            Command::Print(name) => Reply::Temporary(name),
+            Command::Temps => Reply::Temporaries,
+            Command::Mem(address, count) => {
+                show_bytes(self.history.machine().code(), &address, count)
+            }
+            Command::Where => Reply::Frames,
+            Command::List => Reply::Block,
+            Command::Out => Reply::Output,
+            Command::Quit => Reply::Nothing,
         }
+    }
+
+    /// Replies to what a line says. `quit` is replied nothing: that the session ends is for the caller to see.
+    pub fn reply<'t>(&mut self, said: Result<Option<Command<'t>>, Refused>) -> Reply<'t>
+        requires before { position (H.timeline self.old.history) < 2 ^ 61 }
+        requires limit { self.old.limit ≤ 4294967295 }
+        ensures near { position (H.timeline self.new.history) < position (H.timeline self.old.history) + 2 ^ 32 }
+        ensures limit { self.new.limit ≡ self.old.limit }
+        ensures replied { Replies (situation H.program H.timeline self.old) (situation H.program H.timeline self.new) said.entry result }
+    {
+        match said {
+            Ok(Some(command)) => self.reply_command(command),
+            Ok(None) => Reply::Nothing,
+            Err(refused) => Reply::Refused(Refusal::Line(refused)),
+        }
+    }
+
+    /// Puts the text of a reply that left the session so.
+    ///
+    /// # Errors
+    ///
+    /// `PutError` where `out` stopped. Then a prefix of the text was put.
+    pub fn put_reply<P: Put>(&self, reply: Reply<'_>, out: &mut P) -> Result<(), PutError>
+        requires { P.stops out.old < 2 ^ 64 - 1 }
+        ensures text { Puts result (P.written out.old) (P.written out.new) (text_in (situation H.program H.timeline self.now) reply.entry) }
+        ensures counted { Counts result (P.stops out.old) (P.stops out.new) }
+        ensures device { P.device out.new ≡ P.device out.old }
+    {
+        let position = self.history.position();
+        put_reply(
+            out,
+            position,
+            self.history.machine(),
+            self.stops.list(),
+            reply,
+        )
     }
 
     /// Answers what a line says. Where the writing stops the session has moved all the same.
@@ -130,10 +190,7 @@ impl<'c, A: Allocator + Copy + 'c, H: History<A, Machine<'c, 'c, A>>> Session<A,
         ensures counted { Counts result (P.stops out.old) (P.stops out.new) }
         ensures device { P.device out.new ≡ P.device out.old }
     {
-        match said {
-            Ok(Some(command)) => self.answer_command(command, out),
-            Ok(None) => Ok(()),
-            Err(refused) => put_refusal(out, refused),
-        }
+        let reply = self.reply(said);
+        self.put_reply(reply, out)
     }
 }

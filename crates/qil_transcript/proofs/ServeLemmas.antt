@@ -1,5 +1,5 @@
 -- How far `serve` has come.
-use Rattle.std.proofs.Common.{◌≡◌, ℕ, ◌+◌, ◌-◌, ◌≤◌, ◌<◌, ◌^◌, List, [], ◌∷◌, ◌++◌, take, length, arith, sym, ◌∙◌, ap, refl, Bool, true, false, cond, append_assoc, length-append}
+use Rattle.std.proofs.Common.{◌≡◌, inl, inr, ◌⊎◌, ℕ, ◌+◌, ◌-◌, ◌≤◌, ◌<◌, ◌^◌, List, [], ◌∷◌, ◌++◌, take, length, arith, sym, ◌∙◌, ap, refl, Bool, true, false, cond, append_assoc, length-append}
 use Rattle.std.specs.Prelude.{Option, Some, None, Result, Ok, Err, ◌==◌}
 use Rattle.std.proofs.lemmas.List.{append-nil}
 use Rattle.std.specs.Bool.{MatchBool}
@@ -17,9 +17,10 @@ use Rattle.qil_meaning.specs.Poke.{PokeFault}
 use Rattle.qil_meaning.specs.Timeline.{position, at_end}
 use Rattle.qil_stops.specs.Listed.{is_listed}
 use Rattle.qil_stops.specs.declared.stop.StopKind.{StopKind}
+use Rattle.qil_replies.specs.Reply.{reply_text}
 use Rattle.qil_session.specs.Situation.{Situation, has_kind, is_full}
-use Rattle.qil_session.specs.Answers.{Answer, AnswersLine, answer, answers, left_by, AreLawful, IsLawful, IsAnswered, IsAnsweredTo, is_quit, quits, if_back, poke_answer, poke_at, stop_answer}
-use Rattle.std.specs.Prelude.{IfSome, OnOk}
+use Rattle.qil_session.specs.Answers.{Answer, AnswersLine, answer, answer_text, answers, left_by, AreLawful, IsLawful, IsAnswered, IsAnsweredTo, is_quit, quits, if_back, poke_answer, poke_at, stop_answer}
+use Rattle.std.specs.Prelude.{IfSome, IsErrAnd, OnOk}
 use Rattle.std.specs.Io.KnownBytes.{Consumes, Appends, IsAtEnd, prepend_known}
 use Rattle.qil_transcript.specs.declared.serving.IoFault.{IoFault}
 use Rattle.qil_transcript.specs.declared.serving.IoFault.TheVariants.{Read, Write, TooLong}
@@ -93,7 +94,7 @@ answer_goes s (Err refusal) want h = refl
 -- one more line
 pub Told-line : {A : Type 0} (first : Situation A) (before : List (List ℕ)) (wants : List (Option ℕ)) (told : List ℕ) (now : Situation A) (line : List ℕ) (want : Option ℕ) (text : List ℕ) (next : Situation A)
     → Told first before wants told now → is_quit (command_of line) ≡ false → IsLawful now (command_of line) want
-    → text ≡ (answer now (command_of line) want).text → next ≡ (answer now (command_of line) want).left
+    → text ≡ answer_text (answer now (command_of line) want) → next ≡ (answer now (command_of line) want).left
     → Told first (before ++ line ∷ []) (wants ++ want ∷ []) (told ++ text) next
 Told-line first before wants told now line want text next r no_quit lawful is_text is_next =
     let goes = answer_goes now (command_of line) want no_quit in
@@ -157,8 +158,8 @@ quit_goes : {A : Type 0} (now : Situation A) (said : Result (Option Command) Ref
 unfolding answer
 quit_goes now said h = rw (quit_is said h) refl
 
-quit_text : {A : Type 0} (now : Situation A) (said : Result (Option Command) Refused) → is_quit said ≡ true → (answer now said None).text ≡ []
-unfolding answer
+quit_text : {A : Type 0} (now : Situation A) (said : Result (Option Command) Refused) → is_quit said ≡ true → answer_text (answer now said None) ≡ []
+unfolding answer reply_text
 quit_text now said h = rw (quit_is said h) refl
 
 quit_left : {A : Type 0} (now : Situation A) (said : Result (Option Command) Refused) → is_quit said ≡ true → (answer now said None).left ≡ now
@@ -176,7 +177,7 @@ Told-quit first before wants told now line rest r quit = (
 
 -- what is left of the text of a line, and of the answers to any lines that follow
 pub Told-front : {A : Type 0} (first : Situation A) (before : List (List ℕ)) (wants : List (Option ℕ)) (told : List ℕ) (now : Situation A) (line : List ℕ) (rest : List (List ℕ)) (want : Option ℕ) (front : List ℕ)
-    → Told first before wants told now → IsLawful now (command_of line) want → IsFrontOf front (answer now (command_of line) want).text
+    → Told first before wants told now → IsLawful now (command_of line) want → IsFrontOf front (answer_text (answer now (command_of line) want))
     → (all : List ℕ) × IsAnswered first (before ++ line ∷ rest) all × IsFrontOf (told ++ front) all
 Told-front first before wants told now line rest want front r lawful is_front =
     let one = answer now (command_of line) want in
@@ -191,7 +192,7 @@ Told-front first before wants told now line rest want front r lawful is_front =
 
 -- where that was, and how the session is left
 pub Told-cut : {A : Type 0} (first : Situation A) (before : List (List ℕ)) (wants : List (Option ℕ)) (told : List ℕ) (now : Situation A) (line : List ℕ) (rest : List (List ℕ)) (want : Option ℕ) (front : List ℕ) (next : Situation A) (lines : List (List ℕ))
-    → lines ≡ before ++ line ∷ rest → Told first before wants told now → IsLawful now (command_of line) want → IsFrontOf front (answer now (command_of line) want).text
+    → lines ≡ before ++ line ∷ rest → Told first before wants told now → IsLawful now (command_of line) want → IsFrontOf front (answer_text (answer now (command_of line) want))
     → next ≡ (answer now (command_of line) want).left
     → IsCutShort first lines (told ++ front) next
 Told-cut first before wants told now line rest want front next lines are r lawful is_front is_next = record {
@@ -223,7 +224,7 @@ Reached-nil first = record { before = []; wants = []; cut = Cut-nil; so_far = To
 
 pub Reached-line : {A : Type 0} (first : Situation A) (done told : List ℕ) (now : Situation A) (line : List ℕ) (want : Option ℕ) (text : List ℕ) (next : Situation A)
     → Reached first done told now → IsLine line → is_quit (command_of line) ≡ false → IsLawful now (command_of line) want
-    → text ≡ (answer now (command_of line) want).text → next ≡ (answer now (command_of line) want).left
+    → text ≡ answer_text (answer now (command_of line) want) → next ≡ (answer now (command_of line) want).left
     → Reached first (done ++ (line ++ 10 ∷ [])) (told ++ text) next
 Reached-line first done told now line want text next r is_line no_quit lawful is_text is_next = record {
   before = r.before ++ line ∷ [];
@@ -264,11 +265,11 @@ Standing-start first known rest w given e h = record {
 
 pub Standing-line : {A : Type 0} (first : Situation A) (known rest rest' w0 w1 w2 : Option (List ℕ)) (now next : Situation A) (given given' : ℕ) (line : List ℕ) (want : Option ℕ)
     → Standing first known rest w0 w1 now given → IsLine line → Consumes rest rest' (line ++ 10 ∷ []) → given' ≡ given + (length line + 1)
-    → is_quit (command_of line) ≡ false → IsLawful now (command_of line) want → Appends w1 w2 (answer now (command_of line) want).text
+    → is_quit (command_of line) ≡ false → IsLawful now (command_of line) want → Appends w1 w2 (answer_text (answer now (command_of line) want))
     → next ≡ (answer now (command_of line) want).left
     → Standing first known rest' w0 w2 next given'
 Standing-line first known rest rest' w0 w1 w2 now next given given' line want s is_line taken given_is no_quit lawful wrote is_next =
-    let text = (answer now (command_of line) want).text in
+    let text = answer_text (answer now (command_of line) want) in
     let size : length (s.done ++ (line ++ 10 ∷ [])) ≡ length s.done + (length line + 1) = length-append s.done (line ++ 10 ∷ []) ∙ ap (λ v. length s.done + v) (length-append line (10 ∷ [])) in
     record {
       done = s.done ++ (line ++ 10 ∷ []);
@@ -299,12 +300,12 @@ Promise-end v first (Some script) rest rest' left w0 w1 now given given' s taken
 -- a last line without byte 10
 pub Promise-last : {A T : Type 0} (v : T) (first : Situation A) (known rest rest' left w0 w1 w2 : Option (List ℕ)) (now next : Situation A) (given given' : ℕ) (line : List ℕ) (want : Option ℕ)
     → Standing first known rest w0 w1 now given → IsLine line → 0 < length line → Consumes rest rest' line → IsAtEnd rest' → given' ≡ given + length line → given' ≤ 2 ^ 24
-    → is_quit (command_of line) ≡ false → IsLawful now (command_of line) want → Appends w1 w2 (answer now (command_of line) want).text
+    → is_quit (command_of line) ≡ false → IsLawful now (command_of line) want → Appends w1 w2 (answer_text (answer now (command_of line) want))
     → next ≡ (answer now (command_of line) want).left
     → Promise (Ok v) first known left w0 w2 next
 Promise-last v first None rest rest' left w0 w1 w2 now next given given' line want s is_line some taken end given_is le no_quit lawful wrote is_next = tt
 Promise-last v first (Some script) rest rest' left w0 w1 w2 now next given given' line want s is_line some taken end given_is le no_quit lawful wrote is_next =
-    let text = (answer now (command_of line) want).text in
+    let text = answer_text (answer now (command_of line) want) in
     let r = s.reached in
     let is : script ≡ s.done ++ line = consumed_all script (s.done ++ line) rest' (Consumes-append (Some script) rest rest' s.done line s.taken taken) end in
     let size : length script ≤ 2 ^ 24 = omega (arith, ap length is, s.given_is, given_is, length-append s.done line) in (
@@ -425,7 +426,7 @@ Promise-quit v first (Some script) rest rest' left w0 w1 now given given' line s
 -- a writing that failed at a line
 pub Promise-write : {A : Type 0} (T : Type 0) (first : Situation A) (known rest rest' left w0 w1 w2 : Option (List ℕ)) (now next : Situation A) (given : ℕ) (line : List ℕ) (want : Option ℕ)
     → Standing first known rest w0 w1 now given → IsLine line → Consumes rest rest' (line ++ 10 ∷ []) → IsLawful now (command_of line) want
-    → ((front : List ℕ) × IsFrontOf front (answer now (command_of line) want).text × Appends w1 w2 front)
+    → ((front : List ℕ) × IsFrontOf front (answer_text (answer now (command_of line) want)) × Appends w1 w2 front)
     → next ≡ (answer now (command_of line) want).left
     → Promise {T = T} (Err Write) first known left w0 w2 next
 Promise-write T first None rest rest' left w0 w1 w2 now next given line want s is_line taken lawful wrote is_next = tt
@@ -444,7 +445,7 @@ Promise-write T first (Some script) rest rest' left w0 w1 w2 now next given line
 -- a writing that failed at a last line without byte 10
 pub Promise-write_last : {A : Type 0} (T : Type 0) (first : Situation A) (known rest rest' left w0 w1 w2 : Option (List ℕ)) (now next : Situation A) (given : ℕ) (line : List ℕ) (want : Option ℕ)
     → Standing first known rest w0 w1 now given → IsLine line → 0 < length line → Consumes rest rest' line → IsAtEnd rest' → IsLawful now (command_of line) want
-    → ((front : List ℕ) × IsFrontOf front (answer now (command_of line) want).text × Appends w1 w2 front)
+    → ((front : List ℕ) × IsFrontOf front (answer_text (answer now (command_of line) want)) × Appends w1 w2 front)
     → next ≡ (answer now (command_of line) want).left
     → Promise {T = T} (Err Write) first known left w0 w2 next
 Promise-write_last T first None rest rest' left w0 w1 w2 now next given line want s is_line some taken end lawful wrote is_next = tt
@@ -473,3 +474,26 @@ in_turn (Ok x) first there now None two left left' w0 w1 w2 v p q = tt
 in_turn (Ok x) first there now (Some script) None left left' w0 w1 w2 v p q = tt
 in_turn (Ok x) first there now (Some script) (Some more) left left' w0 w1 w2 v p q =
     (p.0 ++ q.0, Appends-append w0 w1 w2 p.0 q.0 p.1 q.1, record { there = there; first = p.0; second = q.0; one_is = p.2.0; two_is = q.2.0; text_is = refl })
+
+-- ---- a script of two is too long
+
+-- the fault of a call is the one that was handed on
+pub fault_is : {T U : Type 0} (r : Result T IoFault) (on : Result U IoFault) (fault told : IoFault) → r ≡ Err fault → IsErrAnd on (λ e. e ≡ fault) → on ≡ Err told → r ≡ Err told
+fault_is r (Ok x) fault told is h e = absurd h
+fault_is r (Err other) fault told is h e = let same : other ≡ told = cc in is ∙ ap Err (sym h ∙ same)
+
+-- one that was told to be too long is
+pub Promise-long : {A T : Type 0} (r : Result T IoFault) (first : Situation A) (known left w0 w1 : Option (List ℕ)) (now : Situation A)
+    → r ≡ Err TooLong → Promise r first known left w0 w1 now → IfSome known IsTooLong
+Promise-long r first None left w0 w1 now e p = tt
+Promise-long r first (Some script) left w0 w1 now e p = (rw e at p).2.1
+
+pub first_long : (one two : Option (List ℕ)) → IfSome one IsTooLong → IfSome one (λ script. IfSome two (λ more. IsTooLong script ⊎ IsTooLong more))
+first_long None two h = tt
+first_long (Some script) None h = tt
+first_long (Some script) (Some more) h = inl h
+
+pub second_long : (one two : Option (List ℕ)) → IfSome two IsTooLong → IfSome one (λ script. IfSome two (λ more. IsTooLong script ⊎ IsTooLong more))
+second_long None two h = tt
+second_long (Some script) None h = tt
+second_long (Some script) (Some more) h = inr h

@@ -5,7 +5,7 @@ use Rattle.qil_streams.specs.Device.{IsFrontOf}
 use Rattle.qil_streams.specs.Script.{lines_of, whole_lines_of}
 use Rattle.qil_commands.specs.Command.{command_of}
 use Rattle.qil_session.specs.Situation.{Situation}
-use Rattle.qil_session.specs.Answers.{answer, IsLawful, IsAnswered, IsAnsweredTo, quits}
+use Rattle.qil_session.specs.Answers.{answer, answer_text, IsLawful, IsAnswered, IsAnsweredTo, quits}
 use Rattle.qil_transcript.specs.declared.serving.IoFault.{IoFault}
 use Rattle.qil_transcript.specs.declared.serving.IoFault.TheVariants.{Read, Write, TooLong}
 
@@ -27,7 +27,7 @@ pub record IsCutShort {A : Type 0} (s : Situation A) (lines : List (List ℕ)) (
   pub want : Option ℕ
   pub lawful : IsLawful there (command_of line) want
   pub front : List ℕ
-  pub is_front : IsFrontOf front (answer there (command_of line) want).text
+  pub is_front : IsFrontOf front (answer_text (answer there (command_of line) want))
   pub text_is : text ≡ told ++ front
   pub now_is : now ≡ (answer there (command_of line) want).left
 

@@ -1,10 +1,10 @@
 //! A script is served: its lines are read and answered one after the other.
 
-ghost use Rattle.std.specs.Prelude.{◌≡◌, ℕ, ◌+◌, ◌-◌, ◌^◌, ◌<◌, ◌≤◌, ◌↔◌, List, Err, OnOk, IfSome};
+ghost use Rattle.std.specs.Prelude.{◌≡◌, ℕ, ◌+◌, ◌-◌, ◌^◌, ◌<◌, ◌≤◌, ◌↔◌, ◌⊎◌, List, Err, OnOk, IfSome};
 ghost use Rattle.std.specs.Io.KnownBytes.{Appends};
 ghost use Rattle.qil_meaning.specs.Timeline.{position};
 ghost use Rattle.qil_session.specs.Kept.{situation};
-ghost use Rattle.qil_transcript.specs.Serve.{AreServed, IsServed, CountsServe, TakesFew};
+ghost use Rattle.qil_transcript.specs.Serve.{AreServed, IsServed, IsTooLong, CountsServe, TakesFew};
 
 use qil_history::History;
 use qil_machine::Machine;
@@ -120,6 +120,9 @@ pub fn serve_in_turn<
     ensures served { OnOk result (IfSome (S.remaining first.old) (λ one. IfSome (T.remaining second.old) (λ two. (text : List ℕ)
         × Appends (W.contents sink.old) (W.contents sink.new) text
         × AreServed (situation H.program H.timeline session.old) one two text (situation H.program H.timeline session.new)))) }
+    ensures read_fault { (result ≡ Err IoFault.Read) ↔ ((S.failures first.old < S.failures first.new) ⊎ (T.failures second.old < T.failures second.new)) }
+    ensures write_fault { (result ≡ Err IoFault.Write) ↔ (W.failures sink.old < W.failures sink.new) }
+    ensures too_long { result ≡ Err IoFault.TooLong → IfSome (S.remaining first.old) (λ one. IfSome (T.remaining second.old) (λ two. IsTooLong one ⊎ IsTooLong two)) }
     ensures near { position (H.timeline session.new.history) ≤ position (H.timeline session.old.history) + 2 ^ 58 }
     ensures limit { session.new.limit ≡ session.old.limit }
 {

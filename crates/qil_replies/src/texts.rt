@@ -1,16 +1,16 @@
-//! The lines of reasons, stops and refusals.
+//! The lines of refusals, reasons and stops.
 
 ghost use Rattle.std.specs.Prelude.{◌≡◌, ◌-◌, ◌^◌, ◌<◌};
 ghost use Rattle.qil_streams.specs.Device.{Counts, Puts};
-ghost use Rattle.qil_streams.specs.Text.{line};
-ghost use Rattle.qil_session.specs.Texts.{reason_line, refusal_text, width_letter, stop_line, deleted_line};
+ghost use Rattle.qil_replies.specs.Texts.{line_refusal_text, refusal_text, reason_line, width_letter, stop_line, deleted_line};
 
+use crate::reply::Refusal;
 use qil_answers::{Piece, func_name, label_name, put_pieces, temp_name};
 use qil_commands::Refused;
 use qil_meaning::Reason;
 use qil_numbering::Code;
 use qil_stops::{StopKind, Watched};
-use qil_streams::{Put, PutError, put_line};
+use qil_streams::{Put, PutError};
 use std::alloc::Allocator;
 
 /// Puts why a run stopped.
@@ -45,19 +45,34 @@ pub fn put_reason<P: Put>(out: &mut P, reason: Reason) -> Result<(), PutError>
     }
 }
 
-/// Puts why a line spells no command.
-pub fn put_refusal<P: Put>(out: &mut P, refused: Refused) -> Result<(), PutError>
-    requires { P.stops out.old < 2 ^ 64 - 1 }
-    ensures text { Puts result (P.written out.old) (P.written out.new) (line (refusal_text refused)) }
-    ensures counted { Counts result (P.stops out.old) (P.stops out.new) }
-    ensures device { P.device out.new ≡ P.device out.old }
+/// Why a line spells no command.
+fn line_refusal_words(refused: Refused) -> &'static [u8]
+    ensures { result.now ≡ line_refusal_text refused }
 {
     match refused {
-        Refused::LineTooLong => put_line(out, b"no: line too long"),
-        Refused::UnknownCommand => put_line(out, b"no: unknown command"),
-        Refused::MissingWord => put_line(out, b"no: missing word"),
-        Refused::BadWord => put_line(out, b"no: bad word"),
-        Refused::ExtraWord => put_line(out, b"no: extra word"),
+        Refused::LineTooLong => b"no: line too long",
+        Refused::UnknownCommand => b"no: unknown command",
+        Refused::MissingWord => b"no: missing word",
+        Refused::BadWord => b"no: bad word",
+        Refused::ExtraWord => b"no: extra word",
+    }
+}
+
+/// What a refusal is called.
+pub fn refusal_words(refusal: Refusal) -> &'static [u8]
+    ensures { result.now ≡ refusal_text refusal }
+{
+    match refusal {
+        Refusal::AtEnd => b"no: at end",
+        Refusal::AtStart => b"no: at start",
+        Refusal::HistoryEnds => b"no: history ends",
+        Refusal::NoFrame => b"no: no frame",
+        Refusal::UnknownTemporary => b"no: unknown temporary",
+        Refusal::DeadAddress => b"no: dead address",
+        Refusal::UnknownPlace => b"no: unknown place",
+        Refusal::TooManyStops => b"no: too many stops",
+        Refusal::NoSuchStop => b"no: no such stop",
+        Refusal::Line(refused) => line_refusal_words(refused),
     }
 }
 

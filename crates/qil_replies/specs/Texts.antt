@@ -1,5 +1,5 @@
--- The texts of stops, reasons and refusals.
-use Rattle.std.specs.Prelude.{ℕ, ◌==◌, cond, List, [], ◌∷◌, codes, decimal, Option, Some, None}
+-- The texts of refusals, reasons and stops.
+use Rattle.std.specs.Prelude.{ℕ, ◌==◌, cond, List, [], ◌∷◌, map, codes, decimal}
 use Rattle.qil_tree.specs.declared.tree.Program.{Program}
 use Rattle.qil_commands.specs.declared.command.Refused.{Refused}
 use Rattle.qil_commands.specs.declared.command.Refused.TheVariants.{LineTooLong, UnknownCommand, MissingWord, BadWord, ExtraWord}
@@ -13,13 +13,31 @@ use Rattle.qil_stops.specs.declared.stop.StopKind.{StopKind}
 use Rattle.qil_stops.specs.declared.stop.StopKind.TheVariants as kinds
 use Rattle.qil_stops.specs.declared.stop.Stop.{Stop}
 use Rattle.qil_answers.specs.Texts.{text_of}
+use Rattle.qil_answers.specs.Shown.{or_none}
+use Rattle.qil_replies.specs.declared.reply.Refusal.{Refusal}
+use Rattle.qil_replies.specs.declared.reply.Refusal.TheVariants as refusals
 
-abbrev pub refusal_text : Refused → List ℕ
-refusal_text LineTooLong = codes "no: line too long"
-refusal_text UnknownCommand = codes "no: unknown command"
-refusal_text MissingWord = codes "no: missing word"
-refusal_text BadWord = codes "no: bad word"
-refusal_text ExtraWord = codes "no: extra word"
+-- ---- refusals
+
+-- why a line spells no command
+abbrev pub line_refusal_text : Refused → List ℕ
+line_refusal_text LineTooLong = codes "no: line too long"
+line_refusal_text UnknownCommand = codes "no: unknown command"
+line_refusal_text MissingWord = codes "no: missing word"
+line_refusal_text BadWord = codes "no: bad word"
+line_refusal_text ExtraWord = codes "no: extra word"
+
+abbrev pub refusal_text : Refusal → List ℕ
+refusal_text refusals.AtEnd = codes "no: at end"
+refusal_text refusals.AtStart = codes "no: at start"
+refusal_text refusals.HistoryEnds = codes "no: history ends"
+refusal_text refusals.NoFrame = codes "no: no frame"
+refusal_text refusals.UnknownTemporary = codes "no: unknown temporary"
+refusal_text refusals.DeadAddress = codes "no: dead address"
+refusal_text refusals.UnknownPlace = codes "no: unknown place"
+refusal_text refusals.TooManyStops = codes "no: too many stops"
+refusal_text refusals.NoSuchStop = codes "no: no such stop"
+refusal_text (refusals.Line refused) = line_refusal_text refused
 
 -- ---- reasons
 
@@ -32,10 +50,6 @@ reason_line (reasons.Watch n) = text_of (codes "stop: watch " ∷ decimal n ∷ 
 reason_line (reasons.Break n) = text_of (codes "stop: break " ∷ decimal n ∷ codes "\n" ∷ [])
 reason_line reasons.Limit = codes "stop: limit\n"
 reason_line reasons.Memory = codes "stop: memory\n"
-
-abbrev pub reason_told : Option Reason → List ℕ
-reason_told None = []
-reason_told (Some reason) = reason_line reason
 
 -- ---- stops
 
@@ -56,3 +70,7 @@ listed_line p stop = stop_line p stop.number stop.kind
 
 abbrev pub deleted_line : ℕ → List ℕ
 deleted_line n = text_of (codes "deleted " ∷ decimal n ∷ codes "\n" ∷ [])
+
+-- the line of each stop, by number
+abbrev pub stops_shown : {A : Type 0} → Program A → List Stop → List ℕ
+stops_shown p stops = or_none (map (listed_line p) stops)

@@ -1,0 +1,3 @@
+-- What commands are replied, as text.
+pub mod Texts
+pub mod Reply

@@ -1,0 +1,70 @@
+//! The text of a reply is put.
+
+ghost use Rattle.std.specs.Prelude.{◌≡◌, ◌-◌, ◌<◌, ◌^◌, ◌++◌};
+ghost use Rattle.qil_streams.specs.Device.{Counts, Puts};
+ghost use Rattle.qil_state.specs.State.{state_of};
+ghost use Rattle.qil_answers.specs.Texts.{state_line};
+ghost use Rattle.qil_replies.specs.Texts.{reason_line};
+ghost use Rattle.qil_replies.specs.Reply.{reply_text};
+
+use crate::reply::Reply;
+use crate::stops::put_stops;
+use crate::texts::{put_deleted, put_reason, put_stop, refusal_words};
+use qil_answers::{
+    put_block, put_frames, put_memory, put_output, put_place, put_printed, put_temps,
+};
+use qil_machine::Machine;
+use qil_meaning::Reason;
+use qil_stops::Stop;
+use qil_streams::{Put, PutError, put_line};
+use std::alloc::Allocator;
+
+/// Puts why a run stopped, and the place.
+fn put_stopped<P: Put, A: Allocator + Copy>(
+    out: &mut P,
+    position: u64,
+    machine: &Machine<'_, '_, A>,
+    reason: Reason,
+) -> Result<(), PutError>
+    requires { P.stops out.old < 2 ^ 64 - 1 }
+    ensures text { Puts result (P.written out.old) (P.written out.new) (reason_line reason ++ state_line position (state_of machine.now).frames (state_of machine.now).status) }
+    ensures counted { Counts result (P.stops out.old) (P.stops out.new) }
+    ensures device { P.device out.new ≡ P.device out.old }
+{
+    put_reason(out, reason)?;
+    put_place(out, position, machine)
+}
+
+/// Puts the text of a reply, after `position` moves that led to `machine`, with these stops.
+///
+/// # Errors
+///
+/// `PutError` where `out` stopped. Then a prefix of the text was put.
+pub fn put_reply<P: Put, A: Allocator + Copy>(
+    out: &mut P,
+    position: u64,
+    machine: &Machine<'_, '_, A>,
+    stops: &[Stop],
+    reply: Reply<'_>,
+) -> Result<(), PutError>
+    requires { P.stops out.old < 2 ^ 64 - 1 }
+    ensures text { Puts result (P.written out.old) (P.written out.new) (reply_text machine.now.program position (state_of machine.now) stops.now reply.entry) }
+    ensures counted { Counts result (P.stops out.old) (P.stops out.new) }
+    ensures device { P.device out.new ≡ P.device out.old }
+{
+    match reply {
+        Reply::Nothing => Ok(()),
+        Reply::Refused(refusal) => put_line(out, refusal_words(refusal)),
+        Reply::Place => put_place(out, position, machine),
+        Reply::Stopped(reason) => put_stopped(out, position, machine, reason),
+        Reply::Added(number, kind) => put_stop(out, machine.code(), number, kind),
+        Reply::Deleted(number) => put_deleted(out, number),
+        Reply::Stops => put_stops(out, machine.code(), stops),
+        Reply::Temporary(name) => put_printed(out, machine, name.bytes()),
+        Reply::Temporaries => put_temps(out, machine),
+        Reply::Bytes(address, count) => put_memory(out, machine, address, count),
+        Reply::Frames => put_frames(out, machine),
+        Reply::Block => put_block(out, machine),
+        Reply::Output => put_output(out, machine),
+    }
+}

@@ -1,0 +1,47 @@
+//! The lines of all stops.
+
+ghost use Rattle.std.specs.Prelude.{◌≡◌, ◌-◌, ◌<◌, ◌^◌};
+ghost use Rattle.std.specs.List.{flat_map};
+ghost use Rattle.qil_streams.specs.Device.{Counts, Puts};
+ghost use Rattle.qil_replies.specs.Texts.{listed_line, stops_shown};
+
+use crate::texts::put_stop;
+use qil_numbering::Code;
+use qil_stops::Stop;
+use qil_streams::{Put, PutError, put_line};
+use std::alloc::Allocator;
+
+/// Puts the line of each stop.
+fn put_listed<'c, 'a, P: Put, A: Allocator + Copy>(
+    out: &mut P,
+    code: &'c Code<'c, 'a, A>,
+    stops: &[Stop],
+) -> Result<(), PutError>
+    requires { P.stops out.old < 2 ^ 64 - 1 }
+    ensures text { Puts result (P.written out.old) (P.written out.new) (flat_map (listed_line code.now) stops.now) }
+    ensures counted { Counts result (P.stops out.old) (P.stops out.new) }
+    ensures device { P.device out.new ≡ P.device out.old }
+{
+    for stop in stops {
+        put_stop(out, code, stop.number, stop.kind)?;
+    }
+    Ok(())
+}
+
+/// Puts the line of each stop, or that there is none.
+pub fn put_stops<'c, 'a, P: Put, A: Allocator + Copy>(
+    out: &mut P,
+    code: &'c Code<'c, 'a, A>,
+    stops: &[Stop],
+) -> Result<(), PutError>
+    requires { P.stops out.old < 2 ^ 64 - 1 }
+    ensures text { Puts result (P.written out.old) (P.written out.new) (stops_shown code.now stops.now) }
+    ensures counted { Counts result (P.stops out.old) (P.stops out.new) }
+    ensures device { P.device out.new ≡ P.device out.old }
+{
+    if stops.len() == 0 {
+        put_line(out, b"none")
+    } else {
+        put_listed(out, code, stops)
+    }
+}
