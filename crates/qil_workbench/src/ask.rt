@@ -19,7 +19,6 @@ use std::time::{Clock, Instant};
 
 #[derive(Clone, Copy, PartialEq, Eq)]
 pub enum Question {
-    Operations,
     ReadBack,
     Run,
     Moves,
@@ -30,7 +29,6 @@ impl Question {
     /// The question of that name.
     pub fn of(word: &str) -> Option<Question> {
         match word {
-            "operations" => Some(Question::Operations),
             "read-back" => Some(Question::ReadBack),
             "run" => Some(Question::Run),
             "moves" => Some(Question::Moves),
@@ -66,7 +64,6 @@ fn ask_code<R: Clock + Print + Eprint, A: Allocator + Copy>(
     code: &Code<'_, '_, A>,
 ) -> anyhow::Result<Answer> {
     match bench.question {
-        Question::Operations => Ok(Answer::Told),
         Question::ReadBack => read_back(bench, alloc, checked, code),
         Question::Run => run(bench.rt, alloc, code, bench.most),
         Question::Moves => each_move(bench.rt, bench.heap, alloc, code, bench.most),

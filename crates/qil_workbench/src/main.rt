@@ -1,7 +1,6 @@
 //! `qil_workbench QUESTION [NUMBER]`: asks the layers under the debugger what a session can't be asked. Standard input has
 //! the text of a program, and for some questions something behind it; then NUMBER says how many bytes the text has.
 //!
-//! - `operations`: how long an operation takes, and a call of a memory, each done NUMBER thousand times; no text is read.
 //! - `read-back`: whether the numbered code, read back through names, is what the tree has; the tree of the text behind
 //!   the first, if there is one.
 //! - `run`: where a run of at most NUMBER moves ends, and whether going back comes to the start.
@@ -18,9 +17,7 @@ mod ask;
 mod asked;
 mod histories;
 mod load;
-mod memory;
 mod moves;
-mod operations;
 mod read_back;
 mod reader;
 mod record;
@@ -77,13 +74,9 @@ fn split(input: &[u8], words: Words) -> (&[u8], &[u8]) {
 fn main(rt: HostRuntime) -> anyhow::Result<ExitCode> {
     let words = read_words(&rt)?;
     let Some(question) = words.question else {
-        bail!("operations, read-back, run, moves or histories");
+        bail!("read-back, run, moves or histories");
     };
     let keys = RandomState::new(&rt)?;
-    if question == Question::Operations {
-        operations::time_all(&rt, keys, words.number.unwrap_or(1))?;
-        return Ok(ExitCode::SUCCESS);
-    }
     let mut input = Vec::new(rt.alloc());
     rt.reader().take(LIMIT).read_to_end(&mut input)?;
     let (text, behind) = if question.has_two_parts() {
