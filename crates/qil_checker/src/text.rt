@@ -238,10 +238,7 @@ impl<'p, 'a, A: Allocator + Copy> Text<'p, 'a, A> {
         ensures { IsTrue result ↔ IsUndefinedUse self.now.mentions.items place }
     {
         match &mention.what {
-            What::Uses(name, _) => match self.class_of(name) {
-                Some(_) => false,
-                None => true,
-            },
+            What::Uses(name, _) => self.class_of(name).is_none(),
             _ => false,
         }
     }

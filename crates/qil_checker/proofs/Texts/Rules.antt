@@ -1,14 +1,14 @@
 -- What the tables say of the rules of one text.
-use Rattle.std.proofs.Common.{◌≡◌, ◌≢◌, ◌∙◌, ◌↔◌, sym, ap, refl, subst, not, IsTrue, nat_eq, ℕ, ◌<◌, inl, inr, List, Some, None, option_map, Bool, true, false, slice_get, arith}
+use Rattle.std.proofs.Common.{◌≡◌, ◌≢◌, ◌∙◌, ◌↔◌, sym, ap, refl, subst, not, IsTrue, nat_eq, ℕ, ◌<◌, inl, inr, List, Option, Some, None, is_none, MatchOption, Bool, true, false, slice_get, arith}
 use Rattle.std.proofs.lemmas.Bool.Decides.{nat_tests}
 use Rattle.std.proofs.lemmas.Slice.Eq.{bytes_eq-Decides}
 use Rattle.std.specs.Str.{bytes_eq}
 use Rattle.qil_tree.specs.declared.ops.Class.{Class}
 use Rattle.qil_tree.specs.declared.tree.PhiSource.{PhiSource}
 use Rattle.qil_checker.specs.declared.lookup.Kind.TheVariants.{Labels}
-use Rattle.qil_rules.specs.declared.mention.What.TheVariants.{Label, PhiLabel, PhiOf, Uses}
+use Rattle.qil_rules.specs.declared.mention.What.TheVariants.{Label, PhiLabel, PhiOf, Defines, Uses}
 use Rattle.qil_rules.specs.declared.mention.Mention.{Mention}
-use Rattle.qil_rules.specs.Text.{Stands, LacksLabel, IsFirstLabel, ArePredecessors, labels_of}
+use Rattle.qil_rules.specs.Text.{Stands, FirstClass, IsUndefined, LacksLabel, IsFirstLabel, ArePredecessors, labels_of}
 use Rattle.qil_rules.specs.Rules.{IsSecondLabel, IsLostLabel, IsUndefinedUse, IsWrongPhi}
 use Rattle.qil_checker.specs.Tables.{first, is_named}
 use Rattle.qil_checker.proofs.Texts.Places.{mention_stands, one_what, label_found, label_absent}
@@ -59,11 +59,17 @@ lost_phi_label text x k m b there is lacks =
 
 -- ---- uses
 
--- where no use stands none is undefined
-pub no_use : (text : List Mention) (k : ℕ) (m : Mention) → slice_get text k ≡ Some m → ((x : List ℕ) (c : Class) → m.what ≡ Uses x c → ⊥)
-    → IsTrue false ↔ IsUndefinedUse text k
-no_use text k m there other =
-    (λ t. absurd cc, λ undefined. absurd (other undefined.0 undefined.1 (some_same (sym (ap (λ o. option_map (λ (n : Mention). n.what) o) there) ∙ undefined.2))))
+-- the use of a temporary is undefined exactly if it has no class
+pub undefined_use : (text : List Mention) (x : List ℕ) (c : Class) (k : ℕ) (m : Mention) (o : Option Class) (b : Bool) → slice_get text k ≡ Some m
+    → m.what ≡ Uses x c → MatchOption o (IsUndefined text x) (FirstClass text x) → b ≡ is_none o → IsTrue b ↔ IsUndefinedUse text k
+undefined_use text x c k m None b there is undefined e = (λ t. (x, c, mention_stands text k m (Uses x c) there is, undefined), λ u. e)
+undefined_use text x c k m (Some d) b there is first e = (
+  λ t. let no : b ≡ false = e in absurd cc,
+  λ u.
+      let here : Stands text k (Uses x c) = mention_stands text k m (Uses x c) there is in
+      let same : u.0 ≡ x = (let uses = some_same (sym u.2 ∙ here) in cc) in
+      absurd (u.3 first.0 d (subst (λ y. Stands text first.0 (Defines y d)) (sym same) first.1)),
+)
 
 -- the label at the first place that has one is the first label
 pub first_label : (text : List Mention) (x y : List ℕ) (k : ℕ) (m : Mention) → slice_get text k ≡ Some m → m.what ≡ Label y
