@@ -1,5 +1,5 @@
 -- What the tables say of the rules of one text.
-use Rattle.std.proofs.Common.{◌≡◌, ◌≢◌, ◌∙◌, ◌↔◌, sym, ap, refl, subst, not, IsTrue, nat_eq, ℕ, ◌<◌, inl, inr, List, Option, Some, None, is_none, MatchOption, Bool, true, false, slice_get, arith}
+use Rattle.std.proofs.Common.{◌≡◌, ◌≢◌, ◌∙◌, ◌↔◌, sym, ap, refl, subst, not, IsTrue, nat_eq, ℕ, ◌<◌, inl, inr, List, Option, Some, None, is_some, MatchOption, Bool, true, false, slice_get, arith}
 use Rattle.std.proofs.lemmas.Bool.Decides.{nat_tests}
 use Rattle.std.proofs.lemmas.Slice.Eq.{bytes_eq-Decides}
 use Rattle.std.specs.Str.{bytes_eq}
@@ -61,10 +61,12 @@ lost_phi_label text x k m b there is lacks =
 
 -- the use of a temporary is undefined exactly if it has no class
 pub undefined_use : (text : List Mention) (x : List ℕ) (c : Class) (k : ℕ) (m : Mention) (o : Option Class) (b : Bool) → slice_get text k ≡ Some m
-    → m.what ≡ Uses x c → MatchOption o (IsUndefined text x) (FirstClass text x) → b ≡ is_none o → IsTrue b ↔ IsUndefinedUse text k
-undefined_use text x c k m None b there is undefined e = (λ t. (x, c, mention_stands text k m (Uses x c) there is, undefined), λ u. e)
-undefined_use text x c k m (Some d) b there is first e = (
-  λ t. let no : b ≡ false = e in absurd cc,
+    → m.what ≡ Uses x c → MatchOption o (IsUndefined text x) (FirstClass text x) → is_some o ≡ not b → IsTrue b ↔ IsUndefinedUse text k
+undefined_use text x c k m None true there is undefined e = (λ t. (x, c, mention_stands text k m (Uses x c) there is, undefined), λ u. refl)
+undefined_use text x c k m None false there is undefined e = absurd cc
+undefined_use text x c k m (Some d) true there is first e = absurd cc
+undefined_use text x c k m (Some d) false there is first e = (
+  λ t. absurd cc,
   λ u.
       let here : Stands text k (Uses x c) = mention_stands text k m (Uses x c) there is in
       let same : u.0 ≡ x = (let uses = some_same (sym u.2 ∙ here) in cc) in
