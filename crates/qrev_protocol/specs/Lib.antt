@@ -1,0 +1,3 @@
+-- The words of this crate's contracts.
+pub mod Frame
+pub mod Incoming
