@@ -8,5 +8,5 @@ mod reader;
 
 pub use buffer::Buffer;
 pub use device::{DeviceFault, FromReader, IntoWriter, Sink, Source};
-pub use put::{Outlet, Put, PutError, put_line, put_number};
+pub use put::{Outlet, Put, PutError, put_line, put_number, write_all};
 pub use reader::{KeptLine, LineEnd, LineReader, Piece, SCRIPT_LIMIT, ScriptBytes};

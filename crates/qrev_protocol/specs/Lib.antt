@@ -1,3 +1,4 @@
 -- The words of this crate's contracts.
 pub mod Frame
 pub mod Incoming
+pub mod Outgoing

@@ -5,5 +5,9 @@ mod header;
 mod incoming;
 mod line;
 mod pending;
+mod port;
+mod values;
 
 pub use incoming::{BODY_LIMIT, Came, HEADER_LIMIT, Incoming, ReadError};
+pub use port::{Outcome, Port, SendError, event, response};
+pub use values::{Array, InArray, InObject, Object, Whole};
