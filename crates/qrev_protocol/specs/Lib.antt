@@ -2,3 +2,4 @@
 pub mod Frame
 pub mod Incoming
 pub mod Outgoing
+pub mod Requests
