@@ -1,10 +1,12 @@
 //! Bytes in and out: devices that count their faults, texts that are put piece by piece, and a script's lines.
 #![tactic(auto)]
 
+mod buffer;
 mod device;
 mod put;
 mod reader;
 
+pub use buffer::Buffer;
 pub use device::{DeviceFault, FromReader, IntoWriter, Sink, Source};
-pub use put::{Outlet, Put, PutError, put_line, put_number};
+pub use put::{Outlet, Put, PutError, put_line, put_number, write_all};
 pub use reader::{KeptLine, LineEnd, LineReader, Piece, SCRIPT_LIMIT, ScriptBytes};

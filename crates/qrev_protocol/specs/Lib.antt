@@ -1,0 +1,5 @@
+-- The words of this crate's contracts.
+pub mod Frame
+pub mod Incoming
+pub mod Outgoing
+pub mod Requests

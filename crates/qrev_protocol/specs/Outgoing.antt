@@ -1,0 +1,33 @@
+-- What goes out: the tokens of JSON that calls add, and the text of a message.
+use Rattle.std.specs.Prelude.{◌≡◌, ℕ, List, [], ◌∷◌, ◌++◌, codes, decimal, true, false}
+use Rattle.json.specs.Token.{Token, begin_object, end_object, key, string, number, boolean}
+use Rattle.json.specs.Print.{print}
+use Rattle.json.specs.Written.{Written}
+use Rattle.qrev_protocol.specs.Frame.{framed}
+use Rattle.qrev_protocol.specs.declared.port.Outcome.{Outcome}
+use Rattle.qrev_protocol.specs.declared.port.Outcome.TheVariants.{Done, Failed}
+
+-- a call added these tokens behind those that were written
+abbrev pub Adds : Written → Written → List Token → Type 0
+Adds old new tokens = new.tokens ≡ old.tokens ++ tokens
+
+-- how every message begins
+abbrev pub message_head : List ℕ → List Token
+message_head kind = begin_object ∷ key (codes "type") ∷ string kind ∷ []
+
+abbrev pub outcome_tokens : Outcome → List Token
+outcome_tokens Done = key (codes "success") ∷ boolean true ∷ []
+outcome_tokens (Failed why) = key (codes "success") ∷ boolean false ∷ key (codes "message") ∷ string why.now ∷ []
+
+-- a response up to its body
+abbrev pub response_head : ℕ → List ℕ → Outcome → List Token
+response_head request command outcome =
+    message_head (codes "response") ++ key (codes "request_seq") ∷ number (decimal request) ∷ key (codes "command") ∷ string command ∷ outcome_tokens outcome
+
+-- an event up to its body
+abbrev pub event_head : List ℕ → List Token
+event_head event = message_head (codes "event") ++ key (codes "event") ∷ string event ∷ []
+
+-- the n-th message, as it is sent
+abbrev pub sent_text : ℕ → List Token → List ℕ
+sent_text n tokens = framed (print (tokens ++ key (codes "seq") ∷ number (decimal n) ∷ end_object ∷ []))
