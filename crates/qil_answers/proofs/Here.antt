@@ -31,7 +31,7 @@ names_by : {A : Type 0} (p : Program A) (i b k : ℕ) (o : Option (Func A)) → 
 names_by p i b k None e finds fits = absurd fits
 names_by p i b k (Some func) e finds fits = ap temps_in (finds.func i func e)
 
--- the temporaries of a frame are those that its slots stand for
+-- the temporaries of a frame are those that its slots represent
 pub names_here : {A : Type 0} (p : Program A) (fs : List SlotFrame) (f : SlotFrame) → Finds p → FrameFits p f → temps_of_frame p (frame_state p fs f) ≡ names_of p f.func
 unfolding names_of
 names_here p fs f finds fits = names_by p f.func f.block f.index (func_at p f.func) refl finds fits.place

@@ -1,5 +1,5 @@
 -- The lemmas of this crate.
-pub mod Told
+pub mod Reported
 pub mod Here
 pub mod SlotValues
 pub mod ListLines

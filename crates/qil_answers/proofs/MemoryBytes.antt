@@ -8,12 +8,12 @@ use Rattle.qil_meaning.specs.State.{State}
 use Rattle.qil_answers.specs.Texts.{byte_text}
 use Rattle.qil_answers.specs.Shown.{bytes_from, spaced_byte, memory_shown}
 
--- behind all addresses of 64 bits nothing is live
+-- after all addresses of 64 bits nothing is live
 pub dead_far : (m : Buffers) (a : ℕ) → m.top < 2 ^ 64 → 2 ^ 64 ≤ a → live m a ≡ None
 unfolding live
 dead_far m a low far = grind (arith, nat_tests, low, far)
 
--- the bytes behind the first, and the end of the line
+-- the bytes after the first, and the end of the line
 abbrev pub later_bytes : Live → ℕ → ℕ → List ℕ
 later_bytes m a n = flat_map spaced_byte (bytes_from m a n) ++ codes "\n"
 

@@ -18,7 +18,7 @@ use Rattle.qil_answers.specs.Shown.{temps_of_frame, or_none, temps_shown}
 use Rattle.qil_answers.specs.Slots.{slot_lines}
 use Rattle.qil_answers.proofs.Here.{head_same, names_here}
 
--- the list behind a place begins with what stands there
+-- the list after a place begins with what stands there
 pub there : {X : Type 0} (xs : List X) (i : ℕ) (y : X) (ys : List X) → drop i xs ≡ y ∷ ys → slice_get xs i ≡ Some y
 there [] zero y ys e = absurd cc
 there [] (suc i) y ys e = absurd cc

@@ -22,17 +22,17 @@ abbrev pub phi_row : {A : Type 0} → Phi A → List ℕ
 phi_row phi = codes "  - " ++ (phi_text phi ++ codes "\n")
 
 -- the index of an instruction or the jump, with `>` before it where the frame stands there
-abbrev pub row_front : ℕ → ℕ → List ℕ
-row_front at k = text_of (cond (k == at) (codes "> ") (codes "  ") ∷ decimal k ∷ codes " " ∷ [])
+abbrev pub row_prefix : ℕ → ℕ → List ℕ
+row_prefix at k = text_of (cond (k == at) (codes "> ") (codes "  ") ∷ decimal k ∷ codes " " ∷ [])
 
 abbrev pub row : ℕ → ℕ → List ℕ → List ℕ
-row at k text = row_front at k ++ (text ++ codes "\n")
+row at k text = row_prefix at k ++ (text ++ codes "\n")
 
 abbrev pub inst_rows : {A : Type 0} → ℕ → ℕ → List (Inst A) → List ℕ
 inst_rows at k [] = []
 inst_rows at k (inst ∷ insts) = row at k (inst_text inst) ++ inst_rows at (suc k) insts
 
--- behind the last instruction stands the jump
+-- after the last instruction stands the jump
 abbrev pub all_rows : {A : Type 0} → ℕ → List (Phi A) → List (Inst A) → Jump → List ℕ
 all_rows at phis insts jump = flat_map phi_row phis ++ (inst_rows at 0 insts ++ row at (length insts) (jump_text jump))
 

@@ -54,7 +54,7 @@ abbrev pub bytes_from : Live → ℕ → ℕ → List (Option ℕ)
 bytes_from m a zero = []
 bytes_from m a (suc n) = m a ∷ bytes_from m (a + 1) n
 
--- a byte behind another, with a space between them
+-- a byte after another, with a space between them
 abbrev pub spaced_byte : Option ℕ → List ℕ
 spaced_byte byte = codes " " ++ byte_text byte
 

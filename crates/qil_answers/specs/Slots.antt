@@ -3,7 +3,7 @@ use Rattle.std.specs.Prelude.{ℕ, List, [], ◌∷◌, ◌++◌, Option}
 use Rattle.qil_meaning.specs.State.{Name}
 use Rattle.qil_answers.specs.Texts.{value_line}
 
--- a line for each slot, under the name beside it
+-- a line for each slot, under the name next to it
 abbrev pub slot_lines : List Name → List (Option ℕ) → List ℕ
 slot_lines [] values = []
 slot_lines (name ∷ names) [] = []

@@ -78,7 +78,7 @@ abbrev pub byte_text : Option ℕ → List ℕ
 byte_text None = codes "--"
 byte_text (Some b) = hex_digit (b / 16) ∷ hex_digit (b % 16) ∷ []
 
--- a byte in quotes: those of visible letters as they are, `"` and `\` behind a `\`, all others as `\` and three octal digits
+-- a byte in quotes: those of visible letters as they are, `"` and `\` after a `\`, all others as `\` and three octal digits
 abbrev pub quoted_byte : ℕ → List ℕ
 quoted_byte b =
     if b == 34 || b == 92 then 92 ∷ b ∷ [] else

@@ -38,7 +38,7 @@ fn put_byte<P: Put>(out: &mut P, byte: Option<u8>) -> Result<(), PutError>
     }
 }
 
-/// The byte so far behind an address, if it is live. Behind the last address there is none.
+/// The byte so far after an address, if it is live. After the last address there is none.
 fn byte_behind<A: Allocator + Copy>(
     machine: &Machine<'_, '_, A>,
     address: u64,
@@ -68,7 +68,7 @@ fn put_next_byte<P: Put>(out: &mut P, byte: Option<u8>) -> Result<(), PutError>
 ///
 /// # Errors
 ///
-/// `PutError` where `out` stopped. Then a front of the line was put.
+/// `PutError` where `out` stopped. Then a prefix of the line was put.
 pub fn put_memory<P: Put, A: Allocator + Copy>(
     out: &mut P,
     machine: &Machine<'_, '_, A>,
@@ -147,7 +147,7 @@ fn put_counted<P: Put>(out: &mut P, bytes: &[u8]) -> Result<(), PutError>
 ///
 /// # Errors
 ///
-/// `PutError` where `out` stopped. Then a front of the line was put.
+/// `PutError` where `out` stopped. Then a prefix of the line was put.
 pub fn put_output<P: Put, A: Allocator + Copy>(
     out: &mut P,
     machine: &Machine<'_, '_, A>,

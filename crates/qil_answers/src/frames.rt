@@ -53,7 +53,7 @@ fn frame_at<'m, A: Allocator + Copy>(machine: &'m Machine<'_, '_, A>, inner: usi
 ///
 /// # Errors
 ///
-/// `PutError` where `out` stopped. Then a front of the text was put.
+/// `PutError` where `out` stopped. Then a prefix of the text was put.
 pub fn put_frames<P: Put, A: Allocator + Copy>(
     out: &mut P,
     machine: &Machine<'_, '_, A>,

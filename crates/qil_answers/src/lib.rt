@@ -1,6 +1,6 @@
 //! What is shown of a run: the line of its place, its temporaries, frames, memory and output, and the block that it is in.
 //!
-//! Each function puts the text that `specs/` says for the state that a machine stands for. Nothing here takes memory.
+//! Each function puts the text that `specs/` says for the state that a machine represents. Nothing here takes memory.
 #![tactic(auto)]
 
 mod bytes;

@@ -6,7 +6,7 @@ ghost use Rattle.qil_streams.specs.Device.{Counts, Puts};
 ghost use Rattle.qil_texts.specs.Canonical.{inst_text as inst_words, jump_text as jump_words};
 ghost use Rattle.qil_numbering.specs.Numbered.{func_at, block_at};
 ghost use Rattle.qil_state.specs.State.{state_of, func_name, label_in};
-ghost use Rattle.qil_answers.specs.Listing.{phi_row, row, row_front, inst_rows, all_rows, rows_in, block_head, block_shown};
+ghost use Rattle.qil_answers.specs.Listing.{phi_row, row, row_prefix, inst_rows, all_rows, rows_in, block_head, block_shown};
 
 use crate::names::{func_name, innermost, label_name};
 use crate::piece::{Piece, put_pieces};
@@ -30,10 +30,10 @@ fn put_phi<P: Put, A: Allocator>(out: &mut P, phi: &Phi<'_, A>) -> Result<(), Pu
     out.put(b"\n")
 }
 
-/// Puts the front of a row: its index, and whether the frame stands there.
-fn put_front<P: Put>(out: &mut P, at: u32, index: u64) -> Result<(), PutError>
+/// Puts the prefix of a row: its index, and whether the frame stands there.
+fn put_prefix<P: Put>(out: &mut P, at: u32, index: u64) -> Result<(), PutError>
     requires { P.stops out.old < 2 ^ 64 - 1 }
-    ensures text { Puts result (P.written out.old) (P.written out.new) (row_front at index) }
+    ensures text { Puts result (P.written out.old) (P.written out.new) (row_prefix at index) }
     ensures counted { Counts result (P.stops out.old) (P.stops out.new) }
     ensures device { P.device out.new ≡ P.device out.old }
 {
@@ -60,7 +60,7 @@ fn put_inst<P: Put, A: Allocator>(
     ensures counted { Counts result (P.stops out.old) (P.stops out.new) }
     ensures device { P.device out.new ≡ P.device out.old }
 {
-    put_front(out, at, index)?;
+    put_prefix(out, at, index)?;
     inst_text(inst, out)?;
     out.put(b"\n")
 }
@@ -72,7 +72,7 @@ fn put_jump<P: Put>(out: &mut P, at: u32, index: u64, jump: &Jump<'_>) -> Result
     ensures counted { Counts result (P.stops out.old) (P.stops out.new) }
     ensures device { P.device out.new ≡ P.device out.old }
 {
-    put_front(out, at, index)?;
+    put_prefix(out, at, index)?;
     jump_text(jump, out)?;
     out.put(b"\n")
 }
@@ -175,7 +175,7 @@ fn put_block_of<'c, 'a, P: Put, A: Allocator + Copy>(
 ///
 /// # Errors
 ///
-/// `PutError` where `out` stopped. Then a front of the text was put.
+/// `PutError` where `out` stopped. Then a prefix of the text was put.
 pub fn put_block<P: Put, A: Allocator + Copy>(
     out: &mut P,
     machine: &Machine<'_, '_, A>,

@@ -93,7 +93,7 @@ fn put_standing<P: Put, A: Allocator + Copy>(
 ///
 /// # Errors
 ///
-/// `PutError` where `out` stopped. Then a front of the line was put.
+/// `PutError` where `out` stopped. Then a prefix of the line was put.
 pub fn put_place<P: Put, A: Allocator + Copy>(
     out: &mut P,
     position: u64,
@@ -104,16 +104,16 @@ pub fn put_place<P: Put, A: Allocator + Copy>(
     ensures counted { Counts result (P.stops out.old) (P.stops out.new) }
     ensures device { P.device out.new ≡ P.device out.old }
 {
-    let front = Piece::Bytes(b"#");
+    let prefix = Piece::Bytes(b"#");
     let position_piece = Piece::Number(position);
     let end = Piece::Bytes(b"\n");
     match machine.status() {
         Status::Running => put_standing(out, position, machine),
-        Status::Done(None) => put_pieces(out, &[front, position_piece, Piece::Bytes(b" done\n")]),
+        Status::Done(None) => put_pieces(out, &[prefix, position_piece, Piece::Bytes(b" done\n")]),
         Status::Done(Some(value)) => put_pieces(
             out,
             &[
-                front,
+                prefix,
                 position_piece,
                 Piece::Bytes(b" done "),
                 Piece::Number(value),
@@ -123,7 +123,7 @@ pub fn put_place<P: Put, A: Allocator + Copy>(
         Status::Exited(word) => put_pieces(
             out,
             &[
-                front,
+                prefix,
                 position_piece,
                 Piece::Bytes(b" exit "),
                 Piece::Number(word),
@@ -133,7 +133,7 @@ pub fn put_place<P: Put, A: Allocator + Copy>(
         Status::Faulted(fault) => put_pieces(
             out,
             &[
-                front,
+                prefix,
                 position_piece,
                 Piece::Bytes(b" fault "),
                 Piece::Bytes(fault_words(fault)),

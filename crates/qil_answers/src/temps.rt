@@ -51,7 +51,7 @@ fn put_value<P: Put>(out: &mut P, name: &[u8], value: Option<u64>) -> Result<(),
 ///
 /// # Errors
 ///
-/// `PutError` where `out` stopped. Then a front of the text was put.
+/// `PutError` where `out` stopped. Then a prefix of the text was put.
 pub fn put_printed<P: Put, A: Allocator + Copy>(
     out: &mut P,
     machine: &Machine<'_, '_, A>,
@@ -97,7 +97,7 @@ fn put_slots<'c, 'a, P: Put, A: Allocator + Copy>(
 ///
 /// # Errors
 ///
-/// `PutError` where `out` stopped. Then a front of the text was put.
+/// `PutError` where `out` stopped. Then a prefix of the text was put.
 pub fn put_temps<P: Put, A: Allocator + Copy>(
     out: &mut P,
     machine: &Machine<'_, '_, A>,

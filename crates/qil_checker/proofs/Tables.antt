@@ -1,3 +1,3 @@
--- What tables say: of a noted name, of two lists of names, of how many names there are.
+-- What tables say: of a recorded name, of two lists of names, of how many names there are.
 pub mod Same
 pub mod Counts

@@ -7,15 +7,15 @@ use Rattle.qil_rules.specs.declared.mention.Mention.{Mention}
 use Rattle.qil_rules.specs.Rules.{AreBroken}
 
 -- a refusal tells what is broken first
-abbrev pub IsTold : List (List Mention) → CheckError → Type 0
-IsTold all (Refused rule line) = AreBroken all rule line
-IsTold all OutOfMemory = Unit {0}
+abbrev pub IsReported : List (List Mention) → CheckError → Type 0
+IsReported all (Refused rule line) = AreBroken all rule line
+IsReported all OutOfMemory = Unit {0}
 
 abbrev pub TellsRule : Rule → ℕ → CheckError → Type 0
 TellsRule rule line (Refused r l) = (r ≡ rule) × (l ≡ line)
 TellsRule rule line OutOfMemory = Unit {0}
 
--- that refusal, unless memory was wanting
+-- that refusal, unless memory ran out
 abbrev pub IsRefusedBy : {T P : Type 0} → Rule → ℕ → Result T (P × CheckError) → Type 0
 IsRefusedBy rule line (Ok x) = ⊥
 IsRefusedBy rule line (Err e) = TellsRule rule line e.1

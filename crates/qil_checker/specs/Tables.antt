@@ -7,13 +7,13 @@ use Rattle.qil_rules.specs.declared.rule.Rule.{Rule}
 use Rattle.qil_rules.specs.declared.rule.Rule.TheVariants.{C8}
 use Rattle.qil_checker.specs.declared.lookup.Kind.TheVariants.{Defined, Named, Labels}
 use Rattle.qil_tree.specs.declared.tree.PhiSource.{PhiSource}
-use Rattle.qil_rules.specs.declared.mention.What.{What}
-use Rattle.qil_rules.specs.declared.mention.What.TheVariants.{DataName, FunctionName, Label, Edge, PhiOf, Defines, Uses}
+use Rattle.qil_rules.specs.declared.mention.MentionKind.{MentionKind}
+use Rattle.qil_rules.specs.declared.mention.MentionKind.TheVariants.{DataName, FunctionName, Label, Edge, PhiOf, Defines, Uses}
 use Rattle.qil_rules.specs.declared.mention.Mention.{Mention}
-use Rattle.qil_rules.specs.Text.{Stands, AreDistinct, IsAmong}
+use Rattle.qil_rules.specs.Text.{IsAt, AreDistinct, IsAmong}
 
 -- the name that a mention brings to a table of this kind
-abbrev pub named : What → Kind → Option (List ℕ)
+abbrev pub named : MentionKind → Kind → Option (List ℕ)
 named (Defines x c) Defined = Some x
 named (Defines x c) Named = Some x
 named (Uses x c) Named = Some x
@@ -33,7 +33,7 @@ first test n [] = None
 first test n (a ∷ others) = if test a then Some n else first test (suc n) others
 
 -- the global name that a definition begins with
-abbrev pub begun_name : What → Option (List ℕ)
+abbrev pub begun_name : MentionKind → Option (List ℕ)
 begun_name (DataName x) = Some x
 begun_name (FunctionName x) = Some x
 begun_name what = None
@@ -60,7 +60,7 @@ AreSameOnce xs ys = AreDistinct xs × ((x : List ℕ) → IsAmong x xs ↔ IsAmo
 
 -- ---- the predecessors of a block
 
-abbrev pub predecessor : List ℕ → What → List (List ℕ)
+abbrev pub predecessor : List ℕ → MentionKind → List (List ℕ)
 predecessor b (Edge l to) = if bytes_eq to b then l ∷ [] else []
 predecessor b what = []
 
@@ -76,7 +76,7 @@ abbrev pub begun_label : List Mention → Option (List ℕ)
 begun_label [] = None
 begun_label (m ∷ text) = option_or (named m.what Labels) (begun_label text)
 
--- the label of the block behind a mention
+-- the label of the block after a mention
 abbrev pub behind : Option (List ℕ) → Mention → Option (List ℕ)
 behind block m = option_or (named m.what Labels) block
 
@@ -91,7 +91,7 @@ block_at text k = block_from None text k
 
 -- each phi stands in its block
 abbrev pub AreAtHome : List Mention → Type 0
-AreAtHome text = (k : ℕ) (x : List ℕ) (sources : List PhiSource) → Stands text k (PhiOf x sources) → block_at text k ≡ Some x
+AreAtHome text = (k : ℕ) (x : List ℕ) (sources : List PhiSource) → IsAt text k (PhiOf x sources) → block_at text k ≡ Some x
 
 -- the predecessors of the block that a place stands in
 abbrev pub AreAtHand : List Mention → ℕ → List (List ℕ) → Type 0

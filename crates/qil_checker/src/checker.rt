@@ -4,11 +4,11 @@ ghost use Rattle.std.specs.Prelude.{◌≡◌, ℕ, IfOk, IfErr};
 ghost use Rattle.qil_tree.specs.Trees.{HasBlocks};
 ghost use Rattle.qil_rules.specs.Mentions.{texts};
 ghost use Rattle.qil_rules.specs.Rules.{WellFormed, Broken};
-ghost use Rattle.qil_checker.specs.Check.{IsTold, IsRefusedBy};
+ghost use Rattle.qil_checker.specs.Check.{IsReported, IsRefusedBy};
 ghost use Rattle.qil_rules.specs.Forms.{HasForm};
 ghost use Rattle.qil_rules.specs.declared.rule.Rule.{Rule};
 
-use crate::whole::{Refusal, Whole};
+use crate::program_index::{ProgramIndex, Refusal};
 use qil_rules::{Checked, Form, Rule};
 use qil_tree::Program;
 use std::alloc::{AllocError, Allocator};
@@ -43,9 +43,9 @@ fn examine<'a, A: Allocator + Copy>(
 ) -> Result<Form<'a>, CheckError>
     ensures well_formed { IfOk result (λ form. WellFormed program.now) }
     ensures form { IfOk result (λ form. HasForm program.now form) }
-    ensures told { IfErr result (λ error. IsTold (texts program.now) error) }
+    ensures reported { IfErr result (λ error. IsReported (texts program.now) error) }
 {
-    let whole = Whole::new(alloc, keys, program)?;
+    let whole = ProgramIndex::new(alloc, keys, program)?;
     match whole.lowest(alloc)? {
         Some(refusal) => {
             let Refusal { rule, line } = refusal;
@@ -63,11 +63,11 @@ fn answered<'a, A: Allocator>(
     requires blocks { HasBlocks program }
     requires well_formed { IfOk found (λ form. WellFormed program) }
     requires form { IfOk found (λ form. HasForm program form) }
-    requires told { IfErr found (λ error. IsTold (texts program) error) }
+    requires reported { IfErr found (λ error. IsReported (texts program) error) }
     ensures same { IfOk result (λ c. c.program ≡ program.entry) }
     ensures kept { IfOk result (λ c. WellFormed c.program × HasForm c.program c.form) }
     ensures handed_back { IfErr result (λ e. e.0 ≡ program.entry) }
-    ensures refused { IfErr result (λ e. IsTold (texts program.entry) e.1) }
+    ensures refused { IfErr result (λ e. IsReported (texts program.entry) e.1) }
     ensures only_kept { WellFormed program.entry → IfErr result (λ e. e.1 ≡ CheckError.OutOfMemory) }
     ensures only_broken { (rule : Rule) (line : ℕ) → Broken program.entry rule line → IsRefusedBy rule line result }
 {
@@ -77,7 +77,7 @@ fn answered<'a, A: Allocator>(
     }
 }
 
-/// Checks a program. Hands it back where it is refused, or where memory is wanting.
+/// Checks a program. Hands it back where it is refused, or where memory runs out.
 pub fn check<'a, A: Allocator + Copy>(
     alloc: A,
     keys: RandomState,
@@ -88,7 +88,7 @@ pub fn check<'a, A: Allocator + Copy>(
     ensures same { IfOk result (λ c. c.program ≡ program.entry) }
     ensures kept { IfOk result (λ c. WellFormed c.program × HasForm c.program c.form) }
     ensures handed_back { IfErr result (λ e. e.0 ≡ program.entry) }
-    ensures refused { IfErr result (λ e. IsTold (texts program.entry) e.1) }
+    ensures refused { IfErr result (λ e. IsReported (texts program.entry) e.1) }
     // A well-formed program is not refused, and one that breaks a rule is refused so.
     ensures only_kept { WellFormed program.entry → IfErr result (λ e. e.1 ≡ CheckError.OutOfMemory) }
     ensures only_broken { (rule : Rule) (line : ℕ) → Broken program.entry rule line → IsRefusedBy rule line result }

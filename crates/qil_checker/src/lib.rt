@@ -2,12 +2,12 @@
 #![tactic(auto)]
 
 mod checker;
+mod definition;
 mod lookup;
 mod phi_labels;
 mod predecessors;
-mod text;
+mod program_index;
 mod walk;
-mod whole;
 
 pub use checker::{CheckError, check};
 pub use qil_rules::{Checked, Form, Rule};

@@ -7,7 +7,7 @@ ghost use Rattle.qil_checker.specs.declared.lookup.Kind.TheVariants.{Defined, Na
 
 use crate::predecessors::all_predecessors;
 use qil_names::{Firsts, Groups};
-use qil_rules::{Mention, What};
+use qil_rules::{Mention, MentionKind};
 use qil_tree::Name;
 use std::alloc::{AllocError, Allocator};
 use std::hash::RandomState;
@@ -38,10 +38,10 @@ fn named<'m, 'a>(mention: &'m Mention<'_, 'a>, kind: Kind) -> Option<&'m Name<'a
     ensures { option_copied result ≡ named mention.now.what kind }
 {
     match (&mention.what, kind) {
-        (What::Defines(name, _), Kind::Defined) => Some(name),
-        (What::Defines(name, _), Kind::Named) => Some(name),
-        (What::Uses(name, _), Kind::Named) => Some(name),
-        (What::Label(name), Kind::Labels) => Some(name),
+        (MentionKind::Defines(name, _), Kind::Defined) => Some(name),
+        (MentionKind::Defines(name, _), Kind::Named) => Some(name),
+        (MentionKind::Uses(name, _), Kind::Named) => Some(name),
+        (MentionKind::Label(name), Kind::Labels) => Some(name),
         _ => None,
     }
 }

@@ -7,7 +7,7 @@ ghost use Rattle.qil_checker.specs.Tables.{predecessors_of};
 
 use crate::phi_labels::{labels_of, same_once};
 use qil_names::Groups;
-use qil_rules::{Mention, PhiSources, What};
+use qil_rules::{Mention, MentionKind, PhiSources};
 use qil_tree::Name;
 use std::alloc::{AllocError, Allocator};
 use std::hash::RandomState;
@@ -45,7 +45,7 @@ pub fn all_predecessors<'a, A: Allocator + Copy>(
     let mut table = Groups::new(alloc, keys);
     for (place, mention) in mentions.iter().enumerate() {
         match &mention.what {
-            What::Edge(from, to) => table.note(alloc, to.bytes(), Name::new(from.bytes()))?,
+            MentionKind::Edge(from, to) => table.note(alloc, to.bytes(), Name::new(from.bytes()))?,
             _ => {}
         }
     }

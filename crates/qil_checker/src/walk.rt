@@ -3,10 +3,10 @@
 ghost use Rattle.std.specs.Prelude.{◌≡◌, ◌++◌, ◌∷◌, [], OnOk, IfOk, Option, map};
 ghost use Rattle.std.specs.List.{flat_map};
 ghost use Rattle.qil_rules.specs.Operands.{right_class, stored_class, expr_reads, inst_reads, inst_target, inst_long_class, call_target, argument_read, long_class};
-ghost use Rattle.qil_rules.specs.declared.mention.What.TheVariants.{Edge};
+ghost use Rattle.qil_rules.specs.declared.mention.MentionKind.TheVariants.{Edge};
 ghost use Rattle.qil_rules.specs.Mentions.{on, read_mentions, operand_mentions, target_mentions, long_mentions, source_mentions, phi_mentions, kind_mentions, inst_mentions, returned_class, jump_mentions, block_mentions, param_mention, func_mentions, item_mentions, field_mentions, data_mentions};
 
-use qil_rules::{Mention, PhiSources, What};
+use qil_rules::{Mention, MentionKind, PhiSources};
 use qil_tree::{
     AbiType, Argument, BinaryOp, Block, CallResult, Class, Data, Expr, Extension, Field, Func,
     Inst, InstKind, Item, JumpKind, LoadOp, Name, Operand, Param, Phi, PhiSource, Target, Width,
@@ -115,11 +115,11 @@ fn push_operand<'p, 'a, A: Allocator + Copy>(
     match operand {
         Operand::Number(_) => {}
         Operand::Global(name) => {
-            let what = What::Global(same(name));
+            let what = MentionKind::Global(same(name));
             out.push(Mention { what, line })?;
         }
         Operand::Temp(name) => {
-            let what = What::Uses(same(name), class);
+            let what = MentionKind::Uses(same(name), class);
             out.push(Mention { what, line })?;
         }
     }
@@ -209,7 +209,7 @@ fn push_target<'p, 'a, A: Allocator + Copy>(
     ensures { OnOk result (out.new.items ≡ out.old.items ++ target_mentions line target.entry) }
 {
     if let Some(Target { name, class }) = target {
-        let what = What::Defines(name, class);
+        let what = MentionKind::Defines(name, class);
         out.push(Mention { what, line })?;
     }
     Ok(())
@@ -223,7 +223,7 @@ fn push_long<'p, 'a, A: Allocator + Copy>(
     ensures { OnOk result (out.new.items ≡ out.old.items ++ long_mentions line class) }
 {
     if let Some(class) = class {
-        let what = What::Long(class);
+        let what = MentionKind::Long(class);
         out.push(Mention { what, line })?;
     }
     Ok(())
@@ -261,7 +261,7 @@ fn push_source<'p, 'a, A: Allocator + Copy>(
 ) -> Result<(), AllocError>
     ensures { OnOk result (out.new.items ≡ out.old.items ++ source_mentions line class source.now) }
 {
-    let what = What::PhiLabel(same(&source.label));
+    let what = MentionKind::PhiLabel(same(&source.label));
     out.push(Mention { what, line })?;
     push_operand(out, line, class, &source.value)
 }
@@ -289,9 +289,9 @@ fn push_phi<'p, 'a, A: Allocator + Copy>(
 {
     let line = phi.line;
     push_sources(out, line, phi.target.class, phi.sources.as_slice())?;
-    let what = What::PhiOf(same(block), PhiSources::new(phi.sources.as_slice()));
+    let what = MentionKind::PhiOf(same(block), PhiSources::new(phi.sources.as_slice()));
     out.push(Mention { what, line })?;
-    let what = What::Defines(same(&phi.target.name), phi.target.class);
+    let what = MentionKind::Defines(same(&phi.target.name), phi.target.class);
     out.push(Mention { what, line })?;
     Ok(())
 }
@@ -318,7 +318,7 @@ fn push_edge<'p, 'a, A: Allocator + Copy>(
 ) -> Result<(), AllocError>
     ensures { OnOk result (out.new.items ≡ out.old.items ++ on line (Edge block.now label.now) ∷ []) }
 {
-    let what = What::Edge(same(block), same(label));
+    let what = MentionKind::Edge(same(block), same(label));
     out.push(Mention { what, line })?;
     Ok(())
 }
@@ -342,7 +342,7 @@ fn push_jump<'p, 'a, A: Allocator + Copy>(
         JumpKind::Ret(None) => {}
         JumpKind::Ret(Some(operand)) => {
             push_operand(out, line, returned_class(returns), operand)?;
-            let what = What::Returns(returns);
+            let what = MentionKind::Returns(returns);
             out.push(Mention { what, line })?;
         }
         JumpKind::Hlt => {}
@@ -357,7 +357,7 @@ fn push_block<'p, 'a, A: Allocator + Copy>(
 ) -> Result<(), AllocError>
     ensures { OnOk result (out.new.items ≡ out.old.items ++ block_mentions returns block.now) }
 {
-    let what = What::Label(same(&block.label));
+    let what = MentionKind::Label(same(&block.label));
     out.push(Mention {
         what,
         line: block.line,
@@ -394,7 +394,7 @@ fn push_params<'p, 'a, A: Allocator + Copy>(
     ensures { OnOk result (out.new.items ≡ out.old.items ++ map (param_mention line) params.now) }
 {
     for param in params {
-        let what = What::Defines(same(&param.name), param.abi_type.class());
+        let what = MentionKind::Defines(same(&param.name), param.abi_type.class());
         out.push(Mention { what, line })?;
     }
     Ok(())
@@ -408,7 +408,7 @@ pub fn func_mentions<'p, 'a, A: Allocator + Copy>(
     ensures { IfOk result (λ v. v.items ≡ func_mentions func.now) }
 {
     let mut out = Vec::new(alloc);
-    let what = What::FunctionName(same(&func.name));
+    let what = MentionKind::FunctionName(same(&func.name));
     out.push(Mention {
         what,
         line: func.line,
@@ -426,7 +426,7 @@ fn push_item<'p, 'a, A: Allocator + Copy>(
     ensures { OnOk result (out.new.items ≡ out.old.items ++ item_mentions line item.now) }
 {
     if let Item::Address(name, _) = item {
-        let what = What::Global(same(name));
+        let what = MentionKind::Global(same(name));
         out.push(Mention { what, line })?;
     }
     Ok(())
@@ -479,7 +479,7 @@ pub fn data_mentions<'p, 'a, A: Allocator + Copy>(
     ensures { IfOk result (λ v. v.items ≡ data_mentions object.now) }
 {
     let mut out = Vec::new(alloc);
-    let what = What::DataName(same(&object.name));
+    let what = MentionKind::DataName(same(&object.name));
     out.push(Mention {
         what,
         line: object.line,

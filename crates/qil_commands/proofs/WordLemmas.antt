@@ -1,4 +1,4 @@
--- Words behind spacing, and the word at the front.
+-- Words after spacing, and the word at the start.
 use Rattle.std.proofs.Common.{◌≡◌, ℕ, zero, suc, ◌+◌, true, false, List, [], ◌∷◌, take, drop, refl, arith, ap, sym, ◌∙◌, inl, inr}
 use Rattle.std.specs.List.{prefix_len}
 use Rattle.std.proofs.lemmas.Bool.{cases_Bool}
@@ -13,7 +13,7 @@ joined b bytes h g = rw (h, g) refl
 ended : (b : ℕ) (bytes : List ℕ) → is_spacing b ≡ false → goes_on bytes ≡ false → words_of (b ∷ bytes) ≡ (b ∷ []) ∷ words_of bytes
 ended b bytes h g = rw (h, g) refl
 
--- spacing in front says nothing
+-- spacing before it says nothing
 pub words_of-behind : (line : List ℕ) → words_of (drop (prefix_len is_spacing line) line) ≡ words_of line
 words_of-behind [] = refl
 words_of-behind (b ∷ line) =
@@ -30,10 +30,10 @@ pub words_of-behind_at : (line : List ℕ) (n : ℕ) → n ≡ prefix_len is_spa
 words_of-behind_at line n e = rw e (words_of-behind line)
 
 -- what begins with a byte of a word has that word first
-pub words_of-front : (b : ℕ) (line : List ℕ) → is_spacing b ≡ false →
+pub words_of-prefix : (b : ℕ) (line : List ℕ) → is_spacing b ≡ false →
     words_of (b ∷ line) ≡ (b ∷ take (prefix_len is_word_byte line) line) ∷ words_of (drop (prefix_len is_word_byte line) line)
-words_of-front b [] h = ended b [] h refl
-words_of-front b (c ∷ line) h =
+words_of-prefix b [] h = ended b [] h refl
+words_of-prefix b (c ∷ line) h =
     let next : 1 + prefix_len is_word_byte line ≡ suc (prefix_len is_word_byte line) = omega arith in
     elim (cases_Bool (is_spacing c)) [
       | inl t ↦
@@ -43,7 +43,7 @@ words_of-front b (c ∷ line) h =
       | inr f ↦
           let g : goes_on (c ∷ line) ≡ true = rw f refl in
           let some : prefix_len is_word_byte (c ∷ line) ≡ suc (prefix_len is_word_byte line) = rw f next in
-          joined b (c ∷ line) h g ∙ (ap (onto_first b) (words_of-front c line f) ∙ rw some refl)
+          joined b (c ∷ line) h g ∙ (ap (onto_first b) (words_of-prefix c line f) ∙ rw some refl)
     ]
 
 -- the first word, by the length of the longest run of its bytes
@@ -55,10 +55,10 @@ words_of-first (b ∷ line) n e = elim (cases_Bool (is_spacing b)) [
   | inr f ↦
       let some : prefix_len is_word_byte (b ∷ line) ≡ 1 + prefix_len is_word_byte line = rw f refl in
       let k : prefix_len is_word_byte line ≡ n = omega (arith, some, e) in
-      words_of-front b line f ∙ rw k refl
+      words_of-prefix b line f ∙ rw k refl
 ]
 
--- where no byte of a word is at the front behind the spacing, there is no word
+-- where no byte of a word is at the start after the spacing, there is no word
 pub words_of-none : (line : List ℕ) → prefix_len is_word_byte (drop (prefix_len is_spacing line) line) ≡ 0 → words_of line ≡ []
 words_of-none [] e = refl
 words_of-none (b ∷ line) e =
@@ -73,7 +73,7 @@ words_of-none (b ∷ line) e =
           absurd (omega (arith, some, rw here at e))
     ]
 
--- the first word behind the spacing, by both lengths
+-- the first word after the spacing, by both lengths
 first_by : (line : List ℕ) (n : ℕ) → n ≡ prefix_len is_word_byte line → (n ≡ 0 → ⊥) → words_of line ≡ take n line ∷ words_of (drop n line)
 first_by line zero e some = absurd (some refl)
 first_by line (suc n) e some = words_of-first line n (sym e)

@@ -4,8 +4,8 @@ use Rattle.std.specs.Option.{option_or}
 use Rattle.std.specs.Str.{bytes_eq}
 use Rattle.qil_commands.specs.declared.command.Command.{Command}
 use Rattle.qil_commands.specs.declared.command.Command.TheVariants as commands
-use Rattle.qil_commands.specs.declared.command.Looked.{Looked}
-use Rattle.qil_commands.specs.declared.command.Looked.TheVariants as looked
+use Rattle.qil_commands.specs.declared.command.WatchTarget.{WatchTarget}
+use Rattle.qil_commands.specs.declared.command.WatchTarget.TheVariants as watch_target
 use Rattle.qil_commands.specs.declared.command.Verb.{Verb}
 use Rattle.qil_commands.specs.declared.command.Verb.TheVariants as verbs
 use Rattle.qil_commands.specs.declared.command.Refused.{Refused}
@@ -54,7 +54,7 @@ abbrev pub needed : {A : Type 0} → (List ℕ → Option A) → List (List ℕ)
 needed shape [] = Err MissingWord
 needed shape (word ∷ words) = shaped (shape word) words
 
--- a word of that shape may come, else this value stands for it
+-- a word of that shape may come, else this value represents it
 abbrev pub perhaps : {A : Type 0} → A → (List ℕ → Option A) → List (List ℕ) → Result (A × List (List ℕ)) Refused
 perhaps a shape [] = Ok (a, [])
 perhaps a shape (word ∷ words) = shaped (shape word) words
@@ -64,7 +64,7 @@ abbrev pub alone : {A : Type 0} → A → List (List ℕ) → Result A Refused
 alone a [] = Ok a
 alone a (word ∷ words) = Err ExtraWord
 
--- ---- the words behind each verb
+-- ---- the words after each verb
 
 -- a word of that shape may come
 abbrev pub may : {A : Type 0} → (List ℕ → Option A) → List (List ℕ) → Result (Option A × List (List ℕ)) Refused
@@ -75,13 +75,13 @@ abbrev pub break_in : List ℕ → Option (List ℕ) → List (List ℕ) → Res
 break_in f None words = alone (commands.Break f None) words
 break_in f (Some b) words = perhaps 0 number_of words >>= λ k. alone (commands.Break f (Some (record { label = b; index = k.0 }))) k.1
 
--- what a watch looks at, by the word behind `watch`: the letter of a width, or a function
-abbrev pub looked_of : List ℕ → Option Looked
-looked_of word = option_or (option_map looked.Bytes (width_of word)) (option_map looked.Temp (global_of word))
+-- what a watch looks at, by the word after `watch`: the letter of a width, or a function
+abbrev pub watch_target_of : List ℕ → Option WatchTarget
+watch_target_of word = option_or (option_map watch_target.Bytes (width_of word)) (option_map watch_target.Temp (global_of word))
 
-abbrev pub watch_of : Looked → List (List ℕ) → Result Command Refused
-watch_of (looked.Bytes w) words = needed address_of words >>= λ a. alone (commands.WatchBytes w a.0) a.1
-watch_of (looked.Temp f) words = needed temporary_of words >>= λ x. alone (commands.WatchTemp f x.0) x.1
+abbrev pub watch_of : WatchTarget → List (List ℕ) → Result Command Refused
+watch_of (watch_target.Bytes w) words = needed address_of words >>= λ a. alone (commands.WatchBytes w a.0) a.1
+watch_of (watch_target.Temp f) words = needed temporary_of words >>= λ x. alone (commands.WatchTemp f x.0) x.1
 
 -- the command of a verb and the words after it
 abbrev pub spelled : Verb → List (List ℕ) → Result Command Refused
@@ -92,7 +92,7 @@ spelled verbs.Reverse words = alone commands.Reverse words
 spelled verbs.Set words = needed temporary_of words >>= λ x. needed value_of x.1 >>= λ v. alone (commands.Set x.0 v.0) v.1
 spelled verbs.Poke words = needed width_of words >>= λ w. needed address_of w.1 >>= λ a. needed value_of a.1 >>= λ v. alone (commands.Poke w.0 a.0 v.0) v.1
 spelled verbs.Break words = needed global_of words >>= λ f. may label_of f.1 >>= λ b. break_in f.0 b.0 b.1
-spelled verbs.Watch words = needed looked_of words >>= λ what. watch_of what.0 what.1
+spelled verbs.Watch words = needed watch_target_of words >>= λ what. watch_of what.0 what.1
 spelled verbs.Delete words = needed number_of words >>= λ n. alone (commands.Delete n.0) n.1
 spelled verbs.Stops words = alone commands.Stops words
 spelled verbs.Print words = needed temporary_of words >>= λ name. alone (commands.Print name.0) name.1

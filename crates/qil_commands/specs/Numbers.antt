@@ -66,7 +66,7 @@ label_of word = name_behind 64 word
 
 -- ---- widths and addresses
 
--- the letters that stand for 1, 2, 4 and 8 bytes
+-- the letters that represent 1, 2, 4 and 8 bytes
 abbrev pub width_of : List ℕ → Option Width
 width_of word =
     if bytes_eq word (codes "b") then Some widths.B else
@@ -86,7 +86,7 @@ abbrev pub sum_of : Option (List ℕ) → Option ℕ → Option Address
 sum_of None offset = None
 sum_of (Some name) offset = option_map (addresses.Global name) offset
 
--- the address of a global, or so many bytes behind it
+-- the address of a global, or so many bytes after it
 abbrev pub global_address : List ℕ → Option Address
 global_address word = sum_of (global_of (take (prefix_len is_no_plus word) word)) (offset_of (drop (prefix_len is_no_plus word) word))
 

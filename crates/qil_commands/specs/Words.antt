@@ -8,12 +8,12 @@ is_spacing b = (b == 32 || b == 9) || b == 13
 abbrev pub is_word_byte : ℕ → Bool
 is_word_byte b = not (is_spacing b)
 
--- a word goes on at the front of these bytes
+-- a word goes on at the start of these bytes
 abbrev pub goes_on : List ℕ → Bool
 goes_on [] = false
 goes_on (b ∷ bytes) = is_word_byte b
 
--- the words, with this byte in front of the first of them
+-- the words, with this byte before the first of them
 abbrev pub onto_first : ℕ → List (List ℕ) → List (List ℕ)
 onto_first b [] = (b ∷ []) ∷ []
 onto_first b (word ∷ words) = (b ∷ word) ∷ words

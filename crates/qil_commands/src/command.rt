@@ -57,9 +57,9 @@ pub enum Verb {
     Quit,
 }
 
-/// What a watch looks at, as the word behind `watch` says.
+/// What a watch looks at, as the word after `watch` says.
 #[derive(Drop)]
-pub enum Looked<'a> {
+pub enum WatchTarget<'a> {
     Bytes(Width),
     /// A temporary of the function of this name.
     Temp(Name<'a>),
@@ -69,11 +69,11 @@ pub enum Looked<'a> {
 #[derive(Drop)]
 pub enum Address<'a> {
     Number(u64),
-    /// So many bytes behind the address of a global, modulo 2^64.
+    /// So many bytes after the address of a global, modulo 2^64.
     Global(Name<'a>, u64),
 }
 
-/// A place in a function: a block, and an index of its instructions. Behind the last one stands the jump.
+/// A place in a function: a block, and an index of its instructions. After the last one stands the jump.
 #[derive(Drop)]
 pub struct BreakPlace<'a> {
     pub label: Name<'a>,

@@ -1,14 +1,14 @@
-//! The next word of a line, of the shape that a command asks. Behind an error the words are of no use.
+//! The next word of a line, of the shape that a command asks. After an error the words are of no use.
 
 ghost use Rattle.std.specs.Prelude.{◌≡◌, ◌∷◌, [], MatchResult};
 ghost use Rattle.qil_commands.specs.Numbers.{number_of, count_of, byte_count_of, value_of, temporary_of, global_of, label_of, width_of, address_of};
 ghost use Rattle.qil_commands.specs.Words.{words_of};
-ghost use Rattle.qil_commands.specs.Command.{needed, perhaps, may, looked_of, with_rest};
+ghost use Rattle.qil_commands.specs.Command.{needed, perhaps, may, watch_target_of, with_rest};
 
-use crate::command::{Address, Looked, Name, Refused};
+use crate::command::{Address, Name, Refused, WatchTarget};
 use crate::numbers::{
-    address_of, byte_count_of, count_of, global_of, label_of, looked_of, number_of, temporary_of,
-    value_of, width_of,
+    address_of, byte_count_of, count_of, global_of, label_of, number_of, temporary_of, value_of,
+    watch_target_of, width_of,
 };
 use crate::words::Words;
 use qil_tree::Width;
@@ -81,11 +81,11 @@ pub fn address<'a>(words: &mut Words<'a>) -> Result<Address<'a>, Refused>
 }
 
 /// What a watch looks at.
-pub fn looked<'a>(words: &mut Words<'a>) -> Result<Looked<'a>, Refused>
-    ensures { with_rest result (words_of words.new.rest.now) ≡ needed looked_of (words_of words.old.rest.now) }
+pub fn watch_target<'a>(words: &mut Words<'a>) -> Result<WatchTarget<'a>, Refused>
+    ensures { with_rest result (words_of words.new.rest.now) ≡ needed watch_target_of (words_of words.old.rest.now) }
 {
     let word = needed_word(words)?;
-    looked_of(word).ok_or(Refused::BadWord)
+    watch_target_of(word).ok_or(Refused::BadWord)
 }
 
 /// How many moves: one, if no word says so.

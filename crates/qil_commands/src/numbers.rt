@@ -3,10 +3,10 @@
 ghost use Rattle.std.specs.Prelude.{◌≡◌, ◌≤◌, ◌^◌, ◌∷◌, Some, None, cond, length, min, ℕ};
 ghost use Rattle.std.specs.List.{list_all, prefix_len};
 ghost use Rattle.std.specs.Char.{is_ascii_digit};
-ghost use Rattle.qil_commands.specs.Command.{looked_of};
+ghost use Rattle.qil_commands.specs.Command.{watch_target_of};
 ghost use Rattle.qil_commands.specs.Numbers.{digits_value, is_digits, is_name_byte, is_name, number_of, count_of, byte_count_of, value_of, name_behind, temporary_of, global_of, label_of, width_of, is_no_plus, offset_of, address_of, global_address};
 
-use crate::command::{Address, Looked, Name};
+use crate::command::{Address, Name, WatchTarget};
 use qil_tree::Width;
 
 /// One more than the largest number.
@@ -133,7 +133,7 @@ fn name_of<'a>(text: &'a [u8]) -> Option<Name<'a>>
     }
 }
 
-/// The name that stands behind a sigil.
+/// The name that stands after a sigil.
 fn name_behind<'a>(sigil: u8, word: &'a [u8]) -> Option<Name<'a>>
     ensures { result ≡ name_behind sigil word.now }
 {
@@ -143,28 +143,28 @@ fn name_behind<'a>(sigil: u8, word: &'a [u8]) -> Option<Name<'a>>
     }
 }
 
-/// The name of a temporary, which stands behind a `%`.
+/// The name of a temporary, which stands after a `%`.
 pub fn temporary_of<'a>(word: &'a [u8]) -> Option<Name<'a>>
     ensures { result ≡ temporary_of word.now }
 {
     name_behind(b'%', word)
 }
 
-/// The name of a global, which stands behind a `$`.
+/// The name of a global, which stands after a `$`.
 pub fn global_of<'a>(word: &'a [u8]) -> Option<Name<'a>>
     ensures { result ≡ global_of word.now }
 {
     name_behind(b'$', word)
 }
 
-/// The name of a block, which stands behind an `@`.
+/// The name of a block, which stands after an `@`.
 pub fn label_of<'a>(word: &'a [u8]) -> Option<Name<'a>>
     ensures { result ≡ label_of word.now }
 {
     name_behind(b'@', word)
 }
 
-/// The width that a letter stands for.
+/// The width that a letter represents.
 pub fn width_of(word: &[u8]) -> Option<Width>
     ensures { result ≡ width_of word.now }
 {
@@ -184,7 +184,7 @@ pub fn width_of(word: &[u8]) -> Option<Width>
 }
 
 /// How many bytes stand before a `+`.
-fn front_len(word: &[u8]) -> usize
+fn prefix_len(word: &[u8]) -> usize
     ensures is { result ≡ prefix_len is_no_plus word.now }
     ensures within { result ≤ length word.now }
 {
@@ -205,7 +205,7 @@ fn offset_of(rest: &[u8]) -> Option<u64>
 fn global_address<'a>(word: &'a [u8]) -> Option<Address<'a>>
     ensures { result ≡ global_address word.now }
 {
-    let len = front_len(word);
+    let len = prefix_len(word);
     match global_of(&word[..len]) {
         None => None,
         Some(name) => match offset_of(&word[len..]) {
@@ -216,15 +216,15 @@ fn global_address<'a>(word: &'a [u8]) -> Option<Address<'a>>
 }
 
 /// What a watch looks at: bytes, by the letter of their width, or a temporary of a function.
-pub fn looked_of<'a>(word: &'a [u8]) -> Option<Looked<'a>>
-    ensures { result ≡ looked_of word.now }
+pub fn watch_target_of<'a>(word: &'a [u8]) -> Option<WatchTarget<'a>>
+    ensures { result ≡ watch_target_of word.now }
 {
     if let Some(width) = width_of(word) {
-        return Some(Looked::Bytes(width));
+        return Some(WatchTarget::Bytes(width));
     }
     match global_of(word) {
         None => None,
-        Some(func) => Some(Looked::Temp(func)),
+        Some(func) => Some(WatchTarget::Temp(func)),
     }
 }
 

@@ -5,9 +5,9 @@ ghost use Rattle.qil_commands.specs.Words.{words_of};
 ghost use Rattle.qil_commands.specs.Command.{alone as no_more, moving_verb, stopping_verb, showing_verb, verb_named, spelled, command_of};
 ghost use Rattle.qil_commands.specs.declared.command.Verb.TheVariants as verbs;
 
-use crate::command::{BreakPlace, Command, Looked, Refused, Verb};
+use crate::command::{BreakPlace, Command, Refused, Verb, WatchTarget};
 use crate::next::{
-    address, byte_count, count, global, index, label, looked, number, temporary, value, width,
+    address, byte_count, count, global, index, label, number, temporary, value, watch_target, width,
 };
 use crate::words::Words;
 
@@ -108,7 +108,7 @@ fn alone<'a>(command: Command<'a>, words: &mut Words<'a>) -> Result<Command<'a>,
     }
 }
 
-// ---- the words behind each verb
+// ---- the words after each verb
 
 fn step<'a>(words: &mut Words<'a>) -> Result<Command<'a>, Refused>
     ensures { result ≡ spelled verbs.Step (words_of words.old.rest.now) }
@@ -161,12 +161,12 @@ fn break_at<'a>(words: &mut Words<'a>) -> Result<Command<'a>, Refused>
 fn watch<'a>(words: &mut Words<'a>) -> Result<Command<'a>, Refused>
     ensures { result ≡ spelled verbs.Watch (words_of words.old.rest.now) }
 {
-    match looked(words)? {
-        Looked::Bytes(width) => {
+    match watch_target(words)? {
+        WatchTarget::Bytes(width) => {
             let address = address(words)?;
             alone(Command::WatchBytes(width, address), words)
         }
-        Looked::Temp(func) => {
+        WatchTarget::Temp(func) => {
             let name = temporary(words)?;
             alone(Command::WatchTemp(func, name), words)
         }

@@ -130,7 +130,7 @@ pub pokes_on : {A : Type 0} (m w : Whole A) (ds : List Move) (d : Move) (f n g :
 pokes_on {A} m w ds d f n g b now r is made eb eg e =
     ap (poked (recent_timeline now)) e ∙ ap Ok (sym (moves_on m w ds d f n g b now (state_of w) is made eb eg refl))
 
--- ---- the latest taken back
+-- ---- the latest undone
 
 module _ {A : Type 0} (m w : Whole A) (ds es : List Move) (d : Move) (o : Option Move) (f n k : ℕ) where
   whole-was : ds ≡ es ++ option_to_list o → o ≡ Some d → ds ≡ es ++ d ∷ []

@@ -12,7 +12,7 @@ ghost use Rattle.qil_pokes.specs.Pokes.{HasWidth, poke_of, poke_cost, Explains};
 ghost use Rattle.qil_deltas.specs.Weights.{total, TakesLatestOff};
 
 use qil_history::{BackError, History};
-use qil_machine::{Delta, Keeps, Machine, MoveError, PokeError};
+use qil_machine::{Delta, DeltaSink, Machine, MoveError, PokeError};
 use qil_numbering::Slot;
 use qil_pokes::Poke;
 use std::alloc::Allocator;
@@ -63,7 +63,7 @@ impl<'c, 'a, A: Allocator + Copy> Deltas<'c, 'a, A> {
         (machine, deltas.as_slice())
     }
 
-    /// Pokes, and keeps that as a move. Where there is no room for its delta, a poke that wasn't refused is taken back.
+    /// Pokes, and keeps that as a move. Where there is no room for its delta, a poke that wasn't refused is undone.
     fn poke(&mut self, poke: Poke<'_>) -> Result<(), PokeError>
         requires before { position (moved_timeline self.old) < 2 ^ 62 }
         requires width { HasWidth poke }
@@ -83,7 +83,7 @@ impl<'c, 'a, A: Allocator + Copy> Deltas<'c, 'a, A> {
     }
 }
 
-/// Clauses here take the place of the contract's, so they say those again, and beside them what each call does to the deltas.
+/// Clauses here take the place of the contract's, so they say those again, and next to them what each call does to the deltas.
 impl<'c, 'a, A: Allocator + Copy> History<A, Machine<'c, 'a, A>> for Deltas<'c, 'a, A> {
     ghost program = { λ h. h.machine.program };
 

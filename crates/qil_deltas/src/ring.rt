@@ -119,7 +119,7 @@ impl<'c, 'a, A: Allocator + Copy> Ring<'c, 'a, A> {
     }
 }
 
-/// Clauses here take the place of the contract's, so they say those again, and beside them what each call does to the deltas.
+/// Clauses here take the place of the contract's, so they say those again, and next to them what each call does to the deltas.
 impl<'c, 'a, A: Allocator + Copy> History<A, Machine<'c, 'a, A>> for Ring<'c, 'a, A> {
     ghost program = { λ h. h.machine.program };
 

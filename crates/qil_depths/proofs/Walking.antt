@@ -18,14 +18,14 @@ use Rattle.qil_depths.specs.Depths.{depth, Passes, Ends, RunsToDepth, RunsBackTo
 
 -- ---- frames
 
--- a state has as many frames as a machine that stands for it
+-- a state has as many frames as a machine that represents it
 pub as_many : {A : Type 0} (p : Program A) (fs : List SlotFrame) → length fs ≡ length (frames_state p fs)
 as_many p [] = refl
 as_many p (f ∷ fs) = ap suc (as_many p fs)
 
 -- ---- depths so far
 
--- behind each of the first k moves more than n calls are open
+-- after each of the first k moves more than n calls are open
 abbrev pub AreDeep : (ℕ → Timeline) → ℕ → ℕ → Type 0
 AreDeep at n k = (j : ℕ) → j < k + 1 → 0 < j → n < depth (at j)
 
@@ -60,7 +60,7 @@ depth-memory p stops n limit k t now new way deep goes same lt = record {
   ends = inr (on.running p stops t k now way goes, λ some. deep k (omega arith) some, lt);
 }
 
--- what holds behind one move more of a run that isn't over
+-- what holds after one move more of a run that isn't over
 pub record OneMore {A : Type 0} (p : Program A) (stops : List Numbered) (n limit k : ℕ) (t new : Timeline) (found : Option Reason) : Type 0 where
   pub moves : new ≡ moved p (k + 1) t
   pub few : k + 1 ≤ limit
@@ -135,7 +135,7 @@ depth-bottom stops n limit k t now new r way deep at same le = record {
   ends = inl (way.here ∙ at);
 }
 
--- what holds behind one move more
+-- what holds after one move more
 pub record OneBack (stops : List Numbered) (n limit k : ℕ) (t new : Timeline) (found : Option Reason) : Type 0 where
   pub moves : new ≡ gone (k + 1) t
   pub few : k + 1 ≤ limit

@@ -1,4 +1,4 @@
--- Where runs over calls end: after the least number of moves behind which no more calls are open than were asked for, or at
+-- Where runs over calls end: after the least number of moves after which no more calls are open than were asked for, or at
 -- which a run stops anyway.
 use Rattle.std.specs.Prelude.{◌≡◌, ℕ, ◌<◌, ◌≤◌, ◌⊎◌, List, length, Option, Some, None}
 use Rattle.qil_tree.specs.declared.tree.Program.{Program}
@@ -14,7 +14,7 @@ use Rattle.qil_depths.specs.declared.depth_end.DepthEnd.TheVariants.{Depth, Stop
 abbrev pub depth : Timeline → ℕ
 depth t = length t.now.frames
 
--- A run passes the first k states of the way that `at` leads: none of them stops it, and behind each move more than n calls
+-- A run passes the first k states of the way that `at` leads: none of them stops it, and after each move more than n calls
 -- are open.
 pub record Passes (stop : ℕ → Option Reason) (at : ℕ → Timeline) (n k : ℕ) : Type 0 where
   pub unstopped : (j : ℕ) → j < k → stop j ≡ None
@@ -26,7 +26,7 @@ EndsAnyway limit k Limit = k ≡ limit
 EndsAnyway limit k Memory = k < limit
 EndsAnyway limit k reason = ⊥
 
--- Why it ends k moves on: as no more than n calls are open behind a move, where nothing stops it; for a reason that stops it,
+-- Why it ends k moves on: as no more than n calls are open after a move, where nothing stops it; for a reason that stops it,
 -- whatever the depth; or anyway, where neither is so.
 abbrev pub Ends : (ℕ → Option Reason) → (ℕ → Timeline) → ℕ → ℕ → ℕ → DepthEnd → Type 0
 Ends stop at n limit k Depth = (stop k ≡ None) × (0 < k) × (depth (at k) ≤ n)

@@ -8,7 +8,7 @@ use Rattle.qil_frames.specs.Frames.{SlotFrame, HasFrame, on_innermost, at_place}
 use Rattle.qil_frames.specs.Enter.{gathered, written, enters, entered_by, returned, LeftBlock, HasMoves, Fits, AreSlots}
 use Rattle.qil_frames.specs.Kept.{slots_by, HasEntered}
 use Rattle.qil_frames.proofs.ValueLemmas.{length-put_back}
-use Rattle.qil_frames.proofs.Innermost.{StandsLast}
+use Rattle.qil_frames.proofs.Innermost.{IsInnermost}
 
 pub moves_frame : (zs : List SlotFrame) (ms : List PhiMove) → HasMoves zs ms → HasFrame zs
 moves_frame [] ms h = h
@@ -43,16 +43,16 @@ fits_new b ms f w kept h =
 
 -- ---- all frames
 
-pub all_entered : (xs zs : List SlotFrame) (n : ℕ) (f w : SlotFrame) (b : ℕ) (ms : List PhiMove) (r : Result LeftBlock PhiFault) → StandsLast xs zs n f → IfOk r (λ kept. HasEntered b ms f w kept) → OnOk r (entered_by zs b ms ≡ Ok (reverse (slice_set xs n w)))
+pub all_entered : (xs zs : List SlotFrame) (n : ℕ) (f w : SlotFrame) (b : ℕ) (ms : List PhiMove) (r : Result LeftBlock PhiFault) → IsInnermost xs zs n f → IfOk r (λ kept. HasEntered b ms f w kept) → OnOk r (entered_by zs b ms ≡ Ok (reverse (slice_set xs n w)))
 all_entered xs zs n f w b ms (Ok kept) s h =
     ap (λ us. entered_by us b ms) s.was ∙ entered_frame b ms f w s.callers kept h ∙ ap (λ us. Ok us) (sym (s.now w))
 all_entered xs zs n f w b ms (Err e) s h = tt
 
-pub all_returned : (xs zs : List SlotFrame) (n : ℕ) (f w : SlotFrame) (b : ℕ) (ms : List PhiMove) (r : Result LeftBlock PhiFault) → StandsLast xs zs n f → IfOk r (λ kept. HasEntered b ms f w kept) → IfOk r (λ kept. on_innermost (returned kept) (reverse (slice_set xs n w)) ≡ zs)
+pub all_returned : (xs zs : List SlotFrame) (n : ℕ) (f w : SlotFrame) (b : ℕ) (ms : List PhiMove) (r : Result LeftBlock PhiFault) → IsInnermost xs zs n f → IfOk r (λ kept. HasEntered b ms f w kept) → IfOk r (λ kept. on_innermost (returned kept) (reverse (slice_set xs n w)) ≡ zs)
 all_returned xs zs n f w b ms (Ok kept) s h =
     ap (on_innermost (returned kept)) (s.now w) ∙ ap (λ u. u ∷ s.callers) (returned_frame b ms f w kept h) ∙ sym s.was
 all_returned xs zs n f w b ms (Err e) s h = tt
 
-pub all_fit : (xs zs : List SlotFrame) (n : ℕ) (f w : SlotFrame) (b : ℕ) (ms : List PhiMove) (r : Result LeftBlock PhiFault) → StandsLast xs zs n f → IfOk r (λ kept. HasEntered b ms f w kept) → IfOk r (λ kept. Fits kept (reverse (slice_set xs n w)))
+pub all_fit : (xs zs : List SlotFrame) (n : ℕ) (f w : SlotFrame) (b : ℕ) (ms : List PhiMove) (r : Result LeftBlock PhiFault) → IsInnermost xs zs n f → IfOk r (λ kept. HasEntered b ms f w kept) → IfOk r (λ kept. Fits kept (reverse (slice_set xs n w)))
 all_fit xs zs n f w b ms (Ok kept) s h = subst (Fits kept) (sym (s.now w)) (fits_new b ms f w kept h)
 all_fit xs zs n f w b ms (Err e) s h = tt

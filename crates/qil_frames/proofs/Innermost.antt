@@ -49,12 +49,12 @@ same_reversed b xs ys ps qs zs ws ea eb ex ey h = (
 )
 
 -- the frame that stands last, and those below it, whatever is set in its place
-pub record StandsLast (xs zs : List SlotFrame) (n : ℕ) (old : SlotFrame) : Type 0 where
+pub record IsInnermost (xs zs : List SlotFrame) (n : ℕ) (old : SlotFrame) : Type 0 where
   pub callers : List SlotFrame
   pub was : zs ≡ old ∷ callers
   pub now : (w : SlotFrame) → reverse (slice_set xs n w) ≡ w ∷ callers
 
-pub stands_last : (xs zs : List SlotFrame) (n : ℕ) (old : SlotFrame) → reverse xs ≡ zs → HasFrame zs → n ≡ length xs - 1 → old ≡ get_or xs n old → StandsLast xs zs n old
+pub stands_last : (xs zs : List SlotFrame) (n : ℕ) (old : SlotFrame) → reverse xs ≡ zs → HasFrame zs → n ≡ length xs - 1 → old ≡ get_or xs n old → IsInnermost xs zs n old
 stands_last xs [] n old e h en eo = absurd h
 stands_last xs (f ∷ fs) n old e h en eo =
     record {

@@ -56,7 +56,7 @@ abbrev pub entered_by : List SlotFrame → ℕ → List PhiMove → Result (List
 entered_by [] b ms = Ok []
 entered_by (f ∷ fs) b ms = enters b f fs (gathered f.slots ms)
 
--- want of memory comes only where no slot is unset
+-- out of memory comes only if no slot is unset
 abbrev pub Explains : {X : Type 0} → PhiFault → Result X Slot → Type 0
 Explains (Unset s) r = r ≡ Err s
 Explains OutOfMemory r = IsOk r

@@ -16,7 +16,7 @@ use qil_tree::AbiType;
 use std::alloc::{AllocError, Allocator};
 use std::marker::Model;
 
-/// An `Option<Receiver>` in 4 bytes, so that a body has 40: whole frames are kept behind returns.
+/// An `Option<Receiver>` in 4 bytes, so that a body has 40: whole frames are kept after returns.
 #[derive(Clone, Copy)]
 struct Taker {
     slot: Slot,
@@ -244,7 +244,7 @@ impl<A: Allocator> Frame<A> {
         old
     }
 
-    /// Sets a slot, stands at an index, and gives what stood in the slot.
+    /// Sets a slot, is at an index, and gives what stood in the slot.
     #[inline(always)]
     pub fn assign(&mut self, slot: Slot, value: Option<u64>, index: u32) -> Option<u64>
         requires { slot.index < length self.old.slots }

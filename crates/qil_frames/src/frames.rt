@@ -121,7 +121,7 @@ impl<A: Allocator> Frames<A> {
         frame.set(slot, value)
     }
 
-    /// Sets a slot, stands at an index, and gives what stood in the slot. As `set` and `set_index`, with the frame looked up
+    /// Sets a slot, is at an index, and gives what stood in the slot. As `set` and `set_index`, with the frame looked up
     /// once.
     #[inline(always)]
     pub fn assign(&mut self, slot: Slot, value: Option<u64>, index: u32) -> Option<u64>

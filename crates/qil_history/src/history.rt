@@ -13,7 +13,7 @@ use qil_numbering::Slot;
 use std::alloc::Allocator;
 use thiserror::Error;
 
-/// Why no move was taken back. The history is as it was.
+/// Why no move was undone. The history is as it was.
 #[derive(Clone, Copy, Debug, PartialEq, Eq, Error)]
 pub enum BackError {
     /// No move was made.
@@ -25,11 +25,11 @@ pub enum BackError {
 }
 
 /// What a history keeps, seen whole: the clauses of a trait can't name the machine itself.
-pub trait Stands<A: Allocator> {
+pub trait HasState<A: Allocator> {
     ghost whole: { Self → Whole A };
 }
 
-impl<'c, 'a, A: Allocator> Stands<A> for Machine<'c, 'a, A> {
+impl<'c, 'a, A: Allocator> HasState<A> for Machine<'c, 'a, A> {
     ghost whole = { λ m. m };
 }
 
@@ -37,7 +37,7 @@ impl<'c, 'a, A: Allocator> Stands<A> for Machine<'c, 'a, A> {
 /// poke are one move each.
 ///
 /// A user is generic in `H: History<A, Machine<'c, 'c, A>>`, under `A: Allocator + 'c`.
-pub trait History<A: Allocator, M: Stands<A>> {
+pub trait History<A: Allocator, M: HasState<A>> {
     /// What is run. No move changes it.
     ghost program: { Self → Program A };
 

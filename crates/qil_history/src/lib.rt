@@ -3,4 +3,4 @@
 
 mod history;
 
-pub use history::{BackError, History, Stands};
+pub use history::{BackError, HasState, History};

@@ -124,41 +124,41 @@ module _ {T A B : Type 0} (index : T → ℕ) (S : List T → A → Type 0) (U :
 
   pub seq_got : (ts : List T) (a : A) (rest : List T) (b : B) (rest2 : List T) → ((p : List T) (x : B) → U p x → Begins index f2 e2 p) → apart f2 m1 ≡ true → Got index S m1 ts a rest → Got index U m2 rest b rest2 → Got index (Seq S U) both ts (a, b) rest2
   seq_got ts a rest b rest2 begins far g h = record {
-    front = g.front ++ h.front;
-    parts = g.parts ∙ ap (λ (x : List T). g.front ++ x) h.parts ∙ sym (append_assoc g.front h.front rest2);
-    spelled = record { left = g.front; right = h.front; parts = refl; first = g.spelled; second = h.spelled };
+    prefix = g.prefix ++ h.prefix;
+    parts = g.parts ∙ ap (λ (x : List T). g.prefix ++ x) h.parts ∙ sym (append_assoc g.prefix h.prefix rest2);
+    spelled = record { left = g.prefix; right = h.prefix; parts = refl; first = g.spelled; second = h.spelled };
     only = λ p ab w z s free eq same.
-        let eq1 : s.left ++ (s.right ++ w) ≡ g.front ++ (h.front ++ z) = regroup index p s.left s.right w (g.front ++ h.front) z s.parts eq ∙ append_assoc g.front h.front z in
-        let heads : Same rest (h.front ++ z) = subst (λ (x : List T). Same x (h.front ++ z)) (sym h.parts) (same_heads index h.front rest2 z same) in
-        let one = g.only s.left ab.0 (s.right ++ w) (h.front ++ z) s.first (free_next index m1 m2 f2 e2 s.right w far (begins s.right ab.1 s.second) free) eq1 heads in
-        let eq2 : s.right ++ w ≡ h.front ++ z = append_cancel_left g.front (s.right ++ w) (h.front ++ z) (ap (λ (x : List T). x ++ (s.right ++ w)) (sym one.0) ∙ eq1) in
+        let eq1 : s.left ++ (s.right ++ w) ≡ g.prefix ++ (h.prefix ++ z) = regroup index p s.left s.right w (g.prefix ++ h.prefix) z s.parts eq ∙ append_assoc g.prefix h.prefix z in
+        let heads : Same rest (h.prefix ++ z) = subst (λ (x : List T). Same x (h.prefix ++ z)) (sym h.parts) (same_heads index h.prefix rest2 z same) in
+        let one = g.only s.left ab.0 (s.right ++ w) (h.prefix ++ z) s.first (free_next index m1 m2 f2 e2 s.right w far (begins s.right ab.1 s.second) free) eq1 heads in
+        let eq2 : s.right ++ w ≡ h.prefix ++ z = append_cancel_left g.prefix (s.right ++ w) (h.prefix ++ z) (ap (λ (x : List T). x ++ (s.right ++ w)) (sym one.0) ∙ eq1) in
         let two = h.only s.right ab.1 w z s.second (free_split index m2 (when e2 m1) w free).0 eq2 same in
-        (s.parts ∙ ap (λ (x : List T). x ++ s.right) one.0 ∙ ap (λ (x : List T). g.front ++ x) two.0, λ i. (one.1 i, two.1 i));
+        (s.parts ∙ ap (λ (x : List T). x ++ s.right) one.0 ∙ ap (λ (x : List T). g.prefix ++ x) two.0, λ i. (one.1 i, two.1 i));
   }
 
   pub seq_failed_first : (ts rest w2 : List T) (b : B) → U w2 b → ((p : List T) (x : B) → U p x → Begins index f2 e2 p) → apart f2 m1 ≡ true → Failed index S m1 ts rest → Failed index (Seq S U) both ts rest
   seq_failed_first ts rest w2 b example begins far g = record {
-    front = g.front;
+    prefix = g.prefix;
     parts = g.parts;
     ending = g.ending ++ w2;
     value = (g.value, b);
-    begun = record { left = g.front ++ g.ending; right = w2; parts = sym (append_assoc g.front g.ending w2); first = g.begun; second = example };
+    begun = record { left = g.prefix ++ g.ending; right = w2; parts = sym (append_assoc g.prefix g.ending w2); first = g.begun; second = example };
     none = λ p ab w z s free eq same.
-        g.none s.left ab.0 (s.right ++ w) z s.first (free_next index m1 m2 f2 e2 s.right w far (begins s.right ab.1 s.second) free) (regroup index p s.left s.right w g.front z s.parts eq) same;
+        g.none s.left ab.0 (s.right ++ w) z s.first (free_next index m1 m2 f2 e2 s.right w far (begins s.right ab.1 s.second) free) (regroup index p s.left s.right w g.prefix z s.parts eq) same;
   }
 
   pub seq_failed_second : (ts : List T) (a : A) (rest rest2 : List T) → ((p : List T) (x : B) → U p x → Begins index f2 e2 p) → apart f2 m1 ≡ true → Got index S m1 ts a rest → Failed index U m2 rest rest2 → Failed index (Seq S U) both ts rest2
   seq_failed_second ts a rest rest2 begins far g h = record {
-    front = g.front ++ h.front;
-    parts = g.parts ∙ ap (λ (x : List T). g.front ++ x) h.parts ∙ sym (append_assoc g.front h.front rest2);
+    prefix = g.prefix ++ h.prefix;
+    parts = g.parts ∙ ap (λ (x : List T). g.prefix ++ x) h.parts ∙ sym (append_assoc g.prefix h.prefix rest2);
     ending = h.ending;
     value = (a, h.value);
-    begun = record { left = g.front; right = h.front ++ h.ending; parts = append_assoc g.front h.front h.ending; first = g.spelled; second = h.begun };
+    begun = record { left = g.prefix; right = h.prefix ++ h.ending; parts = append_assoc g.prefix h.prefix h.ending; first = g.spelled; second = h.begun };
     none = λ p ab w z s free eq same.
-        let eq1 : s.left ++ (s.right ++ w) ≡ g.front ++ (h.front ++ z) = regroup index p s.left s.right w (g.front ++ h.front) z s.parts eq ∙ append_assoc g.front h.front z in
-        let heads : Same rest (h.front ++ z) = subst (λ (x : List T). Same x (h.front ++ z)) (sym h.parts) (same_heads index h.front rest2 z same) in
-        let one = g.only s.left ab.0 (s.right ++ w) (h.front ++ z) s.first (free_next index m1 m2 f2 e2 s.right w far (begins s.right ab.1 s.second) free) eq1 heads in
-        let eq2 : s.right ++ w ≡ h.front ++ z = append_cancel_left g.front (s.right ++ w) (h.front ++ z) (ap (λ (x : List T). x ++ (s.right ++ w)) (sym one.0) ∙ eq1) in
+        let eq1 : s.left ++ (s.right ++ w) ≡ g.prefix ++ (h.prefix ++ z) = regroup index p s.left s.right w (g.prefix ++ h.prefix) z s.parts eq ∙ append_assoc g.prefix h.prefix z in
+        let heads : Same rest (h.prefix ++ z) = subst (λ (x : List T). Same x (h.prefix ++ z)) (sym h.parts) (same_heads index h.prefix rest2 z same) in
+        let one = g.only s.left ab.0 (s.right ++ w) (h.prefix ++ z) s.first (free_next index m1 m2 f2 e2 s.right w far (begins s.right ab.1 s.second) free) eq1 heads in
+        let eq2 : s.right ++ w ≡ h.prefix ++ z = append_cancel_left g.prefix (s.right ++ w) (h.prefix ++ z) (ap (λ (x : List T). x ++ (s.right ++ w)) (sym one.0) ∙ eq1) in
         h.none s.right ab.1 w z s.second (free_split index m2 (when e2 m1) w free).0 eq2 same;
   }
 
@@ -180,17 +180,17 @@ seq_begins index f1 f2 true e2 [] r h k = begins_right index f1 f2 e2 r k
 seq_begins index f1 f2 false e2 [] r h k = absurd cc
 seq_begins index f1 f2 e1 e2 (t ∷ l) r h k = has_left f1 (when e1 f2) (index t) h
 
-pub shorter_by : {T : Type 0} (index : T → ℕ) (f : List ℕ) (n : ℕ) (ts front rest : List T) → length ts ≤ suc n → ts ≡ front ++ rest → Begins index f false front → length rest ≤ n
+pub shorter_by : {T : Type 0} (index : T → ℕ) (f : List ℕ) (n : ℕ) (ts prefix rest : List T) → length ts ≤ suc n → ts ≡ prefix ++ rest → Begins index f false prefix → length rest ≤ n
 shorter_by index f n ts [] rest le e b = absurd cc
-shorter_by index f n ts (t ∷ front) rest le e b = omega (arith, ap length e, length-append front rest)
+shorter_by index f n ts (t ∷ prefix) rest le e b = omega (arith, ap length e, length-append prefix rest)
 
-pub front_first : {T : Type 0} (index : T → ℕ) (set : List ℕ) (p l q : List T) → p ≡ l ++ q → Begins index set false l → Begins index set false p
-front_first index set p [] q e b = absurd cc
-front_first index set p (t ∷ l) q e b = subst (λ (y : List _). Begins index set false y) (sym e) b
+pub prefix_first : {T : Type 0} (index : T → ℕ) (set : List ℕ) (p l q : List T) → p ≡ l ++ q → Begins index set false l → Begins index set false p
+prefix_first index set p [] q e b = absurd cc
+prefix_first index set p (t ∷ l) q e b = subst (λ (y : List _). Begins index set false y) (sym e) b
 
 pub seq_reads : {T A B : Type 0} {index : T → ℕ} {S : List T → A → Type 0} {U : List T → B → Type 0} {r : List T → Read T A} {s : List T → Read T B} {f1 f2 m1 m2 : List ℕ} {e1 e2 c d : Bool} {n : ℕ} → Reads n c index S r f1 e1 m1 → Reads n d index U s f2 e2 m2 → apart f2 m1 ≡ true → Reads n (c && d) index (Seq S U) (seq r s) (f1 ++ when e1 f2) (e1 && e2) (m2 ++ when e2 m1)
 seq_reads {index} {S} {U} {r} {s} {f1} {f2} {m1} {m2} {e1} {e2} {c} {d} {n} x y far = record {
-  explains = λ ts le. explain_seq index S U m1 f2 m2 e2 ts (r ts) s y.text y.value y.example y.begins far (x.explains ts le) (λ a rest g. y.explains rest (omega (arith, ap length g.parts, length-append g.front rest)));
+  explains = λ ts le. explain_seq index S U m1 f2 m2 e2 ts (r ts) s y.text y.value y.example y.begins far (x.explains ts le) (λ a rest g. y.explains rest (omega (arith, ap length g.parts, length-append g.prefix rest)));
   begins = λ p ab q. subst (λ (l : List _). Begins index (f1 ++ when e1 f2) (e1 && e2) l) (sym q.parts) (seq_begins index f1 f2 e1 e2 q.left q.right (x.begins q.left ab.0 q.first) (y.begins q.right ab.1 q.second));
   text = x.text ++ y.text;
   value = (x.value, y.value);
@@ -201,8 +201,8 @@ seq_reads {index} {S} {U} {r} {s} {f1} {f2} {m1} {m2} {e1} {e2} {c} {d} {n} x y 
 -- the second has fewer tokens left
 pub seq_after : {T A B : Type 0} {index : T → ℕ} {S : List T → A → Type 0} {U : List T → B → Type 0} {r : List T → Read T A} {s : List T → Read T B} {f1 f2 m1 m2 : List ℕ} {e2 c d : Bool} {n : ℕ} → Reads (suc n) c index S r f1 false m1 → Reads n d index U s f2 e2 m2 → apart f2 m1 ≡ true → Reads (suc n) (c && d) index (Seq S U) (seq r s) f1 false (m2 ++ when e2 m1)
 seq_after {index} {S} {U} {r} {s} {f1} {f2} {m1} {m2} {e2} {c} {d} {n} x y far = record {
-  explains = λ ts le. explain_seq index S U m1 f2 m2 e2 ts (r ts) s y.text y.value y.example y.begins far (x.explains ts le) (λ a rest g. y.explains rest (shorter_by index f1 n ts g.front rest le g.parts (x.begins g.front a g.spelled)));
-  begins = λ p ab q. front_first index f1 p q.left q.right q.parts (x.begins q.left ab.0 q.first);
+  explains = λ ts le. explain_seq index S U m1 f2 m2 e2 ts (r ts) s y.text y.value y.example y.begins far (x.explains ts le) (λ a rest g. y.explains rest (shorter_by index f1 n ts g.prefix rest le g.parts (x.begins g.prefix a g.spelled)));
+  begins = λ p ab q. prefix_first index f1 p q.left q.right q.parts (x.begins q.left ab.0 q.first);
   text = x.text ++ y.text;
   value = (x.value, y.value);
   example = record { left = x.text; right = y.text; parts = refl; first = x.example; second = y.example };
@@ -214,13 +214,13 @@ seq_after {index} {S} {U} {r} {s} {f1} {f2} {m1} {m2} {e2} {c} {d} {n} x y far =
 module _ {T A B : Type 0} (index : T → ℕ) (f : A → B) (S : List T → A → Type 0) (more : List ℕ) where
   explain_image : (ts : List T) (o : Read T A) → Explains index S more ts o → Explains index (Image f S) more ts (o >>= λ x. got (f x.0) x.1)
   explain_image ts (got a rest) g = record {
-    front = g.front;
+    prefix = g.prefix;
     parts = g.parts;
     spelled = record { value = a; spelled = g.spelled; made = refl };
     only = λ p b w z s free eq same. let one = g.only p s.value w z s.spelled free eq same in (one.0, sym s.made ∙ ap f one.1);
   }
   explain_image ts (failed e rest) g = record {
-    front = g.front;
+    prefix = g.prefix;
     parts = g.parts;
     ending = g.ending;
     value = f g.value;
@@ -242,8 +242,8 @@ image_reads {index} {S} {r} {first} {more} {empty} f x = record {
 
 module _ {T A : Type 0} (index : T → ℕ) (S U : List T → A → Type 0) (there : (p : List T) (a : A) → S p a → U p a) (back : (p : List T) (a : A) → U p a → S p a) (more : List ℕ) where
   explain_said : (ts : List T) (o : Read T A) → Explains index S more ts o → Explains index U more ts o
-  explain_said ts (got a rest) g = record { front = g.front; parts = g.parts; spelled = there g.front a g.spelled; only = λ p b w z s. g.only p b w z (back p b s) }
-  explain_said ts (failed e rest) g = record { front = g.front; parts = g.parts; ending = g.ending; value = g.value; begun = there (g.front ++ g.ending) g.value g.begun; none = λ p b w z s. g.none p b w z (back p b s) }
+  explain_said ts (got a rest) g = record { prefix = g.prefix; parts = g.parts; spelled = there g.prefix a g.spelled; only = λ p b w z s. g.only p b w z (back p b s) }
+  explain_said ts (failed e rest) g = record { prefix = g.prefix; parts = g.parts; ending = g.ending; value = g.value; begun = there (g.prefix ++ g.ending) g.value g.begun; none = λ p b w z s. g.none p b w z (back p b s) }
 
 pub said_reads : {T A : Type 0} {index : T → ℕ} {S U : List T → A → Type 0} {r : List T → Read T A} {first more : List ℕ} {empty c : Bool} {n : ℕ} → ((p : List T) (a : A) → S p a → U p a) → ((p : List T) (a : A) → U p a → S p a) → Reads n c index S r first empty more → Reads n c index U r first empty more
 said_reads {index} {S} {U} {r} {first} {more} {empty} there back x = record {
@@ -272,7 +272,7 @@ module _ {T A : Type 0} (index : T → ℕ) (f : T → Option A) (set : List ℕ
 
   explain_one_at : (t : T) (ts : List T) (o : Option A) → f t ≡ o → Explains index (One f) [] (t ∷ ts) (taken o t ts)
   explain_one_at t ts (Some a) e = record {
-    front = t ∷ [];
+    prefix = t ∷ [];
     parts = refl;
     spelled = record { token = t; alone = refl; means = e };
     only = λ p b w z s free eq same.
@@ -280,7 +280,7 @@ module _ {T A : Type 0} (index : T → ℕ) (f : T → Option A) (set : List ℕ
         (s.alone ∙ ap (λ (v : T). v ∷ []) h, known_is b a (sym s.means ∙ ap f h ∙ e));
   }
   explain_one_at t ts None e = record {
-    front = [];
+    prefix = [];
     parts = refl;
     ending = t0 ∷ [];
     value = a0;
@@ -294,7 +294,7 @@ module _ {T A : Type 0} (index : T → ℕ) (f : T → Option A) (set : List ℕ
 
   explain_one : (ts : List T) → Explains index (One f) [] ts (one f ts)
   explain_one [] = record {
-    front = [];
+    prefix = [];
     parts = refl;
     ending = t0 ∷ [];
     value = a0;
@@ -320,7 +320,7 @@ nil_parts p w z e h = ap (λ (x : List _). x ++ w) (sym e) ∙ h
 
 pub nothing_reads : {T A : Type 0} (index : T → ℕ) (n : ℕ) (x : A) → Reads {T = T} {A = A} n true index (Nothing x) (nothing x) [] true []
 nothing_reads {T} {A} index n x = record {
-  explains = λ ts le. record { front = []; parts = refl; spelled = record { none = refl; value = refl }; only = λ p b w z s free eq same. (s.none, sym s.value) };
+  explains = λ ts le. record { prefix = []; parts = refl; spelled = record { none = refl; value = refl }; only = λ p b w z s free eq same. (s.none, sym s.value) };
   begins = λ p a s. subst (λ (l : List T). Begins index [] true l) (sym s.none) refl;
   text = [];
   value = x;
@@ -332,8 +332,8 @@ nothing_reads {T} {A} index n x = record {
 
 module _ {T A : Type 0} (index : T → ℕ) (S : List T → A → Type 0) (less more : List ℕ) (within : (w : List T) → starts index more w ≡ false → starts index less w ≡ false) where
   pub explain_weaker : (ts : List T) (o : Read T A) → Explains index S less ts o → Explains index S more ts o
-  explain_weaker ts (got a rest) g = record { front = g.front; parts = g.parts; spelled = g.spelled; only = λ p b w z s free eq same. g.only p b w z s (within w free) eq same }
-  explain_weaker ts (failed e rest) g = record { front = g.front; parts = g.parts; ending = g.ending; value = g.value; begun = g.begun; none = λ p b w z s free eq same. g.none p b w z s (within w free) eq same }
+  explain_weaker ts (got a rest) g = record { prefix = g.prefix; parts = g.parts; spelled = g.spelled; only = λ p b w z s free eq same. g.only p b w z s (within w free) eq same }
+  explain_weaker ts (failed e rest) g = record { prefix = g.prefix; parts = g.parts; ending = g.ending; value = g.value; begun = g.begun; none = λ p b w z s free eq same. g.none p b w z s (within w free) eq same }
 
 -- ---- one phrase or the other
 
@@ -348,40 +348,40 @@ module _ {T : Type 0} (index : T → ℕ) where
   clash f1 f2 false [] w far h b free = absurd cc
   clash f1 f2 e2 (t ∷ p) w far h b free = let bad : true ≡ false = sym b ∙ apart_law f1 f2 (index t) far h in absurd cc
 
-  start_moves : (set : List ℕ) (ts front rest pw z : List T) (b : Bool) → ts ≡ front ++ rest → Same rest z → pw ≡ front ++ z → starts index set ts ≡ b → starts index set pw ≡ b
-  start_moves set ts front rest pw z b parts same eq h = ap (starts index set) eq ∙ sym (starts_same index set (front ++ rest) (front ++ z) (same_heads index front rest z same)) ∙ ap (starts index set) (sym parts) ∙ h
+  start_moves : (set : List ℕ) (ts prefix rest pw z : List T) (b : Bool) → ts ≡ prefix ++ rest → Same rest z → pw ≡ prefix ++ z → starts index set ts ≡ b → starts index set pw ≡ b
+  start_moves set ts prefix rest pw z b parts same eq h = ap (starts index set) eq ∙ sym (starts_same index set (prefix ++ rest) (prefix ++ z) (same_heads index prefix rest z same)) ∙ ap (starts index set) (sym parts) ∙ h
 
 module _ {T A : Type 0} (index : T → ℕ) (S U : List T → A → Type 0) (f1 f2 m1 m2 : List ℕ) (e2 : Bool) (b1 : (p : List T) (a : A) → S p a → Begins index f1 false p) (b2 : (p : List T) (a : A) → U p a → Begins index f2 e2 p) (far : apart f1 f2 ≡ true) where
   abbrev pub any_more : List ℕ
   any_more = m1 ++ (m2 ++ when e2 f1)
 
-  not_second : (ts front rest p : List T) (a : A) (w z : List T) → starts index f1 ts ≡ true → ts ≡ front ++ rest → U p a → starts index any_more w ≡ false → p ++ w ≡ front ++ z → Same rest z → ⊥
-  not_second ts front rest p a w z h parts u free eq same =
-      clash index f1 f2 e2 p w far (start_moves index f1 ts front rest (p ++ w) z true parts same eq h) (b2 p a u) (free_split index m2 (when e2 f1) w (free_split index m1 (m2 ++ when e2 f1) w free).1).1
+  not_second : (ts prefix rest p : List T) (a : A) (w z : List T) → starts index f1 ts ≡ true → ts ≡ prefix ++ rest → U p a → starts index any_more w ≡ false → p ++ w ≡ prefix ++ z → Same rest z → ⊥
+  not_second ts prefix rest p a w z h parts u free eq same =
+      clash index f1 f2 e2 p w far (start_moves index f1 ts prefix rest (p ++ w) z true parts same eq h) (b2 p a u) (free_split index m2 (when e2 f1) w (free_split index m1 (m2 ++ when e2 f1) w free).1).1
 
-  not_first : (ts front rest p : List T) (a : A) (w z : List T) → starts index f1 ts ≡ false → ts ≡ front ++ rest → S p a → p ++ w ≡ front ++ z → Same rest z → ⊥
-  not_first ts front rest p a w z h parts s eq same =
-      let bad : true ≡ false = sym (starts_at index f1 p w (b1 p a s)) ∙ start_moves index f1 ts front rest (p ++ w) z false parts same eq h in absurd cc
+  not_first : (ts prefix rest p : List T) (a : A) (w z : List T) → starts index f1 ts ≡ false → ts ≡ prefix ++ rest → S p a → p ++ w ≡ prefix ++ z → Same rest z → ⊥
+  not_first ts prefix rest p a w z h parts s eq same =
+      let bad : true ≡ false = sym (starts_at index f1 p w (b1 p a s)) ∙ start_moves index f1 ts prefix rest (p ++ w) z false parts same eq h in absurd cc
 
   either_first : (ts : List T) (o : Read T A) → starts index f1 ts ≡ true → Explains index S m1 ts o → Explains index (Either S U) any_more ts o
   either_first ts (got a rest) h g = record {
-    front = g.front;
+    prefix = g.prefix;
     parts = g.parts;
     spelled = inl g.spelled;
     only = λ p b w z s free eq same. elim s [
       | inl x ↦ g.only p b w z x (free_split index m1 (m2 ++ when e2 f1) w free).0 eq same
-      | inr x ↦ absurd (not_second ts g.front rest p b w z h g.parts x free eq same)
+      | inr x ↦ absurd (not_second ts g.prefix rest p b w z h g.parts x free eq same)
     ];
   }
   either_first ts (failed e rest) h g = record {
-    front = g.front;
+    prefix = g.prefix;
     parts = g.parts;
     ending = g.ending;
     value = g.value;
     begun = inl g.begun;
     none = λ p b w z s free eq same. elim s [
       | inl x ↦ g.none p b w z x (free_split index m1 (m2 ++ when e2 f1) w free).0 eq same
-      | inr x ↦ not_second ts g.front rest p b w z h g.parts x free eq same
+      | inr x ↦ not_second ts g.prefix rest p b w z h g.parts x free eq same
     ];
   }
 
@@ -390,22 +390,22 @@ module _ {T A : Type 0} (index : T → ℕ) (S U : List T → A → Type 0) (f1 
 
   either_second : (ts : List T) (o : Read T A) → starts index f1 ts ≡ false → Explains index U m2 ts o → Explains index (Either S U) any_more ts o
   either_second ts (got a rest) h g = record {
-    front = g.front;
+    prefix = g.prefix;
     parts = g.parts;
     spelled = inr g.spelled;
     only = λ p b w z s free eq same. elim s [
-      | inl x ↦ absurd (not_first ts g.front rest p b w z h g.parts x eq same)
+      | inl x ↦ absurd (not_first ts g.prefix rest p b w z h g.parts x eq same)
       | inr x ↦ g.only p b w z x (second_free w free) eq same
     ];
   }
   either_second ts (failed e rest) h g = record {
-    front = g.front;
+    prefix = g.prefix;
     parts = g.parts;
     ending = g.ending;
     value = g.value;
     begun = inr g.begun;
     none = λ p b w z s free eq same. elim s [
-      | inl x ↦ not_first ts g.front rest p b w z h g.parts x eq same
+      | inl x ↦ not_first ts g.prefix rest p b w z h g.parts x eq same
       | inr x ↦ g.none p b w z x (second_free w free) eq same
     ];
   }
@@ -449,14 +449,14 @@ module _ {T A : Type 0} {calm : Bool} (index : T → ℕ) (S : List T → A → 
       go [] k e = absurd cc
       go (t ∷ l) k e = subst (λ (y : List T). Begins index f true y) (sym e) k
 
-  not_many : (ts front rest p : List T) (a : A) (others : List A) (w z : List T) → starts index f ts ≡ false → ts ≡ front ++ rest → Many S p (a ∷ others) → p ++ w ≡ front ++ z → Same rest z → ⊥
-  not_many ts front rest p a others w z h parts q eq same =
-      let eq1 : q.0 ++ (q.1 ++ w) ≡ front ++ z = regroup index p q.0 q.1 w (front ++ z) [] q.2 (eq ∙ sym (append-nil (front ++ z))) ∙ append-nil (front ++ z) in
-      let bad : true ≡ false = sym (starts_at index f q.0 (q.1 ++ w) (x.begins q.0 a q.3)) ∙ start_moves index f ts front rest (q.0 ++ (q.1 ++ w)) z false parts same eq1 h in absurd cc
+  not_many : (ts prefix rest p : List T) (a : A) (others : List A) (w z : List T) → starts index f ts ≡ false → ts ≡ prefix ++ rest → Many S p (a ∷ others) → p ++ w ≡ prefix ++ z → Same rest z → ⊥
+  not_many ts prefix rest p a others w z h parts q eq same =
+      let eq1 : q.0 ++ (q.1 ++ w) ≡ prefix ++ z = regroup index p q.0 q.1 w (prefix ++ z) [] q.2 (eq ∙ sym (append-nil (prefix ++ z))) ∙ append-nil (prefix ++ z) in
+      let bad : true ≡ false = sym (starts_at index f q.0 (q.1 ++ w) (x.begins q.0 a q.3)) ∙ start_moves index f ts prefix rest (q.0 ++ (q.1 ++ w)) z false parts same eq1 h in absurd cc
 
   many_stop : (ts : List T) → starts index f ts ≡ false → Got index (Many S) (f ++ m) ts [] ts
   many_stop ts h = record {
-    front = [];
+    prefix = [];
     parts = refl;
     spelled = refl;
     only = λ p v w z s free eq same. go p v w z s eq same;
@@ -466,9 +466,9 @@ module _ {T A : Type 0} {calm : Bool} (index : T → ℕ) (S : List T → A → 
       go p [] w z s eq same = (s, refl)
       go p (a ∷ others) w z s eq same = absurd (not_many ts [] ts p a others w z h refl s eq same)
 
-  not_none : (ts front rest p w z : List T) → starts index f ts ≡ true → ts ≡ front ++ rest → p ≡ [] → starts index (f ++ m) w ≡ false → p ++ w ≡ front ++ z → Same rest z → ⊥
-  not_none ts front rest p w z h parts e free eq same =
-      let bad : false ≡ true = sym (free_split index f m w free).0 ∙ start_moves index f ts front rest w z true parts same (nil_parts p w (front ++ z) e eq) h in absurd cc
+  not_none : (ts prefix rest p w z : List T) → starts index f ts ≡ true → ts ≡ prefix ++ rest → p ≡ [] → starts index (f ++ m) w ≡ false → p ++ w ≡ prefix ++ z → Same rest z → ⊥
+  not_none ts prefix rest p w z h parts e free eq same =
+      let bad : false ≡ true = sym (free_split index f m w free).0 ∙ start_moves index f ts prefix rest w z true parts same (nil_parts p w (prefix ++ z) e eq) h in absurd cc
 
   many_more : List ℕ
   many_more = (f ++ m) ++ m
@@ -482,31 +482,31 @@ module _ {T A : Type 0} {calm : Bool} (index : T → ℕ) (S : List T → A → 
 
   many_cons : (ts : List T) (o : Read T (A × List A)) → starts index f ts ≡ true → Explains index (Seq S (Many S)) ((f ++ m) ++ m) ts o → Explains index (Many S) (f ++ m) ts (o >>= λ v. got (v.0.0 ∷ v.0.1) v.1)
   many_cons ts (got v rest) h g = record {
-    front = g.front;
+    prefix = g.prefix;
     parts = g.parts;
-    spelled = to_many g.front v g.spelled;
+    spelled = to_many g.prefix v g.spelled;
     only = go;
   }
     where
-      go : (p : List T) (b : List A) (w z : List T) → Many S p b → starts index (f ++ m) w ≡ false → p ++ w ≡ g.front ++ z → Same rest z → (p ≡ g.front) × (b ≡ v.0 ∷ v.1)
-      go p [] w z s free eq same = absurd (not_none ts g.front rest p w z h g.parts s free eq same)
+      go : (p : List T) (b : List A) (w z : List T) → Many S p b → starts index (f ++ m) w ≡ false → p ++ w ≡ g.prefix ++ z → Same rest z → (p ≡ g.prefix) × (b ≡ v.0 ∷ v.1)
+      go p [] w z s free eq same = absurd (not_none ts g.prefix rest p w z h g.parts s free eq same)
       go p (a ∷ others) w z s free eq same = let k = g.only p (a, others) w z (from_many p a others s) (enough w free) eq same in (k.0, ap (λ (y : A × List A). y.0 ∷ y.1) k.1)
   many_cons ts (failed e rest) h g = record {
-    front = g.front;
+    prefix = g.prefix;
     parts = g.parts;
     ending = g.ending;
     value = g.value.0 ∷ g.value.1;
-    begun = to_many (g.front ++ g.ending) g.value g.begun;
+    begun = to_many (g.prefix ++ g.ending) g.value g.begun;
     none = go;
   }
     where
-      go : (p : List T) (b : List A) (w z : List T) → Many S p b → starts index (f ++ m) w ≡ false → p ++ w ≡ g.front ++ z → Same rest z → ⊥
-      go p [] w z s free eq same = not_none ts g.front rest p w z h g.parts s free eq same
+      go : (p : List T) (b : List A) (w z : List T) → Many S p b → starts index (f ++ m) w ≡ false → p ++ w ≡ g.prefix ++ z → Same rest z → ⊥
+      go p [] w z s free eq same = not_none ts g.prefix rest p w z h g.parts s free eq same
       go p (a ∷ others) w z s free eq same = g.none p (a, others) w z (from_many p a others s) (enough w free) eq same
 
-  shorter : (n : ℕ) (ts front rest : List T) → length ts ≤ suc n → ts ≡ front ++ rest → Begins index f false front → length rest ≤ n
+  shorter : (n : ℕ) (ts prefix rest : List T) → length ts ≤ suc n → ts ≡ prefix ++ rest → Begins index f false prefix → length rest ≤ n
   shorter n ts [] rest le e b = absurd cc
-  shorter n ts (t ∷ front) rest le e b = omega (arith, ap length e, length-append front rest)
+  shorter n ts (t ∷ prefix) rest le e b = omega (arith, ap length e, length-append prefix rest)
 
   abbrev pairs : Read T A → (List T → Read T (List A)) → Read T (A × List A)
   pairs o s = o >>= λ y. s y.1 >>= λ z. got (y.0, z.0) z.1
@@ -529,7 +529,7 @@ module _ {T A : Type 0} {calm : Bool} (index : T → ℕ) (S : List T → A → 
   explain_many : (n : ℕ) (ts : List T) → length ts ≤ n → length ts ≤ k → Explains index (Many S) (f ++ m) ts (many_at index f r n ts)
   explain_many zero [] le lk = many_stop [] refl
   explain_many zero (t ∷ ts) le lk = absurd (omega arith)
-  explain_many (suc n) ts le lk = many_step ts lk (many_at index f r n) (λ a rest g. explain_many n rest (shorter n ts g.front rest le g.parts (x.begins g.front a g.spelled)) (omega (arith, ap length g.parts, length-append g.front rest))) (starts index f ts) refl
+  explain_many (suc n) ts le lk = many_step ts lk (many_at index f r n) (λ a rest g. explain_many n rest (shorter n ts g.prefix rest le g.parts (x.begins g.prefix a g.spelled)) (omega (arith, ap length g.parts, length-append g.prefix rest))) (starts index f ts) refl
 
 pub many_reads : {T A : Type 0} {index : T → ℕ} {S : List T → A → Type 0} {r : List T → Read T A} {f m : List ℕ} {n : ℕ} {c : Bool} → Reads n c index S r f false m → apart f m ≡ true → Reads n c index (Many S) (many index f r) f true (f ++ m)
 many_reads {index} {S} {r} {f} {m} {n} x far = record {
@@ -574,7 +574,7 @@ no_tokens index first (t ∷ p) w z b e h = subst (λ (y : List _). Same [] y) (
 -- without tokens a phrase of one token or more fails
 pub zero_reads : {T A : Type 0} (index : T → ℕ) (S : List T → A → Type 0) (first more : List ℕ) (text : List T) (value : A) → S text value → ((p : List T) (a : A) → S p a → Begins index first false p) → Reads 0 false index S (λ ts. failed false ts) first false more
 zero_reads {T} index S first more text value example begins = record {
-  explains = λ ts le. record { front = []; parts = refl; ending = text; value = value; begun = example; none = λ p b w z s free eq same. no_tokens index first p w z (begins p b s) eq (subst (λ (y : List _). Same y z) (nil_of ts le) same) };
+  explains = λ ts le. record { prefix = []; parts = refl; ending = text; value = value; begun = example; none = λ p b w z s free eq same. no_tokens index first p w z (begins p b s) eq (subst (λ (y : List _). Same y z) (nil_of ts le) same) };
   begins = begins;
   text = text;
   value = value;
@@ -589,7 +589,7 @@ zero_reads {T} index S first more text value example begins = record {
 -- without tokens a phrase of no token is read
 pub empty_reads : {T A : Type 0} (index : T → ℕ) (S : List T → A → Type 0) (first more : List ℕ) (value : A) → S [] value → ((a : A) → S [] a → a ≡ value) → ((p : List T) (a : A) → S p a → Begins index first true p) → Reads 0 true index S (λ ts. got value ts) first true more
 empty_reads {T} {A} index S first more value example alone begins = record {
-  explains = λ ts le. record { front = []; parts = refl; spelled = example; only = λ p b w z s free eq same. only_one ts p b w z le s eq same };
+  explains = λ ts le. record { prefix = []; parts = refl; spelled = example; only = λ p b w z s free eq same. only_one ts p b w z le s eq same };
   begins = begins;
   text = [];
   value = value;
@@ -620,7 +620,7 @@ flagged_reads {T} {A} {index} {S} {r} {first} {more} {n} x = record {
     go : (ts : List T) (b : Bool) → starts index first ts ≡ b → Explains index S more ts (r ts) → Explains index S more ts (cond b (r ts) (failed true ts))
     go ts true h e = e
     go ts false h e = record {
-      front = [];
+      prefix = [];
       parts = refl;
       ending = x.text;
       value = x.value;
@@ -695,7 +695,7 @@ module _ {T A : Type 0} {calm calm2 : Bool} (index : T → ℕ) (C : List T → 
   empty_tail p w (t ∷ z) v h eq same = absurd same
 
   tail_stop : Got index (Tail C S) tail_more [] [] []
-  tail_stop = record { front = []; parts = refl; spelled = inl refl; only = λ p v w z s free eq same. empty_tail p w z v s eq same }
+  tail_stop = record { prefix = []; parts = refl; spelled = inl refl; only = λ p v w z s free eq same. empty_tail p w z v s eq same }
 
   abbrev outer_more : List ℕ
   outer_more = (((tail_more ++ m) ++ ([] ++ f)) ++ mc) ++ ([] ++ fc)
@@ -709,12 +709,12 @@ module _ {T A : Type 0} {calm calm2 : Bool} (index : T → ℕ) (C : List T → 
       let j = has_split m mc n l.1 in
       has_join (((tail_more ++ m) ++ f) ++ mc) fc n (has_join ((tail_more ++ m) ++ f) mc n (has_join (tail_more ++ m) f n (has_join tail_more m n h j.0) l.0) j.1) k.0
 
-  front_begins : (set : List ℕ) (p l q : List T) → p ≡ l ++ q → Begins index set false l → Begins index set false p
-  front_begins set p [] q e b = absurd cc
-  front_begins set p (t ∷ l) q e b = subst (λ (y : List T). Begins index set false y) (sym e) b
+  prefix_begins : (set : List ℕ) (p l q : List T) → p ≡ l ++ q → Begins index set false l → Begins index set false p
+  prefix_begins set p [] q e b = absurd cc
+  prefix_begins set p (t ∷ l) q e b = subst (λ (y : List T). Begins index set false y) (sym e) b
 
   item_begins : (p : List T) (v : List A) → Image cons_of (Seq S (Tail C S)) p v → Begins index f false p
-  item_begins p v s = front_begins f p s.spelled.left s.spelled.right s.spelled.parts (y.begins s.spelled.left s.value.0 s.spelled.first)
+  item_begins p v s = prefix_begins f p s.spelled.left s.spelled.right s.spelled.parts (y.begins s.spelled.left s.value.0 s.spelled.first)
 
   no_begins : (p : List T) (v : List A) → Nothing [] p v → Begins index [] true p
   no_begins p v s = subst (λ (l : List T). Begins index [] true l) (sym s.none) refl
@@ -723,12 +723,12 @@ module _ {T A : Type 0} {calm calm2 : Bool} (index : T → ℕ) (C : List T → 
   next_begins = either_begins index (Image cons_of (Seq S (Tail C S))) (Nothing []) f [] [] [] true item_begins no_begins (apart_nil f)
 
   sep_begins : (p : List T) (v : List A) → Image (λ v. v.1) (Seq C Next) p v → Begins index fc false p
-  sep_begins p v s = front_begins fc p s.spelled.left s.spelled.right s.spelled.parts (x.begins s.spelled.left tt s.spelled.first)
+  sep_begins p v s = prefix_begins fc p s.spelled.left s.spelled.right s.spelled.parts (x.begins s.spelled.left tt s.spelled.first)
 
   next_explains : (n : ℕ) → ((ts : List T) → length ts ≤ n → length ts ≤ k → Explains index (Tail C S) tail_more ts (tail_at index fc f c r n ts)) → (ts : List T) → length ts ≤ n → length ts ≤ k → Explains index Next ((tail_more ++ m) ++ ([] ++ f)) ts (either index f (image cons_of (seq r (tail_at index fc f c r n))) (nothing []) ts)
   next_explains n below ts le lk =
       either_explains index (Image cons_of (Seq S (Tail C S))) (Nothing []) f [] (tail_more ++ m) [] true item_begins no_begins (apart_nil f) ts (starts index f ts) _ _ refl
-      (explain_image index cons_of (Seq S (Tail C S)) (tail_more ++ m) ts (seq r (tail_at index fc f c r n) ts) (explain_seq index S (Tail C S) m fc tail_more true ts (r ts) (tail_at index fc f c r n) [] [] (inl refl) tail_begins far (y.explains ts lk) (λ a rest g. below rest (omega (arith, ap length g.parts, length-append g.front rest)) (omega (arith, ap length g.parts, length-append g.front rest)))))
+      (explain_image index cons_of (Seq S (Tail C S)) (tail_more ++ m) ts (seq r (tail_at index fc f c r n) ts) (explain_seq index S (Tail C S) m fc tail_more true ts (r ts) (tail_at index fc f c r n) [] [] (inl refl) tail_begins far (y.explains ts lk) (λ a rest g. below rest (omega (arith, ap length g.parts, length-append g.prefix rest)) (omega (arith, ap length g.parts, length-append g.prefix rest)))))
       ((nothing_reads index k []).explains ts lk)
 
   explain_tail : (n : ℕ) (ts : List T) → length ts ≤ n → length ts ≤ k → Explains index (Tail C S) tail_more ts (tail_at index fc f c r n ts)
@@ -736,7 +736,7 @@ module _ {T A : Type 0} {calm calm2 : Bool} (index : T → ℕ) (C : List T → 
   explain_tail zero (t ∷ ts) le lk = absurd (omega arith)
   explain_tail (suc n) ts le lk =
       let next : List T → Read T (List A) = either index f (image cons_of (seq r (tail_at index fc f c r n))) (nothing []) in
-      let inner = explain_seq index C Next mc (f ++ []) ((tail_more ++ m) ++ ([] ++ f)) true ts (c ts) next [] [] (inr (record { none = refl; value = refl })) next_begins (subst (λ (l : List ℕ). apart l mc ≡ true) (sym (append-nil f)) near) (x.explains ts lk) (λ a rest g. next_explains n (explain_tail n) rest (shorter_by index fc n ts g.front rest le g.parts (x.begins g.front tt g.spelled)) (omega (arith, ap length g.parts, length-append g.front rest))) in
+      let inner = explain_seq index C Next mc (f ++ []) ((tail_more ++ m) ++ ([] ++ f)) true ts (c ts) next [] [] (inr (record { none = refl; value = refl })) next_begins (subst (λ (l : List ℕ). apart l mc ≡ true) (sym (append-nil f)) near) (x.explains ts lk) (λ a rest g. next_explains n (explain_tail n) rest (shorter_by index fc n ts g.prefix rest le g.parts (x.begins g.prefix tt g.spelled)) (omega (arith, ap length g.parts, length-append g.prefix rest))) in
       let outer = either_explains index (Image (λ v. v.1) (Seq C Next)) (Nothing []) fc [] (((tail_more ++ m) ++ ([] ++ f)) ++ mc) [] true sep_begins no_begins (apart_nil fc) ts (starts index fc ts) (image (λ v. v.1) (seq c next) ts) (nothing [] ts) refl
       (explain_image index (λ v. v.1) (Seq C Next) (((tail_more ++ m) ++ ([] ++ f)) ++ mc) ts (seq c next ts) inner)
       ((nothing_reads index k []).explains ts lk) in
@@ -760,5 +760,5 @@ tail_reads {index} {C} {c} {fc} {S} {r} {f} {m} {n} {b} {d} x y far = subst (λ 
 
 pub reads_whole : {T A : Type 0} {index : T → ℕ} {S : List T → A → Type 0} {more : List ℕ} (ts : List T) (a : A) → Got index S more ts a [] → S ts a × ((b : A) → S ts b → b ≡ a)
 reads_whole {index} {S} ts a g =
-    let whole : ts ≡ g.front = g.parts ∙ append-nil g.front in
+    let whole : ts ≡ g.prefix = g.parts ∙ append-nil g.prefix in
     (subst (λ (x : List _). S x a) (sym whole) g.spelled, λ b s. (g.only ts b [] [] s refl (append-nil ts ∙ g.parts) tt).1)

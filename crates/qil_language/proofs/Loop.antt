@@ -6,9 +6,9 @@ use Rattle.qil_language.specs.Language.{One, Many}
 use Rattle.qil_language.specs.Reads.{Reads, Got, Explains, Begins, Takes}
 use Rattle.qil_language.proofs.Law.{known_is, head_is}
 
-front_shorter : {T : Type 0} (index : T → ℕ) (f : List ℕ) (ts front rest : List T) → ts ≡ front ++ rest → Begins index f false front → length rest < length ts
-front_shorter index f ts [] rest e b = absurd cc
-front_shorter index f ts (t ∷ front) rest e b = omega (arith, ap length e, length-append front rest)
+prefix_shorter : {T : Type 0} (index : T → ℕ) (f : List ℕ) (ts prefix rest : List T) → ts ≡ prefix ++ rest → Begins index f false prefix → length rest < length ts
+prefix_shorter index f ts [] rest e b = absurd cc
+prefix_shorter index f ts (t ∷ prefix) rest e b = omega (arith, ap length e, length-append prefix rest)
 
 pub takes_by : {T A : Type 0} {index : T → ℕ} {S : List T → A → Type 0} {r : List T → Read T A} {first more : List ℕ} {c : Bool} → ((n : ℕ) → Reads n c index S r first false more) → Takes r
 takes_by {T} {A} {index} {S} {r} {first} {more} x = record { fewer = go }
@@ -16,18 +16,18 @@ takes_by {T} {A} {index} {S} {r} {first} {more} x = record { fewer = go }
     go : (ts : List T) (a : A) (rest : List T) → r ts ≡ got a rest → length rest < length ts
     go ts a rest e =
         let g : Got index S more ts a rest = subst (λ (o : Read T A). Explains index S more ts o) e ((x (length ts)).explains ts (omega arith)) in
-        front_shorter index first ts g.front rest g.parts ((x 0).begins g.front a g.spelled)
+        prefix_shorter index first ts g.prefix rest g.parts ((x 0).begins g.prefix a g.spelled)
 
 -- what was read before, and what is still read
-abbrev pub with_front : {T A : Type 0} → List A → Read T (List A) → Read T (List A)
-with_front front o = o >>= λ x. got (front ++ x.0) x.1
+abbrev pub with_prefix : {T A : Type 0} → List A → Read T (List A) → Read T (List A)
+with_prefix prefix o = o >>= λ x. got (prefix ++ x.0) x.1
 
 abbrev pub cons_at : {T A : Type 0} → A → Read T (List A) → Read T (List A)
 cons_at a o = o >>= λ x. got (a ∷ x.0) x.1
 
-pub regroup : {T A : Type 0} (front : List A) (a : A) (o : Read T (List A)) → with_front front (cons_at a o) ≡ with_front (front ++ a ∷ []) o
-regroup front a (got others rest) = ap (λ (l : List _). got l rest) (sym (append_assoc front (a ∷ []) others))
-regroup front a (failed e rest) = refl
+pub regroup : {T A : Type 0} (prefix : List A) (a : A) (o : Read T (List A)) → with_prefix prefix (cons_at a o) ≡ with_prefix (prefix ++ a ∷ []) o
+regroup prefix a (got others rest) = ap (λ (l : List _). got l rest) (sym (append_assoc prefix (a ∷ []) others))
+regroup prefix a (failed e rest) = refl
 
 module _ {T A : Type 0} (index : T → ℕ) (set : List ℕ) (r : List T → Read T A) (takes : Takes r) where
   abbrev then_many : Read T A → (List T → Read T (List A)) → Read T (List A)
@@ -54,24 +54,24 @@ module _ {T A : Type 0} (index : T → ℕ) (set : List ℕ) (r : List T → Rea
   pub unrolled : (ts : List T) → many index set r ts ≡ cond (starts index set ts) (then_many (r ts) (many index set r)) (got [] ts)
   unrolled ts = many_fuel (length ts) (suc (length ts)) ts (omega arith) (omega arith) ∙ many_at_more (length ts) ts (omega arith)
 
-  pub many_goes_on : (front : List A) (ts : List T) (a : A) (rest : List T) (total : Read T (List A)) → starts index set ts ≡ true → r ts ≡ got a rest → with_front front (many index set r ts) ≡ total → with_front (front ++ a ∷ []) (many index set r rest) ≡ total
-  many_goes_on front ts a rest total h e so_far =
+  pub many_goes_on : (prefix : List A) (ts : List T) (a : A) (rest : List T) (total : Read T (List A)) → starts index set ts ≡ true → r ts ≡ got a rest → with_prefix prefix (many index set r ts) ≡ total → with_prefix (prefix ++ a ∷ []) (many index set r rest) ≡ total
+  many_goes_on prefix ts a rest total h e so_far =
       let one : many index set r ts ≡ cons_at a (many index set r rest) = unrolled ts ∙ rw (h, e) refl in
-      sym (ap (with_front front) one ∙ regroup front a (many index set r rest)) ∙ so_far
+      sym (ap (with_prefix prefix) one ∙ regroup prefix a (many index set r rest)) ∙ so_far
 
-  pub many_fails : (front : List A) (ts : List T) (k : Bool) (rest : List T) (total : Read T (List A)) → starts index set ts ≡ true → r ts ≡ failed k rest → with_front front (many index set r ts) ≡ total → total ≡ failed k rest
-  many_fails front ts k rest total h e so_far =
+  pub many_fails : (prefix : List A) (ts : List T) (k : Bool) (rest : List T) (total : Read T (List A)) → starts index set ts ≡ true → r ts ≡ failed k rest → with_prefix prefix (many index set r ts) ≡ total → total ≡ failed k rest
+  many_fails prefix ts k rest total h e so_far =
       let one : many index set r ts ≡ failed k rest = unrolled ts ∙ rw (h, e) refl in
-      sym so_far ∙ ap (with_front front) one
+      sym so_far ∙ ap (with_prefix prefix) one
 
-  pub many_stops : (front : List A) (ts : List T) (total : Read T (List A)) → starts index set ts ≡ false → with_front front (many index set r ts) ≡ total → total ≡ got front ts
-  many_stops front ts total h so_far =
+  pub many_stops : (prefix : List A) (ts : List T) (total : Read T (List A)) → starts index set ts ≡ false → with_prefix prefix (many index set r ts) ≡ total → total ≡ got prefix ts
+  many_stops prefix ts total h so_far =
       let one : many index set r ts ≡ got [] ts = unrolled ts ∙ rw h refl in
-      sym so_far ∙ ap (with_front front) one ∙ ap (λ (l : List A). got l ts) (append-nil front)
+      sym so_far ∙ ap (with_prefix prefix) one ∙ ap (λ (l : List A). got l ts) (append-nil prefix)
 
 -- ---- the same, where only how far they go counts
 
--- many phrases, whatever they stand for
+-- many phrases, whatever they represent
 abbrev pub past : {T A : Type 0} → (T → ℕ) → List ℕ → (List T → Read T A) → List T → Read T (Unit {0})
 past index set r = image (λ v. tt) (many index set r)
 
@@ -157,33 +157,33 @@ module _ {T A : Type 0} (index : T → ℕ) (sep set : List ℕ) (c : List T →
       tail_fuel (length ts) (suc (length ts)) ts (omega arith) (omega arith)
       ∙ ap (λ (o : Read T (List A)). cond (starts index sep ts) o (got [] ts)) (same_sep (c ts) (items_then (tail_at index sep set c r (length ts))) separated (λ rest e. same_items rest (tail_at index sep set c r (length ts)) (tail index sep set c r) (λ after lt. tail_fuel (length ts) (length after) after (omega (arith, takes_sep.fewer ts tt rest e)) (omega arith))))
 
-  pub separated_goes_on : (front : List A) (ts : List T) (a : A) (rest after : List T) (total : Read T (List A)) → starts index set ts ≡ true → r ts ≡ got a rest → starts index sep rest ≡ true → c rest ≡ got tt after → with_front front (separated ts) ≡ total → with_front (front ++ a ∷ []) (separated after) ≡ total
-  separated_goes_on front ts a rest after total h e k f so_far =
+  pub separated_goes_on : (prefix : List A) (ts : List T) (a : A) (rest after : List T) (total : Read T (List A)) → starts index set ts ≡ true → r ts ≡ got a rest → starts index sep rest ≡ true → c rest ≡ got tt after → with_prefix prefix (separated ts) ≡ total → with_prefix (prefix ++ a ∷ []) (separated after) ≡ total
+  separated_goes_on prefix ts a rest after total h e k f so_far =
       let two : tail index sep set c r rest ≡ separated after = tail_again rest ∙ rw (k, f) (after_pair_is (separated after)) in
       let one : separated ts ≡ cons_at a (separated after) = rw (h, e) (cons_pair_is a (tail index sep set c r rest) ∙ ap (cons_at a) two) in
-      sym (ap (with_front front) one ∙ regroup front a (separated after)) ∙ so_far
+      sym (ap (with_prefix prefix) one ∙ regroup prefix a (separated after)) ∙ so_far
 
-  pub separated_last : (front : List A) (ts : List T) (a : A) (rest : List T) (total : Read T (List A)) → starts index set ts ≡ true → r ts ≡ got a rest → starts index sep rest ≡ false → with_front front (separated ts) ≡ total → total ≡ got (front ++ a ∷ []) rest
-  separated_last front ts a rest total h e k so_far =
+  pub separated_last : (prefix : List A) (ts : List T) (a : A) (rest : List T) (total : Read T (List A)) → starts index set ts ≡ true → r ts ≡ got a rest → starts index sep rest ≡ false → with_prefix prefix (separated ts) ≡ total → total ≡ got (prefix ++ a ∷ []) rest
+  separated_last prefix ts a rest total h e k so_far =
       let two : tail index sep set c r rest ≡ got [] rest = tail_again rest ∙ rw k refl in
       let one : separated ts ≡ got (a ∷ []) rest = rw (h, e) (cons_pair_is a (tail index sep set c r rest) ∙ ap (cons_at a) two) in
-      sym so_far ∙ ap (with_front front) one
+      sym so_far ∙ ap (with_prefix prefix) one
 
-  pub separated_fails : (front : List A) (ts : List T) (b : Bool) (rest : List T) (total : Read T (List A)) → starts index set ts ≡ true → r ts ≡ failed b rest → with_front front (separated ts) ≡ total → total ≡ failed b rest
-  separated_fails front ts b rest total h e so_far =
+  pub separated_fails : (prefix : List A) (ts : List T) (b : Bool) (rest : List T) (total : Read T (List A)) → starts index set ts ≡ true → r ts ≡ failed b rest → with_prefix prefix (separated ts) ≡ total → total ≡ failed b rest
+  separated_fails prefix ts b rest total h e so_far =
       let one : separated ts ≡ failed b rest = rw (h, e) refl in
-      sym so_far ∙ ap (with_front front) one
+      sym so_far ∙ ap (with_prefix prefix) one
 
-  pub separated_breaks : (front : List A) (ts : List T) (a : A) (rest : List T) (b : Bool) (us : List T) (total : Read T (List A)) → starts index set ts ≡ true → r ts ≡ got a rest → starts index sep rest ≡ true → c rest ≡ failed b us → with_front front (separated ts) ≡ total → total ≡ failed b us
-  separated_breaks front ts a rest b us total h e k f so_far =
+  pub separated_breaks : (prefix : List A) (ts : List T) (a : A) (rest : List T) (b : Bool) (us : List T) (total : Read T (List A)) → starts index set ts ≡ true → r ts ≡ got a rest → starts index sep rest ≡ true → c rest ≡ failed b us → with_prefix prefix (separated ts) ≡ total → total ≡ failed b us
+  separated_breaks prefix ts a rest b us total h e k f so_far =
       let two : tail index sep set c r rest ≡ failed b us = tail_again rest ∙ rw (k, f) refl in
       let one : separated ts ≡ failed b us = rw (h, e) (cons_pair_is a (tail index sep set c r rest) ∙ ap (cons_at a) two) in
-      sym so_far ∙ ap (with_front front) one
+      sym so_far ∙ ap (with_prefix prefix) one
 
-  pub separated_stops : (front : List A) (ts : List T) (total : Read T (List A)) → starts index set ts ≡ false → with_front front (separated ts) ≡ total → total ≡ got front ts
-  separated_stops front ts total h so_far =
+  pub separated_stops : (prefix : List A) (ts : List T) (total : Read T (List A)) → starts index set ts ≡ false → with_prefix prefix (separated ts) ≡ total → total ≡ got prefix ts
+  separated_stops prefix ts total h so_far =
       let one : separated ts ≡ got [] ts = rw h refl in
-      sym so_far ∙ ap (with_front front) one ∙ ap (λ (l : List A). got l ts) (append-nil front)
+      sym so_far ∙ ap (with_prefix prefix) one ∙ ap (λ (l : List A). got l ts) (append-nil prefix)
 
 -- ---- one token for each item
 

@@ -13,7 +13,7 @@ same_refl (t ∷ ts) = refl
 complete_at : {T A : Type 0} (index : T → ℕ) (S : List T → A → Type 0) (more : List ℕ) (ts p w : List T) (a : A) (o : Read T A) → ts ≡ p ++ w → S p a → starts index more w ≡ false → Explains index S more ts o → o ≡ got a w
 complete_at index S more ts p w a (got b rest) e s free g =
     let k = g.only p a w rest s free (sym e ∙ g.parts) (same_refl rest) in
-    let same : w ≡ rest = append_cancel_left g.front w rest (ap (λ (x : List _). x ++ w) (sym k.0) ∙ sym e ∙ g.parts) in
+    let same : w ≡ rest = append_cancel_left g.prefix w rest (ap (λ (x : List _). x ++ w) (sym k.0) ∙ sym e ∙ g.parts) in
     ap (λ (x : _). got x rest) (sym k.1) ∙ ap (λ (x : List _). got a x) (sym same)
 complete_at index S more ts p w a (failed b rest) e s free g = absurd (g.none p a w rest s free (sym e ∙ g.parts) (same_refl rest))
 
@@ -54,7 +54,7 @@ module _ {T A B : Type 0} (index : T → ℕ) (S : List T → A → Type 0) (O :
   then_opens : (ts : List T) (o : Read T A) → Explains index S m1 ts o → Quiet o → ((a : A) (us : List T) → Got index S m1 ts a us → length us ≤ n) → seq_with o s ≡ failed true rest → (p : List T) × (ts ≡ p ++ rest) × Then S O p
   then_opens ts (got a us) g q le e =
       let k = below us (le a us g) (bind_failed (s us) (λ y. (a, y.0)) rest e) in
-      (g.front ++ k.0, g.parts ∙ ap (λ (x : List T). g.front ++ x) k.1 ∙ sym (append_assoc g.front k.0 rest), record { left = g.front; right = k.0; parts = refl; value = a; first = g.spelled; second = k.2 })
+      (g.prefix ++ k.0, g.parts ∙ ap (λ (x : List T). g.prefix ++ x) k.1 ∙ sym (append_assoc g.prefix k.0 rest), record { left = g.prefix; right = k.0; parts = refl; value = a; first = g.spelled; second = k.2 })
   then_opens ts (failed k us) g q le e = let x : k ≡ true = cc in let bad : true ≡ false = sym x ∙ q in absurd cc
 
 seq_at : {T A B : Type 0} (o : Read T A) (s : List T → Read T B) (a : A) (us rest : List T) → o ≡ got a us → s us ≡ failed true rest → seq_with o s ≡ failed true rest
@@ -79,11 +79,11 @@ module _ {T A B : Type 0} {index : T → ℕ} {S : List T → A → Type 0} {O :
   }
 
 pub seq_marks : {T A B : Type 0} {index : T → ℕ} {S : List T → A → Type 0} {O : List T → Type 0} {r : List T → Read T A} {s : List T → Read T B} {f1 f2 m1 ends : List ℕ} {e1 e2 : Bool} {n : ℕ} → Reads n true index S r f1 e1 m1 → Marks n index O s f2 e2 ends → apart f2 m1 ≡ true → apart ends m1 ≡ true → Marks n index (Then S O) (seq r s) (f1 ++ when e1 f2) (e1 && e2) ends
-seq_marks x y far away = seq_marks_by x y far away (λ ts a us le g. omega (arith, ap length g.parts, length-append g.front us))
+seq_marks x y far away = seq_marks_by x y far away (λ ts a us le g. omega (arith, ap length g.parts, length-append g.prefix us))
 
 -- the second has fewer tokens left
 pub marks_after : {T A B : Type 0} {index : T → ℕ} {S : List T → A → Type 0} {O : List T → Type 0} {r : List T → Read T A} {s : List T → Read T B} {f1 f2 m1 ends : List ℕ} {e2 : Bool} {n : ℕ} → Reads (suc n) true index S r f1 false m1 → Marks n index O s f2 e2 ends → apart f2 m1 ≡ true → apart ends m1 ≡ true → Marks (suc n) index (Then S O) (seq r s) (f1 ++ []) false ends
-marks_after {index} {f1} {n} x y far away = seq_marks_by x y far away (λ ts a us le g. shorter_by index f1 n ts g.front us le g.parts (x.begins g.front a g.spelled))
+marks_after {index} {f1} {n} x y far away = seq_marks_by x y far away (λ ts a us le g. shorter_by index f1 n ts g.prefix us le g.parts (x.begins g.prefix a g.spelled))
 
 -- ---- O, and what comes after it in the phrase
 
@@ -187,20 +187,20 @@ module _ {T A : Type 0} {index : T → ℕ} {O P : List T → Type 0} {r s : Lis
 -- ---- any number, and then O in the next
 
 module _ {T A : Type 0} {c : Bool} {index : T → ℕ} {S : List T → A → Type 0} {O : List T → Type 0} {r : List T → Read T A} {f m ends : List ℕ} {n : ℕ} (x : Reads n c index S r f false m) (y : Marks n index O r f false ends) (far : apart f m ≡ true) where
-  starts_front : (p w : List T) → Begins index f false p → starts index f (p ++ w) ≡ true
-  starts_front [] w b = absurd cc
-  starts_front (t ∷ p) w b = b
+  starts_prefix : (p w : List T) → Begins index f false p → starts index f (p ++ w) ≡ true
+  starts_prefix [] w b = absurd cc
+  starts_prefix (t ∷ p) w b = b
 
   cons_then : (ts rest : List T) (a : A) (us : List T) → Got index S m ts a us → (p : List T) × (us ≡ p ++ rest) × Then (Many S) O p → (p : List T) × (ts ≡ p ++ rest) × Then (Many S) O p
   cons_then ts rest a us g k = (
-    g.front ++ k.0,
-    g.parts ∙ ap (λ (l : List T). g.front ++ l) k.1 ∙ sym (append_assoc g.front k.0 rest),
+    g.prefix ++ k.0,
+    g.parts ∙ ap (λ (l : List T). g.prefix ++ l) k.1 ∙ sym (append_assoc g.prefix k.0 rest),
     record {
-      left = g.front ++ k.2.left;
+      left = g.prefix ++ k.2.left;
       right = k.2.right;
-      parts = ap (λ (l : List T). g.front ++ l) k.2.parts ∙ sym (append_assoc g.front k.2.left k.2.right);
+      parts = ap (λ (l : List T). g.prefix ++ l) k.2.parts ∙ sym (append_assoc g.prefix k.2.left k.2.right);
       value = a ∷ k.2.value;
-      first = (g.front, k.2.left, refl, g.spelled, k.2.first);
+      first = (g.prefix, k.2.left, refl, g.spelled, k.2.first);
       second = k.2.second;
     },
   )
@@ -217,7 +217,7 @@ module _ {T A : Type 0} {c : Bool} {index : T → ℕ} {S : List T → A → Typ
 
   many_at_opens : (k : ℕ) (ts rest : List T) → length ts ≤ n → many_at index f r k ts ≡ failed true rest → (p : List T) × (ts ≡ p ++ rest) × Then (Many S) O p
   many_at_opens zero ts rest le e = absurd cc
-  many_at_opens (suc k) ts rest le e = cond_opens ts rest (many_at index f r k) le (starts index f ts) (λ a us g h. many_at_opens k us rest (omega (arith, ap length g.parts, length-append g.front us)) h) e
+  many_at_opens (suc k) ts rest le e = cond_opens ts rest (many_at index f r k) le (starts index f ts) (λ a us g h. many_at_opens k us rest (omega (arith, ap length g.parts, length-append g.prefix us)) h) e
 
   starts_step : (k : ℕ) (ts rest : List T) → starts index f ts ≡ true → r ts ≡ failed true rest → many_at index f r (suc k) ts ≡ failed true rest
   starts_step k ts rest h e = rw (h, e) refl
@@ -227,31 +227,31 @@ module _ {T A : Type 0} {c : Bool} {index : T → ℕ} {S : List T → A → Typ
 
   items_begin : (left right : List T) (vs : List A) → Many S left vs → O right → Begins index f false (left ++ right)
   items_begin left right [] s o = subst (λ (l : List T). Begins index f false (l ++ right)) (sym s) (y.begins right o)
-  items_begin left right (a ∷ others) s o = subst (λ (l : List T). Begins index f false (l ++ right)) (sym s.2) (front s.0 (x.begins s.0 a s.3))
+  items_begin left right (a ∷ others) s o = subst (λ (l : List T). Begins index f false (l ++ right)) (sym s.2) (prefix s.0 (x.begins s.0 a s.3))
     where
-      front : (l : List T) → Begins index f false l → Begins index f false ((l ++ s.1) ++ right)
-      front [] b = absurd cc
-      front (t ∷ l) b = b
+      prefix : (l : List T) → Begins index f false l → Begins index f false ((l ++ s.1) ++ right)
+      prefix [] b = absurd cc
+      prefix (t ∷ l) b = b
 
   many_at_stops : (k : ℕ) (left right : List T) (t : T) (after : List T) (vs : List A) → length (left ++ (right ++ t ∷ after)) ≤ k → length (left ++ (right ++ t ∷ after)) ≤ n → has ends (index t) ≡ true → Many S left vs → O right → many_at index f r k (left ++ (right ++ t ∷ after)) ≡ failed true (t ∷ after)
   many_at_stops zero left right t after vs lk le h s o = absurd (omega (arith, lk, length-append left (right ++ t ∷ after), length-append right (t ∷ after)))
   many_at_stops (suc k) left right t after [] lk le h s o =
       let e : left ++ (right ++ t ∷ after) ≡ right ++ t ∷ after = ap (λ (l : List T). l ++ (right ++ t ∷ after)) s in
-      ap (many_at index f r (suc k)) e ∙ starts_step k (right ++ t ∷ after) (t ∷ after) (starts_front right (t ∷ after) (y.begins right o)) (y.stops right t after (subst (λ (l : List T). length l ≤ n) e le) h o)
+      ap (many_at index f r (suc k)) e ∙ starts_step k (right ++ t ∷ after) (t ∷ after) (starts_prefix right (t ∷ after) (y.begins right o)) (y.stops right t after (subst (λ (l : List T). length l ≤ n) e le) h o)
   many_at_stops (suc k) left right t after (a ∷ others) lk le h s o =
       let z : List T = right ++ t ∷ after in
       let e : left ++ (right ++ t ∷ after) ≡ s.0 ++ (s.1 ++ (right ++ t ∷ after)) = ap (λ (l : List T). l ++ (right ++ t ∷ after)) s.2 ∙ append_assoc s.0 s.1 (right ++ t ∷ after) in
       let ln = subst (λ (l : List T). length l ≤ n) e le in
       let lm = subst (λ (l : List T). length l ≤ suc k) e lk in
       let b : Begins index f false (s.1 ++ right) = items_begin s.1 right others s.4 o in
-      let next : starts index f (s.1 ++ (right ++ t ∷ after)) ≡ true = ap (starts index f) (sym (append_assoc s.1 right (t ∷ after))) ∙ starts_front (s.1 ++ right) (t ∷ after) b in
-      let one : r (s.0 ++ (s.1 ++ (right ++ t ∷ after))) ≡ got a (s.1 ++ (right ++ t ∷ after)) = complete x s.0 (s.1 ++ (right ++ t ∷ after)) a s.3 ln (ap (starts index m) (sym (append_assoc s.1 right (t ∷ after))) ∙ free_front (s.1 ++ right) (t ∷ after) b) in
-      ap (many_at index f r (suc k)) e ∙ item_step k (s.0 ++ (s.1 ++ (right ++ t ∷ after))) (s.1 ++ (right ++ t ∷ after)) (t ∷ after) a (starts_front s.0 (s.1 ++ (right ++ t ∷ after)) (x.begins s.0 a s.3)) one
+      let next : starts index f (s.1 ++ (right ++ t ∷ after)) ≡ true = ap (starts index f) (sym (append_assoc s.1 right (t ∷ after))) ∙ starts_prefix (s.1 ++ right) (t ∷ after) b in
+      let one : r (s.0 ++ (s.1 ++ (right ++ t ∷ after))) ≡ got a (s.1 ++ (right ++ t ∷ after)) = complete x s.0 (s.1 ++ (right ++ t ∷ after)) a s.3 ln (ap (starts index m) (sym (append_assoc s.1 right (t ∷ after))) ∙ free_prefix (s.1 ++ right) (t ∷ after) b) in
+      ap (many_at index f r (suc k)) e ∙ item_step k (s.0 ++ (s.1 ++ (right ++ t ∷ after))) (s.1 ++ (right ++ t ∷ after)) (t ∷ after) a (starts_prefix s.0 (s.1 ++ (right ++ t ∷ after)) (x.begins s.0 a s.3)) one
       (many_at_stops k s.1 right t after others (shorter_by index f k (s.0 ++ (s.1 ++ (right ++ t ∷ after))) s.0 (s.1 ++ (right ++ t ∷ after)) lm refl (x.begins s.0 a s.3)) (omega (arith, ln, length-append s.0 (s.1 ++ (right ++ t ∷ after)))) h s.4 o)
     where
-      free_front : (p w : List T) → Begins index f false p → starts index m (p ++ w) ≡ false
-      free_front [] w b = absurd cc
-      free_front (u ∷ p) w b = apart_law f m (index u) far b
+      free_prefix : (p w : List T) → Begins index f false p → starts index m (p ++ w) ≡ false
+      free_prefix [] w b = absurd cc
+      free_prefix (u ∷ p) w b = apart_law f m (index u) far b
 
   pub many_marks : Marks n index (Then (Many S) O) (many index f r) f false ends
   many_marks = record {

@@ -1,7 +1,7 @@
 -- What spells what: relations between lists of tokens and values, and the ways to put them together.
 use Rattle.std.specs.Prelude.{◌≡◌, List, [], ◌∷◌, ◌++◌, Option, Some, ◌⊎◌}
 
--- one token, which stands for the value
+-- one token, which represents the value
 pub record One {T A : Type 0} (f : T → Option A) (ts : List T) (a : A) : Type 0 where
   pub token : T
   pub alone : ts ≡ token ∷ []
@@ -40,12 +40,12 @@ abbrev pub Tail : {T A : Type 0} → (List T → Unit {0} → Type 0) → (List 
 Tail {T} C S ts [] = (ts ≡ []) ⊎ C ts tt
 Tail {T} C S ts (a ∷ others) = (c : List T) × (p : List T) × (q : List T) × (ts ≡ c ++ (p ++ q)) × C c tt × S p a × Tail C S q others
 
--- a phrase, whatever it stands for
+-- a phrase, whatever it represents
 pub record Phrase {T A : Type 0} (S : List T → A → Type 0) (ts : List T) : Type 0 where
   pub value : A
   pub spelled : S ts value
 
--- a phrase, whatever it stands for, and then the rest
+-- a phrase, whatever it represents, and then the rest
 pub record Then {T A : Type 0} (S : List T → A → Type 0) (O : List T → Type 0) (ts : List T) : Type 0 where
   pub left : List T
   pub right : List T

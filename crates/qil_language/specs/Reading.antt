@@ -62,7 +62,7 @@ tail index sep set c r ts = tail_at index sep set c r (length ts) ts
 
 -- what was read before, and what is still read
 abbrev pub joined : {T A : Type 0} → List A → Read T (List A) → Read T (List A)
-joined front o = o >>= λ x. got (front ++ x.0) x.1
+joined prefix o = o >>= λ x. got (prefix ++ x.0) x.1
 
 -- the same, with a mark where no token of the set comes
 abbrev pub flagged : {T A : Type 0} → (T → ℕ) → List ℕ → (List T → Read T A) → List T → Read T A

@@ -28,22 +28,22 @@ Same [] (t ∷ z) = ⊥
 Same (t ∷ rest) [] = ⊥
 Same (t ∷ rest) (u ∷ z) = t ≡ u
 
--- Of these tokens a front stands for the value, and no other front that the rest doesn't go on with is a phrase:
--- not of these tokens, nor of others that begin with the front and the next token.
+-- Of these tokens a prefix represents the value, and no other prefix that the rest doesn't go on with is a phrase:
+-- not of these tokens, nor of others that begin with the prefix and the next token.
 pub record Got {T A : Type 0} (index : T → ℕ) (S : List T → A → Type 0) (more : List ℕ) (ts : List T) (a : A) (rest : List T) : Type 0 where
-  pub front : List T
-  pub parts : ts ≡ front ++ rest
-  pub spelled : S front a
-  pub only : (p : List T) (b : A) (w z : List T) → S p b → starts index more w ≡ false → p ++ w ≡ front ++ z → Same rest z → (p ≡ front) × (b ≡ a)
+  pub prefix : List T
+  pub parts : ts ≡ prefix ++ rest
+  pub spelled : S prefix a
+  pub only : (p : List T) (b : A) (w z : List T) → S p b → starts index more w ≡ false → p ++ w ≡ prefix ++ z → Same rest z → (p ≡ prefix) × (b ≡ a)
 
--- A front begins a phrase, and with the next token (or the end) after it, it begins none.
+-- A prefix begins a phrase, and with the next token (or the end) after it, it begins none.
 pub record Failed {T A : Type 0} (index : T → ℕ) (S : List T → A → Type 0) (more : List ℕ) (ts rest : List T) : Type 0 where
-  pub front : List T
-  pub parts : ts ≡ front ++ rest
+  pub prefix : List T
+  pub parts : ts ≡ prefix ++ rest
   pub ending : List T
   pub value : A
-  pub begun : S (front ++ ending) value
-  pub none : (p : List T) (b : A) (w z : List T) → S p b → starts index more w ≡ false → p ++ w ≡ front ++ z → Same rest z → ⊥
+  pub begun : S (prefix ++ ending) value
+  pub none : (p : List T) (b : A) (w z : List T) → S p b → starts index more w ≡ false → p ++ w ≡ prefix ++ z → Same rest z → ⊥
 
 -- what a reading says of the tokens
 abbrev pub Explains : {T A : Type 0} → (T → ℕ) → (List T → A → Type 0) → List ℕ → List T → Read T A → Type 0

@@ -13,7 +13,7 @@ use Rattle.qil_tree.specs.declared.tree.Data.{Data}
 use Rattle.qil_tree.specs.declared.tree.Program.{Program}
 use Rattle.qil_layout.specs.declared.error.LayoutCode.{LayoutCode}
 use Rattle.qil_layout.specs.declared.error.LayoutCode.TheVariants.{Y1, Y2}
-use Rattle.qil_layout.specs.Layout.{width_bytes, item_size, field_size, size_of, data_base, data_limit, align_of, rounded, start_of, end_of, is_alignment, object_fault, told, fault_from, fault_of, low_bytes, zeros, item_bytes, field_bytes, object_bytes, bytes_from, address_of, bytes_of}
+use Rattle.qil_layout.specs.Layout.{width_bytes, item_size, field_size, size_of, data_base, data_limit, align_of, rounded, start_of, end_of, is_alignment, object_fault, reported, fault_from, fault_of, low_bytes, zeros, item_bytes, field_bytes, object_bytes, bytes_from, address_of, bytes_of}
 
 -- ---- as many bytes as the size
 
@@ -54,16 +54,16 @@ neither true false is = (refl, refl)
 neither true true is = absurd cc
 neither false past is = absurd cc
 
-pub untold : {A : Type 0} (d : Data A) (code : Option LayoutCode) (later : Option (LayoutCode × ℕ)) → told d code later ≡ None → (code ≡ None) × (later ≡ None)
-untold d None later is = (refl, is)
-untold d (Some code) later is = absurd cc
+pub unreported : {A : Type 0} (d : Data A) (code : Option LayoutCode) (later : Option (LayoutCode × ℕ)) → reported d code later ≡ None → (code ≡ None) × (later ≡ None)
+unreported d None later is = (refl, is)
+unreported d (Some code) later is = absurd cc
 
 -- ---- all bytes
 
 within : {A : Type 0} (address : List ℕ → Option ℕ) (at : ℕ) (ds : List (Data A)) → at ≤ data_limit → fault_from at ds ≡ None → at + length (bytes_from address at ds) ≤ data_limit
 within address at [] low none = omega arith
 within address at (d ∷ ds) low none =
-    let both = untold d (object_fault at d) (fault_from (end_of at d) ds) none in
+    let both = unreported d (object_fault at d) (fault_from (end_of at d) ds) none in
     let fits = neither (is_alignment (align_of d)) (nat_lt data_limit (end_of at d)) both.0 in
     let start : at ≤ start_of at d = rounded_low (align_of d) at (some_alignment (align_of d) fits.0) in
     let more = within address (end_of at d) ds (ltb-false data_limit (end_of at d) fits.1) both.1 in

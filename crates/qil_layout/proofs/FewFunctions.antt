@@ -12,11 +12,11 @@ use Rattle.qil_tree.specs.declared.tree.Definition.{Definition}
 use Rattle.qil_tree.specs.declared.tree.Definition.TheVariants as definitions
 use Rattle.qil_tree.specs.declared.tree.Program.{Program}
 use Rattle.qil_rules.specs.declared.rule.Rule.TheVariants.{C12}
-use Rattle.qil_rules.specs.declared.mention.What.{What}
-use Rattle.qil_rules.specs.declared.mention.What.TheVariants.{DataName, FunctionName, Label, Edge, PhiLabel, PhiOf, Defines, Uses, Global, Returns, Long}
+use Rattle.qil_rules.specs.declared.mention.MentionKind.{MentionKind}
+use Rattle.qil_rules.specs.declared.mention.MentionKind.TheVariants.{DataName, FunctionName, Label, Edge, PhiLabel, PhiOf, Defines, Uses, Global, Returns, Long}
 use Rattle.qil_rules.specs.declared.mention.Mention.{Mention}
 use Rattle.qil_rules.specs.Mentions.{data_mentions, func_mentions, texts_in, texts}
-use Rattle.qil_rules.specs.Text.{Stands}
+use Rattle.qil_rules.specs.Text.{IsAt}
 use Rattle.qil_rules.specs.Rules.{WellFormed, is_function, begins_function}
 
 -- ---- as many function texts as functions
@@ -40,7 +40,7 @@ all_funcs (definitions.Data ∷ order) (d ∷ ds) fs = all_funcs order ds fs
 all_funcs (definitions.Func ∷ order) ds [] = all_funcs order ds []
 all_funcs (definitions.Func ∷ order) ds (f ∷ fs) = let more = all_funcs order ds fs in omega (arith, more)
 
--- ---- the one behind the first k
+-- ---- the one after the first k
 
 pub record Behind (k : ℕ) (ts : List (List Mention)) : Type 0 where
   pub place : ℕ
@@ -65,7 +65,7 @@ few_or_behind k ts (suc i) l =
     let next : i + 1 ≡ suc i = omega arith in
     ⊎_elim (λ few. subst (λ n. (count_by is_function (take n ts) ≤ k) ⊎ Behind k ts) next (step k ts i (is_function (get_or ts i [])) (omega (arith, l)) refl few)) (λ b. inr b) (few_or_behind k ts i (omega (arith, l)))
 
-begins : (m : Mention) (w : What) → m.what ≡ w → begins_function w ≡ true → (x : List ℕ) × (m.what ≡ FunctionName x)
+begins : (m : Mention) (w : MentionKind) → m.what ≡ w → begins_function w ≡ true → (x : List ℕ) × (m.what ≡ FunctionName x)
 begins m (FunctionName x) is e = (x, is)
 begins m (DataName x) is e = absurd cc
 begins m (Label x) is e = absurd cc
@@ -78,7 +78,7 @@ begins m (Global x) is e = absurd cc
 begins m (Returns x) is e = absurd cc
 begins m (Long x) is e = absurd cc
 
-head_stands : (text : List Mention) → is_function text ≡ true → (x : List ℕ) × Stands text 0 (FunctionName x)
+head_stands : (text : List Mention) → is_function text ≡ true → (x : List ℕ) × IsAt text 0 (FunctionName x)
 head_stands [] e = absurd cc
 head_stands (m ∷ text) e = let b = begins m m.what refl e in (b.0, ap Some b.1)
 

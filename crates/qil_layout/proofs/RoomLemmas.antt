@@ -1,4 +1,4 @@
--- The room that is left behind a list, item by item.
+-- The room that is left after a list, item by item.
 use Rattle.std.proofs.Common.{◌≡◌, ap, ℕ, ◌+◌, ◌<◌, ◌≤◌, List, drop, get_or, length, arith}
 use Rattle.std.specs.List.{sum_by}
 use Rattle.std.proofs.lemmas.List.{drop_all}

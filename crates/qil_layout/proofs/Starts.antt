@@ -4,7 +4,7 @@ use Rattle.std.proofs.lemmas.Bool.{cases_lt}
 use Rattle.std.proofs.lemmas.List.{take_at}
 use Rattle.qil_tree.specs.declared.tree.Data.{Data}
 use Rattle.qil_layout.specs.Layout.{data_limit, align_of, size_of, rounded, start_of, end_of, is_alignment, object_fault, fault_from, zeros, object_bytes, bytes_from}
-use Rattle.qil_layout.proofs.BytesLemmas.{length-zeros, length-object, rounded_low, some_alignment, neither, untold}
+use Rattle.qil_layout.proofs.BytesLemmas.{length-zeros, length-object, rounded_low, some_alignment, neither, unreported}
 
 -- ---- parts of lists
 
@@ -37,11 +37,11 @@ range_past xs ys i j n h =
     let e : i + n - i ≡ j + n - j = omega arith in
     ap (take (i + n - i)) (drop_past xs ys i j h) ∙ ap (λ k. take k (drop j ys)) e
 
-range_front : (ys zs : List ℕ) (n : ℕ) → length ys ≡ n → slice_range (ys ++ zs) 0 (0 + n) ≡ ys
-range_front ys zs n h = let e : 0 + n - 0 ≡ n = omega arith in rw e (take_at ys zs n h)
+range_prefix : (ys zs : List ℕ) (n : ℕ) → length ys ≡ n → slice_range (ys ++ zs) 0 (0 + n) ≡ ys
+range_prefix ys zs n h = let e : 0 + n - 0 ≡ n = omega arith in rw e (take_at ys zs n h)
 
 range_middle : (xs ys zs : List ℕ) (i n : ℕ) → i ≡ length xs → length ys ≡ n → slice_range (xs ++ (ys ++ zs)) i (i + n) ≡ ys
-range_middle xs ys zs i n h e = range_past xs (ys ++ zs) i 0 n (omega arith) ∙ range_front ys zs n e
+range_middle xs ys zs i n h e = range_past xs (ys ++ zs) i 0 n (omega arith) ∙ range_prefix ys zs n e
 
 -- ---- where each object begins
 
@@ -67,7 +67,7 @@ pub record Fine {A : Type 0} (at : ℕ) (d : Data A) (ds : List (Data A)) : Type
 
 pub fine : {A : Type 0} (at : ℕ) (d : Data A) (ds : List (Data A)) → fault_from at (d ∷ ds) ≡ None → Fine at d ds
 fine at d ds none =
-    let both = untold d (object_fault at d) (fault_from (end_of at d) ds) none in
+    let both = unreported d (object_fault at d) (fault_from (end_of at d) ds) none in
     let fits = neither (is_alignment (align_of d)) (nat_lt data_limit (end_of at d)) both.0 in
     let positive : 0 < align_of d = some_alignment (align_of d) fits.0 in
     record { some = positive; behind = rounded_low (align_of d) at positive; others = both.1 }
@@ -80,7 +80,7 @@ same_start a b h = cc
 
 -- ---- what stands there
 
-pub record StandsFrom {A : Type 0} (address : List ℕ → Option ℕ) (at : ℕ) (ds : List (Data A)) (d : Data A) (a : ℕ) : Type 0 where
+pub record LiesFrom {A : Type 0} (address : List ℕ → Option ℕ) (at : ℕ) (ds : List (Data A)) (d : Data A) (a : ℕ) : Type 0 where
   pub some : 0 < align_of d
   pub aligned : (k : ℕ) × (a ≡ k * align_of d)
   pub behind : at ≤ a
@@ -88,32 +88,32 @@ pub record StandsFrom {A : Type 0} (address : List ℕ → Option ℕ) (at : ℕ
   pub bytes : slice_range (bytes_from address at ds) (a - at) (a - at + size_of d) ≡ object_bytes address d
 
 module _ {A : Type 0} (address : List ℕ → Option ℕ) where
-  -- the bytes of one object, and those behind
+  -- the bytes of one object, and those after
   split : (at : ℕ) (d : Data A) (ds : List (Data A)) → bytes_from address at (d ∷ ds) ≡ (zeros (start_of at d - at) ++ object_bytes address d) ++ bytes_from address (end_of at d) ds
   split at d ds = sym (append_assoc (zeros (start_of at d - at)) (object_bytes address d) (bytes_from address (end_of at d) ds))
 
-  length_front : (at : ℕ) (d : Data A) → at ≤ start_of at d → at + length (zeros (start_of at d - at) ++ object_bytes address d) ≡ end_of at d
-  length_front at d h =
+  length_prefix : (at : ℕ) (d : Data A) → at ≤ start_of at d → at + length (zeros (start_of at d - at) ++ object_bytes address d) ≡ end_of at d
+  length_prefix at d h =
       let gap = length-zeros (start_of at d - at) in
       let object = length-object address d in
       let both = length-append (zeros (start_of at d - at)) (object_bytes address d) in
       omega (arith, h, gap, object, both)
 
-  first_stands : (at : ℕ) (d : Data A) (ds : List (Data A)) → Fine at d ds → StandsFrom address at (d ∷ ds) d (start_of at d)
+  first_stands : (at : ℕ) (d : Data A) (ds : List (Data A)) → Fine at d ds → LiesFrom address at (d ∷ ds) d (start_of at d)
   first_stands at d ds f =
-      let front = length_front at d f.behind in
+      let prefix = length_prefix at d f.behind in
       let whole = ap length (split at d ds) ∙ length-append (zeros (start_of at d - at) ++ object_bytes address d) (bytes_from address (end_of at d) ds) in
       record {
         some = f.some;
         aligned = (_, refl);
         behind = f.behind;
-        inside = omega (arith, front, whole);
+        inside = omega (arith, prefix, whole);
         bytes = range_middle (zeros (start_of at d - at)) (object_bytes address d) (bytes_from address (end_of at d) ds) (start_of at d - at) (size_of d) (sym (length-zeros (start_of at d - at))) (length-object address d);
       }
 
-  later_stands : (at : ℕ) (e : Data A) (ds : List (Data A)) (d : Data A) (a : ℕ) → Fine at e ds → StandsFrom address (end_of at e) ds d a → StandsFrom address at (e ∷ ds) d a
+  later_stands : (at : ℕ) (e : Data A) (ds : List (Data A)) (d : Data A) (a : ℕ) → Fine at e ds → LiesFrom address (end_of at e) ds d a → LiesFrom address at (e ∷ ds) d a
   later_stands at e ds d a f s =
-      let front = length_front at e f.behind in
+      let prefix = length_prefix at e f.behind in
       let low = f.behind in
       let behind = s.behind in
       let inside = s.inside in
@@ -122,17 +122,17 @@ module _ {A : Type 0} (address : List ℕ → Option ℕ) where
         some = s.some;
         aligned = s.aligned;
         behind = omega (arith, low, behind);
-        inside = omega (arith, front, whole, inside);
+        inside = omega (arith, prefix, whole, inside);
         bytes = ap (λ (bs : List ℕ). slice_range bs (a - at) (a - at + size_of d)) (split at e ds)
-            ∙ range_past (zeros (start_of at e - at) ++ object_bytes address e) (bytes_from address (end_of at e) ds) (a - at) (a - end_of at e) (size_of d) (omega (arith, front, low, behind))
+            ∙ range_past (zeros (start_of at e - at) ++ object_bytes address e) (bytes_from address (end_of at e) ds) (a - at) (a - end_of at e) (size_of d) (omega (arith, prefix, low, behind))
             ∙ s.bytes;
       }
 
-  pub stands : (at : ℕ) (ds : List (Data A)) (k : ℕ) (d : Data A) (a : ℕ) → fault_from at ds ≡ None → Begins at ds k d a → StandsFrom address at ds d a
+  pub stands : (at : ℕ) (ds : List (Data A)) (k : ℕ) (d : Data A) (a : ℕ) → fault_from at ds ≡ None → Begins at ds k d a → LiesFrom address at ds d a
   stands at [] k d a none b = absurd (let h = b.object in cc)
   stands at (e ∷ ds) zero d a none b =
-      subst (StandsFrom address at (e ∷ ds) d) (same_start (start_of at e) a b.start)
-      (subst (λ (o : Data A). StandsFrom address at (e ∷ ds) o (start_of at e)) (same_object d e b.object) (first_stands at e ds (fine at e ds none)))
+      subst (LiesFrom address at (e ∷ ds) d) (same_start (start_of at e) a b.start)
+      (subst (λ (o : Data A). LiesFrom address at (e ∷ ds) o (start_of at e)) (same_object d e b.object) (first_stands at e ds (fine at e ds none)))
   stands at (e ∷ ds) (suc k) d a none b =
       let f = fine at e ds none in
       later_stands at e ds d a f (stands (end_of at e) ds k d a f.others (record { object = b.object; start = b.start }))
@@ -171,17 +171,17 @@ module _ {A : Type 0} (address : List ℕ → Option ℕ) where
   pub last_end : (at : ℕ) (ds : List (Data A)) (k : ℕ) (d : Data A) (a : ℕ) → fault_from at ds ≡ None → suc k ≡ length ds → Begins at ds k d a → at + length (bytes_from address at ds) ≡ a + size_of d
   last_end at [] k d a none h b = absurd (let h = b.object in cc)
   last_end at (e ∷ []) zero d a none h b =
-      let front = length_front at e (fine at e [] none).behind in
+      let prefix = length_prefix at e (fine at e [] none).behind in
       let end = first_end at e [] d a b in
       let whole = ap length (split at e []) ∙ length-append (zeros (start_of at e - at) ++ object_bytes address e) [] in
-      omega (arith, front, end, whole)
+      omega (arith, prefix, end, whole)
   last_end at (e ∷ o ∷ ds) zero d a none h b = absurd (omega arith)
   last_end at (e ∷ ds) (suc k) d a none h b =
       let f = fine at e ds none in
-      let front = length_front at e f.behind in
+      let prefix = length_prefix at e f.behind in
       let more = last_end (end_of at e) ds k d a f.others (omega arith) (record { object = b.object; start = b.start }) in
       let whole = ap length (split at e ds) ∙ length-append (zeros (start_of at e - at) ++ object_bytes address e) (bytes_from address (end_of at e) ds) in
-      omega (arith, front, more, whole)
+      omega (arith, prefix, more, whole)
 
   -- ---- what stands between
 
@@ -193,7 +193,7 @@ module _ {A : Type 0} (address : List ℕ → Option ℕ) where
       let f = fine at d ds none in
       let low = f.behind in
       let gap = length-zeros (start_of at d - at) in
-      let front = length_front at d low in
+      let prefix = length_prefix at d low in
       let whole = ap length (split at d ds) ∙ length-append (zeros (start_of at d - at) ++ object_bytes address d) (bytes_from address (end_of at d) ds) in
       ⊎_elim
       (λ (u : i < start_of at d - at). get_left (zeros (start_of at d - at)) (object_bytes address d ++ bytes_from address (end_of at d) ds) i (omega (arith, u, gap)) ∙ get_zeros (start_of at d - at) i u)
@@ -202,8 +202,8 @@ module _ {A : Type 0} (address : List ℕ → Option ℕ) where
       (λ (v : end_of at d ≤ at + i).
       let here : end_of at d + (at + i - end_of at d) ≡ at + i = omega (arith, v) in
       ap (λ (bs : List ℕ). slice_get bs i) (split at d ds)
-      ∙ get_right (zeros (start_of at d - at) ++ object_bytes address d) (bytes_from address (end_of at d) ds) i (at + i - end_of at d) (omega (arith, v, front))
-      ∙ between (end_of at d) ds (at + i - end_of at d) f.others (omega (arith, v, front, whole, h))
+      ∙ get_right (zeros (start_of at d - at) ++ object_bytes address d) (bytes_from address (end_of at d) ds) i (at + i - end_of at d) (omega (arith, v, prefix))
+      ∙ between (end_of at d) ds (at + i - end_of at d) f.others (omega (arith, v, prefix, whole, h))
       (λ k o a b from to. free (suc k) o a (record { object = b.object; start = b.start }) (omega (arith, from, here)) (omega (arith, to, here))))
       (cases_lt (at + i) (end_of at d)))
       (cases_lt i (start_of at d - at))

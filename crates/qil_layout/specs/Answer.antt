@@ -4,7 +4,7 @@ use Rattle.qil_layout.specs.declared.error.LayoutCode.{LayoutCode}
 use Rattle.qil_layout.specs.declared.error.LayoutError.{LayoutError}
 use Rattle.qil_layout.specs.declared.error.LayoutError.TheVariants.{Refused, OutOfMemory}
 
--- unless memory was wanting, that fault
+-- unless memory ran out, that fault
 abbrev pub IsFault : Option (LayoutCode × ℕ) → LayoutError → Type 0
 IsFault fault (Refused code line) = fault ≡ Some (code, line)
 IsFault fault OutOfMemory = Unit {0}

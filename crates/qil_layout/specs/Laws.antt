@@ -40,7 +40,7 @@ pub record IsFirstNamed {A : Type 0} (p : Program A) (k : ℕ) (f : Func A) : Ty
   pub data_free : (j : ℕ) (d : Data A) → slice_get p.datas j ≡ Some d → d.name ≢ f.name
   pub first : (j : ℕ) (g : Func A) → j < k → slice_get p.funcs j ≡ Some g → g.name ≢ f.name
 
--- a data object has that name, and the address is one of the data or just behind it
+-- a data object has that name, and the address is one of the data or just after it
 abbrev pub IsOfData : {A : Type 0} → Program A → List ℕ → ℕ → Type 0
 IsOfData {A} p x a = (k : ℕ) × (d : Data A) × (slice_get p.datas k ≡ Some d) × (d.name ≡ x) × (data_base ≤ a)
 

@@ -53,7 +53,7 @@ align_of d = unwrap_or d.align 16
 abbrev pub rounded : ℕ → ℕ → ℕ
 rounded align n = (n + (align - 1)) / align * align
 
--- where an object begins and ends that comes at an address or behind it
+-- where an object begins and ends that comes at an address or after it
 abbrev pub start_of : {A : Type 0} → ℕ → Data A → ℕ
 start_of at d = rounded (align_of d) at
 
@@ -71,14 +71,14 @@ is_alignment n =
 abbrev pub object_fault : {A : Type 0} → ℕ → Data A → Option LayoutCode
 object_fault at d = if not (is_alignment (align_of d)) then Some Y2 else (if nat_lt data_limit (end_of at d) then Some Y1 else None)
 
-abbrev pub told : {A : Type 0} → Data A → Option LayoutCode → Option (LayoutCode × ℕ) → Option (LayoutCode × ℕ)
-told d (Some code) later = Some (code, d.line)
-told d None later = later
+abbrev pub reported : {A : Type 0} → Data A → Option LayoutCode → Option (LayoutCode × ℕ) → Option (LayoutCode × ℕ)
+reported d (Some code) later = Some (code, d.line)
+reported d None later = later
 
 -- the first object that has a fault, with the line of its name
 abbrev pub fault_from : {A : Type 0} → ℕ → List (Data A) → Option (LayoutCode × ℕ)
 fault_from at [] = None
-fault_from at (d ∷ ds) = told d (object_fault at d) (fault_from (end_of at d) ds)
+fault_from at (d ∷ ds) = reported d (object_fault at d) (fault_from (end_of at d) ds)
 
 abbrev pub fault_of : {A : Type 0} → Program A → Option (LayoutCode × ℕ)
 fault_of p = fault_from data_base p.datas

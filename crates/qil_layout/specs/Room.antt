@@ -1,4 +1,4 @@
--- How much room is left behind something of a size, or that there isn't enough.
+-- How much room is left after something of a size, or that there isn't enough.
 use Rattle.std.specs.Prelude.{◌≡◌, ℕ, ◌+◌, ◌<◌, Option, MatchOption}
 
 abbrev pub IsLeft : ℕ → ℕ → Option ℕ → Type 0

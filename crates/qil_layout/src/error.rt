@@ -7,7 +7,7 @@ use std::alloc::{AllocError, AllocFailed};
 use std::fmt;
 use thiserror::Error;
 
-/// The code that is told of a data object that can't be laid out.
+/// The code that is reported of a data object that can't be laid out.
 #[derive(Clone, Copy, Debug, PartialEq, Eq)]
 pub enum LayoutCode {
     /// The data has more than 2^20 bytes.
@@ -17,7 +17,7 @@ pub enum LayoutCode {
 }
 
 impl LayoutCode {
-    /// The code that is told.
+    /// The code that is reported.
     pub fn as_str(self) -> &'static str
         ensures { result.now ≡ layout_code self }
     {

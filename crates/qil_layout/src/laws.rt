@@ -1,5 +1,5 @@
 //! Laws about where names and bytes are, each the contract of a function that does nothing: they tie the addresses of
-//! names, the bytes of the data and what can't be laid out, which are defined one beside the other.
+//! names, the bytes of the data and what can't be laid out, which are defined one next to the other.
 
 ghost use Rattle.std.specs.Prelude.{◌≡◌, ℕ, zero, suc, ◌+◌, ◌*◌, ◌<◌, ◌≤◌, ◌⊎◌, List, [], length, Some, None, slice_get};
 ghost use Rattle.qil_tree.specs.declared.tree.Data.{Data};
@@ -27,7 +27,7 @@ pub fn objects_stand<A>()
     ensures all { (p : Program A) (k : ℕ) (d : Data A) (a : ℕ) → fault_of p ≡ None → HaveOwnNames p → LiesAt p k d a → IsPlaced p d a }
 {}
 
-/// The data objects stand in the order of the text, each as low as its alignment lets it behind the one before, and the
+/// The data objects stand in the order of the text, each as low as its alignment lets it after the one before, and the
 /// data ends with the last.
 pub fn objects_stand_in_order<A>()
     ensures first { (p : Program A) (d : Data A) (a : ℕ) → fault_of p ≡ None → HaveOwnNames p → LiesAt p 0 d a → IsLeastMultiple (align_of d) data_base a }

@@ -30,7 +30,7 @@ fn note_datas<'a, A: Allocator + Copy>(
     table: &mut Firsts<'a, u64, A>,
     datas: &[Data<'a, A>],
 ) -> Result<(), LayoutError>
-    ensures noted { OnOk result ((x : List ℕ) → value_at table.new.values x ≡ option_or (value_at table.old.values x) (data_address 65536 datas.now x)) }
+    ensures recorded { OnOk result ((x : List ℕ) → value_at table.new.values x ≡ option_or (value_at table.old.values x) (data_address 65536 datas.now x)) }
     ensures no_fault { IfOk result (λ x. fault_from 65536 datas.now ≡ None) }
     ensures fault { IfErr result (IsFault (fault_from 65536 datas.now)) }
 {

@@ -1,4 +1,4 @@
-//! Where one object stands behind another, or why it can't.
+//! Where one object stands after another, or why it can't.
 
 ghost use Rattle.std.specs.Prelude.{◌≡◌, ◌+◌, ◌-◌, ◌^◌, ◌<◌, ◌≤◌, nat_lt, if◌then◌else◌, Some, None, IfOk, IfErr};
 ghost use Rattle.qil_layout.specs.Layout.{rounded, is_alignment, align_of, start_of, end_of, data_limit, object_fault};
@@ -58,7 +58,7 @@ pub struct Span {
     pub end: u64,
 }
 
-/// How many bytes there are from an address to the end of all data, if it isn't behind that.
+/// How many bytes there are from an address to the end of all data, if it isn't after that.
 fn room_from(start: u64) -> Option<u64>
     ensures { result ≡ if nat_lt data_limit start then None else Some (data_limit - start) }
 {
@@ -69,7 +69,7 @@ fn room_from(start: u64) -> Option<u64>
     }
 }
 
-/// Where an object stands that comes at an address or behind it, or why it can't.
+/// Where an object stands that comes at an address or after it, or why it can't.
 pub fn span_of<A: Allocator>(at: u64, object: &Data<'_, A>) -> Result<Span, LayoutCode>
     requires { at ≤ 1114112 }
     ensures start { IfOk result (λ s. s.start ≡ start_of at object.now) }

@@ -30,7 +30,7 @@ fn item_size<A: Allocator>(width: Width, item: &Item<'_, A>) -> u64
     }
 }
 
-/// The room behind so many bytes.
+/// The room after so many bytes.
 fn after(room: u64, size: u64) -> Option<u64>
     ensures { IsLeft room size result }
 {
@@ -63,7 +63,7 @@ fn after_field<A: Allocator>(room: u64, field: &Field<'_, A>) -> Option<u64>
     }
 }
 
-/// The room behind the fields of an object, if they fit.
+/// The room after the fields of an object, if they fit.
 pub fn after_fields<A: Allocator>(room: u64, fields: &[Field<'_, A>]) -> Option<u64>
     ensures { IsLeft room (sum_by field_size fields.now) result }
 {

@@ -1,4 +1,4 @@
--- A string's items hold no newline, so its backslashes stand on the line of its opening quote.
+-- A string's items hold no newline, so its backslashes depend on the line of its opening quote.
 use Rattle.std.proofs.Common.{◌≡◌, ℕ, zero, suc, ◌+◌, ◌≤◌, Bool, true, false, not, eqb, List, [], ◌∷◌, ◌++◌, length, take, drop, count_by, Some, refl, sym, ap, subst, ◌∙◌, arith, inl, inr}
 use Rattle.std.specs.List.{prefix_len}
 use Rattle.std.proofs.lemmas.Bool.{cases_Bool, eqb-true}
@@ -72,7 +72,7 @@ items_in_line (suc n) bytes rest items =
       rw (take_add len more.0 bytes) (both_in_line (take len bytes) (take more.0 (drop len bytes)) (item_in_line bytes len items.1) more.2),
     )
 
-backslash_at : (text : List ℕ) (at : ℕ) (front : List ℕ) → drop at text ≡ front → Fails L5 front → (place : ℕ) × IsBackslash text at place × (line_of text at ≡ line_of text place)
+backslash_at : (text : List ℕ) (at : ℕ) (prefix : List ℕ) → drop at text ≡ prefix → Fails L5 prefix → (place : ℕ) × IsBackslash text at place × (line_of text at ≡ line_of text place)
 backslash_at text at [] e fails = absurd fails
 backslash_at text at (b ∷ bytes) e fails =
     let n = fails.1 in

@@ -9,7 +9,7 @@ use Rattle.qil_lexer.specs.declared.token.TokenKind.TheVariants.{Quoted}
 use Rattle.qil_lexer.specs.declared.error.LexCode.{LexCode}
 use Rattle.qil_lexer.specs.declared.error.LexCode.TheVariants.{L1, L2, L3, L4, L5, L6}
 use Rattle.qil_lexer.specs.Shape.{begins, is_octal, is_escape_letter, octals, octal_value, escape_len, item_len, Items, IsUnended, IsBadEscape}
-use Rattle.qil_lexer.specs.Front.{IsLongestTail, TailFails, IsClosed, StopFails}
+use Rattle.qil_lexer.specs.Prefix.{IsLongestTail, TailFails, IsClosed, StopFails}
 
 -- ---- a run is settled by the byte that ends it
 
@@ -37,7 +37,7 @@ run_shorter p (x ∷ xs) ys lt = elim (cases_Bool (p x)) [
   | inr f ↦ rw (cond-false (p x) (1 + prefix_len p xs) 0 f, cond-false (p x) (1 + prefix_len p (xs ++ ys)) 0 f) refl
 ]
 
--- the front of at most three bytes, of more bytes
+-- the prefix of at most three bytes, of more bytes
 take_three : (xs ys : List ℕ) → ((take 3 (xs ++ ys) ≡ take 3 xs) × (3 ≤ length xs)) ⊎ ((length xs < 3) × (rest : List ℕ) × (take 3 (xs ++ ys) ≡ xs ++ rest) × (take 3 xs ≡ xs))
 take_three [] ys = inr (omega arith, take 3 ys, refl, refl)
 take_three (a ∷ []) ys = inr (omega arith, take 2 ys, refl, refl)

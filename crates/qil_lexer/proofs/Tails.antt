@@ -8,7 +8,7 @@ use Rattle.qil_lexer.specs.declared.token.TokenKind.{TokenKind}
 use Rattle.qil_lexer.specs.declared.token.TokenKind.TheVariants.{Global, Temp, Label, Aggregate, Word, Number, Newline}
 use Rattle.qil_lexer.specs.Shape.{begins, is_name_byte, is_word_byte, IsName, HasTail, HasShape, first_kind, decimal_after}
 use Rattle.qil_lexer.specs.Cut.{IsLongest}
-use Rattle.qil_lexer.specs.Front.{IsLongestTail}
+use Rattle.qil_lexer.specs.Prefix.{IsLongestTail}
 use Rattle.qil_lexer.proofs.Runs.{run_fits, run_passes, run_bound}
 
 pub run_begins : (p : ℕ → Bool) (bytes : List ℕ) → (prefix_len p bytes ≡ 0 → ⊥) → begins p (take (prefix_len p bytes) bytes) ≡ true

@@ -33,11 +33,11 @@ longest_unique j k m n text p q = elim (cases_order m n) [
 
 -- ---- where a place fails no token stands
 
--- no token stands at the front, in range or not
+-- no token is at the start, in range or not
 abbrev pub IsBare : List ℕ → Type 0
 IsBare text = (kind : TokenKind) (n : ℕ) → IsLongest kind n text → ⊥
 
--- no token in range stands at the front
+-- no token in range is at the start
 abbrev pub IsStop : List ℕ → Type 0
 IsStop text = (kind : TokenKind) (n : ℕ) → IsLongest kind n text → (kind ≡ Number → IsInRange (take n text)) → ⊥
 
@@ -53,7 +53,7 @@ kind_34 : first_kind 34 ≡ Some Quoted
 unfolding first_kind
 kind_34 = refl
 
--- no front of the bytes after the first is the rest of a token of the kind
+-- no prefix of the bytes after the first is the rest of a token of the kind
 abbrev NoTail : TokenKind → ℕ → List ℕ → Type 0
 NoTail kind b tail = (m : ℕ) → HasTail kind b (take m tail) → ⊥
 

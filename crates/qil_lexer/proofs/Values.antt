@@ -1,4 +1,4 @@
--- What a number's bytes and a string's items stand for.
+-- What a number's bytes and a string's items represent.
 use Rattle.std.proofs.Common.{◌≡◌, ◌≤◌, ℕ, zero, suc, ◌+◌, Bool, length, drop, ◌++◌, append_assoc, subst, ap, true, false, cond, eqb, ◌||◌, List, [], ◌∷◌, get_or, Option, Some, None, refl, sym, ◌∙◌, arith}
 use Rattle.std.proofs.lemmas.Bool.{eqb-true}
 use Rattle.std.specs.Char.{is_ascii_digit, is_ascii_alphabetic}

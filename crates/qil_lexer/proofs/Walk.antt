@@ -1,11 +1,11 @@
--- Steps over the text: lines, and what stands behind a gap.
+-- Steps over the text: lines, and what stands after a gap.
 use Rattle.std.proofs.Common.{◌≡◌, ℕ, ◌+◌, ◌-◌, ◌<◌, ◌⊎◌, Bool, true, false, cond, eqb, List, [], ◌∷◌, ◌++◌, length, take, drop, get_or, count_by, refl, sym, ap, subst, ◌∙◌, arith, inl, inr}
 use Rattle.std.proofs.lemmas.Bool.{cases_Bool, cases_lt, not-true}
 use Rattle.std.proofs.lemmas.List.{take_more, drop_more, drop_all, drop-drop}
 use Rattle.std.proofs.lemmas.List.Sums.{sum_by-append, sum_by-cons}
 use Rattle.qil_lexer.specs.Shape.{Are, is_spacing, is_in_line, IsGap}
 use Rattle.qil_lexer.specs.Cut.{IsLongestGap, IsGapBetween, line_of}
-use Rattle.qil_lexer.specs.Front.{BeginsNoGap}
+use Rattle.qil_lexer.specs.Prefix.{BeginsNoGap}
 use Rattle.qil_lexer.proofs.Lines.{take_add, gap_in_line}
 
 -- lines without newlines don't count
@@ -37,7 +37,7 @@ gap_push (c ∷ gap) b g more = elim g [
   | inr comment ↦ inr (comment.0, are_push is_in_line gap b comment.1 (elim more [ inl s ↦ (gap_in_line (b ∷ []) (inl (s, tt))).0 | inr e ↦ rw e refl ]))
 ]
 
--- so none stands behind the longest gap
+-- so none stands after the longest gap
 pub none_behind : (bytes : List ℕ) (n : ℕ) → IsLongestGap n bytes → n < length bytes → (is_spacing (get_or bytes n 0) ≡ false) × (get_or bytes n 0 ≡ 35 → ⊥)
 none_behind bytes n gap lt =
     let b = get_or bytes n 0 in

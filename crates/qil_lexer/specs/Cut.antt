@@ -8,13 +8,13 @@ use Rattle.qil_lexer.specs.declared.error.LexCode.{LexCode}
 use Rattle.qil_lexer.specs.declared.error.LexCode.TheVariants.{L1, L2, L3, L4, L5, L6}
 use Rattle.qil_lexer.specs.Shape.{is_spacing, is_name_byte, begins, IsGap, Items, IsUnended, IsBadEscape, IsInRange, first_kind, HasShape}
 
--- the first n bytes are a gap, and no longer front of the text is one
+-- the first n bytes are a gap, and no longer prefix of the text is one
 pub record IsLongestGap (n : ℕ) (text : List ℕ) : Type 0 where
   pub fits : n ≤ length text
   pub shape : IsGap (take n text)
   pub longest : (m : ℕ) → n < m → m ≤ length text → IsGap (take m text) → ⊥
 
--- the first n bytes have the shape of a token, and no longer front of the text has the shape of any token
+-- the first n bytes have the shape of a token, and no longer prefix of the text has the shape of any token
 pub record IsLongest (kind : TokenKind) (n : ℕ) (text : List ℕ) : Type 0 where
   pub fits : n ≤ length text
   pub shape : HasShape kind (take n text)
@@ -72,7 +72,7 @@ SameTokens ts us = map piece_of ts ≡ map piece_of us
 abbrev pub IsSigil : ℕ → Type 0
 IsSigil b = (((first_kind b ≡ Some Global) ⊎ (first_kind b ≡ Some Temp)) ⊎ (first_kind b ≡ Some Label)) ⊎ (first_kind b ≡ Some Aggregate)
 
--- what stands at the front of the text begins no token, spacing or comment, for the reason of that code
+-- what is at the start of the text begins no token, spacing or comment, for the reason of that code
 abbrev pub Fails : LexCode → List ℕ → Type 0
 Fails code [] = ⊥
 Fails L1 (b ∷ bytes) = (((first_kind b ≡ None) × (is_spacing b ≡ false) × (b ≢ 35))
@@ -92,7 +92,7 @@ pub record FailsAt (text : List ℕ) (code : LexCode) (line : ℕ) : Type 0 wher
   pub fails : Fails code (drop at text)
   pub line_is : line ≡ line_of text at
 
--- the backslash of the first bad escape in the string whose opening quote stands at that place
+-- the backslash of the first bad escape in the string whose opening quote is at that place
 pub record IsBackslash (text : List ℕ) (quote place : ℕ) : Type 0 where
   pub behind : quote < place
   pub items : (n : ℕ) × Items n (drop (quote + 1) text) (drop place text)

@@ -1,6 +1,6 @@
--- What texts, tokens and faults are; and, for the parts of the lexer, what stands at the front of a text.
+-- What texts, tokens and faults are; and, for the parts of the lexer, what is at the start of a text.
 pub mod Shape
 pub mod Cut
-pub mod Front
+pub mod Prefix
 pub mod Walk
 pub mod Text

@@ -65,7 +65,7 @@ escape_len bytes =
     if begins is_escape_letter bytes then Some 1
     else (if begins is_octal bytes && nat_lt (octal_value (octals bytes)) 256 then Some (length (octals bytes)) else None)
 
--- how many bytes the item at the front takes: a byte that stands for itself, or an escape
+-- how many bytes the item at the start takes: a byte that represents itself, or an escape
 unfoldable pub item_len : List ℕ → Option ℕ
 item_len [] = None
 item_len (b ∷ bytes) =
@@ -77,7 +77,7 @@ abbrev pub Items : ℕ → List ℕ → List ℕ → Type 0
 Items zero bytes rest = bytes ≡ rest
 Items (suc n) bytes rest = (len : ℕ) × (item_len bytes ≡ Some len) × Items n (drop len bytes) rest
 
--- the byte that an escape's letter stands for: itself, but for b f n r t
+-- the byte that an escape's letter represents: itself, but for b f n r t
 abbrev pub letter_value : ℕ → ℕ
 letter_value b =
     if b == 98 then 8
@@ -87,11 +87,11 @@ letter_value b =
     else (if b == 116 then 9
     else b))))
 
--- the byte that the escape after a backslash stands for
+-- the byte that the escape after a backslash represents
 unfoldable pub escape_value : List ℕ → ℕ
 escape_value bytes = if begins is_octal bytes then octal_value (octals bytes) else letter_value (get_or bytes 0 0)
 
--- the byte that the item at the front stands for
+-- the byte that the item at the start represents
 unfoldable pub item_value : List ℕ → ℕ
 item_value [] = 0
 item_value (b ∷ bytes) = if b == 92 then escape_value bytes else b
@@ -102,7 +102,7 @@ ItemValues [] bytes rest = bytes ≡ rest
 ItemValues (value ∷ values) bytes rest =
     (len : ℕ) × (item_len bytes ≡ Some len) × (item_value bytes ≡ value) × ItemValues values (drop len bytes) rest
 
--- the string stands for these bytes: one for each item between its quotes
+-- the string represents these bytes: one for each item between its quotes
 abbrev pub StringBytes : List ℕ → List ℕ → Type 0
 StringBytes text values = ItemValues values (drop 1 text) (34 ∷ [])
 
@@ -131,7 +131,7 @@ abbrev pub IsInRange : List ℕ → Type 0
 IsInRange [] = ⊥
 IsInRange (b ∷ digits) = MatchBool (b == 45) (decimal digits ≤ 2 ^ 63) (decimal (b ∷ digits) < 2 ^ 64)
 
--- the 64 bits of a number in two's complement: the value of its digits, behind a '-' taken from 2^64
+-- the 64 bits of a number in two's complement: the value of its digits, after a '-' taken from 2^64
 abbrev pub number_value : List ℕ → ℕ
 number_value [] = 0
 number_value (b ∷ digits) = if b == 45 then (2 ^ 64 - decimal digits) % 2 ^ 64 else decimal (b ∷ digits)

@@ -6,13 +6,13 @@ use Rattle.qil_lexer.specs.declared.error.LexError.{LexError}
 use Rattle.qil_lexer.specs.declared.error.LexError.TheVariants.{Refused, OutOfMemory}
 use Rattle.qil_lexer.specs.Cut.{line_of, IsGapBetween, IsTokenOf, end_of, Fails}
 
--- a gap and the token behind it
+-- a gap and the token after it
 pub record IsStep (text : List ℕ) (from to : ℕ) (token : Token) : Type 0 where
   pub gap : IsGapBetween text from token.start
   pub token_of : IsTokenOf text token
   pub ends : to ≡ end_of token
 
--- a gap, and what fails behind it
+-- a gap, and what fails after it
 pub record FailsAfter (text : List ℕ) (from : ℕ) (code : LexCode) (line : ℕ) : Type 0 where
   pub at : ℕ
   pub gap : IsGapBetween text from at

@@ -21,7 +21,7 @@ pub enum LexCode {
     /// A string that meets a newline or the end of the text, also right after a backslash. The line is the opening
     /// quote's.
     L4,
-    /// A backslash in a string with anything else behind it than an escape. The line is the backslash's.
+    /// A backslash in a string with anything else after it than an escape. The line is the backslash's.
     L5,
     /// A text of more than 2^20 bytes. The line is 1.
     L6,

@@ -29,7 +29,7 @@ pub fn escape_line()
         → (place : ℕ) × IsBackslash text fault.at place × (line ≡ line_of text place) }
 {}
 
-/// A string stands for one list of bytes, and for no other.
+/// A string represents one list of bytes, and for no other.
 pub fn one_string()
     ensures some { (text : List ℕ) → HasShape Quoted text → (values : List ℕ) × StringBytes text values }
     ensures one { (text v w : List ℕ) → StringBytes text v → StringBytes text w → v ≡ w }

@@ -7,7 +7,7 @@ ghost use Rattle.qil_lexer.specs.declared.error.LexCode.{LexCode};
 ghost use Rattle.qil_lexer.specs.declared.token.Token.{Token};
 
 use crate::error::{LexCode, LexError};
-use crate::front::{front_token, gap_len};
+use crate::prefix::{gap_len, prefix_token};
 use crate::token::Token;
 use std::alloc::Allocator;
 
@@ -52,7 +52,7 @@ impl<'a> Lexer<'a> {
         self.at += gap_len(&self.text[self.at..]);
     }
 
-    /// The next token, or `None` at the end of the text. The place is then behind the token.
+    /// The next token, or `None` at the end of the text. The place is then after the token.
     fn next_token(&mut self) -> Result<Option<Token<'a>>, LexError>
         ensures text { self.new.text.now ≡ self.old.text.now }
         ensures pointer { self.new.text.ref_ptr ≡ self.old.text.ref_ptr }
@@ -61,7 +61,7 @@ impl<'a> Lexer<'a> {
     {
         self.skip_gap();
         let rest = &self.text[self.at..];
-        let (kind, len) = match front_token(rest) {
+        let (kind, len) = match prefix_token(rest) {
             Ok(Some(found)) => found,
             Ok(None) => return Ok(None),
             Err(code) => {

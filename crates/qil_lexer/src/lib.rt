@@ -5,9 +5,9 @@
 #![tactic(auto)]
 
 mod error;
-mod front;
 mod laws;
 mod lexer;
+mod prefix;
 mod token;
 mod value;
 

@@ -2,7 +2,7 @@
 
 ghost use Rattle.std.specs.Prelude.{◌≡◌, IfSome};
 ghost use Rattle.qil_lexer.specs.Shape.{first_kind};
-ghost use Rattle.qil_lexer.specs.Front.{IsByteOf};
+ghost use Rattle.qil_lexer.specs.Prefix.{IsByteOf};
 
 /// What a token is.
 ///
@@ -46,7 +46,7 @@ pub enum TokenKind {
     Newline,
 }
 
-/// A piece of a text, the longest that stands at its place.
+/// A piece of a text, the longest that is at its place.
 #[derive(Clone, Copy, Debug)]
 pub struct Token<'a> {
     pub kind: TokenKind,

@@ -1,11 +1,11 @@
-//! What number and string tokens stand for.
+//! What number and string tokens represent.
 
 ghost use Rattle.std.specs.Prelude.{◌≡◌, ◌≢◌, ◌<◌, ◌^◌, ◌+◌, ◌-◌, ◌*◌, true, None, IfOk};
 ghost use Rattle.std.specs.Char.{is_ascii_digit};
 ghost use Rattle.qil_lexer.specs.Shape.{Are, is_octal, decimal, number_value, escape_len, escape_value, item_len, item_value, StringBytes, HasShape, IsInRange};
 ghost use Rattle.qil_lexer.specs.declared.token.TokenKind.TheVariants.{Number, Quoted};
 
-use crate::front::{decimal_after, is_octal, item_len};
+use crate::prefix::{decimal_after, is_octal, item_len};
 use std::alloc::{AllocError, Allocator};
 
 /// The value of decimal digits.
@@ -39,7 +39,7 @@ fn two_octal(first: u8, second: u8) -> u8
     (first - b'0') * 8 + (second - b'0')
 }
 
-/// The byte that the escape after a backslash stands for.
+/// The byte that the escape after a backslash represents.
 #[tactic(auto, unfolding(crate::specs::Shape::escape_len, crate::specs::Shape::escape_value))]
 fn escape_value(bytes: &[u8]) -> u8
     requires { escape_len bytes.now ≢ None }
@@ -61,7 +61,7 @@ fn escape_value(bytes: &[u8]) -> u8
     }
 }
 
-/// The byte that a string's next item stands for.
+/// The byte that a string's next item represents.
 #[tactic(auto, unfolding(crate::specs::Shape::item_len, crate::specs::Shape::item_value))]
 fn item_value(bytes: &[u8]) -> u8
     requires { item_len bytes.now ≢ None }
@@ -74,7 +74,7 @@ fn item_value(bytes: &[u8]) -> u8
     }
 }
 
-/// The bytes that a Quoted token stands for: its quotes left out, its escapes replaced by their bytes.
+/// The bytes that a Quoted token represents: its quotes left out, its escapes replaced by their bytes.
 ///
 /// # Errors
 ///

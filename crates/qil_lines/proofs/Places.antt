@@ -19,8 +19,8 @@ pub cond_or_else : (t : Bool) (p : ℕ × ℕ) (q rest : Option (ℕ × ℕ)) �
 cond_or_else true p q rest = refl
 cond_or_else false p q rest = refl
 
--- what a front means, or else the rest
-pub append_means : (line : ℕ) (front rest : List Mark) → place_from line (front ++ rest) ≡ or_else (place_from line front) (place_from line rest)
+-- what a prefix means, or else the rest
+pub append_means : (line : ℕ) (prefix rest : List Mark) → place_from line (prefix ++ rest) ≡ or_else (place_from line prefix) (place_from line rest)
 append_means line [] rest = refl
 append_means line (m ∷ ms) rest =
     ap (λ v. cond (nat_le line m.line) (Some (m.block, m.index)) v) (append_means line ms rest)
@@ -46,7 +46,7 @@ shifted k (Some i) = Some (k + i)
 lt_more : (n len : ℕ) → nat_lt n len ≡ nat_lt (1 + n) (suc len)
 lt_more n len = grind (arith, nat_tests)
 
--- one instruction in front of others, of which n fail the test in front
+-- one instruction before others, of which n fail the test before it
 inst_step : (t : Bool) (n len k b : ℕ) (rest : Option (ℕ × ℕ)) → rest ≡ at_index b (shifted (k + 1) (cond (nat_lt n len) (Some n) None))
     → cond t (Some (b, k)) rest ≡ at_index b (shifted k (cond (nat_lt (cond (not t) (1 + n) 0) (suc len)) (Some (cond (not t) (1 + n) 0)) None))
 inst_step true n len k b rest e =

@@ -5,7 +5,7 @@ use Rattle.qil_tree.specs.declared.tree.Func.{Func}
 use Rattle.qil_tree.specs.declared.tree.Block.{Block}
 use Rattle.qil_lines.specs.Marks.{Mark, marks_from}
 
--- the lines of the places of a block: of each instruction, and of the jump behind the last
+-- the lines of the places of a block: of each instruction, and of the jump after the last
 abbrev pub place_lines : {A : Type 0} → Block A → List ℕ
 place_lines block = map (λ inst. inst.line) block.insts ++ block.jump.line ∷ []
 
@@ -22,7 +22,7 @@ abbrev pub place_from : ℕ → List Mark → Option (ℕ × ℕ)
 place_from line [] = None
 place_from line (mark ∷ marks) = cond (nat_le line mark.line) (Some (mark.block, mark.index)) (place_from line marks)
 
--- a mark is the first whose line isn't before a line: those in front of it stand before the line
+-- a mark is the first whose line isn't before a line: those before it stand before the line
 abbrev pub IsFirst : ℕ → List Mark → Mark → Type 0
 IsFirst line marks mark = (before after : List Mark) × (marks ≡ before ++ mark ∷ after) × AllByRecursion (λ m. m.line < line) before × (line ≤ mark.line)
 

@@ -14,7 +14,7 @@ abbrev pub inst_marks : {A : Type 0} → ℕ → ℕ → List (Inst A) → List 
 inst_marks b k [] = []
 inst_marks b k (inst ∷ insts) = record { line = inst.line; block = b; index = k } ∷ inst_marks b (k + 1) insts
 
--- whether the text has the jump of a block: one that is left out stands on the line of the next block's label
+-- whether the text has the jump of a block: one that is left out depends on the line of the next block's label
 abbrev pub is_written : {A : Type 0} → Block A → List (Block A) → Bool
 is_written block [] = true
 is_written block (next ∷ blocks) = not (nat_eq block.jump.line next.line)

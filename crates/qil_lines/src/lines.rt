@@ -17,7 +17,7 @@ pub struct Place {
     pub index: usize,
 }
 
-/// The line of what stands at an index of a block: of an instruction, or behind the last of the jump.
+/// The line of what is at an index of a block: of an instruction, or after the last of the jump.
 fn line_in<A: Allocator>(block: &Block<'_, A>, index: usize) -> Option<u32>
     ensures { result ≡ slice_get (place_lines block.now) index }
 {
@@ -84,7 +84,7 @@ fn index_from<A: Allocator>(block: &Block<'_, A>, written: bool, line: u32) -> O
     None
 }
 
-/// Whether the text has the jump of a block, behind which these come: one that is left out stands on the line of the next label.
+/// Whether the text has the jump of a block, after which these come: one that is left out depends on the line of the next label.
 fn has_jump<A: Allocator>(block: &Block<'_, A>, after: &[Block<'_, A>]) -> bool
     ensures { result ≡ is_written block.now after.now }
 {
@@ -114,14 +114,14 @@ fn first_place<A: Allocator>(func: &Func<'_, A>, line: u32) -> Option<Place>
 
 /// The place of a function that a line of its text means: the first, in the order of the text, whose line isn't before it.
 ///
-/// A label and phis mean the beginning of their block, and no line means a jump that is left out. A line in front of the function
-/// means its first place; behind its last jump there is none, so that no line means a place of the next function.
+/// A label and phis mean the beginning of their block, and no line means a jump that is left out. A line before the function
+/// means its first place; after its last jump there is none, so that no line means a place of the next function.
 pub fn place_in<A: Allocator>(func: &Func<'_, A>, line: u32) -> Option<Place>
     ensures first { IfSome result (λ place. (mark : Mark) × IsFirst line (marks_of func.now) mark
         × (place.block ≡ mark.block) × (place.index ≡ mark.index)) }
     ensures none { IfNone result (AreBefore line (marks_of func.now)) }
 
-    // The line of a mark means its place, where the marks in front of it stand on lines before it.
+    // The line of a mark means its place, where the marks before it depend on lines before it.
     ensures only { (mark : Mark) → IsFirst line (marks_of func.now) mark → pair_of result ≡ Some (mark.block, mark.index) }
 {
     first_place(func, line)

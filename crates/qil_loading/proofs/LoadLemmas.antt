@@ -23,7 +23,7 @@ use Rattle.qil_checker.specs.declared.checker.CheckError.TheVariants as check
 use Rattle.qil_rules.specs.Mentions.{texts}
 use Rattle.qil_rules.specs.Rules.{WellFormed, Broken}
 use Rattle.qil_rules.specs.Verdict.{Verdict}
-use Rattle.qil_checker.specs.Check.{IsTold}
+use Rattle.qil_checker.specs.Check.{IsReported}
 use Rattle.qil_loading.specs.declared.refusal.Refusal.{Refusal}
 use Rattle.qil_loading.specs.declared.refusal.Refusal.TheVariants as refusals
 use Rattle.qil_loading.specs.declared.load.LoadError.{LoadError}
@@ -47,12 +47,12 @@ same_seen ts us same = seen-pieces us ∙ ap (λ (pieces : List Piece). map tok_
 -- ---- what the lexer refuses
 
 pub lex_refused : (A : Type 0) (text : List ℕ) (e : LexError) (load : LoadError) → IfRefused e (TextFault text) → load ≡ of_lex e → IsCheckFault A text load
-lex_refused A text (lex.Refused code line) load told is = rw is told
-lex_refused A text lex.OutOfMemory load told is = rw is tt
+lex_refused A text (lex.Refused code line) load reported is = rw is reported
+lex_refused A text lex.OutOfMemory load reported is = rw is tt
 
 lex_wanting : (e : LexError) → IfRefused e (λ code line. ⊥) → of_lex e ≡ OutOfMemory
-lex_wanting (lex.Refused code line) told = absurd told
-lex_wanting lex.OutOfMemory told = refl
+lex_wanting (lex.Refused code line) reported = absurd reported
+lex_wanting lex.OutOfMemory reported = refl
 
 -- a text with a program is not refused by it
 pub lex_accepts : {A : Type 0} (text : List ℕ) (e : LexError) (load : LoadError) (verdict : Verdict A) → Checks text verdict →
@@ -75,8 +75,8 @@ parse_refused A text ts (parse.Refused code line) load short cut fault is = rw i
 parse_refused A text ts parse.OutOfMemory load short cut fault is = rw is tt
 
 parse_wanting : {A : Type 0} (p : Program A) (e : ParseError) → IsProgram p (Err e) → of_parse e ≡ OutOfMemory
-parse_wanting p (parse.Refused code line) told = absurd told
-parse_wanting p parse.OutOfMemory told = refl
+parse_wanting p (parse.Refused code line) reported = absurd reported
+parse_wanting p parse.OutOfMemory reported = refl
 
 -- the program of a text is spelled by the tokens that were found
 pub spelled_here : {A : Type 0} (text : List ℕ) (ts : List Token) (p : Program A) →
@@ -92,9 +92,9 @@ parse_accepts text ts e load verdict accepts only_cut only_spelled is =
 
 -- ---- what the checker refuses
 
-pub check_refused : {A : Type 0} (text : List ℕ) (p : Program A) (e : CheckError) (load : LoadError) → IsProgramOf text p → IsTold (texts p) e → load ≡ of_check e → IsCheckFault A text load
-check_refused text p (check.Refused rule line) load of_text told is = rw is (record { program = p; of_text = of_text; breaks = told })
-check_refused text p check.OutOfMemory load of_text told is = rw is tt
+pub check_refused : {A : Type 0} (text : List ℕ) (p : Program A) (e : CheckError) (load : LoadError) → IsProgramOf text p → IsReported (texts p) e → load ≡ of_check e → IsCheckFault A text load
+check_refused text p (check.Refused rule line) load of_text reported is = rw is (record { program = p; of_text = of_text; breaks = reported })
+check_refused text p check.OutOfMemory load of_text reported is = rw is tt
 
 pub check_accepts : {A : Type 0} (text : List ℕ) (ts : List Token) (p : Program A) (e : CheckError) (load : LoadError) (verdict : Verdict A) → Checks text verdict →
     ((us : List Token) → length text ≤ 2 ^ 20 → Cuts text us → SameTokens ts us) →
@@ -102,8 +102,8 @@ pub check_accepts : {A : Type 0} (text : List ℕ) (ts : List Token) (p : Progra
     (WellFormed p → e ≡ check.OutOfMemory) → load ≡ of_check e → load ≡ OutOfMemory
 check_accepts {A} text ts p e load verdict accepts only_cut only_spelled only_kept is =
     let same : p ≡ verdict.program = only_spelled verdict.program (spelled_here text ts verdict.program only_cut accepts.of_text) in
-    let wanting : e ≡ check.OutOfMemory = only_kept (subst (λ (q : Program A). WellFormed q) (sym same) accepts.well_formed) in
-    is ∙ ap (λ (x : CheckError). of_check x) wanting
+    let shortage : e ≡ check.OutOfMemory = only_kept (subst (λ (q : Program A). WellFormed q) (sym same) accepts.well_formed) in
+    is ∙ ap (λ (x : CheckError). of_check x) shortage
 
 -- a text that is refused gives no program
 pub none_refused : (A : Type 0) (text : List ℕ) (ts : List Token) (p : Program A) (refusal : Refusal) → RefusesCheck A text refusal →

@@ -35,7 +35,7 @@ loaded_line funcs bytes Single =
 loaded_line funcs bytes (Multiple func temp) =
     text_of (codes "loaded " ∷ decimal funcs ∷ codes " functions " ∷ decimal bytes ∷ codes " data bytes ssa no $" ∷ func ∷ codes " %" ∷ temp ∷ codes "\n" ∷ [])
 
--- what is told is of that program
+-- what is reported is of that program
 pub record IsLoaded {A : Type 0} (loaded : Loaded) (verdict : Verdict A) : Type 0 where
   pub funcs : loaded.funcs ≡ length verdict.program.funcs
   pub bytes : loaded.bytes ≡ length (bytes_of verdict.program)

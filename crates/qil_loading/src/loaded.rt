@@ -10,7 +10,7 @@ use qil_rules::{Checked, Form};
 use qil_streams::{Put, PutError};
 use std::alloc::Allocator;
 
-/// What is told of a program that was loaded.
+/// What is reported of a program that was loaded.
 #[derive(Clone, Copy)]
 pub struct Loaded<'l> {
     /// How many functions it has.
@@ -22,7 +22,7 @@ pub struct Loaded<'l> {
 }
 
 impl<'l> Loaded<'l> {
-    /// What is told of a program with its image.
+    /// What is reported of a program with its image.
     pub fn new<'a, A: Allocator + Copy>(
         checked: &'l Checked<'a, A>,
         image: &Image<'_, 'a, A>,

@@ -1,4 +1,4 @@
--- A step, from what stands at the place of the innermost frame.
+-- A step, from what is at the place of the innermost frame.
 use Rattle.std.proofs.Common.{◌≡◌, refl, sym, ap, ◌∙◌, subst, ℕ, zero, suc, List, [], ◌∷◌, length, Some, None, Ok, Err}
 use Rattle.std.specs.Prelude.{slice_get}
 use Rattle.std.specs.List.{All}

@@ -32,7 +32,7 @@ use Rattle.qil_state.specs.declared.status.Status.{Status}
 use Rattle.qil_state.specs.Faults.{fault_of}
 use Rattle.qil_state.specs.State.{Whole, whole, state_of, frame_state, frames_state, head_names, FramesFit, ReceiverFits, IsMachine}
 use Rattle.qil_state.specs.Stepping.{performed, performed_whole}
-use Rattle.qil_state.specs.Values.{AreSlots, argument_values, told_with}
+use Rattle.qil_state.specs.Values.{AreSlots, argument_values, reported_with}
 use Rattle.qil_state.proofs.Reading.{are_slots}
 use Rattle.qil_machine.specs.declared.error.StepError.{StepError}
 use Rattle.qil_machine.specs.Results.{Explains}
@@ -112,7 +112,7 @@ call_arguments p (f ∷ fs) to callee args h = h.2
 
 -- what came of looking at arguments in slots
 abbrev pub PassedIn : (A : Type 0) {X : Type 0} → List (Option ℕ) → List NumberedArgument → Result X Fault → Type 0
-PassedIn A vs args r = (p : Program A) (ns : List Name) → AreSlots ns vs → told_with (argument_values vs args) ns r ≡ vals p (temps_of ns vs) (map argument_read (map (named_argument ns) args))
+PassedIn A vs args r = (p : Program A) (ns : List Name) → AreSlots ns vs → reported_with (argument_values vs args) ns r ≡ vals p (temps_of ns vs) (map argument_read (map (named_argument ns) args))
 
 -- one of them is unset
 abbrev pub UnsetIn : (A : Type 0) → List (Option ℕ) → List NumberedArgument → Fault → Type 0

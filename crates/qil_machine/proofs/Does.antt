@@ -1,4 +1,4 @@
--- What instructions do, from the values of their operands to the machine behind them. A slot that is set is its temporary that
+-- What instructions do, from the values of their operands to the machine after them. A slot that is set is its temporary that
 -- is set: the lemmas take that as an equation.
 use Rattle.std.proofs.Common.{◌≡◌, refl, sym, ap, ◌∙◌, ℕ, ◌+◌, ◌-◌, ◌<◌, ◌≤◌, true, false, List, ◌∷◌, Some, Ok, Err, nat_lt, set, IsOk}
 use Rattle.std.proofs.lemmas.Bool.{lt-ltb, le-ltb}

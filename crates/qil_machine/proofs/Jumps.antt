@@ -48,7 +48,7 @@ use Rattle.qil_machine.specs.declared.error.StepError.TheVariants as errors
 use Rattle.qil_machine.specs.Moves.{inst_count}
 use Rattle.qil_machine.specs.Places.{IsRunning, IsLeaving}
 use Rattle.qil_machine.specs.Results.{gives, status_after, without_innermost, Explains, PhisExplain}
-use Rattle.qil_machine.specs.Steps.{StandsIn, IsHere, HasReturned, EdgeTakes, ReadTakes, BranchTakes}
+use Rattle.qil_machine.specs.Steps.{IsAtPlace, IsHere, HasReturned, EdgeTakes, ReadTakes, BranchTakes}
 use Rattle.qil_machine.proofs.Steps.{ReadIn}
 
 -- ---- before a jump along an edge
@@ -66,7 +66,7 @@ pub record Ready {A : Type 0} (p : Program A) (fs : List SlotFrame) (e : Edge A)
   pub moves : HasMoves fs e.moves
   pub short : IsShort e.moves
 
-ready_at : {A : Type 0} (p : Program A) (f : SlotFrame) (fs : List SlotFrame) (block : NumberedBlock A) (e : Edge A) (k : ℕ) → FrameFits p f → StandsIn p f block k → slice_get block.insts k ≡ None → IsEdgeOf e block.jump → Ready p (f ∷ fs) e
+ready_at : {A : Type 0} (p : Program A) (f : SlotFrame) (fs : List SlotFrame) (block : NumberedBlock A) (e : Edge A) (k : ℕ) → FrameFits p f → IsAtPlace p f block k → slice_get block.insts k ≡ None → IsEdgeOf e block.jump → Ready p (f ∷ fs) e
 ready_at {A} p f fs block e k fits stands none of =
     let here : BlockHere p f.func f.block block = block_here p f.func f.block block stands.code in
     let named : EdgeNamed p f.func here.func here.block.label e = edge-named p f.func f.block here.func here.block block e stands.knows here.func_is here.block_is here.code_is of in
@@ -163,7 +163,7 @@ returned_is {A} m now new v same ok run en bytes =
     returned_at now.program now.frames now.memory now.output now.status v fits (subst (λ (x : Whole A). live x.memory ≡ below (live now.memory) x.memory.top) en bytes) (some_frame now.status now.frames run is.some)
     ∙ ap (λ (x : Whole A). Ok (state_of x)) (sym en)
 
--- ---- what stands at the end of the block
+-- ---- what is at the end of the block
 
 frames_in : {A : Type 0} (m now : Whole A) → m ≡ now → IsMachine m → FramesFit now.program now.frames
 frames_in {A} m now same ok = subst (λ (x : Whole A). FramesFit x.program x.frames) same ok.frames
@@ -255,7 +255,7 @@ pub jmp_is : {A : Type 0} (m now : Whole A) (fr : SlotFrame) (e : Edge A) → m 
 jmp_is {A} m now fr e same ok at = subst (λ (x : Whole A). left_whole x (jumps.Jmp e) ≡ went_whole x e) same (jmp_left m m.program m.frames m.memory m.output m.status fr e refl ok.frames at)
 
 -- the operand of a return has its slot
-source_at : {A : Type 0} (p : Program A) (f : SlotFrame) (fs : List SlotFrame) (block : NumberedBlock A) (k : ℕ) (o : Option Source) → FrameFits p f → StandsIn p f block k → block.jump ≡ jumps.Ret o → HasReturned (f ∷ fs) o
+source_at : {A : Type 0} (p : Program A) (f : SlotFrame) (fs : List SlotFrame) (block : NumberedBlock A) (k : ℕ) (o : Option Source) → FrameFits p f → IsAtPlace p f block k → block.jump ≡ jumps.Ret o → HasReturned (f ∷ fs) o
 source_at {A} p f fs block k None fits stands is = tt
 source_at {A} p f fs block k (Some a) fits stands is =
     subst (λ n. InRange n a) fits.slots (subst (λ (j : NumberedJump A). JumpInRange (length (names_of p f.func)) (length (labels_at p f.func)) j) is stands.range.jump)

@@ -1,4 +1,4 @@
--- The first machine stands for the first state.
+-- The first machine represents the first state.
 use Rattle.std.proofs.Common.{◌≡◌, ◌≢◌, refl, sym, ap, ◌∙◌, subst, ℕ, suc, ◌+◌, ◌<◌, ◌≤◌, Bool, true, false, if◌then◌else◌, List, [], ◌∷◌, length, map, replicate, drop, get_or, Option, Some, None, Ok, Err, IsOk, arith, ◌==◌}
 use Rattle.std.specs.Prelude.{slice_get, slice_set, option_map}
 use Rattle.std.specs.Str.{bytes_eq}
@@ -136,7 +136,7 @@ is_started p x i k args at finds found count few =
     let code : IsCoded p i k = coded p i k at in
     start_is p x i k args code (found_entry p x i k code finds found) (sym count ∙ params_long p i k code) few
 
--- want of memory comes where the function is there and the arguments are as many
+-- out of memory comes where the function is there and the arguments are as many
 pub may_start : {A : Type 0} (p : Program A) (x : Name) (i : ℕ) (k : FuncCode A) (args : List ℕ) → Some k ≡ func_code_at p i → Finds p → Some i ≡ place_of (func_names p) x → length k.code.params ≡ length args → IsOk (start_of p x args)
 may_start p x i k args at finds found count =
     let code : IsCoded p i k = coded p i k at in

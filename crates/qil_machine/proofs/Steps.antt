@@ -29,7 +29,7 @@ use Rattle.qil_frames.specs.Frames.{SlotFrame, on_innermost, with_slot, at_index
 use Rattle.qil_state.specs.declared.status.Fault.{Fault}
 use Rattle.qil_state.specs.declared.status.Fault.TheVariants as faults
 use Rattle.qil_state.specs.declared.status.Status.{Status}
-use Rattle.qil_state.specs.Faults.{fault_of, told}
+use Rattle.qil_state.specs.Faults.{fault_of, reported}
 use Rattle.qil_state.specs.Values.{AreSlots, evaluated}
 use Rattle.qil_state.specs.State.{Whole, whole, state_of, frame_state, frames_state, head_names, FramesFit, IsMachine, IsNext}
 use Rattle.qil_state.specs.Stepping.{performed_whole}
@@ -43,10 +43,10 @@ use Rattle.qil_machine.proofs.Does.{assign_does, assign_faults, store_does, stor
 
 -- what was read of an operand in slots, and of an expression
 abbrev pub ReadIn : (A : Type 0) → List (Option ℕ) → Class → Source → Result ℕ Fault → Type 0
-ReadIn A vs c a r = (p : Program A) (ns : List Name) → AreSlots ns vs → told ns r ≡ val p (temps_of ns vs) c (named_source ns a)
+ReadIn A vs c a r = (p : Program A) (ns : List Name) → AreSlots ns vs → reported ns r ≡ val p (temps_of ns vs) c (named_source ns a)
 
 abbrev pub EvaluatedIn : (A : Type 0) → Buffers → List (Option ℕ) → Class → NumberedExpr → Result ℕ Fault → Type 0
-EvaluatedIn A m vs c e r = (p : Program A) (ns : List Name) → AreSlots ns vs → told ns r ≡ evaluated p (live m) (temps_of ns vs) c (named_expr ns e)
+EvaluatedIn A m vs c e r = (p : Program A) (ns : List Name) → AreSlots ns vs → reported ns r ≡ evaluated p (live m) (temps_of ns vs) c (named_expr ns e)
 
 -- the slots are those of the innermost frame
 abbrev pub AreOf : List SlotFrame → List (Option ℕ) → Type 0
@@ -94,7 +94,7 @@ assign_fails {A} m now vs c s e why same ok of ev =
 -- ---- operands of the innermost frame
 
 read_here : {A : Type 0} (p : Program A) (f : SlotFrame) (vs : List (Option ℕ)) (c : Class) (a : Source) (r : Result ℕ Fault) → AreSlots (names_of p f.func) f.slots → vs ≡ f.slots → ReadIn A vs c a r
-    → val p (temps_of (names_of p f.func) f.slots) c (named_source (names_of p f.func) a) ≡ told (names_of p f.func) r
+    → val p (temps_of (names_of p f.func) f.slots) c (named_source (names_of p f.func) a) ≡ reported (names_of p f.func) r
 read_here {A} p f vs c a r are of read = sym ((subst (λ us. ReadIn A us c a r) of read) p (names_of p f.func) are)
 
 -- what is done next with no fault left explains as much

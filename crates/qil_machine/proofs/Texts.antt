@@ -18,7 +18,7 @@ length_bytes m a (suc n) = let more = length_bytes m a n in length-append (bytes
 pub bytes_more : (m : Live) (a n b : ℕ) → Some b ≡ m (a + n) → bytes_from m a (n + 1) ≡ bytes_from m a n ++ b ∷ []
 bytes_more m a n b e = let one : n + 1 ≡ suc n = omega arith in ap (bytes_from m a) one ∙ ap (λ o. bytes_from m a n ++ unwrap_or o 0 ∷ []) (sym e)
 
--- n bytes from an address on are live and not zero: whatever text or cut stands behind them stands at the address, with them in front
+-- n bytes from an address on are live and not zero: whatever text or cut stands after them is at the address, with them before it
 pub record IsPast (m : Live) (a n : ℕ) : Type 0 where
   pub live : AreLive m a n
   pub text : (bs : List ℕ) → IsText m (a + n) bs → IsText m a (bytes_from m a n ++ bs)

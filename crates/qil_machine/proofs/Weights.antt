@@ -38,7 +38,7 @@ use Rattle.qil_state.proofs.Costs.{head_cost, inst_here_cost, jump_here_cost}
 use Rattle.qil_machine.specs.declared.error.StepError.{StepError}
 use Rattle.qil_machine.specs.Moves.{Move, weight}
 use Rattle.qil_machine.specs.Results.{gives}
-use Rattle.qil_machine.specs.Steps.{StandsIn, IsHere}
+use Rattle.qil_machine.specs.Steps.{IsAtPlace, IsHere}
 use Rattle.qil_machine.proofs.Advancing.{InstFound, inst_found, jump_found}
 use Rattle.qil_machine.specs.Costs.{WeighsAtMost, receiver_count, called_weight, inst_weight, phis_written, entered_weight, returned_weight, jump_weight}
 
@@ -166,7 +166,7 @@ jump_costs {A} m now new block k n same ok here is e h =
 
 -- ---- along an edge
 
-entered_at : {A : Type 0} (p : Program A) (f : SlotFrame) (fs gs : List SlotFrame) (block : NumberedBlock A) (e : Edge A) (k : ℕ) → StandsIn p f block k → IsEdgeOf e block.jump
+entered_at : {A : Type 0} (p : Program A) (f : SlotFrame) (fs gs : List SlotFrame) (block : NumberedBlock A) (e : Edge A) (k : ℕ) → IsAtPlace p f block k → IsEdgeOf e block.jump
     → entered_by (f ∷ fs) e.to.index e.moves ≡ Ok gs → 2 * length e.moves ≡ phis_written (func_at p f.func) (frames_state p (f ∷ fs)) (frames_state p gs)
 entered_at {A} p f fs gs block e k stands of ent =
     let here : BlockHere p f.func f.block block = block_here p f.func f.block block stands.code in

@@ -59,14 +59,14 @@ called_whole w to args a callee =
 
 -- ---- functions that take one argument
 
-abbrev pub told_one : List Name → Result ℕ Fault → Outcome (List ℕ)
-told_one ns (Ok v) = Ok (v ∷ [])
-told_one ns (Err why) = Err (fault_of ns why)
+abbrev pub reported_one : List Name → Result ℕ Fault → Outcome (List ℕ)
+reported_one ns (Ok v) = Ok (v ∷ [])
+reported_one ns (Err why) = Err (fault_of ns why)
 
 -- what comes of the arguments where a function takes one of a type, whatever the names
 abbrev pub TakesOne : List (Option ℕ) → AbiType → Option AbiType → Option Receiver → List NumberedArgument → Result ℕ Fault → Type 0
 TakesOne slots t returns to args r =
-    (ns : List Name) → told_one ns r
+    (ns : List Name) → reported_one ns r
     ≡ in_shape (record { params = t ∷ []; returns = returns }) (option_map (named_receiver ns) to) (map (named_argument ns) args) (argument_values slots args)
 
 -- ---- texts
@@ -80,7 +80,7 @@ bytes_from m a (suc n) = bytes_from m a n ++ unwrap_or (m (a + n)) 0 ∷ []
 abbrev pub AreLive : Live → ℕ → ℕ → Type 0
 AreLive m a n = (i : ℕ) → i < n → m (a + i) ≡ None → ⊥
 
--- the machine after the text at an address was written, and the byte 10 behind it
+-- the machine after the text at an address was written, and the byte 10 after it
 abbrev pub PutsText : {A : Type 0} → ℕ → ℕ → Option Receiver → Whole A → Whole A → Type 0
 PutsText a index to new old =
     (n : ℕ) × (text_at (live old.memory) a ≡ Ok (bytes_from (live old.memory) a n)) × (length old.output + (n + 1) ≤ 2 ^ 20)

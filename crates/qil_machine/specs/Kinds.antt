@@ -45,7 +45,7 @@ grown_move k s v saved = record { added = false; popped = None; place = at k; sl
 abbrev pub copied_move : ℕ → Kept → Move
 copied_move k saved = record { added = false; popped = None; place = at k; slots = []; bytes = Some (record { address = saved.address; bytes = saved.bytes }); top = Some saved.top; output = None; status = Some Running }
 
--- bytes were written, behind so many
+-- bytes were written, after so many
 abbrev pub wrote_move : ℕ → ℕ → List SavedSlot → Move
 wrote_move k n ks = record { added = false; popped = None; place = at k; slots = ks; bytes = None; top = None; output = Some n; status = Some Running }
 

@@ -10,7 +10,7 @@ use Rattle.qil_machine.specs.Moves.{Move, inst_count, undone, Fits}
 abbrev pub IsRunning : {A : Type 0} → Whole A → Type 0
 IsRunning w = w.status ≡ Running
 
--- the innermost frame stands at the end of its block, and its function has another of that number
+-- the innermost frame is at the end of its block, and its function has another of that number
 abbrev pub IsLeaving : {A : Type 0} → Program A → List SlotFrame → ℕ → Type 0
 IsLeaving p [] to = ⊥
 IsLeaving p (f ∷ fs) to = (f.index ≡ inst_count (block_at p f.func f.block)) × PlaceFits (block_at p f.func to) 0

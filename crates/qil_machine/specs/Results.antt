@@ -45,7 +45,7 @@ blit_error (blits.Target a) = errors.Fault (faults.DeadAddress a)
 blit_error blits.Overlap = errors.Fault faults.OverlappingBlit
 blit_error blits.OutOfMemory = errors.OutOfMemory
 
--- the fault is the one that comes of the step; want of memory comes only where none does
+-- the fault is the one that comes of the step; out of memory comes only if none does
 abbrev pub Explains : {X : Type 0} → List Name → Outcome X → StepError → Type 0
 Explains ns o (errors.Fault f) = o ≡ Err (fault_of ns f)
 Explains ns o errors.OutOfMemory = IsOk o
@@ -69,7 +69,7 @@ abbrev pub WriteExplains : StepError → ℕ → Type 0
 WriteExplains (errors.Fault f) count = (f ≡ faults.OutputFull) × (2 ^ 20 < count)
 WriteExplains errors.OutOfMemory count = count ≤ 2 ^ 20
 
--- a byte of the text is dead; or the output is full, and so on, with a byte more behind the text
+-- a byte of the text is dead; or the output is full, and so on, with a byte more after the text
 abbrev pub TextExplains : Outcome (List ℕ) → ℕ → StepError → Type 0
 TextExplains (Ok bytes) count e = WriteExplains e (count + (length bytes + 1))
 TextExplains (Err why) count (errors.Fault f) = (ns : List Name) → why ≡ fault_of ns f

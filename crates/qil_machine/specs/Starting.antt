@@ -6,7 +6,7 @@ use Rattle.qil_meaning.specs.declared.start.StartFault.TheVariants as faults
 use Rattle.qil_machine.specs.declared.error.StartError.{StartError}
 use Rattle.qil_machine.specs.declared.error.StartError.TheVariants as errors
 
--- the refusal is the one of the start; want of memory comes only where there is none
+-- the refusal is the one of the start; out of memory comes only if there is none
 abbrev pub StartExplains : Result State StartFault → StartError → Type 0
 StartExplains r errors.NoEntry = r ≡ Err faults.NoEntry
 StartExplains r errors.ArgumentCount = r ≡ Err faults.ArgumentCount

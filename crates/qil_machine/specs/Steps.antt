@@ -24,7 +24,7 @@ HasInst p [] inst = ⊥
 HasInst p (f ∷ fs) inst = InstInRange (length f.slots) inst
 
 -- the innermost frame stands in this block, at this index
-pub record StandsIn {A : Type 0} (p : Program A) (f : SlotFrame) (block : NumberedBlock A) (k : ℕ) : Type 0 where
+pub record IsAtPlace {A : Type 0} (p : Program A) (f : SlotFrame) (block : NumberedBlock A) (k : ℕ) : Type 0 where
   pub code : block_code_at p f.func f.block ≡ Some block
   pub index : f.index ≡ k
   pub range : BlockInRange (length (names_of p f.func)) (length (labels_at p f.func)) block
@@ -33,7 +33,7 @@ pub record StandsIn {A : Type 0} (p : Program A) (f : SlotFrame) (block : Number
 
 abbrev pub IsHere : {A : Type 0} → Program A → List SlotFrame → NumberedBlock A → ℕ → Type 0
 IsHere p [] block k = ⊥
-IsHere p (f ∷ fs) block k = StandsIn p f block k
+IsHere p (f ∷ fs) block k = IsAtPlace p f block k
 
 -- the innermost frame has the slot of an operand
 abbrev pub HasSource : List SlotFrame → Source → Type 0

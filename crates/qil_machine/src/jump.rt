@@ -1,4 +1,4 @@
-//! Jumps: what stands at the end of a block is done.
+//! Jumps: what is at the end of a block is done.
 
 ghost use Rattle.std.specs.Prelude.{◌≡◌, ◌≢◌, ◌≤◌, None, Some, Ok, Err, IfOk, IfErr, OnOk, OnErr, slice_get, length};
 ghost use Rattle.qil_numbering.specs.declared.numbered.NumberedJump.{NumberedJump};

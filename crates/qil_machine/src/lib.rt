@@ -21,5 +21,5 @@ mod watched;
 
 pub use delta::{Copied, Delta, Grown, Kind};
 pub use error::{MoveError, PokeError, StartError};
-pub use log::{Keeps, One};
+pub use log::{DeltaSink, OneDelta};
 pub use machine::Machine;

@@ -5,7 +5,7 @@ ghost use Rattle.std.specs.Prelude.{◌≡◌, ◌<◌, List, [], ◌∷◌, ◌
 use std::alloc::Allocator;
 
 /// Something that takes an item, and has room for it.
-pub trait Keeps<T> {
+pub trait DeltaSink<T> {
     ghost kept: { Self → List T };
 
     ghost has_room: { Self → Type 0 };
@@ -17,11 +17,11 @@ pub trait Keeps<T> {
 
 /// Room for one.
 #[derive(Drop)]
-pub struct One<T> {
+pub struct OneDelta<T> {
     pub item: Option<T>,
 }
 
-impl<T: Drop> Keeps<T> for One<T> {
+impl<T: Drop> DeltaSink<T> for OneDelta<T> {
     ghost kept = { λ o. option_to_list o.item };
 
     ghost has_room = { λ o. o.item ≡ None };
@@ -32,7 +32,7 @@ impl<T: Drop> Keeps<T> for One<T> {
     }
 }
 
-impl<T: Drop, A: Allocator> Keeps<T> for Vec<T, A> {
+impl<T: Drop, A: Allocator> DeltaSink<T> for Vec<T, A> {
     ghost kept = { λ v. v.items };
 
     ghost has_room = { λ v. vec_len v < vec_capacity v };

@@ -27,7 +27,7 @@ use std::alloc::Allocator;
 const OUTPUT_LIMIT: usize = 1_048_576;
 
 impl<'c, 'a, A: Allocator + Copy> Machine<'c, 'a, A> {
-    /// Gives a value to the slot that takes it and goes one instruction on, where bytes were written behind so many.
+    /// Gives a value to the slot that takes it and goes one instruction on, where bytes were written after so many.
     #[inline(always)]
     fn wrote(&mut self, count: u32, to: Option<Receiver>, value: u64, index: u32) -> Delta<A>
         requires running { IsRunning self.old }
@@ -108,7 +108,7 @@ impl<'c, 'a, A: Allocator + Copy> Machine<'c, 'a, A> {
         }
     }
 
-    /// Writes the bytes from an address up to a zero byte, and the byte 10 behind them; 0 is given.
+    /// Writes the bytes from an address up to a zero byte, and the byte 10 after them; 0 is given.
     #[inline(always)]
     fn put_text(
         &mut self,
@@ -212,7 +212,7 @@ fn copy_text<A: Allocator + Copy>(
     output.push_reserved(10);
 }
 
-/// Makes room for more bytes behind those that were written.
+/// Makes room for more bytes after those that were written.
 fn reserve<A: Allocator>(output: &mut Vec<u8, A>, more: usize) -> Result<(), StepError>
     requires { length output.old.items ≤ 2 ^ 20 }
     ensures same { output.new.items ≡ output.old.items }

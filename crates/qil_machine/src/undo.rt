@@ -205,7 +205,7 @@ impl<'c, 'a, A: Allocator + Copy> Machine<'c, 'a, A> {
     }
 }
 
-/// Makes a status that of a run that goes on. Nearly each move is taken back while it does: then nothing is written.
+/// Makes a status that of a run that goes on. Nearly each move is undone while it does: then nothing is written.
 #[inline(always)]
 fn run_again(status: &mut Status)
     ensures { status.new ≡ Status.Running }

@@ -1,4 +1,4 @@
-//! What stops ask of a machine: the bytes at an address, and whether the run stands at a place. Nothing here takes memory.
+//! What stops ask of a machine: the bytes at an address, and whether the run is at a place. Nothing here takes memory.
 
 ghost use Rattle.std.specs.Prelude.{◌≡◌, Some, None, false, option_map};
 ghost use Rattle.qil_tree.specs.declared.tree.Block.{Block};

@@ -1,4 +1,4 @@
--- In which order the faults of a call are told, and where the output is full.
+-- In which order the faults of a call are reported, and where the output is full.
 use Rattle.std.proofs.Common.{◌≡◌, refl, ℕ, ◌<◌, ◌≤◌, true, false, List, ◌∷◌, ◌++◌, length, ◌&&◌, map, Option, Some, None, Ok, Err}
 use Rattle.std.proofs.lemmas.Bool.{lt-ltb, le-ltb}
 use Rattle.qil_tree.specs.declared.tree.CallResult.{CallResult}

@@ -50,7 +50,7 @@ ending : cost_after memory_text 4 ≡ Some 6
 unfolding costs
 ending = refl
 
--- a jump to two phis 8, also back to them; one that leaves them behind 4
+-- a jump to two phis 8, also back to them; one that leaves them after 4
 abbrev phis_text : Program A0
 phis_text = prog [] (func None (codes "main") [] (block (codes "s") [] [] (jumps.Jmp (codes "t"))
     ∷ block (codes "t") (phi (w (codes "a")) (source (codes "s") (n 0) ∷ source (codes "t") (% (codes "b")) ∷ []) ∷ phi (w (codes "b")) (source (codes "s") (n 1) ∷ source (codes "t") (% (codes "a")) ∷ []) ∷ [])

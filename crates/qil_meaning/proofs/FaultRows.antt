@@ -123,9 +123,9 @@ unfolding runs
 overlap = refl
 
 -- and two that share none
-beside : status_after (straight ((inst (insts.Alloc (l (codes "p")) allocs.Four (n 8))) ∷ (inst (insts.Blit (n 16777216) (n 16777220) 4)) ∷ [])) 2 ≡ Some (running)
+next_to : status_after (straight ((inst (insts.Alloc (l (codes "p")) allocs.Four (n 8))) ∷ (inst (insts.Blit (n 16777216) (n 16777220) 4)) ∷ [])) 2 ≡ Some (running)
 unfolding runs
-beside = refl
+next_to = refl
 
 -- the same with the target below the source: one byte shared, none, and a byte between
 overlap_below : status_after (straight ((inst (insts.Alloc (l (codes "p")) allocs.Four (n 12))) ∷ (inst (insts.Blit (n 16777219) (n 16777216) 4)) ∷ [])) 2 ≡ Some (faulted overlapping_blit)
@@ -154,7 +154,7 @@ nearly_the_same_above : status_after (straight ((inst (insts.Alloc (l (codes "p"
 unfolding runs
 nearly_the_same_above = refl
 
--- of two operands that are unset the left one is told, also where the right one would be a dead address
+-- of two operands that are unset the left one is reported, also where the right one would be a dead address
 unset_left : status_after (straight ((inst (insts.Store widths.W (% (codes "u")) (% (codes "v")))) ∷ [])) 1 ≡ Some (faulted (unset_temporary (codes "u")))
 unfolding runs
 unset_left = refl

@@ -73,20 +73,20 @@ reverse-cons : (s : State) (past : List State) → reverse (s ∷ past) ≡ reve
 reverse-cons s past = reverse-append (s ∷ []) past
 
 -- the last states of a list
-cut_front : (n : ℕ) (xs : List State) → reverse (take n xs) ≡ drop (length xs - n) (reverse xs)
-cut_front n xs =
+cut_prefix : (n : ℕ) (xs : List State) → reverse (take n xs) ≡ drop (length xs - n) (reverse xs)
+cut_prefix n xs =
     let parts : reverse xs ≡ reverse (drop n xs) ++ reverse (take n xs) = rw (sym (reverse-append (take n xs) (drop n xs))) (ap reverse (sym (take-append-drop n xs))) in
-    let front : length xs - n ≡ length (reverse (drop n xs)) =
+    let prefix : length xs - n ≡ length (reverse (drop n xs)) =
     (let a = length-take n xs in let b = ap length (take-append-drop n xs) in let c = length-append (take n xs) (drop n xs) in let d = length-reverse (drop n xs) in omega (arith, a, b, c, d)) in
-    rw front (rw parts (sym (drop-append_seam (reverse (drop n xs)) (reverse (take n xs)))))
+    rw prefix (rw parts (sym (drop-append_seam (reverse (drop n xs)) (reverse (take n xs)))))
 
 longer : (s : State) (past : List State) → length (reverse past ++ (s ∷ [])) ≡ suc (length past)
 longer s past = let a = length-append (reverse past) (s ∷ []) in let b = length-reverse past in omega (arith, a, b)
 
--- The kept states with the new one behind them, less the first ones where they are more than n and the one now.
+-- The kept states with the new one after them, less the first ones where they are more than n and the one now.
 pub states-bounded : (t : Timeline) (s : State) (n : ℕ) → t.keeps ≡ Some n → states (to s t) ≡ drop (length (states t ++ (s ∷ [])) - suc n) (states t ++ (s ∷ []))
 states-bounded t s n h =
-    rw h (rw (sym (reverse-cons s (t.now ∷ t.past))) (cut_front (suc n) (s ∷ (t.now ∷ t.past)) ∙ ap (λ k. drop (k - suc n) (reverse (s ∷ (t.now ∷ t.past)))) (sym (length-reverse (s ∷ (t.now ∷ t.past))))))
+    rw h (rw (sym (reverse-cons s (t.now ∷ t.past))) (cut_prefix (suc n) (s ∷ (t.now ∷ t.past)) ∙ ap (λ k. drop (k - suc n) (reverse (s ∷ (t.now ∷ t.past)))) (sym (length-reverse (s ∷ (t.now ∷ t.past))))))
 
 pub states-unbounded : (t : Timeline) (s : State) → t.keeps ≡ None → states (to s t) ≡ states t ++ (s ∷ [])
 states-unbounded t s h = rw h (reverse-cons s (t.now ∷ t.past))
@@ -114,7 +114,7 @@ kept-to t u s h k =
       newest = all_kept t.now t.past t.keeps h
           ∙ (ap (λ now. now ∷ t.past) (sym k.same_state)
           ∙ (ap (λ past. u.now ∷ past) k.newest
-          ∙ (ap (λ front. front ++ k.forgot) parts ∙ append_assoc (newest u.keeps (u.now ∷ u.past)) forgot k.forgot)));
+          ∙ (ap (λ prefix. prefix ++ k.forgot) parts ∙ append_assoc (newest u.keeps (u.now ∷ u.past)) forgot k.forgot)));
     }
 
 from_some : {X : Type 0} (x y : X) → Some x ≡ Some y → x ≡ y

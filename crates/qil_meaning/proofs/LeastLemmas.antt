@@ -51,9 +51,9 @@ at_limit : (limit : ℕ) (o : Option Reason) → is_some (within limit limit o) 
 at_limit limit (Some r) = refl
 at_limit limit None = rw (is_equal limit limit refl) refl
 
--- some reason is told at the target, and none before it
-pub target-told : (stop : ℕ → Option Reason) (limit : ℕ) → (r : Reason) × (within limit (target stop limit) (stop (target stop limit)) ≡ Some r)
-target-told stop limit = some_if (within limit (target stop limit) (stop (target stop limit))) (least-holds (λ k. is_some (within limit k (stop k))) limit (at_limit limit (stop limit)))
+-- some reason is reported at the target, and none before it
+pub target-reported : (stop : ℕ → Option Reason) (limit : ℕ) → (r : Reason) × (within limit (target stop limit) (stop (target stop limit)) ≡ Some r)
+target-reported stop limit = some_if (within limit (target stop limit) (stop (target stop limit))) (least-holds (λ k. is_some (within limit k (stop k))) limit (at_limit limit (stop limit)))
 
 pub target-passed : (stop : ℕ → Option Reason) (limit j : ℕ) → j < target stop limit → within limit j (stop j) ≡ None
 target-passed stop limit j lt = none_if (within limit j (stop j)) (least-below (λ k. is_some (within limit k (stop k))) limit j lt)
@@ -104,13 +104,13 @@ plain_back stops limit t (suc i) r l e =
 pub reaches_on : {A : Type 0} (p : Program A) (stops : List Numbered) (limit : ℕ) (t : Timeline) → AreListed 0 stops
     → (r : Reason) × (stopping r ≡ Some r) × RunsOn p stops limit t r (target (stop_on p stops t) limit) (moved p (target (stop_on p stops t) limit) t)
 reaches_on p stops limit t l =
-    let (r, told) = target-told (stop_on p stops t) limit in
-    let plain : Some r ≡ stopping r = plain_on p stops limit t (target (stop_on p stops t) limit) r l told in
-    (r, sym plain, record { moves = refl; least = record { passed = λ j lt. target-passed (stop_on p stops t) limit j lt; reached = told ∙ plain } })
+    let (r, reported) = target-reported (stop_on p stops t) limit in
+    let plain : Some r ≡ stopping r = plain_on p stops limit t (target (stop_on p stops t) limit) r l reported in
+    (r, sym plain, record { moves = refl; least = record { passed = λ j lt. target-passed (stop_on p stops t) limit j lt; reached = reported ∙ plain } })
 
 pub reaches_back : (stops : List Numbered) (limit : ℕ) (t : Timeline) → AreListed 0 stops
     → (r : Reason) × RunsBack stops limit t r (target (stop_back stops t) limit) (gone (target (stop_back stops t) limit) t)
 reaches_back stops limit t l =
-    let (r, told) = target-told (stop_back stops t) limit in
-    let plain : Some r ≡ stopping r = plain_back stops limit t (target (stop_back stops t) limit) r l told in
-    (r, record { moves = refl; no_memory = sym plain; least = record { passed = λ j lt. target-passed (stop_back stops t) limit j lt; reached = told ∙ plain } })
+    let (r, reported) = target-reported (stop_back stops t) limit in
+    let plain : Some r ≡ stopping r = plain_back stops limit t (target (stop_back stops t) limit) r l reported in
+    (r, record { moves = refl; no_memory = sym plain; least = record { passed = λ j lt. target-passed (stop_back stops t) limit j lt; reached = reported ∙ plain } })

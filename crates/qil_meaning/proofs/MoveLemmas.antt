@@ -13,10 +13,10 @@ use Rattle.qil_meaning.specs.Moves.{least, forward_by, back_by, GoesForward, Goe
 -- ---- forward
 
 -- the first of some moves may be made first
-pub moved-front : {A : Type 0} (p : Program A) (k : ℕ) (t : Timeline) → moved p k (forward p t) ≡ moved p (suc k) t
+pub moved-prefix : {A : Type 0} (p : Program A) (k : ℕ) (t : Timeline) → moved p k (forward p t) ≡ moved p (suc k) t
 unfolding moved
-moved-front p zero t = refl
-moved-front p (suc k) t = ap (λ u. forward p u) (moved-front p k t)
+moved-prefix p zero t = refl
+moved-prefix p (suc k) t = ap (λ u. forward p u) (moved-prefix p k t)
 
 stays : {A : Type 0} (p : Program A) (n : ℕ) (t : Timeline) → (0 ≡ n) ⊎ (at_end t ≡ true) → GoesForward p n t t
 stays p n t h = record { added = []; grows = refl; steps = tt; few = omega arith; stops = h }
@@ -34,12 +34,12 @@ goes p n t u e h = record {
   stops = one_more (length h.added) n (at_end u ≡ true) h.stops;
 }
 
--- one move and those behind it, to the same place
+-- one move and those after it, to the same place
 onward : {A : Type 0} (p : Program A) (n : ℕ) (t : Timeline)
     → moved p (least (λ k. at_end (moved p k (forward p t))) n) (forward p t) ≡ moved p (suc (least (λ k. at_end (moved p (suc k) t)) n)) t
 onward p n t =
-    moved-front p (least (λ k. at_end (moved p k (forward p t))) n) t
-    ∙ ap (λ f. moved p (suc (least f n)) t) (λ i k. at_end (moved-front p k t i))
+    moved-prefix p (least (λ k. at_end (moved p k (forward p t))) n) t
+    ∙ ap (λ f. moved p (suc (least f n)) t) (λ i k. at_end (moved-prefix p k t i))
 
 by_end : {A : Type 0} (p : Program A) (n : ℕ) (t : Timeline) (b : Bool) → at_end t ≡ b → GoesForward p n (forward p t) (forward_by p n (forward p t))
     → GoesForward p (suc n) t (moved p (cond b zero (suc (least (λ k. at_end (moved p (suc k) t)) n))) t)
@@ -54,7 +54,7 @@ goes-forward_by p (suc n) t = by_end p n t (at_end t) refl (goes-forward_by p n 
 
 -- ---- back
 
--- a list, its k-th element between what stands before and behind it
+-- a list, its k-th element between what stands before and after it
 parted : (k : ℕ) (xs : List State) (d : State) → k < length xs → xs ≡ take k xs ++ (slice_index_or xs k d ∷ drop (suc k) xs)
 parted k xs d h = sym (take-append-drop k xs) ∙ ap (λ ys. take k xs ++ ys) (drop-cons xs k d h)
 

@@ -1,4 +1,4 @@
--- Values in numbered slots, beside their names: what connects numbered code with the maps by name.
+-- Values in numbered slots, next to their names: what connects numbered code with the maps by name.
 use Rattle.std.proofs.Common.{◌≡◌, refl, sym, ap, subst, ℕ, suc, Bool, true, false, if◌then◌else◌, List, [], ◌∷◌, length, Option, Some, None, arith}
 use Rattle.std.specs.Prelude.{slice_get, slice_set, option_map, unwrap_or}
 use Rattle.std.proofs.lemmas.Slice.Eq.{bytes_eq-Decides}

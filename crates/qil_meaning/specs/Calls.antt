@@ -56,7 +56,7 @@ shape_of func = record { params = map (λ q. q.abi_type) func.params; returns = 
 abbrev pub agree : AbiType → AbiType → Bool
 agree t u = width (class_of t) == width (class_of u)
 
--- as many on both sides, each agreeing with the one beside it
+-- as many on both sides, each agreeing with the one next to it
 abbrev pub agree_all : List AbiType → List AbiType → Bool
 agree_all [] [] = true
 agree_all (t ∷ ts) (u ∷ us) = agree t u && agree_all ts us

@@ -49,7 +49,7 @@ jump_cost t f func (jumps.Jnz a l m) = entered_cost func f.label t.frames
 jump_cost t f func (jumps.Ret a) = 2 * result_count f.result + length (temps_named func)
 jump_cost t f func jumps.Hlt = 0
 
--- by what stands at the place of a frame
+-- by what is at the place of a frame
 abbrev pub place_cost : {A : Type 0} → State → State → Frame → Func A → Option (Inst A) → Jump → ℕ
 place_cost s t f func (Some inst) jump = inst_cost s t inst.kind
 place_cost s t f func None jump = jump_cost t f func jump.kind

@@ -16,13 +16,13 @@ IsWhole status = Unit {0}
 abbrev pub Settles : State → State → Type 0
 Settles s t = IsWhole t.status ⊎ ((fault : Fault) × (t ≡ record s { status = faulted fault }))
 
--- these bytes, none of them zero, stand from an address on, and a zero byte behind them
+-- these bytes, none of them zero, stand from an address on, and a zero byte after them
 abbrev pub IsText : Live → ℕ → List ℕ → Type 0
 IsText m a [] = m a ≡ Some 0
 IsText m a (zero ∷ bs) = ⊥
 IsText m a (suc b ∷ bs) = (m a ≡ Some (suc b)) × IsText m (a + 1) bs
 
--- k bytes that aren't zero stand from an address on, and a dead byte behind them
+-- k bytes that aren't zero stand from an address on, and a dead byte after them
 abbrev pub IsCutAfter : Live → ℕ → ℕ → Type 0
 IsCutAfter m a zero = m a ≡ None
 IsCutAfter m a (suc k) = (b : ℕ) × (m a ≡ Some (suc b)) × IsCutAfter m (a + 1) k

@@ -5,8 +5,8 @@ use Rattle.std.specs.Str.{bytes_eq}
 use Rattle.qil_tree.specs.declared.ops.Class.{Class}
 use Rattle.qil_tree.specs.declared.tree.Func.{Func}
 use Rattle.qil_tree.specs.declared.tree.Program.{Program}
-use Rattle.qil_rules.specs.declared.mention.What.{What}
-use Rattle.qil_rules.specs.declared.mention.What.TheVariants.{Defines}
+use Rattle.qil_rules.specs.declared.mention.MentionKind.{MentionKind}
+use Rattle.qil_rules.specs.declared.mention.MentionKind.TheVariants.{Defines}
 use Rattle.qil_rules.specs.declared.mention.Mention.{Mention}
 use Rattle.qil_rules.specs.Mentions.{func_mentions}
 use Rattle.qil_memory.specs.declared.fault.Dead.{Dead}
@@ -21,7 +21,7 @@ pub data PokeFault : Type 0 where
 
 -- ---- the classes of temporaries
 
-abbrev pub defined_by : What → Name → Option Class
+abbrev pub defined_by : MentionKind → Name → Option Class
 defined_by (Defines y c) x = if bytes_eq y x then Some c else None
 defined_by what x = None
 

@@ -35,12 +35,12 @@ stop_back stops t (suc k) = option_or (stopped stops (gone k t).now (gone (suc k
 abbrev pub target : (ℕ → Option Reason) → ℕ → ℕ
 target stop limit = least (λ k. is_some (within limit k (stop k))) limit
 
--- want of memory is no stop
+-- running out of memory is no stop
 abbrev pub stopping : Reason → Option Reason
 stopping Memory = None
 stopping reason = Some reason
 
--- k is the least number of moves with a reason to stop, and this is the reason; or memory was wanting after k moves, none of
+-- k is the least number of moves with a reason to stop, and this is the reason; or memory ran out after k moves, none of
 -- which led to a stop
 pub record IsLeast (stop : ℕ → Option Reason) (limit k : ℕ) (reason : Reason) : Type 0 where
   pub passed : (j : ℕ) → j < k → within limit j (stop j) ≡ None
@@ -51,7 +51,7 @@ pub record RunsOn {A : Type 0} (p : Program A) (stops : List Numbered) (limit : 
   pub moves : u ≡ moved p k t
   pub least : IsLeast (stop_on p stops t) limit k reason
 
--- a run back from t made k moves to u, and stopped for this reason, which is never want of memory
+-- a run back from t made k moves to u, and stopped for this reason, which is never out of memory
 pub record RunsBack (stops : List Numbered) (limit : ℕ) (t : Timeline) (reason : Reason) (k : ℕ) (u : Timeline) : Type 0 where
   pub moves : u ≡ gone k t
   pub no_memory : stopping reason ≡ Some reason

@@ -1,4 +1,4 @@
--- Values in numbered slots, beside the names of these: for code that numbers its temporaries.
+-- Values in numbered slots, next to the names of these: for code that numbers its temporaries.
 use Rattle.std.specs.Prelude.{ℕ, suc, if◌then◌else◌, List, [], ◌∷◌, Option, Some, None, option_map}
 use Rattle.std.specs.Str.{bytes_eq}
 use Rattle.qil_meaning.specs.State.{Name, Temps}

@@ -14,7 +14,7 @@ Temps = Name → Option ℕ
 
 -- A call that is not over: a function, a block of it, and the number of instructions of the block that are done. Where
 -- they all are, the jump is next. The floor is the top of the stack from before the call. The result is the temporary of
--- the caller that takes what is returned, if one does, with the type that stands at the call.
+-- the caller that takes what is returned, if one does, with the type that is at the call.
 pub record Frame : Type 0 where
   pub func : Name
   pub label : Name

@@ -125,7 +125,7 @@ leave p s f fs func jumps.Hlt = Err halted
 
 -- ---- steps
 
--- the instruction at the place, on its operands, read from the left; or the jump behind the last
+-- the instruction at the place, on its operands, read from the left; or the jump after the last
 abbrev pub does : {A : Type 0} → Program A → State → Frame → List Frame → Func A → Option (Inst A) → Jump → Outcome State
 does p s f fs func (Some inst) jump = vals p f.temps (inst_reads inst.kind) >>= act p s f fs inst.kind
 does p s f fs func None jump = leave p s f fs func jump.kind

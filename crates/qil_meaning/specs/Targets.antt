@@ -11,8 +11,8 @@ use Rattle.qil_meaning.specs.declared.reason.Reason.TheVariants.{End, Watch, Bre
 
 -- ---- the order of reasons
 
--- Reasons are told in this order, and among those of one kind the lower number first. `End` is none of going back, nor
--- `Start` and `Oldest` of going forward; want of memory is no stop.
+-- Reasons are reported in this order, and among those of one kind the lower number first. `End` is none of going back, nor
+-- `Start` and `Oldest` of going forward; running out of memory is no stop.
 abbrev pub rank : Reason → ℕ
 rank End = 0
 rank (Watch n) = 1

@@ -14,7 +14,7 @@ unfoldable pub by_name : List (Name × ℕ) → Temps
 by_name [] x = None
 by_name (one ∷ others) x = option_or (by_name others x) (if_named one.0 x one.1)
 
--- these values, beside their names
+-- these values, next to their names
 abbrev pub named : List Name → List ℕ → Temps
 named names vs = by_name (zip names vs)
 

@@ -1,5 +1,5 @@
 -- The timeline of a session: the whole states that are kept, of which the last is now, and how many older ones were
--- forgotten. A timeline keeps everything, or as many moves as it is told.
+-- forgotten. A timeline keeps everything, or as many moves as it is reported.
 use Rattle.std.specs.Prelude.{ℕ, zero, suc, ◌+◌, ◌-◌, Bool, nat_lt, if◌then◌else◌, List, [], ◌∷◌, reverse, length, take, drop, Option, Some, None, slice_get, slice_index_or, Result, Ok, Err}
 use Rattle.qil_tree.specs.declared.tree.Program.{Program}
 use Rattle.qil_meaning.specs.State.{State, is_final}

@@ -51,7 +51,7 @@ fit types.Ub v = low_bits 32 (extended extensions.Ub v)
 fit types.Sh v = low_bits 32 (extended extensions.Sh v)
 fit types.Uh v = low_bits 32 (extended extensions.Uh v)
 
--- each value as the type beside it has it
+-- each value as the type next to it has it
 abbrev pub fit_all : List AbiType → List ℕ → List ℕ
 fit_all ts vs = map (λ one. fit one.0 one.1) (zip ts vs)
 
@@ -72,7 +72,7 @@ abbrev pub vals : {A : Type 0} → Program A → Temps → List Read → Outcome
 vals p temps [] = Ok []
 vals p temps (r ∷ rs) = val p temps r.class r.operand >>= λ v. vals p temps rs >>= λ vs. Ok (v ∷ vs)
 
--- of the values that were read, the first, those behind it, and the second
+-- of the values that were read, the first, those after it, and the second
 abbrev pub first : List ℕ → ℕ
 first [] = 0
 first (v ∷ vs) = v

@@ -17,7 +17,7 @@ pub fn one_target<A>()
     ensures back { (stops : List Numbered) (limit : ℕ) (t : Timeline) (j : ℕ) (i : ℕ) (r : Reason) (q : Reason) → BackTarget stops limit t j r → BackTarget stops limit t i q → (j ≡ i) × (r ≡ q) }
 {}
 
-/// A run forward makes the moves and tells the reason of its target, want of memory aside.
+/// A run forward makes the moves and tells the reason of its target, out of memory aside.
 pub fn runs_on_to_target<A>()
     ensures target { (p : Program A) (stops : List Numbered) (limit : ℕ) (t : Timeline) (u : Timeline) (r : Reason) (k : ℕ) → AreListed 0 stops → stopping r ≡ Some r → RunsOn p stops limit t r k u → Continues p stops limit t r k × (u ≡ moved p k t) }
     ensures run { (p : Program A) (stops : List Numbered) (limit : ℕ) (t : Timeline) (r : Reason) (k : ℕ) → AreListed 0 stops → Continues p stops limit t r k → RunsOn p stops limit t r k (moved p k t) }
@@ -29,7 +29,7 @@ pub fn runs_back_to_target()
     ensures run { (stops : List Numbered) (limit : ℕ) (t : Timeline) (r : Reason) (k : ℕ) → AreListed 0 stops → Reverses stops limit t r k → RunsBack stops limit t r k (gone k t) }
 {}
 
-/// Each run comes to stand, after the least number of moves that has a reason, which is never want of memory.
+/// Each run comes to stand, after the least number of moves that has a reason, which is never out of memory.
 pub fn targets_are_reached<A>()
     ensures forward { (p : Program A) (stops : List Numbered) (limit : ℕ) (t : Timeline) → AreListed 0 stops → (r : Reason) × (stopping r ≡ Some r) × RunsOn p stops limit t r (target (stop_on p stops t) limit) (moved p (target (stop_on p stops t) limit) t) }
     ensures back { (stops : List Numbered) (limit : ℕ) (t : Timeline) → AreListed 0 stops → (r : Reason) × RunsBack stops limit t r (target (stop_back stops t) limit) (gone (target (stop_back stops t) limit) t) }

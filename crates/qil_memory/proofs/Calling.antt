@@ -103,7 +103,7 @@ blit_keeps m w saved s t n top kept xs h k e f g top_is is =
     let stays : w ≡ with_top (with_bytes m t (bytes_at m s n)) m.top = top_stays m w t (bytes_at m s n) e in
     written_keeps m w saved t n m.top top (bytes_at m s n) kept xs k (sym (length-bytes_at m s n h)) stays f g (top_is ∙ ap (λ (x : Buffers). x.top) stays) is
 
--- want of memory, where the blit has no fault
+-- out of memory, where the blit has no fault
 pub wants_memory : {A : Type 0} (r : Result A BlitFault) (b : Result Live BlitFault) (x : Live) → b ≡ Ok x → IsErrAnd r (λ e. e ≡ OutOfMemory) → IfErr r (λ e. Explains e b)
 wants_memory (Ok a) b x e h = tt
 wants_memory (Err fault) b x e h = rw (h, e) refl

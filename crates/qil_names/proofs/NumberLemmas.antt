@@ -6,11 +6,11 @@ use Rattle.std.specs.Str.{bytes_eq}
 use Rattle.std.proofs.lemmas.Bool.Decides.{nat_tests}
 use Rattle.std.proofs.lemmas.Slice.Eq.{bytes_eq-Decides}
 use Rattle.indexmap.specs.IndexSet.{insert_key, insert_all}
-use Rattle.qil_names.specs.Numbers.{place_of, noted, names_of}
+use Rattle.qil_names.specs.Numbers.{place_of, recorded, names_of}
 
-pub noted_append : (ns xs ys : List (List ℕ)) → noted ns (xs ++ ys) ≡ noted (noted ns xs) ys
-noted_append ns [] ys = refl
-noted_append ns (x ∷ xs) ys = noted_append (insert_key bytes_eq ns x) xs ys
+pub recorded_append : (ns xs ys : List (List ℕ)) → recorded ns (xs ++ ys) ≡ recorded (recorded ns xs) ys
+recorded_append ns [] ys = refl
+recorded_append ns (x ∷ xs) ys = recorded_append (insert_key bytes_eq ns x) xs ys
 
 -- ---- the keys of a set
 
@@ -29,7 +29,7 @@ names-if : (b : Bool) (ks : List (Bor (List ℕ))) (x : Bor (List ℕ)) → name
 names-if true ks x = refl
 names-if false ks x = names-append ks x
 
-pub names-insert : (ks : List (Bor (List ℕ))) (x : Bor (List ℕ)) → names_of (insert_key same ks x) ≡ noted (names_of ks) (x.now ∷ [])
+pub names-insert : (ks : List (Bor (List ℕ))) (x : Bor (List ℕ)) → names_of (insert_key same ks x) ≡ recorded (names_of ks) (x.now ∷ [])
 names-insert ks x = names-if (list_any (same x) ks) ks x ∙ ap (λ b. if b then names_of ks else names_of ks ++ x.now ∷ []) (any_of x ks)
 
 -- ---- places
@@ -54,7 +54,7 @@ next_place : (b c : Bool) (k : ℕ) (deep : Option ℕ) → c ≡ b → cond b (
 next_place true c k deep e f = rw e (rw (← f) (ap Some (omega arith)))
 next_place false c k deep e f = rw e (rw (← f) refl)
 
--- the first place behind an element
+-- the first place after an element
 behind : (b : Bool) (k n : ℕ) (deep : Option ℕ) → cond (nat_lt k n) (Some k) None ≡ deep
     → cond (nat_lt (cond (not b) (1 + k) 0) (suc n)) (Some (cond (not b) (1 + k) 0)) None ≡ (if b then Some 0 else option_map (λ i. suc i) deep)
 behind true k n deep e = let below : nat_lt 0 (suc n) ≡ true = grind (arith, nat_tests) in rw below refl

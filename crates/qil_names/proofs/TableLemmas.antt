@@ -1,4 +1,4 @@
--- What a table of names says after a name is noted.
+-- What a table of names says after a name is recorded.
 use Rattle.std.proofs.Common.{◌≡◌, ◌∙◌, sym, ap, refl, subst, List, [], ◌∷◌, ◌++◌, ℕ, Option, Some, None, Bool, true, false, if◌then◌else◌, Bor}
 use Rattle.std.specs.Option.{option_or}
 use Rattle.std.specs.Str.{bytes_eq}
@@ -22,10 +22,10 @@ by_test : {X : Type 0} (old : Option X) (a : X) (b : Bool) → (b ≡ true → o
 by_test old a true absent = rw (absent refl)
 by_test old a false absent = sym (or_none old)
 
-pub first_noted : {V S : Type 0} (name : List ℕ) (v : V) (m n : IndexMap (Bor (List ℕ)) V S)
+pub first_recorded : {V S : Type 0} (name : List ℕ) (v : V) (m n : IndexMap (Bor (List ℕ)) V S)
     → Updated m n name v → value_at m name ≡ None
     → (x : List ℕ) → value_at n x ≡ option_or (value_at m x) (for_name name v x)
-first_noted name v m n updates absent x =
+first_recorded name v m n updates absent x =
     hash_map_updates_str name m n (Some v) updates x
     ∙ by_test (value_at m x) v (bytes_eq name x) (λ e. subst (λ y. value_at m y ≡ None) ((bytes_eq-Decides name x).0 e) absent)
 

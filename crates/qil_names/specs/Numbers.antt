@@ -9,9 +9,9 @@ unfoldable pub place_of : List (List ℕ) → List ℕ → Option ℕ
 place_of [] x = None
 place_of (n ∷ ns) x = if bytes_eq n x then Some 0 else option_map (λ i. suc i) (place_of ns x)
 
--- names with further ones behind them, those that are new
-abbrev pub noted : List (List ℕ) → List (List ℕ) → List (List ℕ)
-noted ns xs = insert_all bytes_eq ns xs
+-- names with further ones after them, those that are new
+abbrev pub recorded : List (List ℕ) → List (List ℕ) → List (List ℕ)
+recorded ns xs = insert_all bytes_eq ns xs
 
 -- the names that keys are
 abbrev pub names_of : List (Bor (List ℕ)) → List (List ℕ)

@@ -5,7 +5,7 @@ use Rattle.std.specs.declared.vec.Vec.{Vec}
 use Rattle.indexmap.specs.IndexMap.{IndexMap, get_by}
 use denote.Ref.{Bor}
 
--- the value that stands for a name
+-- the value that represents a name
 abbrev pub value_at : {V S : Type 0} → IndexMap (Bor (List ℕ)) V S → List ℕ → Option V
 value_at m x = get_by (λ k. bytes_eq x k.now) m
 
@@ -17,7 +17,7 @@ abbrev pub items_of : {V A : Type 0} → Option (Vec V A) → List V
 items_of None = []
 items_of (Some vs) = vs.items
 
--- the values that stand for a name
+-- the values that represent a name
 abbrev pub values_at : {V A S : Type 0} → IndexMap (Bor (List ℕ)) (Vec V A) S → List ℕ → List V
 values_at m x = items_of (value_at m x)
 

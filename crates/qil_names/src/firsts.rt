@@ -1,4 +1,4 @@
-//! The value that was noted first for each name.
+//! The value that was recorded first for each name.
 
 ghost use Rattle.std.specs.Prelude.{◌≡◌, List, ℕ, None, OnOk, length};
 ghost use Rattle.std.specs.Option.{option_or};
@@ -11,7 +11,7 @@ use indexmap::IndexMap;
 use std::alloc::{AllocError, Allocator};
 use std::hash::RandomState;
 
-/// For each name the value that was noted for it first.
+/// For each name the value that was recorded for it first.
 #[derive(Drop)]
 pub struct Firsts<'a, V: Copy, A: Allocator> {
     values: IndexMap<&'a [u8], V, RandomState, A>,
@@ -27,7 +27,7 @@ impl<'a, V: Copy, A: Allocator + Copy> Firsts<'a, V, A> {
         }
     }
 
-    /// The value noted for a name.
+    /// The value recorded for a name.
     pub fn get(&self, name: &[u8]) -> Option<V>
         ensures { result ≡ value_at self.now.values name.now }
     {

@@ -1,4 +1,4 @@
-//! All values that were noted for each name.
+//! All values that were recorded for each name.
 
 ghost use Rattle.std.specs.Prelude.{◌≡◌, List, ℕ, [], ◌∷◌, ◌++◌, OnOk, if◌then◌else◌};
 ghost use Rattle.std.specs.Str.{bytes_eq};
@@ -8,7 +8,7 @@ use indexmap::IndexMap;
 use std::alloc::{AllocError, Allocator};
 use std::hash::RandomState;
 
-/// For each name the values that were noted for it, in their order.
+/// For each name the values that were recorded for it, in their order.
 #[derive(Drop)]
 pub struct Groups<'a, V: Drop, A: Allocator> {
     lists: IndexMap<&'a [u8], Vec<V, A>, RandomState, A>,
@@ -39,7 +39,7 @@ impl<'a, V: Drop, A: Allocator + Copy> Groups<'a, V, A> {
         Ok(())
     }
 
-    /// The values noted for a name, if there are any.
+    /// The values recorded for a name, if there are any.
     pub fn get(&self, name: &'a [u8]) -> Option<&Vec<V, A>>
         ensures { kept result ≡ values_at self.now.lists name.now }
     {

@@ -1,14 +1,14 @@
 //! A number for each name.
 
 ghost use Rattle.std.specs.Prelude.{◌≡◌, ◌<◌, [], ◌∷◌, OnOk, IfSome, length};
-ghost use Rattle.qil_names.specs.Numbers.{place_of, noted, names_of};
+ghost use Rattle.qil_names.specs.Numbers.{place_of, recorded, names_of};
 
 use indexmap::IndexSet;
 use std::alloc::{AllocError, Allocator};
 use std::hash::RandomState;
 use std::marker::Model;
 
-/// Names, each once, numbered from 0 in the order in which they were noted. Specifications see the list of them.
+/// Names, each once, numbered from 0 in the order in which they were recorded. Specifications see the list of them.
 #[derive(Drop)]
 pub struct Numbers<'a, A: Allocator> {
     set: IndexSet<&'a [u8], RandomState, A>,
@@ -35,7 +35,7 @@ impl<'a, A: Allocator + Copy> Numbers<'a, A> {
 
     /// Notes a name, unless it is there.
     pub fn note(&mut self, name: &'a [u8]) -> Result<(), AllocError>
-        ensures { OnOk result (self.new ≡ noted self.old (name.now ∷ [])) }
+        ensures { OnOk result (self.new ≡ recorded self.old (name.now ∷ [])) }
     {
         self.set.insert(name)?;
         Ok(())

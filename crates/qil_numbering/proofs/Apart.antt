@@ -1,14 +1,14 @@
--- Names of which no two are equal are noted as they stand.
+-- Names of which no two are equal are recorded as they stand.
 use Rattle.std.proofs.Common.{◌≡◌, refl, sym, ap, ◌∙◌, ℕ, suc, ◌<◌, Bool, true, false, List, [], ◌∷◌, Some, arith}
 use Rattle.std.specs.Prelude.{slice_get, filter, not}
 use Rattle.std.specs.Str.{bytes_eq}
 use Rattle.std.proofs.lemmas.Slice.Eq.{bytes_eq-Decides}
-use Rattle.qil_names.specs.Numbers.{noted}
+use Rattle.qil_names.specs.Numbers.{recorded}
 use Rattle.qil_meaning.specs.State.{Name}
 use Rattle.qil_meaning.specs.Names.{once}
-use Rattle.qil_numbering.proofs.Once.{noted-once}
+use Rattle.qil_numbering.proofs.Once.{recorded-once}
 
--- no name stands at two places
+-- no name is at two places
 abbrev pub AreApart : List Name → Type 0
 AreApart xs = (i j : ℕ) (x : Name) → i < j → slice_get xs i ≡ Some x → slice_get xs j ≡ Some x → ⊥
 
@@ -30,5 +30,5 @@ once-same (x ∷ xs) h =
     ap (λ l. x ∷ filter (λ y. not (bytes_eq x y)) l) deep
     ∙ ap (λ l. x ∷ l) (all_kept x xs (λ j y at s. h 0 (suc j) x (omega arith) refl (at ∙ ap Some (sym s))))
 
-pub noted-same : (xs : List Name) → AreApart xs → noted [] xs ≡ xs
-noted-same xs h = noted-once xs ∙ once-same xs h
+pub recorded-same : (xs : List Name) → AreApart xs → recorded [] xs ≡ xs
+recorded-same xs h = recorded-once xs ∙ once-same xs h

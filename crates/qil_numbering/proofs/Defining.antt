@@ -35,7 +35,7 @@ pub first-append : (xs ys : List Target) (x : Name) → first_class (xs ++ ys) x
 first-append [] ys x = refl
 first-append (to ∷ xs) ys x = ap (λ o. option_or (for_name to.name to.class x) o) (first-append xs ys x) ∙ or_assoc (for_name to.name to.class x) (first_class xs x) (first_class ys x)
 
--- what was noted first, and then more
+-- what was recorded first, and then more
 pub joined : (o a b : Option Class) (xs ys : List Target) (x : Name) → a ≡ option_or o (first_class xs x) → b ≡ option_or a (first_class ys x) → b ≡ option_or o (first_class (xs ++ ys) x)
 joined o a b xs ys x e f = f ∙ ap (λ v. option_or v (first_class ys x)) e ∙ sym (or_assoc o (first_class xs x) (first_class ys x)) ∙ ap (λ v. option_or o v) (sym (first-append xs ys x))
 

@@ -12,7 +12,7 @@ use Rattle.qil_tree.specs.declared.tree.Block.{Block}
 use Rattle.qil_tree.specs.declared.tree.Func.{Func}
 use Rattle.qil_tree.specs.declared.tree.Program.{Program}
 use Rattle.qil_rules.specs.Text.{IsAmong}
-use Rattle.qil_names.specs.Numbers.{place_of, noted}
+use Rattle.qil_names.specs.Numbers.{place_of, recorded}
 use Rattle.qil_meaning.specs.State.{Name}
 use Rattle.qil_meaning.specs.Names.{temps_named}
 use Rattle.qil_meaning.specs.Step.{phi_moves, block_labelled}
@@ -31,7 +31,7 @@ use Rattle.qil_numbering.proofs.FactsNames.{mapped_at}
 use Rattle.qil_numbering.proofs.FactsTemps.{Differ, once-differ}
 use Rattle.qil_numbering.proofs.Has.{Has, HasAll, has-among, name-at, name-number, all-among}
 use Rattle.qil_numbering.proofs.NamedCode.{block-has}
-use Rattle.qil_numbering.proofs.Once.{noted-once}
+use Rattle.qil_numbering.proofs.Once.{recorded-once}
 use Rattle.qil_numbering.proofs.PhiMoves.{block-moves-named}
 use Rattle.qil_numbering.proofs.Edges.{label-found}
 use Rattle.qil_numbering.proofs.Readers.{func_at_numerable}
@@ -134,8 +134,8 @@ own_number ls x k apart at =
     let h = has-among ls x k at in
     number_is ls x h.0 h.1 ∙ same_place ls x h.0 k apart (name-at ls x h.0 h.1) at
 
-labels_differ : {A : Type 0} (f : Func A) → noted [] (labels_in f.blocks) ≡ labels_in f.blocks → AllPairs Differ (labels_in f.blocks)
-labels_differ f h = let ls = labels_in f.blocks in subst (AllPairs Differ) (sym (noted-once ls) ∙ h) (once-differ ls)
+labels_differ : {A : Type 0} (f : Func A) → recorded [] (labels_in f.blocks) ≡ labels_in f.blocks → AllPairs Differ (labels_in f.blocks)
+labels_differ f h = let ls = labels_in f.blocks in subst (AllPairs Differ) (sym (recorded-once ls) ∙ h) (once-differ ls)
 
 pub numbers_blocks : {A : Type 0} (p : Program A) → AreNumerable p → NumbersBlocks p
 numbers_blocks p all = record {

@@ -6,7 +6,7 @@ use Rattle.qil_tree.specs.declared.tree.Program.{Program}
 use Rattle.qil_rules.specs.Rules.{WellFormed}
 use Rattle.qil_numbering.specs.Facts.{IsNumerable, AreNumerable, Finds}
 use Rattle.qil_numbering.specs.Gather.{labels_in}
-use Rattle.qil_numbering.proofs.Apart.{noted-same}
+use Rattle.qil_numbering.proofs.Apart.{recorded-same}
 use Rattle.qil_numbering.proofs.FactsNames.{names_apart, found_by, placed_by, mapped_at}
 use Rattle.qil_numbering.proofs.FactsBlocks.{labels_apart, few_blocks}
 use Rattle.qil_numbering.proofs.FactsTemps.{few_temps}
@@ -15,13 +15,13 @@ pub func_numerable : {A : Type 0} (p : Program A) → WellFormed p → (n : ℕ)
 func_numerable p kept n f there = record {
   few_temps = few_temps p kept n f there;
   few_blocks = few_blocks p kept n f there;
-  labels = noted-same (labels_in f.blocks) (labels_apart p kept n f there);
+  labels = recorded-same (labels_in f.blocks) (labels_apart p kept n f there);
 }
 
 pub numerable : {A : Type 0} (p : Program A) → WellFormed p → AreNumerable p
 numerable p kept = record {
   each = λ i d lt. func_numerable p kept i (get_or p.funcs i d) (slice_get-get_or p.funcs i d lt);
-  names = noted-same (map (λ f. f.name) p.funcs) (names_apart p kept);
+  names = recorded-same (map (λ f. f.name) p.funcs) (names_apart p kept);
 }
 
 pub finds : {A : Type 0} (p : Program A) → WellFormed p → Finds p

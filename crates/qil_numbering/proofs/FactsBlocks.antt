@@ -18,11 +18,11 @@ use Rattle.qil_tree.specs.declared.tree.Block.{Block}
 use Rattle.qil_tree.specs.declared.tree.Func.{Func}
 use Rattle.qil_tree.specs.declared.tree.Program.{Program}
 use Rattle.qil_rules.specs.declared.rule.Rule.TheVariants.{C2, C12}
-use Rattle.qil_rules.specs.declared.mention.What.TheVariants.{FunctionName, Label}
+use Rattle.qil_rules.specs.declared.mention.MentionKind.TheVariants.{FunctionName, Label}
 use Rattle.qil_rules.specs.declared.mention.Mention.{Mention}
 use Rattle.qil_rules.specs.Operands.{inst_reads, inst_target, inst_long_class}
 use Rattle.qil_rules.specs.Mentions.{on, operand_mentions, read_mentions, target_mentions, long_mentions, source_mentions, phi_mentions, inst_mentions, jump_mentions, block_mentions, param_mention, func_mentions}
-use Rattle.qil_rules.specs.Text.{Stands}
+use Rattle.qil_rules.specs.Text.{IsAt}
 use Rattle.qil_rules.specs.Rules.{WellFormed, is_label}
 use Rattle.qil_meaning.specs.State.{Name}
 use Rattle.qil_numbering.specs.Gather.{labels_in}
@@ -33,7 +33,7 @@ use Rattle.qil_numbering.proofs.FactsNames.{made_of, func_text}
 abbrev label_of : {A : Type 0} → Block A → Mention
 label_of b = on b.line (Label b.label)
 
--- what a block mentions behind its label, and what all blocks do
+-- what a block mentions after its label, and what all blocks do
 abbrev behind_label : {A : Type 0} → Option AbiType → Block A → List Mention
 behind_label returns b = flat_map (phi_mentions b.label) b.phis ++ (flat_map inst_mentions b.insts ++ jump_mentions returns b.label b.jump.line b.jump.kind)
 
@@ -62,7 +62,7 @@ two_labels f i j b c l h k =
     let blocks = all_mentions f.returns f.blocks in
     two_more (on f.line (FunctionName f.name)) (params ++ blocks) (label_of b) (label_of c) (two_behind params blocks (label_of b) (label_of c) (two_blocks f.returns f.blocks i j b c l h k))
 
-stands_label : {A : Type 0} (text : List Mention) (k : ℕ) (b : Block A) (x : Name) → slice_get text k ≡ Some (label_of b) → b.label ≡ x → Stands text k (Label x)
+stands_label : {A : Type 0} (text : List Mention) (k : ℕ) (b : Block A) (x : Name) → slice_get text k ≡ Some (label_of b) → b.label ≡ x → IsAt text k (Label x)
 stands_label text k b x e s = ap (option_map (λ m. m.what)) e ∙ ap (λ y. Some (Label y)) s
 
 -- by rule C2

@@ -8,7 +8,7 @@ use Rattle.qil_tree.specs.declared.tree.Definition.{Definition}
 use Rattle.qil_tree.specs.declared.tree.Definition.TheVariants as definitions
 use Rattle.qil_tree.specs.declared.tree.Program.{Program}
 use Rattle.qil_rules.specs.declared.rule.Rule.TheVariants.{C1}
-use Rattle.qil_rules.specs.declared.mention.What.TheVariants.{FunctionName}
+use Rattle.qil_rules.specs.declared.mention.MentionKind.TheVariants.{FunctionName}
 use Rattle.qil_rules.specs.Mentions.{data_mentions, func_mentions, texts_in}
 use Rattle.qil_rules.specs.Rules.{WellFormed}
 use Rattle.qil_names.specs.Numbers.{place_of}

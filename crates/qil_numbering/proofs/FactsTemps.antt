@@ -22,12 +22,12 @@ use Rattle.qil_tree.specs.declared.tree.Func.{Func}
 use Rattle.qil_tree.specs.declared.tree.Program.{Program}
 use Rattle.qil_tree.specs.Types.{class_of}
 use Rattle.qil_rules.specs.declared.rule.Rule.TheVariants.{C12}
-use Rattle.qil_rules.specs.declared.mention.What.{What}
-use Rattle.qil_rules.specs.declared.mention.What.TheVariants.{FunctionName, Label, PhiLabel, PhiOf, Defines}
+use Rattle.qil_rules.specs.declared.mention.MentionKind.{MentionKind}
+use Rattle.qil_rules.specs.declared.mention.MentionKind.TheVariants.{FunctionName, Label, PhiLabel, PhiOf, Defines}
 use Rattle.qil_rules.specs.declared.mention.Mention.{Mention}
 use Rattle.qil_rules.specs.Operands.{Read, inst_reads, inst_target, inst_long_class}
 use Rattle.qil_rules.specs.Mentions.{on, operand_mentions, read_mentions, target_mentions, long_mentions, source_mentions, phi_mentions, inst_mentions, jump_mentions, block_mentions, param_mention, func_mentions}
-use Rattle.qil_rules.specs.Text.{Stands, IsTemporary}
+use Rattle.qil_rules.specs.Text.{IsAt, IsTemporary}
 use Rattle.qil_rules.specs.Rules.{WellFormed}
 use Rattle.qil_meaning.specs.State.{Name}
 use Rattle.qil_meaning.specs.Names.{operand_names, target_names, phi_names, inst_names, jump_names, block_names, once, temps_named}
@@ -67,7 +67,7 @@ temp_behind : (pre text : List Mention) (x : Name) → IsTemporary text x → Is
 temp_behind [] text x h = h
 temp_behind (m ∷ pre) text x h = let deep = temp_behind pre text x h in (suc deep.0, deep.1, deep.2)
 
-stands_before : (text post : List Mention) (k : ℕ) (what : What) → Stands text k what → Stands (text ++ post) k what
+stands_before : (text post : List Mention) (k : ℕ) (what : MentionKind) → IsAt text k what → IsAt (text ++ post) k what
 stands_before [] post k what e = absurd cc
 stands_before (m ∷ text) post zero what e = e
 stands_before (m ∷ text) post (suc k) what e = stands_before text post k what e

@@ -18,12 +18,12 @@ use Rattle.qil_tree.specs.declared.tree.Block.{Block}
 use Rattle.qil_tree.specs.declared.tree.Func.{Func}
 use Rattle.qil_tree.specs.declared.tree.Program.{Program}
 use Rattle.qil_rules.specs.declared.rule.Rule.TheVariants.{C3}
-use Rattle.qil_rules.specs.declared.mention.What.{What}
-use Rattle.qil_rules.specs.declared.mention.What.TheVariants.{FunctionName, Label, Edge, PhiOf, Defines}
+use Rattle.qil_rules.specs.declared.mention.MentionKind.{MentionKind}
+use Rattle.qil_rules.specs.declared.mention.MentionKind.TheVariants.{FunctionName, Label, Edge, PhiOf, Defines}
 use Rattle.qil_rules.specs.declared.mention.Mention.{Mention}
 use Rattle.qil_rules.specs.Operands.{inst_reads, inst_target, inst_long_class}
 use Rattle.qil_rules.specs.Mentions.{on, operand_mentions, read_mentions, target_mentions, long_mentions, source_mentions, phi_mentions, inst_mentions, jump_mentions, block_mentions, param_mention, func_mentions}
-use Rattle.qil_rules.specs.Text.{Stands, IsAmong}
+use Rattle.qil_rules.specs.Text.{IsAt, IsAmong}
 use Rattle.qil_rules.specs.Rules.{WellFormed, begins_block, is_label}
 use Rattle.qil_names.specs.Numbers.{place_of}
 use Rattle.qil_meaning.specs.State.{Name}
@@ -78,7 +78,7 @@ func_edge f j b x at h =
 
 -- each label that stands in the text is among these names
 abbrev AreKnown : List Name → List Mention → Type 0
-AreKnown ls text = (k : ℕ) (x : Name) → Stands text k (Label x) → Has ls x
+AreKnown ls text = (k : ℕ) (x : Name) → IsAt text k (Label x) → Has ls x
 
 none_known : (ls : List Name) → AreKnown ls []
 none_known ls k x e = absurd cc
@@ -151,7 +151,7 @@ block_known ls returns b h =
     (both_known ls phis (insts ++ jump) (all_known ls (phi_mentions b.label) (phi_known ls b.label) b.phis)
     (both_known ls insts jump (all_known ls inst_mentions (inst_known ls) b.insts) (jump_known ls returns b.label b.jump.line b.jump.kind)))
   where
-    label : What → Name
+    label : MentionKind → Name
     label (Label x) = x
     label what = []
 

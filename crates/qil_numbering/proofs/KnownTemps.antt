@@ -10,8 +10,8 @@ use Rattle.qil_tree.specs.declared.ops.Class.TheVariants as classes
 use Rattle.qil_tree.specs.declared.tree.Func.{Func}
 use Rattle.qil_tree.specs.declared.tree.Program.{Program}
 use Rattle.qil_rules.specs.declared.rule.Rule.TheVariants.{C6}
-use Rattle.qil_rules.specs.declared.mention.What.{What}
-use Rattle.qil_rules.specs.declared.mention.What.TheVariants.{Defines}
+use Rattle.qil_rules.specs.declared.mention.MentionKind.{MentionKind}
+use Rattle.qil_rules.specs.declared.mention.MentionKind.TheVariants.{Defines}
 use Rattle.qil_rules.specs.declared.mention.Mention.{Mention}
 use Rattle.qil_rules.specs.Mentions.{func_mentions}
 use Rattle.qil_rules.specs.Text.{IsUndefined, IsTemporary}
@@ -39,7 +39,7 @@ defined_here x c = let same : bytes_eq x x ≡ true = (bytes_eq-Decides x x).1 r
 none_defined : (text : List Mention) (x : Name) → class_in text x ≡ None → IsUndefined text x
 none_defined [] x none j c at = none_some at
 none_defined (m ∷ text) x none zero c at =
-    let here : defined_by m.what x ≡ Some c = ap (λ (w : What). defined_by w x) (ap (λ o. unwrap_or o (Defines x c)) at) ∙ defined_here x c in
+    let here : defined_by m.what x ≡ Some c = ap (λ (w : MentionKind). defined_by w x) (ap (λ o. unwrap_or o (Defines x c)) at) ∙ defined_here x c in
     none_some (sym none ∙ ap (λ o. option_or o (class_in text x)) here)
 none_defined (m ∷ text) x none (suc j) c at = none_defined text x (none_behind (defined_by m.what x) (class_in text x) none) j c at
 

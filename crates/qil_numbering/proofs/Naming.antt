@@ -36,7 +36,7 @@ named-source p ns (operands.Temp x) h = ap (λ y. operands.Temp y) (name-number 
 pub named-target : (ns : List Name) (to : Target) → Has ns to.name → named_target ns (slot_in ns to.name) to.class ≡ to
 named-target ns to h = λ i. record { name = name-number ns to.name h i; class = to.class }
 
--- the first of some operands, and the one behind it
+-- the first of some operands, and the one after it
 first_source : {A : Type 0} (p : Program A) (ns : List Name) (a : Operand) (more : List Name) → HasAll ns (operand_names a ++ more) → named_source ns (source_of p ns a) ≡ resolved p a
 first_source p ns a more h = named-source p ns a (HasAll-left ns (operand_names a) more h)
 

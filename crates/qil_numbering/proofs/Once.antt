@@ -5,8 +5,8 @@ use Rattle.std.specs.List.{list_any}
 use Rattle.std.specs.Str.{bytes_eq}
 use Rattle.std.proofs.lemmas.List.{append-nil}
 use Rattle.std.proofs.lemmas.Slice.Eq.{bytes_eq-Decides}
-use Rattle.qil_names.specs.Numbers.{noted}
-use Rattle.qil_names.proofs.NumberLemmas.{noted_append}
+use Rattle.qil_names.specs.Numbers.{recorded}
+use Rattle.qil_names.proofs.NumberLemmas.{recorded_append}
 use Rattle.qil_meaning.specs.State.{Name}
 use Rattle.qil_meaning.specs.Names.{once}
 
@@ -26,7 +26,7 @@ twice_at : (p q r : Name → Bool) (x : Name) (xs : List Name) (b c : Bool) → 
 twice_at p q r x xs true c e f deep = ap (λ l. if p x then x ∷ l else l) deep ∙ ap (λ d. if d then x ∷ filter r xs else filter r xs) (sym f)
 twice_at p q r x xs false c e f deep = deep ∙ ap (λ d. if d then x ∷ filter r xs else filter r xs) (sym f)
 
--- a filter behind another is one filter
+-- a filter after another is one filter
 filter-twice : (p q r : Name → Bool) (xs : List Name) → ((x : Name) → r x ≡ (if q x then p x else false)) → filter p (filter q xs) ≡ filter r xs
 filter-twice p q r [] h = refl
 filter-twice p q r (x ∷ xs) h = twice_at p q r x xs (q x) (r x) refl (h x) (filter-twice p q r xs h)
@@ -42,7 +42,7 @@ among x y ns e = by (bytes_eq x y) refl
     by true f = ap not (same_any x y ns f ∙ e)
     by false f = refl
 
--- with one name more, what is new is new beside it too
+-- with one name more, what is new is new next to it too
 any-append : (x y : Name) (ns : List Name) → list_any (bytes_eq y) (ns ++ x ∷ []) ≡ (list_any (bytes_eq y) ns || bytes_eq y x)
 any-append x y [] = or_false (bytes_eq y x)
   where
@@ -64,8 +64,8 @@ turned x y = by (bytes_eq x y) (bytes_eq y x) refl refl
     by true false e f = grind (arith, e, f, bytes_eq-Decides x y, bytes_eq-Decides y x)
     by false true e f = grind (arith, e, f, bytes_eq-Decides x y, bytes_eq-Decides y x)
 
-beside : (x y : Name) (ns : List Name) → new (ns ++ x ∷ []) y ≡ (if other x y then new ns y else false)
-beside x y ns = ap not (any-append x y ns) ∙ by (list_any (bytes_eq y) ns) (bytes_eq y x) (bytes_eq x y) (turned x y)
+next_to : (x y : Name) (ns : List Name) → new (ns ++ x ∷ []) y ≡ (if other x y then new ns y else false)
+next_to x y ns = ap not (any-append x y ns) ∙ by (list_any (bytes_eq y) ns) (bytes_eq y x) (bytes_eq x y) (turned x y)
   where
     by : (a b c : Bool) → c ≡ b → not (a || b) ≡ (if not c then not a else false)
     by a b true e = rw (← e) (or_true a)
@@ -79,29 +79,29 @@ beside x y ns = ap not (any-append x y ns) ∙ by (list_any (bytes_eq y) ns) (by
         or_none true = refl
         or_none false = refl
 
--- ---- names that are noted behind others
+-- ---- names that are recorded after others
 
-noted_at : (x : Name) (ns xs : List Name) (b : Bool) → list_any (bytes_eq x) ns ≡ b
-    → ((ms : List Name) → noted ms xs ≡ ms ++ filter (new ms) (once xs))
-    → noted (if b then ns else ns ++ x ∷ []) xs ≡ ns ++ (if not b then x ∷ filter (new ns) (filter (other x) (once xs)) else filter (new ns) (filter (other x) (once xs)))
-noted_at x ns xs true e deep =
+recorded_at : (x : Name) (ns xs : List Name) (b : Bool) → list_any (bytes_eq x) ns ≡ b
+    → ((ms : List Name) → recorded ms xs ≡ ms ++ filter (new ms) (once xs))
+    → recorded (if b then ns else ns ++ x ∷ []) xs ≡ ns ++ (if not b then x ∷ filter (new ns) (filter (other x) (once xs)) else filter (new ns) (filter (other x) (once xs)))
+recorded_at x ns xs true e deep =
     deep ns ∙ ap (λ l. ns ++ l) (sym (filter-twice (new ns) (other x) (new ns) (once xs) (λ y. among x y ns e)))
-noted_at x ns xs false e deep =
+recorded_at x ns xs false e deep =
     deep (ns ++ x ∷ []) ∙ append_assoc ns (x ∷ []) (filter (new (ns ++ x ∷ [])) (once xs))
-    ∙ ap (λ l. ns ++ x ∷ l) (sym (filter-twice (new ns) (other x) (new (ns ++ x ∷ [])) (once xs) (λ y. beside x y ns)))
+    ∙ ap (λ l. ns ++ x ∷ l) (sym (filter-twice (new ns) (other x) (new (ns ++ x ∷ [])) (once xs) (λ y. next_to x y ns)))
 
-noted-is : (xs ns : List Name) → noted ns xs ≡ ns ++ filter (new ns) (once xs)
+recorded-is : (xs ns : List Name) → recorded ns xs ≡ ns ++ filter (new ns) (once xs)
 unfolding once
-noted-is [] ns = sym (append-nil ns)
-noted-is (x ∷ xs) ns = noted_at x ns xs (list_any (bytes_eq x) ns) refl (λ ms. noted-is xs ms)
+recorded-is [] ns = sym (append-nil ns)
+recorded-is (x ∷ xs) ns = recorded_at x ns xs (list_any (bytes_eq x) ns) refl (λ ms. recorded-is xs ms)
 
 all_new : (xs : List Name) → filter (new []) xs ≡ xs
 all_new [] = refl
 all_new (x ∷ xs) = ap (λ l. x ∷ l) (all_new xs)
 
-pub noted-once : (xs : List Name) → noted [] xs ≡ once xs
-noted-once xs = noted-is xs [] ∙ all_new (once xs)
+pub recorded-once : (xs : List Name) → recorded [] xs ≡ once xs
+recorded-once xs = recorded-is xs [] ∙ all_new (once xs)
 
 -- what is gathered from two parts
-pub gathered : (xs ys : List Name) → noted (noted [] xs) ys ≡ once (xs ++ ys)
-gathered xs ys = sym (noted_append [] xs ys) ∙ noted-once (xs ++ ys)
+pub gathered : (xs ys : List Name) → recorded (recorded [] xs) ys ≡ once (xs ++ ys)
+gathered xs ys = sym (recorded_append [] xs ys) ∙ recorded-once (xs ++ ys)

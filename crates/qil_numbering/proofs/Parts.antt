@@ -6,7 +6,7 @@ use Rattle.std.proofs.lemmas.List.{drop_all, length-map}
 use Rattle.std.proofs.lemmas.List.Elements.{All-nil, All-cons, All-append}
 use Rattle.std.proofs.lemmas.Option.{get_or_from_slice_get}
 
--- the elements from a place on: the one there, and those behind it
+-- the elements from a place on: the one there, and those after it
 pub at_drop : {X : Type 0} (xs : List X) (i : ℕ) (x : X) → x ≡ get_or xs i x → i < length xs → drop i xs ≡ x ∷ drop (i + 1) xs
 at_drop xs i x is lt = drop-cons xs i x lt ∙ ap (λ y. y ∷ drop (suc i) xs) (sym is) ∙ ap (λ n. x ∷ drop n xs) (sym (add-one i))
 
@@ -14,7 +14,7 @@ last_at : {X : Type 0} (y t : X) (i : ℕ) → slice_get (y ∷ []) i ≡ Some t
 last_at y t zero e = (refl, sym (ap (λ o. unwrap_or o t) e))
 last_at y t (suc i) e = absurd (subst (λ o. elim o as (λ _. Type 0) [ None ↦ Unit {0} | Some z ↦ ⊥ ]) e tt)
 
--- with an element more, what stands at a place stood there before, or is the new one
+-- with an element more, what is at a place stood there before, or is the new one
 pub last_or_before : {X : Type 0} (xs : List X) (y t : X) (i : ℕ) → slice_get (xs ++ y ∷ []) i ≡ Some t → (slice_get xs i ≡ Some t) ⊎ ((i ≡ length xs) × (t ≡ y))
 last_or_before [] y t i e = inr (last_at y t i e)
 last_or_before (x ∷ xs) y t zero e = inl e
@@ -24,7 +24,7 @@ last_or_before (x ∷ xs) y t (suc i) e = further (last_or_before xs y t i e)
     further (inl f) = inl f
     further (inr f) = inr (ap (λ n. suc n) f.0, f.1)
 
--- the element that a loop is at stands at its place
+-- the element that a loop is at is at its place
 pub is_there : {X : Type 0} (xs : List X) (i : ℕ) (x y : X) → x ≡ get_or xs i x → slice_get xs i ≡ Some y → y ≡ x
 is_there xs i x y is at = sym (is ∙ get_or_from_slice_get xs i y x at)
 

@@ -45,7 +45,7 @@ source-range p ns (operands.Number n) h = tt
 source-range p ns (operands.Global g) h = tt
 source-range p ns (operands.Temp x) h = number-below ns x h.0
 
--- the first of some operands, and the one behind it
+-- the first of some operands, and the one after it
 first_range : {A : Type 0} (p : Program A) (ns : List Name) (a : Operand) (more : List Name) → HasAll ns (operand_names a ++ more) → InRange (length ns) (source_of p ns a)
 first_range p ns a more h = source-range p ns a (HasAll-left ns (operand_names a) more h)
 

@@ -1,14 +1,14 @@
--- Tables beside blocks: what holds of each pair holds with one pair more.
+-- Tables next to blocks: what holds of each pair holds with one pair more.
 use Rattle.std.proofs.Common.{◌≡◌, ◌∙◌, sym, ℕ, ◌⊎◌, inl, inr, List, [], ◌∷◌, ◌++◌, length, get_or, Some, subst}
 use Rattle.std.specs.Prelude.{slice_get}
 use Rattle.qil_numbering.proofs.Parts.{last_or_before, is_there}
 
--- P holds of each element and what stands beside it
-abbrev pub Beside : {X Y : Type 0} → (X → Y → Type 0) → List X → List Y → Type 0
-Beside {X} {Y} P xs ys = (i : ℕ) (x : X) → slice_get xs i ≡ Some x → (y : Y) → slice_get ys i ≡ Some y → P x y
+-- P holds of each element and what stands next to it
+abbrev pub NextTo : {X Y : Type 0} → (X → Y → Type 0) → List X → List Y → Type 0
+NextTo {X} {Y} P xs ys = (i : ℕ) (x : X) → slice_get xs i ≡ Some x → (y : Y) → slice_get ys i ≡ Some y → P x y
 
 pub one_more : {X Y : Type 0} (P : X → Y → Type 0) (xs : List X) (ys zs : List Y) (k : ℕ) (x : X) (y : Y)
-    → length ys ≡ k → x ≡ get_or xs k x → zs ≡ ys ++ y ∷ [] → P x y → Beside P xs ys → Beside P xs zs
+    → length ys ≡ k → x ≡ get_or xs k x → zs ≡ ys ++ y ∷ [] → P x y → NextTo P xs ys → NextTo P xs zs
 one_more {X} {Y} P xs ys zs k x y len is more here all = λ i v at w there. by i v at w (last_or_before ys y w i (subst (λ l. slice_get l i ≡ Some w) more there))
   where
     by : (i : ℕ) (v : X) → slice_get xs i ≡ Some v → (w : Y) → (slice_get ys i ≡ Some w) ⊎ ((i ≡ length ys) × (w ≡ y)) → P v w

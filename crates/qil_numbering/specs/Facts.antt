@@ -8,7 +8,7 @@ use Rattle.qil_tree.specs.declared.tree.Block.{Block}
 use Rattle.qil_tree.specs.declared.tree.Program.{Program}
 use Rattle.qil_rules.specs.Mentions.{func_mentions}
 use Rattle.qil_rules.specs.Text.{IsAmong}
-use Rattle.qil_names.specs.Numbers.{noted, place_of}
+use Rattle.qil_names.specs.Numbers.{recorded, place_of}
 use Rattle.qil_meaning.specs.State.{Name}
 use Rattle.qil_meaning.specs.Names.{temps_named}
 use Rattle.qil_meaning.specs.Poke.{class_in}
@@ -21,12 +21,12 @@ use Rattle.qil_numbering.specs.Numbered.{class_of_temp}
 pub record IsNumerable {A : Type 0} (func : Func A) : Type 0 where
   pub few_temps : length (temps_named func) ≤ 65535
   pub few_blocks : length func.blocks ≤ 65535
-  pub labels : noted [] (labels_in func.blocks) ≡ labels_in func.blocks
+  pub labels : recorded [] (labels_in func.blocks) ≡ labels_in func.blocks
 
 -- all functions are, and their names are distinct
 pub record AreNumerable {A : Type 0} (p : Program A) : Type 0 where
   pub each : All IsNumerable p.funcs
-  pub names : noted [] (map (λ f. f.name) p.funcs) ≡ map (λ f. f.name) p.funcs
+  pub names : recorded [] (map (λ f. f.name) p.funcs) ≡ map (λ f. f.name) p.funcs
 
 -- each function and each block is the one that its name finds, and no other function has its number
 pub record Finds {A : Type 0} (p : Program A) : Type 0 where

@@ -292,7 +292,7 @@ impl<'c, 'a, A: Allocator + Copy> Code<'c, 'a, A> {
 ///
 /// # Errors
 ///
-/// Only want of memory.
+/// Only out of memory.
 pub fn number<'c, 'a, A: Allocator + Copy>(
     alloc: A,
     keys: RandomState,

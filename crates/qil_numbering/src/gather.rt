@@ -3,7 +3,7 @@
 ghost use Rattle.std.specs.Prelude.{◌≡◌, [], OnOk, IfOk, map};
 ghost use Rattle.std.specs.List.{flat_map};
 ghost use Rattle.qil_meaning.specs.Names.{operand_names, phi_names, inst_names, jump_names, block_names, temps_named};
-ghost use Rattle.qil_names.specs.Numbers.{noted};
+ghost use Rattle.qil_names.specs.Numbers.{recorded};
 ghost use Rattle.qil_numbering.specs.Gather.{expr_names, param_names, arguments_names, sources_names, labels_in};
 
 use qil_names::Numbers;
@@ -17,7 +17,7 @@ fn note_operand<'a, A: Allocator + Copy>(
     names: &mut Numbers<'a, A>,
     operand: &Operand<'a>,
 ) -> Result<(), AllocError>
-    ensures { OnOk result (names.new ≡ noted names.old (operand_names operand.now)) }
+    ensures { OnOk result (names.new ≡ recorded names.old (operand_names operand.now)) }
 {
     match operand {
         Operand::Number(_) => {}
@@ -32,7 +32,7 @@ fn note_two<'a, A: Allocator + Copy>(
     left: &Operand<'a>,
     right: &Operand<'a>,
 ) -> Result<(), AllocError>
-    ensures { OnOk result (names.new ≡ noted (noted names.old (operand_names left.now)) (operand_names right.now)) }
+    ensures { OnOk result (names.new ≡ recorded (recorded names.old (operand_names left.now)) (operand_names right.now)) }
 {
     note_operand(names, left)?;
     note_operand(names, right)
@@ -42,7 +42,7 @@ fn note_expr<'a, A: Allocator + Copy>(
     names: &mut Numbers<'a, A>,
     expr: &Expr<'a>,
 ) -> Result<(), AllocError>
-    ensures { OnOk result (names.new ≡ noted names.old (expr_names expr.now)) }
+    ensures { OnOk result (names.new ≡ recorded names.old (expr_names expr.now)) }
 {
     match expr {
         Expr::Unary(_, value) => note_operand(names, value),
@@ -57,7 +57,7 @@ fn note_arguments<'a, A: Allocator + Copy>(
     names: &mut Numbers<'a, A>,
     arguments: &[Argument<'a>],
 ) -> Result<(), AllocError>
-    ensures { OnOk result (names.new ≡ noted names.old (arguments_names arguments.now)) }
+    ensures { OnOk result (names.new ≡ recorded names.old (arguments_names arguments.now)) }
 {
     for argument in arguments {
         note_operand(names, &argument.value)?;
@@ -69,7 +69,7 @@ fn note_inst<'a, A: Allocator + Copy>(
     names: &mut Numbers<'a, A>,
     inst: &Inst<'a, A>,
 ) -> Result<(), AllocError>
-    ensures { OnOk result (names.new ≡ noted names.old (inst_names inst.now)) }
+    ensures { OnOk result (names.new ≡ recorded names.old (inst_names inst.now)) }
 {
     match &inst.kind {
         InstKind::Assign(to, expr) => {
@@ -98,7 +98,7 @@ fn note_sources<'a, A: Allocator + Copy>(
     names: &mut Numbers<'a, A>,
     sources: &[PhiSource<'a>],
 ) -> Result<(), AllocError>
-    ensures { OnOk result (names.new ≡ noted names.old (sources_names sources.now)) }
+    ensures { OnOk result (names.new ≡ recorded names.old (sources_names sources.now)) }
 {
     for source in sources {
         note_operand(names, &source.value)?;
@@ -110,7 +110,7 @@ fn note_phi<'a, A: Allocator + Copy>(
     names: &mut Numbers<'a, A>,
     phi: &Phi<'a, A>,
 ) -> Result<(), AllocError>
-    ensures { OnOk result (names.new ≡ noted names.old (phi_names phi.now)) }
+    ensures { OnOk result (names.new ≡ recorded names.old (phi_names phi.now)) }
 {
     names.note(phi.target.name.bytes())?;
     note_sources(names, phi.sources.as_slice())
@@ -120,7 +120,7 @@ fn note_jump<'a, A: Allocator + Copy>(
     names: &mut Numbers<'a, A>,
     jump: &Jump<'a>,
 ) -> Result<(), AllocError>
-    ensures { OnOk result (names.new ≡ noted names.old (jump_names jump.now.kind)) }
+    ensures { OnOk result (names.new ≡ recorded names.old (jump_names jump.now.kind)) }
 {
     match &jump.kind {
         JumpKind::Jmp(_) => Ok(()),
@@ -135,7 +135,7 @@ fn note_phis<'a, A: Allocator + Copy>(
     names: &mut Numbers<'a, A>,
     phis: &[Phi<'a, A>],
 ) -> Result<(), AllocError>
-    ensures { OnOk result (names.new ≡ noted names.old (flat_map phi_names phis.now)) }
+    ensures { OnOk result (names.new ≡ recorded names.old (flat_map phi_names phis.now)) }
 {
     for phi in phis {
         note_phi(names, phi)?;
@@ -147,7 +147,7 @@ fn note_insts<'a, A: Allocator + Copy>(
     names: &mut Numbers<'a, A>,
     insts: &[Inst<'a, A>],
 ) -> Result<(), AllocError>
-    ensures { OnOk result (names.new ≡ noted names.old (flat_map inst_names insts.now)) }
+    ensures { OnOk result (names.new ≡ recorded names.old (flat_map inst_names insts.now)) }
 {
     for inst in insts {
         note_inst(names, inst)?;
@@ -159,7 +159,7 @@ fn note_block<'a, A: Allocator + Copy>(
     names: &mut Numbers<'a, A>,
     block: &Block<'a, A>,
 ) -> Result<(), AllocError>
-    ensures { OnOk result (names.new ≡ noted names.old (block_names block.now)) }
+    ensures { OnOk result (names.new ≡ recorded names.old (block_names block.now)) }
 {
     note_phis(names, block.phis.as_slice())?;
     note_insts(names, block.insts.as_slice())?;
@@ -170,7 +170,7 @@ fn note_blocks<'a, A: Allocator + Copy>(
     names: &mut Numbers<'a, A>,
     blocks: &[Block<'a, A>],
 ) -> Result<(), AllocError>
-    ensures { OnOk result (names.new ≡ noted names.old (flat_map block_names blocks.now)) }
+    ensures { OnOk result (names.new ≡ recorded names.old (flat_map block_names blocks.now)) }
 {
     for block in blocks {
         note_block(names, block)?;
@@ -182,7 +182,7 @@ fn note_params<'a, A: Allocator + Copy>(
     names: &mut Numbers<'a, A>,
     params: &[Param<'a>],
 ) -> Result<(), AllocError>
-    ensures { OnOk result (names.new ≡ noted names.old (param_names params.now)) }
+    ensures { OnOk result (names.new ≡ recorded names.old (param_names params.now)) }
 {
     for param in params {
         names.note(param.name.bytes())?;
@@ -211,7 +211,7 @@ pub fn labels_of<'a, A: Allocator + Copy>(
     keys: RandomState,
     blocks: &[Block<'a, A>],
 ) -> Result<Numbers<'a, A>, AllocError>
-    ensures { IfOk result (λ names. names ≡ noted [] (labels_in blocks.now)) }
+    ensures { IfOk result (λ names. names ≡ recorded [] (labels_in blocks.now)) }
 {
     let mut names = Numbers::new(alloc, keys);
     for block in blocks {
@@ -226,7 +226,7 @@ pub fn funcs_of<'a, A: Allocator + Copy>(
     keys: RandomState,
     funcs: &[Func<'a, A>],
 ) -> Result<Numbers<'a, A>, AllocError>
-    ensures { IfOk result (λ names. names ≡ noted [] (map (λ f. f.name) funcs.now)) }
+    ensures { IfOk result (λ names. names ≡ recorded [] (map (λ f. f.name) funcs.now)) }
 {
     let mut names = Numbers::new(alloc, keys);
     for func in funcs {

@@ -1,4 +1,4 @@
-//! From the parts of a tree to numbered parts: what the names in a function stand for.
+//! From the parts of a tree to numbered parts: what the names in a function represent.
 
 ghost use Rattle.std.specs.Prelude.{◌≡◌, ◌≤◌, IfOk, map, length};
 ghost use Rattle.qil_tree.specs.declared.tree.Operand.TheVariants as operands;
@@ -14,7 +14,7 @@ use qil_tree::{
 };
 use std::alloc::{AllocError, Allocator};
 
-/// What names stand for in a function: temporaries and labels for their numbers, globals for their addresses.
+/// What names represent in a function: temporaries and labels for their numbers, globals for their addresses.
 #[derive(Drop)]
 pub struct Resolver<'r, 'c, 'a, A: Allocator> {
     pub image: &'r Image<'c, 'a, A>,

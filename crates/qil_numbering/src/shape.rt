@@ -23,7 +23,7 @@ use std::alloc::{AllocError, Allocator};
 use std::hash::RandomState;
 
 /// An index of 32 bits goes through fewer items than these. A list of so many would itself take more than 100 GB, so that
-/// it counts as want of memory.
+/// it counts as out of memory.
 const INDEX_LIMIT: usize = 1 << 32;
 
 /// The blocks of a function, with what the phis of each do for each block that may be left.

@@ -31,7 +31,7 @@ truncated a b h = record {
   negative = negative a b;
 }
 
--- l is below m; either side of h, the number that l stands for is l again modulo m
+-- l is below m; either side of h, the number that l represents is l again modulo m
 same_again : (m h l : ℕ) (b : Bool) → nat_lt l h ≡ b → l < m → unsigned_abs (int_rem_euclid (if b then pos l else (pos l -ℤ pos m)) (pos m)) ≡ l
 same_again m h l true e below = mod-eq_of_lt below
 same_again m h l false e below =

@@ -16,7 +16,7 @@ pub enum Failure {
     Unreadable,
     /// The system gave no random bytes.
     NoKeys,
-    /// Memory was wanting.
+    /// Memory ran out.
     OutOfMemory,
 }
 

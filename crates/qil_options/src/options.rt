@@ -18,14 +18,14 @@ pub struct Options<'a> {
     pub entry: &'a str,
     /// The most moves of one `continue` or `reverse`.
     pub limit: u32,
-    /// The most moves that can be taken back, where not all can.
+    /// The most moves that can be undone, where not all can.
     pub history: Option<u64>,
     /// The arguments of that function.
     pub args: Vec<u64>,
 }
 
 impl<'a> Options<'a> {
-    /// The most moves that can be taken back, where not all can, within what a history may have. `clap` has refused every other number.
+    /// The most moves that can be undone, where not all can, within what a history may have. `clap` has refused every other number.
     pub fn bound(&self) -> Option<u64>
         ensures { IfSome result (λ n. (1 ≤ n) × (n ≤ 1000000)) }
     {

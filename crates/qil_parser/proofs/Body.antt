@@ -3,9 +3,9 @@ use Rattle.std.proofs.Common.{◌≡◌, ℕ, zero, suc, true, false, List, [], 
 use Rattle.qil_language.specs.Language.{Nothing, Seq, Image, Either, Many}
 use Rattle.qil_language.specs.Reading.{Read}
 use Rattle.qil_language.specs.Reads.{Reads, Begins}
-use Rattle.qil_language.proofs.Law.{seq_reads, seq_after, image_reads, said_reads, nothing_reads, either_reads, wider_reads, empty_reads, front_first, has_left, has_right}
-use Rattle.qil_parser.specs.declared.mark.Mark.{Mark}
-use Rattle.qil_parser.specs.declared.mark.Mark.TheVariants as marks
+use Rattle.qil_language.proofs.Law.{seq_reads, seq_after, image_reads, said_reads, nothing_reads, either_reads, wider_reads, empty_reads, prefix_first, has_left, has_right}
+use Rattle.qil_parser.specs.declared.terminal.Terminal.{Terminal}
+use Rattle.qil_parser.specs.declared.terminal.Terminal.TheVariants as terminals
 use Rattle.qil_tree.specs.declared.ops.Class.{Class}
 use Rattle.qil_tree.specs.declared.tree.Target.{Target}
 use Rattle.qil_tree.specs.declared.tree.PhiSource.{PhiSource}
@@ -19,10 +19,10 @@ use Rattle.qil_parser.specs.FunctionParsing
 use Rattle.qil_parser.specs.FunctionParsing.{plain_starts, inst_starts, Lines, phi_more, class_more, in_class, sub_more, with_dest, insts_alone, with_class, made_of, body_then, body_at, body}
 use Rattle.qil_parser.proofs.Productions.{at, newline, class_reads, before_reads}
 use Rattle.qil_parser.proofs.FunctionProductions.{dest_reads, plain_reads, sources_line_reads}
-use Rattle.qil_parser.proofs.Insts.{OfClass, OfSub, OfDest, Told, inst_there, inst_back, of_class_reads, of_sub_reads, lines_reads}
+use Rattle.qil_parser.proofs.Insts.{OfClass, OfSub, OfDest, Reported, inst_there, inst_back, of_class_reads, of_sub_reads, lines_reads}
 
 -- a word after the last part of a phrase
-module _ {A B C : Type 0} (f : A × B → C) (S : List Tok → A → Type 0) (U : List Tok → B → Type 0) (m : Mark) where
+module _ {A B C : Type 0} (f : A × B → C) (S : List Tok → A → Type 0) (U : List Tok → B → Type 0) (m : Terminal) where
   before_out : (p : List Tok) (c : C) → Before (Image f (Seq S U)) m p c → Image f (Seq S (Before U m)) p c
   before_out p c h =
       let i = h.spelled.first in
@@ -52,11 +52,11 @@ module _ {A B C : Type 0} (f : A × B → C) (S : List Tok → A → Type 0) (U 
   }
 
 -- the same word after one phrase as after another that spells the same
-before_as : {A : Type 0} (S U : List Tok → A → Type 0) (m : Mark) → ((p : List Tok) (a : A) → S p a → U p a) → (p : List Tok) (a : A) → Before S m p a → Before U m p a
+before_as : {A : Type 0} (S U : List Tok → A → Type 0) (m : Terminal) → ((p : List Tok) (a : A) → S p a → U p a) → (p : List Tok) (a : A) → Before S m p a → Before U m p a
 before_as S U m f p a h = record { value = h.value; spelled = record { left = h.spelled.left; right = h.spelled.right; parts = h.spelled.parts; first = f h.spelled.left h.value.0 h.spelled.first; second = h.spelled.second }; made = h.made }
 
-abbrev NL : Mark
-NL = marks.Newline
+abbrev NL : Terminal
+NL = terminals.Newline
 
 module _ {A : Type 0} where
   abbrev InstLines : List Tok → List (Inst A) → Type 0
@@ -176,7 +176,7 @@ module _ {A : Type 0} where
       }))
       (ap (λ (x : Inst A). ([], x ∷ is)) m)
 
-  line_back : (p l r : List Tok) (i : Inst A) (is : List (Inst A)) → p ≡ l ++ r → (s : Before InstOf NL l i) → Told s.spelled.left s.value.0 → InstLines r is → Written p ([], i ∷ is)
+  line_back : (p l r : List Tok) (i : Inst A) (is : List (Inst A)) → p ≡ l ++ r → (s : Before InstOf NL l i) → Reported s.spelled.left s.value.0 → InstLines r is → Written p ([], i ∷ is)
   line_back p l r i is e s (inl x) o =
       let k = before_out made_of Dest OfDest NL l i (record { value = s.value; spelled = record { left = s.spelled.left; right = s.spelled.right; parts = s.spelled.parts; first = x; second = s.spelled.second }; made = s.made }) in
       let b = k.spelled.second in
@@ -193,9 +193,9 @@ module _ {A : Type 0} where
 
   -- ---- and so it is read
 
-  pub plain_line_reads : (n : ℕ) → Reads n true index (Before (Plain {A = A}) marks.Newline) (before FunctionParsing.plain marks.Newline) plain_starts false []
+  pub plain_line_reads : (n : ℕ) → Reads n true index (Before (Plain {A = A}) terminals.Newline) (before FunctionParsing.plain terminals.Newline) plain_starts false []
   unfolding at newline
-  plain_line_reads n = before_reads marks.Newline newline refl refl (plain_reads n)
+  plain_line_reads n = before_reads terminals.Newline newline refl refl (plain_reads n)
 
   -- one step of reading, whatever reads the rest of the body
   body_then_reads : (n : ℕ) (s : List Tok → Read Tok (Lines A)) → Reads n true index Body s inst_starts true inst_starts → Reads (suc n) true index Body (body_then s) inst_starts true inst_starts
@@ -205,9 +205,9 @@ module _ {A : Type 0} where
       (image_reads with_dest (seq_after (dest_reads (suc n)) (either_reads
       (image_reads in_class (seq_reads (class_reads n) (either_reads
       (image_reads phi_more (seq_reads (sources_line_reads n) x refl))
-      (image_reads class_more (seq_reads (before_reads marks.Newline newline refl refl (of_class_reads n)) (lines_reads n) refl)) refl) refl))
-      (image_reads sub_more (seq_reads (before_reads marks.Newline newline refl refl (of_sub_reads n)) (lines_reads n) refl)) refl) refl))
-      (either_reads (image_reads insts_alone (seq_reads (before_reads marks.Newline newline refl refl (plain_reads (suc n))) (lines_reads (suc n)) refl)) (nothing_reads index (suc n) ([], [])) refl) refl)) refl
+      (image_reads class_more (seq_reads (before_reads terminals.Newline newline refl refl (of_class_reads n)) (lines_reads n) refl)) refl) refl))
+      (image_reads sub_more (seq_reads (before_reads terminals.Newline newline refl refl (of_sub_reads n)) (lines_reads n) refl)) refl) refl))
+      (either_reads (image_reads insts_alone (seq_reads (before_reads terminals.Newline newline refl refl (plain_reads (suc n))) (lines_reads (suc n)) refl)) (nothing_reads index (suc n) ([], [])) refl) refl)) refl
 
   body_begins : (p : List Tok) (v : Lines A) → Body p v → Begins index inst_starts true p
   body_begins p v b = go p v (body_back p v b)
@@ -217,24 +217,24 @@ module _ {A : Type 0} where
       loose (t ∷ q) set k = k
 
       go : (q : List Tok) (u : Lines A) → Written q u → Begins index inst_starts true q
-      go q u (inl i) = loose q inst_starts (widen q (front_first index (the marks.Temp) q i.spelled.left i.spelled.right i.spelled.parts ((dest_reads 0).begins i.spelled.left i.value.0 i.spelled.first)))
+      go q u (inl i) = loose q inst_starts (widen q (prefix_first index (the terminals.Temp) q i.spelled.left i.spelled.right i.spelled.parts ((dest_reads 0).begins i.spelled.left i.value.0 i.spelled.first)))
         where
-          widen : (l : List Tok) → Begins index (the marks.Temp) false l → Begins index inst_starts false l
+          widen : (l : List Tok) → Begins index (the terminals.Temp) false l → Begins index inst_starts false l
           widen [] k = absurd cc
-          widen (t ∷ l) k = has_left (the marks.Temp) plain_starts (index t) k
-      go q u (inr (inl i)) = loose q inst_starts (widen q (front_first index plain_starts q i.spelled.left i.spelled.right i.spelled.parts ((plain_line_reads 0).begins i.spelled.left i.value.0 i.spelled.first)))
+          widen (t ∷ l) k = has_left (the terminals.Temp) plain_starts (index t) k
+      go q u (inr (inl i)) = loose q inst_starts (widen q (prefix_first index plain_starts q i.spelled.left i.spelled.right i.spelled.parts ((plain_line_reads 0).begins i.spelled.left i.value.0 i.spelled.first)))
         where
           widen : (l : List Tok) → Begins index plain_starts false l → Begins index inst_starts false l
           widen [] k = absurd cc
-          widen (t ∷ l) k = has_right (the marks.Temp) plain_starts (index t) k
+          widen (t ∷ l) k = has_right (the terminals.Temp) plain_starts (index t) k
       go q u (inr (inr n)) = subst (λ (l : List Tok). Begins index inst_starts true l) (sym n.none) refl
 
   alone : (v : Lines A) → Body [] v → v ≡ ([], [])
   alone v b = go v (body_back [] v b)
     where
       go : (u : Lines A) → Written [] u → u ≡ ([], [])
-      go u (inl i) = let bad : false ≡ true = front_first index (the marks.Temp) [] i.spelled.left i.spelled.right i.spelled.parts ((dest_reads 0).begins i.spelled.left i.value.0 i.spelled.first) in absurd cc
-      go u (inr (inl i)) = let bad : false ≡ true = front_first index plain_starts [] i.spelled.left i.spelled.right i.spelled.parts ((plain_line_reads 0).begins i.spelled.left i.value.0 i.spelled.first) in absurd cc
+      go u (inl i) = let bad : false ≡ true = prefix_first index (the terminals.Temp) [] i.spelled.left i.spelled.right i.spelled.parts ((dest_reads 0).begins i.spelled.left i.value.0 i.spelled.first) in absurd cc
+      go u (inr (inl i)) = let bad : false ≡ true = prefix_first index plain_starts [] i.spelled.left i.spelled.right i.spelled.parts ((plain_line_reads 0).begins i.spelled.left i.value.0 i.spelled.first) in absurd cc
       go u (inr (inr n)) = sym n.value
 
   nothing_spelled : Body {A = A} [] ([], [])

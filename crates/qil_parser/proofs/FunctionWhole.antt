@@ -3,7 +3,7 @@ use Rattle.std.proofs.Common.{ℕ, false, [], refl, subst, List}
 use Rattle.qil_language.specs.Reading.{Read}
 use Rattle.qil_language.specs.Reads.{Reads}
 use Rattle.qil_language.proofs.Law.{seq_reads, image_reads}
-use Rattle.qil_parser.specs.declared.mark.Mark.TheVariants as marks
+use Rattle.qil_parser.specs.declared.terminal.Terminal.TheVariants as terminals
 use Rattle.qil_tree.specs.declared.tree.Block.{Block}
 use Rattle.qil_parser.specs.Token.{Tok, index}
 use Rattle.qil_parser.specs.Functions.{Blocks, FuncOf, blocks_of, func_of}
@@ -15,9 +15,9 @@ use Rattle.qil_parser.proofs.Blocks.{parts_reads}
 use Rattle.qil_parser.proofs.BlocksLoop.{blocks_are}
 
 module _ {A : Type 0} where
-  blocks_reads : (n : ℕ) → Reads n false index (Blocks {A = A}) blocks (the marks.Label) false (the marks.Label)
-  blocks_reads n = subst (λ (r : List Tok → Read Tok (List (Block A))). Reads n false index Blocks r (the marks.Label) false (the marks.Label)) (λ i ts. blocks_are ts i) (image_reads (λ v. blocks_of v.0 v.1) (parts_reads n))
+  blocks_reads : (n : ℕ) → Reads n false index (Blocks {A = A}) blocks (the terminals.Label) false (the terminals.Label)
+  blocks_reads n = subst (λ (r : List Tok → Read Tok (List (Block A))). Reads n false index Blocks r (the terminals.Label) false (the terminals.Label)) (λ i ts. blocks_are ts i) (image_reads (λ v. blocks_of v.0 v.1) (parts_reads n))
 
-  pub func_reads : (n : ℕ) → Reads n false index (FuncOf {A = A}) func (the marks.Function) false []
+  pub func_reads : (n : ℕ) → Reads n false index (FuncOf {A = A}) func (the terminals.Function) false []
   unfolding at close_brace func
-  func_reads n = image_reads func_of (seq_reads (top_reads n) (before_reads marks.CloseBrace close_brace refl refl (blocks_reads n)) refl)
+  func_reads n = image_reads func_of (seq_reads (top_reads n) (before_reads terminals.CloseBrace close_brace refl refl (blocks_reads n)) refl)

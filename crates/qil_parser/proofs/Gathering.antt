@@ -41,9 +41,9 @@ regroup p d (failed e rest) = refl
 pub defs_begin : {A : Type 0} (ts : List Tok) → extending (program_of []) (defs {A = A} ts) ≡ image program_of defs ts
 defs_begin ts = refl
 
-pub defs_go_on : {A : Type 0} (p : Program A) (d : Defined A) (ts rest : List Tok) (total : Read Tok (Program A)) → starts index def_firsts ts ≡ true → def_line ts ≡ got d rest → extending p (defs ts) ≡ total → extending (extended p (program_of (d ∷ []))) (defs rest) ≡ total
+pub defs_continue : {A : Type 0} (p : Program A) (d : Defined A) (ts rest : List Tok) (total : Read Tok (Program A)) → starts index def_firsts ts ≡ true → def_line ts ≡ got d rest → extending p (defs ts) ≡ total → extending (extended p (program_of (d ∷ []))) (defs rest) ≡ total
 unfolding defs
-defs_go_on p d ts rest total h e so_far =
+defs_continue p d ts rest total h e so_far =
     let one : defs ts ≡ cons_at d (defs rest) = unrolled index def_firsts def_line def_line_takes ts ∙ rw (h, e) refl in
     sym (ap (extending p) one ∙ regroup p d (defs rest)) ∙ so_far
 

@@ -4,7 +4,7 @@ use Rattle.qil_language.specs.Language.{Seq, Image, Either, Many}
 use Rattle.qil_language.specs.Reads.{Reads, Takes}
 use Rattle.qil_language.proofs.Law.{seq_reads, image_reads, either_reads, many_reads, said_reads}
 use Rattle.qil_language.proofs.Loop.{takes_by}
-use Rattle.qil_parser.specs.declared.mark.Mark.TheVariants as marks
+use Rattle.qil_parser.specs.declared.terminal.Terminal.TheVariants as terminals
 use Rattle.qil_tree.specs.declared.ops.Class.{Class}
 use Rattle.qil_tree.specs.declared.ops.AbiType.{AbiType}
 use Rattle.qil_tree.specs.declared.tree.Operand.{Operand}
@@ -31,16 +31,16 @@ result_at l r to type d c = record { value = (to, type); spelled = record { left
 
 module _ {A : Type 0} where
   abbrev pub OfClass : List Tok → (Class → ℕ × List ℕ → Inst A) → Type 0
-  OfClass = Either (Image expr_for ExprOf) (Either (Image alloc_for (Seq AllocWord Val)) (Image call_for (After marks.Call Callee)))
+  OfClass = Either (Image expr_for ExprOf) (Either (Image alloc_for (Seq AllocWord Val)) (Image call_for (After terminals.Call Callee)))
 
   abbrev pub OfSub : List Tok → (ℕ × List ℕ → Inst A) → Type 0
-  OfSub = Image sub_for (Seq SubWord (After marks.Call Callee))
+  OfSub = Image sub_for (Seq SubWord (After terminals.Call Callee))
 
   abbrev pub OfDest : List Tok → (ℕ × List ℕ → Inst A) → Type 0
   OfDest = Either (Image with_class (Seq ClassWord OfClass)) OfSub
 
-  abbrev pub Told : List Tok → Inst A → Type 0
-  Told = Either (Image made_of (Seq Dest OfDest)) Plain
+  abbrev pub Reported : List Tok → Inst A → Type 0
+  Reported = Either (Image made_of (Seq Dest OfDest)) Plain
 
   class_there : (p l c r : List Tok) (to : ℕ × List ℕ) (class : Class) (f : Class → ℕ × List ℕ → Inst A) → p ≡ l ++ (c ++ r) → Dest l to → ClassWord c class → OfClass r f → InstOf p (f class to)
   class_there p l c r to class f e d k (inl i) =
@@ -65,12 +65,12 @@ module _ {A : Type 0} where
       subst (λ (g : ℕ × List ℕ → Inst A). InstOf p (g to)) i.made (class_there p l s.left s.right to i.value.0 i.value.1 (e ∙ ap (λ (x : List Tok). l ++ x) s.parts) d s.first s.second)
   dest_there p l r to f e d (inr i) = sub_there p l r to f e d i
 
-  pub inst_there : (p : List Tok) (i : Inst A) → Told p i → InstOf p i
+  pub inst_there : (p : List Tok) (i : Inst A) → Reported p i → InstOf p i
   inst_there p i (inl k) = subst (InstOf p) k.made (dest_there p k.spelled.left k.spelled.right k.value.0 k.value.1 k.spelled.parts k.spelled.first k.spelled.second)
   inst_there p i (inr k) = inr (inr (inr k))
 
   -- a target, and what comes after it
-  class_back : (p t r : List Tok) (target : ℕ × Target) (f : Class → ℕ × List ℕ → Inst A) (i : Inst A) → p ≡ t ++ r → (h : TargetOf t target) → OfClass r f → f h.value.1 h.value.0 ≡ i → Told p i
+  class_back : (p t r : List Tok) (target : ℕ × Target) (f : Class → ℕ × List ℕ → Inst A) (i : Inst A) → p ≡ t ++ r → (h : TargetOf t target) → OfClass r f → f h.value.1 h.value.0 ≡ i → Reported p i
   class_back p t r target f i e h k m =
       let s = h.spelled in
       inl (record {
@@ -85,7 +85,7 @@ module _ {A : Type 0} where
         made = m;
       })
 
-  call_back : (p l c r : List Tok) (to : ℕ × List ℕ) (type : AbiType) (v : Operand × List Argument) → p ≡ l ++ (c ++ r) → Dest l to → TypeWord c type → After marks.Call Callee r v → Told p (call_of (result_of (to, type), v))
+  call_back : (p l c r : List Tok) (to : ℕ × List ℕ) (type : AbiType) (v : Operand × List Argument) → p ≡ l ++ (c ++ r) → Dest l to → TypeWord c type → After terminals.Call Callee r v → Reported p (call_of (result_of (to, type), v))
   call_back p l c r to type v e d (inl k) s =
       inl (record {
         value = (to, call_for v k.value);
@@ -111,7 +111,7 @@ module _ {A : Type 0} where
         made = refl;
       })
 
-  pub inst_back : (p : List Tok) (i : Inst A) → InstOf p i → Told p i
+  pub inst_back : (p : List Tok) (i : Inst A) → InstOf p i → Reported p i
   inst_back p i (inl k) =
       let s = k.spelled in
       class_back p s.left s.right k.value.0 (expr_for k.value.1) i s.parts s.first (inl (record { value = k.value.1; spelled = s.second; made = refl })) (ap (λ (x : ℕ × Target). assign_of (x, k.value.1)) s.first.made ∙ k.made)
@@ -121,11 +121,11 @@ module _ {A : Type 0} where
   inst_back p i (inr (inr (inl k))) =
       let s = k.spelled in
       let t = s.first.spelled in
-      subst (Told p) (ap (λ (x : ℕ × CallResult). call_of (x, k.value.1)) s.first.made ∙ k.made)
+      subst (Reported p) (ap (λ (x : ℕ × CallResult). call_of (x, k.value.1)) s.first.made ∙ k.made)
       (call_back p t.left t.right s.right s.first.value.0 s.first.value.1 k.value.1 (s.parts ∙ ap (λ (x : List Tok). x ++ s.right) t.parts ∙ append_assoc t.left t.right s.right) t.first t.second s.second)
   inst_back p i (inr (inr (inr k))) = inr k
 
-  pub of_class_reads : (n : ℕ) → Reads n true index OfClass FunctionParsing.of_class (exprs ++ (allocs ++ the marks.Call)) false []
+  pub of_class_reads : (n : ℕ) → Reads n true index OfClass FunctionParsing.of_class (exprs ++ (allocs ++ the terminals.Call)) false []
   unfolding FunctionParsing.of_class
   of_class_reads n = either_reads (image_reads expr_for (expr_reads n)) (either_reads (image_reads alloc_for (alloc_val_reads n)) (image_reads call_for (called_reads n)) refl) refl
 
@@ -141,13 +141,13 @@ module _ {A : Type 0} where
   unfolding inst
   inst_reads n = said_reads inst_there inst_back (either_reads (image_reads made_of (seq_reads (dest_reads n) (of_dest_reads n) refl)) (plain_reads n) refl)
 
-  pub inst_line_reads : (n : ℕ) → Reads n true index (Before (InstOf {A = A}) marks.Newline) (before inst marks.Newline) inst_starts false []
+  pub inst_line_reads : (n : ℕ) → Reads n true index (Before (InstOf {A = A}) terminals.Newline) (before inst terminals.Newline) inst_starts false []
   unfolding at newline
-  inst_line_reads n = before_reads marks.Newline newline refl refl (inst_reads n)
+  inst_line_reads n = before_reads terminals.Newline newline refl refl (inst_reads n)
 
-  pub lines_reads : (n : ℕ) → Reads n true index (Many (Before (InstOf {A = A}) marks.Newline)) lines inst_starts true inst_starts
+  pub lines_reads : (n : ℕ) → Reads n true index (Many (Before (InstOf {A = A}) terminals.Newline)) lines inst_starts true inst_starts
   unfolding lines
   lines_reads n = many_reads (inst_line_reads n) refl
 
-  pub inst_line_takes : Takes (before (inst {A = A}) marks.Newline)
+  pub inst_line_takes : Takes (before (inst {A = A}) terminals.Newline)
   inst_line_takes = takes_by inst_line_reads

@@ -10,14 +10,14 @@ use Rattle.qil_tree.specs.declared.tree.Func.{Func}
 use Rattle.qil_tree.specs.declared.tree.Program.{Program}
 use Rattle.qil_parser.specs.declared.program_cursor.Defined.{Defined}
 use Rattle.qil_parser.specs.Token.{Tok}
-use Rattle.qil_parser.specs.Functions.{Front, FuncOf, blocks_of}
+use Rattle.qil_parser.specs.Functions.{Prefix, FuncOf, blocks_of}
 use Rattle.qil_parser.specs.Programs.{ThingOf, DefLine, Spells, funcs_in}
 use Rattle.qil_tree.specs.Trees.{HasBlock, HasBlocks}
 
 module _ {A : Type 0} where
-  a_block : (fronts : List (Front A × Option Jump)) (last : Front A × Jump) → 0 < length (blocks_of fronts last)
+  a_block : (prefixes : List (Prefix A × Option Jump)) (last : Prefix A × Jump) → 0 < length (blocks_of prefixes last)
   a_block [] last = omega arith
-  a_block (front ∷ fronts) last = omega arith
+  a_block (prefix ∷ prefixes) last = omega arith
 
   func_has : (ts : List Tok) (f : Func A) → FuncOf ts f → HasBlock f
   func_has ts f i =

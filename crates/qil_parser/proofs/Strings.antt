@@ -1,4 +1,4 @@
--- What string tokens stand for, and what is kept of those that are left.
+-- What string tokens represent, and what is kept of those that are left.
 use Rattle.std.proofs.Common.{◌≡◌, ℕ, zero, suc, ◌-◌, ◌≤◌, ◌<◌, Bool, true, false, cond, List, [], ◌∷◌, take, drop, slice_index_or, length, Option, Some, None, option_map, refl, sym, ap, subst, ◌∙◌, inl, inr, arith}
 use Rattle.std.proofs.Props.{props}
 use Rattle.std.proofs.Math.Logic.{∥∥₁_elim, ∥∥₁_prop}
@@ -17,7 +17,7 @@ use Rattle.qil_parser.specs.Token.{Tok, HasStrings}
 use Rattle.qil_parser.specs.DataGrammar.{Text}
 use Rattle.qil_parser.specs.DataParsing.{with_item, values_from, text_at}
 
--- ---- the bytes that a string stands for, as a function
+-- ---- the bytes that a string represents, as a function
 
 item_takes : (bytes : List ℕ) (len : ℕ) → item_len bytes ≡ Some len → (1 ≤ len) × (1 ≤ length bytes)
 unfolding item_len
@@ -61,7 +61,7 @@ to_values (suc n) (v ∷ values) bytes lt h =
     let below = to_values n values (drop h.0 bytes) (omega (arith, t.0, t.1, length-drop h.0 bytes)) h.3 in
     rw (h.1, h.2, below) refl
 
--- what the words of the string stand for is what it is read as
+-- what the words of the string represent is what it is read as
 pub string_is : (text values : List ℕ) → StringBytes text values → text_at kinds.Quoted text ≡ Some values
 string_is text values h = to_values (suc (length text)) values (drop 1 text) (omega (arith, length-drop 1 text)) h
 

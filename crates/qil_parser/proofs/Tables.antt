@@ -2,14 +2,14 @@
 use Rattle.std.proofs.Common.{◌≡◌, ℕ, ◌+◌, ◌<◌, Bool, true, List, ◌∷◌, map, drop, get_or, length, Some, refl, sym, ◌∙◌}
 use Rattle.std.proofs.lemmas.List.{at_drop_more}
 use Rattle.std.specs.Str.{bytes_eq}
-use Rattle.qil_parser.specs.declared.mark.Mark.{Mark}
-use Rattle.qil_parser.specs.Words.{beside, is_one_of}
+use Rattle.qil_parser.specs.declared.terminal.Terminal.{Terminal}
+use Rattle.qil_parser.specs.Words.{next_to, is_one_of}
 
-pub row_found : {T : Type 0} (row : T → List ℕ × Mark) (rows : List T) (i : ℕ) (d : T) (text : List ℕ) → i < length rows → bytes_eq text (row (get_or rows i d)).0 ≡ true
-    → beside (map row (drop i rows)) text ≡ beside (map row rows) text → Some (row (get_or rows i d)).1 ≡ beside (map row rows) text
+pub row_found : {T : Type 0} (row : T → List ℕ × Terminal) (rows : List T) (i : ℕ) (d : T) (text : List ℕ) → i < length rows → bytes_eq text (row (get_or rows i d)).0 ≡ true
+    → next_to (map row (drop i rows)) text ≡ next_to (map row rows) text → Some (row (get_or rows i d)).1 ≡ next_to (map row rows) text
 row_found row rows i d text l same so_far =
-    let here : beside (map row (get_or rows i d ∷ drop (i + 1) rows)) text ≡ Some (row (get_or rows i d)).1 = rw same refl in
-    sym here ∙ sym (at_drop_more (λ xs. beside (map row xs) text) rows i d l) ∙ so_far
+    let here : next_to (map row (get_or rows i d ∷ drop (i + 1) rows)) text ≡ Some (row (get_or rows i d)).1 = rw same refl in
+    sym here ∙ sym (at_drop_more (λ xs. next_to (map row xs) text) rows i d l) ∙ so_far
 
 pub word_found : {T : Type 0} (word : T → List ℕ) (words : List T) (i : ℕ) (d : T) (text : List ℕ) → i < length words → bytes_eq text (word (get_or words i d)) ≡ true
     → is_one_of (map word (drop i words)) text ≡ is_one_of (map word words) text → true ≡ is_one_of (map word words) text

@@ -7,7 +7,7 @@ use Rattle.qil_parser.specs.Token.{Tok}
 use Rattle.qil_parser.specs.Programs.{Spells}
 use Rattle.qil_parser.specs.Fault.{StopsAt, Names, Named, TokenFault}
 
--- one front goes on where the other ends
+-- one prefix goes on where the other ends
 abbrev Longer : List Tok → List Tok → List Tok → List Tok → Type 0
 Longer f r g s = (t : Tok) × (more : List Tok) × (g ≡ f ++ t ∷ more) × (r ≡ t ∷ (more ++ s))
 
@@ -47,26 +47,26 @@ not_both : (b : Bool) → b ≡ true → b ≡ false → ⊥
 not_both true h k = absurd cc
 not_both false h k = absurd cc
 
-same_name : (A : Type 0) (front : List Tok) (t : Tok) (c d : ParseCode) → Names A front t c → Names A front t d → c ≡ d
-same_name A front t codes.P1 codes.P1 h k = refl
-same_name A front t codes.P1 codes.P2 h k = absurd (not_both (left_out t.kind t.text) k.1 h.1)
-same_name A front t codes.P1 codes.P3 h k = absurd k
-same_name A front t codes.P1 codes.P4 h k = absurd (h.0 k)
-same_name A front t codes.P2 codes.P1 h k = absurd (not_both (left_out t.kind t.text) h.1 k.1)
-same_name A front t codes.P2 codes.P2 h k = refl
-same_name A front t codes.P2 codes.P3 h k = absurd k
-same_name A front t codes.P2 codes.P4 h k = absurd (h.0 k)
-same_name A front t codes.P3 d h k = absurd h
-same_name A front t codes.P4 codes.P1 h k = absurd (k.0 h)
-same_name A front t codes.P4 codes.P2 h k = absurd (k.0 h)
-same_name A front t codes.P4 codes.P3 h k = absurd k
-same_name A front t codes.P4 codes.P4 h k = refl
+same_name : (A : Type 0) (prefix : List Tok) (t : Tok) (c d : ParseCode) → Names A prefix t c → Names A prefix t d → c ≡ d
+same_name A prefix t codes.P1 codes.P1 h k = refl
+same_name A prefix t codes.P1 codes.P2 h k = absurd (not_both (left_out t.kind t.text) k.1 h.1)
+same_name A prefix t codes.P1 codes.P3 h k = absurd k
+same_name A prefix t codes.P1 codes.P4 h k = absurd (h.0 k)
+same_name A prefix t codes.P2 codes.P1 h k = absurd (not_both (left_out t.kind t.text) h.1 k.1)
+same_name A prefix t codes.P2 codes.P2 h k = refl
+same_name A prefix t codes.P2 codes.P3 h k = absurd k
+same_name A prefix t codes.P2 codes.P4 h k = absurd (h.0 k)
+same_name A prefix t codes.P3 d h k = absurd h
+same_name A prefix t codes.P4 codes.P1 h k = absurd (k.0 h)
+same_name A prefix t codes.P4 codes.P2 h k = absurd (k.0 h)
+same_name A prefix t codes.P4 codes.P3 h k = absurd k
+same_name A prefix t codes.P4 codes.P4 h k = refl
 
-same_named : (A : Type 0) (ts front rest : List Tok) (c d : ParseCode) (k l : ℕ) → Named A ts front rest c k → Named A ts front rest d l → (c ≡ d) × (k ≡ l)
-same_named A ts front [] c d k l x y = (x.0 ∙ sym y.0, x.1 ∙ sym y.1)
-same_named A ts front (t ∷ after) c d k l x y = (same_name A front t c d x.0 y.0, x.1 ∙ sym y.1)
+same_named : (A : Type 0) (ts prefix rest : List Tok) (c d : ParseCode) (k l : ℕ) → Named A ts prefix rest c k → Named A ts prefix rest d l → (c ≡ d) × (k ≡ l)
+same_named A ts prefix [] c d k l x y = (x.0 ∙ sym y.0, x.1 ∙ sym y.1)
+same_named A ts prefix (t ∷ after) c d k l x y = (same_name A prefix t c d x.0 y.0, x.1 ∙ sym y.1)
 
 pub one_fault : {A : Type 0} (ts : List Tok) (c d : ParseCode) (k l : ℕ) → TokenFault A ts c k → TokenFault A ts d l → (c ≡ d) × (k ≡ l)
 one_fault {A} ts c d k l x y =
-    let e = same_place ts x.front x.rest y.front y.rest x.stops y.stops in
-    same_named A ts x.front x.rest c d k l x.named (subst (λ (f : List Tok). Named A ts f x.rest d l) (sym e.0) (subst (λ (r : List Tok). Named A ts y.front r d l) (sym e.1) y.named))
+    let e = same_place ts x.prefix x.rest y.prefix y.rest x.stops y.stops in
+    same_named A ts x.prefix x.rest c d k l x.named (subst (λ (f : List Tok). Named A ts f x.rest d l) (sym e.0) (subst (λ (r : List Tok). Named A ts y.prefix r d l) (sym e.1) y.named))

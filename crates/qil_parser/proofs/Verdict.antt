@@ -33,17 +33,17 @@ fault_after ts p [] r e le named = absurd (omega arith)
 fault_after {A} ts p (t ∷ rest) (errors.Refused code line) e le named =
     let s = stops_after (seen ts) p _ (seen rest) e in
     let n = named_by {A = A} (seen ts) s.0 (tok t) (seen rest) false s.1.parts (λ h. absurd cc) (λ h. absurd (not_both (program (seen ts)) p (seen (t ∷ rest)) (seen (t ∷ rest)) e h)) in
-    record { front = s.0; rest = seen (t ∷ rest); stops = s.1; named = (subst (Names A s.0 (tok t)) (sym named.0) n, named.1) }
+    record { prefix = s.0; rest = seen (t ∷ rest); stops = s.1; named = (subst (Names A s.0 (tok t)) (sym named.0) n, named.1) }
 fault_after ts p (t ∷ rest) errors.OutOfMemory e le named = tt
 
 pub fault_at : {A : Type 0} (ts : List Token) (k : Bool) (rest : List Token) (r : ParseError) → program {A = A} (seen ts) ≡ failed k (seen rest) → TellsError (seen ts) k (seen rest) r → IsFault A (seen ts) r
 fault_at {A} ts k [] (errors.Refused code line) e named =
     let s = stops_at {A = A} (seen ts) k [] e in
-    record { front = s.0; rest = []; stops = s.1; named = named }
+    record { prefix = s.0; rest = []; stops = s.1; named = named }
 fault_at {A} ts k (t ∷ rest) (errors.Refused code line) e named =
     let s = stops_at {A = A} (seen ts) k (seen (t ∷ rest)) e in
     let n = named_by {A = A} (seen ts) s.0 (tok t) (seen rest) k s.1.parts (λ h. e ∙ ap (λ (b : Bool). failed b (seen (t ∷ rest))) h) (λ h. same_mark (program (seen ts)) k (seen (t ∷ rest)) (seen (t ∷ rest)) e h) in
-    record { front = s.0; rest = seen (t ∷ rest); stops = s.1; named = (subst (Names A s.0 (tok t)) (sym named.0) n, named.1) }
+    record { prefix = s.0; rest = seen (t ∷ rest); stops = s.1; named = (subst (Names A s.0 (tok t)) (sym named.0) n, named.1) }
 fault_at ts k rest errors.OutOfMemory e named = tt
 
 -- ---- nothing else is answered

@@ -5,8 +5,8 @@ use Rattle.qil_lexer.specs.declared.token.TokenKind.TheVariants as kinds
 use Rattle.qil_lexer.specs.Shape.{number_value, StringBytes}
 use Rattle.qil_language.specs.Language.{One, Nothing, Seq, Image, Either, Many, Tail}
 use Rattle.qil_language.specs.Reading.{cons_of}
-use Rattle.qil_parser.specs.declared.mark.Mark.{Mark}
-use Rattle.qil_parser.specs.declared.mark.Mark.TheVariants as marks
+use Rattle.qil_parser.specs.declared.terminal.Terminal.{Terminal}
+use Rattle.qil_parser.specs.declared.terminal.Terminal.TheVariants as terminals
 use Rattle.qil_tree.specs.declared.ops.Width.{Width}
 use Rattle.qil_tree.specs.declared.ops.Width.TheVariants as widths
 use Rattle.qil_tree.specs.declared.tree.Item.{Item}
@@ -27,7 +27,7 @@ constant_at _ text = None
 abbrev pub Constant : List Tok → ℕ → Type 0
 Constant = One (λ t. constant_at t.kind t.text)
 
--- STRING, as the bytes that it stands for
+-- STRING, as the bytes that it represents
 pub record Text (ts : List Tok) (bytes : List ℕ) : Type 0 where
   pub token : Tok
   pub alone : ts ≡ token ∷ []
@@ -38,14 +38,14 @@ pub record Text (ts : List Tok) (bytes : List ℕ) : Type 0 where
 
 -- any newlines
 abbrev pub Newlines : List Tok → Unit {0} → Type 0
-Newlines = Image (λ v. tt) (Many (Word marks.Newline))
+Newlines = Image (λ v. tt) (Many (Word terminals.Newline))
 
 -- a token, and any newlines
 abbrev pub Loose : {A : Type 0} → (List Tok → A → Type 0) → List Tok → A → Type 0
 Loose S = Image (λ v. v.0) (Seq S Newlines)
 
 -- a word that says nothing more, before a phrase
-abbrev pub LooseAfter : {A : Type 0} → Mark → (List Tok → A → Type 0) → List Tok → A → Type 0
+abbrev pub LooseAfter : {A : Type 0} → Terminal → (List Tok → A → Type 0) → List Tok → A → Type 0
 LooseAfter m S = Image (λ v. v.1) (Seq (Loose (Word m)) S)
 
 -- ---- productions
@@ -64,7 +64,7 @@ TextItem = Image items.Text (Loose Text)
 
 -- ( "+" N )?
 abbrev pub Offset : List Tok → ℕ → Type 0
-Offset = Either (LooseAfter marks.Plus (Loose Count)) (Nothing 0)
+Offset = Either (LooseAfter terminals.Plus (Loose Count)) (Nothing 0)
 
 abbrev pub address_of : {A : Type 0} → (ℕ × List ℕ) × ℕ → Item A
 address_of v = items.Address v.0.1 v.1
@@ -80,11 +80,11 @@ ItemOf widths.H = NumberItem
 ItemOf widths.W = NumberItem
 ItemOf widths.L = Either NumberItem AddressItem
 
-abbrev pub width_mark : Width → Mark
-width_mark widths.B = marks.B
-width_mark widths.H = marks.H
-width_mark widths.W = marks.W
-width_mark widths.L = marks.L
+abbrev pub width_mark : Width → Terminal
+width_mark widths.B = terminals.B
+width_mark widths.H = terminals.H
+width_mark widths.W = terminals.W
+width_mark widths.L = terminals.L
 
 -- the word of the width, and item+
 abbrev pub Values : {A : Type 0} → Width → List Tok → Field A → Type 0
@@ -92,7 +92,7 @@ Values w = Image (fields.Values w) (LooseAfter (width_mark w) (Several (ItemOf w
 
 -- "z" N
 abbrev pub Zeros : {A : Type 0} → List Tok → Field A → Type 0
-Zeros = Image fields.Zeros (LooseAfter marks.Z (Loose Count))
+Zeros = Image fields.Zeros (LooseAfter terminals.Z (Loose Count))
 
 -- ( "b" | "h" | "w" | "l" ) item+  |  "z" N
 abbrev pub FieldOf : {A : Type 0} → List Tok → Field A → Type 0
@@ -100,19 +100,19 @@ FieldOf = Either (Values widths.B) (Either (Values widths.H) (Either (Values wid
 
 -- ( field ( "," field )* ","? )?
 abbrev pub Fields : {A : Type 0} → List Tok → List (Field A) → Type 0
-Fields = Either (Image cons_of (Seq FieldOf (Tail (Loose (Word marks.Comma)) FieldOf))) (Nothing [])
+Fields = Either (Image cons_of (Seq FieldOf (Tail (Loose (Word terminals.Comma)) FieldOf))) (Nothing [])
 
 -- ( "align" N )?
 abbrev pub Alignment : List Tok → Option ℕ → Type 0
-Alignment = Perhaps (LooseAfter marks.Align (Loose Count))
+Alignment = Perhaps (LooseAfter terminals.Align (Loose Count))
 
 abbrev pub data_of : {A : Type 0} → (ℕ × List ℕ) × (Option ℕ × List (Field A)) → Data A
 data_of v = record { name = v.0.1; line = v.0.0; align = v.1.0; fields = v.1.1 }
 
 -- ( "align" N )? "{" fields "}"
 abbrev pub Inside : {A : Type 0} → List Tok → Option ℕ × List (Field A) → Type 0
-Inside = Seq Alignment (LooseAfter marks.OpenBrace (Before Fields marks.CloseBrace))
+Inside = Seq Alignment (LooseAfter terminals.OpenBrace (Before Fields terminals.CloseBrace))
 
 -- "data" GLOBAL "=" inside
 abbrev pub DataOf : {A : Type 0} → List Tok → Data A → Type 0
-DataOf = Image data_of (LooseAfter marks.Data (Seq (Loose GlobalName) (LooseAfter marks.Equals Inside)))
+DataOf = Image data_of (LooseAfter terminals.Data (Seq (Loose GlobalName) (LooseAfter terminals.Equals Inside)))

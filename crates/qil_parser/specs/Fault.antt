@@ -8,28 +8,28 @@ use Rattle.qil_parser.specs.Token.{Tok}
 use Rattle.qil_parser.specs.Words.{left_out}
 use Rattle.qil_parser.specs.Programs.{Spells, OpenAt}
 
--- The tokens are front and rest; front is the longest prefix that is a prefix of some program's tokens.
-pub record StopsAt (A : Type 0) (ts front rest : List Tok) : Type 0 where
-  pub parts : ts ≡ front ++ rest
+-- The tokens are prefix and rest; prefix is the longest prefix that is a prefix of some program's tokens.
+pub record StopsAt (A : Type 0) (ts prefix rest : List Tok) : Type 0 where
+  pub parts : ts ≡ prefix ++ rest
   -- the tokens are no program's
   pub refused : (p : Program A) → Spells ts p → ⊥
   -- with one token more they begin no program's
-  pub longest : (t : Tok) (after : List Tok) → rest ≡ t ∷ after → (more : List Tok) (p : Program A) → Spells (front ++ t ∷ more) p → ⊥
-  -- some ending makes front a program's
+  pub longest : (t : Tok) (after : List Tok) → rest ≡ t ∷ after → (more : List Tok) (p : Program A) → Spells (prefix ++ t ∷ more) p → ⊥
+  -- some ending makes prefix a program's
   pub ending : List Tok
   pub program : Program A
-  pub begun : Spells (front ++ ending) program
+  pub begun : Spells (prefix ++ ending) program
 
 -- a block is closed that has no jump
 abbrev pub ClosesOpen : Type 0 → List Tok → Tok → Type 0
-ClosesOpen A front t = OpenAt A front × (t.kind ≡ kinds.CloseBrace)
+ClosesOpen A prefix t = OpenAt A prefix × (t.kind ≡ kinds.CloseBrace)
 
 -- what the first token that fits nothing is called, after these tokens
 abbrev pub Names : Type 0 → List Tok → Tok → ParseCode → Type 0
-Names A front t codes.P4 = ClosesOpen A front t
-Names A front t codes.P2 = (ClosesOpen A front t → ⊥) × (left_out t.kind t.text ≡ true)
-Names A front t codes.P1 = (ClosesOpen A front t → ⊥) × (left_out t.kind t.text ≡ false)
-Names A front t codes.P3 = ⊥
+Names A prefix t codes.P4 = ClosesOpen A prefix t
+Names A prefix t codes.P2 = (ClosesOpen A prefix t → ⊥) × (left_out t.kind t.text ≡ true)
+Names A prefix t codes.P1 = (ClosesOpen A prefix t → ⊥) × (left_out t.kind t.text ≡ false)
+Names A prefix t codes.P3 = ⊥
 
 abbrev pub last_line : List Tok → ℕ
 last_line [] = 1
@@ -38,12 +38,12 @@ last_line (t ∷ (u ∷ ts)) = last_line (u ∷ ts)
 
 -- P3 where the tokens end too early; else the first token that fits nothing names the fault
 abbrev pub Named : Type 0 → List Tok → List Tok → List Tok → ParseCode → ℕ → Type 0
-Named A ts front [] code line = (code ≡ codes.P3) × (line ≡ last_line ts)
-Named A ts front (t ∷ after) code line = Names A front t code × (line ≡ t.line)
+Named A ts prefix [] code line = (code ≡ codes.P3) × (line ≡ last_line ts)
+Named A ts prefix (t ∷ after) code line = Names A prefix t code × (line ≡ t.line)
 
 -- The fault of tokens that are no program's. A is the memory that the trees would lie in; it changes nothing.
 pub record TokenFault (A : Type 0) (ts : List Tok) (code : ParseCode) (line : ℕ) : Type 0 where
-  pub front : List Tok
+  pub prefix : List Tok
   pub rest : List Tok
-  pub stops : StopsAt A ts front rest
-  pub named : Named A ts front rest code line
+  pub stops : StopsAt A ts prefix rest
+  pub named : Named A ts prefix rest code line

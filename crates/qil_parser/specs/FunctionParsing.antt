@@ -1,7 +1,7 @@
 -- The grammar of functions read from left to right, production by production.
 use Rattle.std.specs.Prelude.{ℕ, zero, suc, List, [], ◌∷◌, length, drop, Option, None}
 use Rattle.qil_language.specs.Reading.{Read, got, one, nothing, seq, image, either, many, flagged, cons_of}
-use Rattle.qil_parser.specs.declared.mark.Mark.TheVariants as marks
+use Rattle.qil_parser.specs.declared.terminal.Terminal.TheVariants as terminals
 use Rattle.qil_tree.specs.declared.ops.Class.{Class}
 use Rattle.qil_tree.specs.declared.ops.Class.TheVariants as class_names
 use Rattle.qil_tree.specs.declared.ops.AbiType.{AbiType}
@@ -29,74 +29,74 @@ use Rattle.qil_tree.specs.declared.tree.Jump.{Jump}
 use Rattle.qil_tree.specs.declared.tree.Block.{Block}
 use Rattle.qil_tree.specs.declared.tree.Param.{Param}
 use Rattle.qil_tree.specs.declared.tree.Func.{Func}
-use Rattle.qil_parser.specs.Token.{Tok, mark, code, index}
+use Rattle.qil_parser.specs.Token.{Tok, terminal, code, index}
 use Rattle.qil_parser.specs.Grammar.{list_of}
 use Rattle.qil_tree.specs.Types.{type_of}
-use Rattle.qil_parser.specs.Functions.{unary_at, binary_at, compare_at, extend_at, load_at, alloc_at, store_at, target_of, result_of, unary_of, binary_of, compare_of, extend_of, load_of, argument_of, assign_of, alloc_of, call_of, plain_call_of, store_of, blit_of, source_of, phi_of, Front, jmp_of, jnz_of, ret_of, hlt_of, block_of, jump_or, param_of, func_of}
+use Rattle.qil_parser.specs.Functions.{unary_at, binary_at, compare_at, extend_at, load_at, alloc_at, store_at, target_of, result_of, unary_of, binary_of, compare_of, extend_of, load_of, argument_of, assign_of, alloc_of, call_of, plain_call_of, store_of, blit_of, source_of, phi_of, Prefix, jmp_of, jnz_of, ret_of, hlt_of, block_of, jump_or, param_of, func_of}
 use Rattle.qil_parser.specs.Parsing.{the, classes, types, values, word_line, temp_name, label_name, global_name, class_word, sub_word, type_word, val, count, two, after, before, perhaps, listed, line}
 
--- ---- marks that begin a phrase; any mark of a shape stands for all of it
+-- ---- marks that begin a phrase; any mark of a shape represents all of it
 
 abbrev pub unaries : List ℕ
-unaries = the (marks.Unary unary_ops.Copy)
+unaries = the (terminals.Unary unary_ops.Copy)
 
 abbrev pub binaries : List ℕ
-binaries = the (marks.Binary binary_ops.Add)
+binaries = the (terminals.Binary binary_ops.Add)
 
 abbrev pub compares : List ℕ
-compares = the (marks.Compare compare_ops.Eq class_names.W)
+compares = the (terminals.Compare compare_ops.Eq class_names.W)
 
 abbrev pub extends : List ℕ
-extends = the (marks.Extend extension_ops.Sw)
+extends = the (terminals.Extend extension_ops.Sw)
 
 abbrev pub loads : List ℕ
-loads = the (marks.Load load_ops.L)
+loads = the (terminals.Load load_ops.L)
 
 abbrev pub allocs : List ℕ
-allocs = the (marks.Alloc alloc_ops.Four)
+allocs = the (terminals.Alloc alloc_ops.Four)
 
 abbrev pub stores : List ℕ
-stores = the (marks.Store widths.B)
+stores = the (terminals.Store widths.B)
 
 abbrev pub exprs : List ℕ
-exprs = code (marks.Unary unary_ops.Copy) ∷ code (marks.Binary binary_ops.Add) ∷ code (marks.Compare compare_ops.Eq class_names.W) ∷ code (marks.Extend extension_ops.Sw) ∷ loads
+exprs = code (terminals.Unary unary_ops.Copy) ∷ code (terminals.Binary binary_ops.Add) ∷ code (terminals.Compare compare_ops.Eq class_names.W) ∷ code (terminals.Extend extension_ops.Sw) ∷ loads
 
 abbrev pub plain_starts : List ℕ
-plain_starts = code (marks.Store widths.B) ∷ code marks.Blit ∷ code marks.Call ∷ []
+plain_starts = code (terminals.Store widths.B) ∷ code terminals.Blit ∷ code terminals.Call ∷ []
 
 abbrev pub inst_starts : List ℕ
-inst_starts = code marks.Temp ∷ plain_starts
+inst_starts = code terminals.Temp ∷ plain_starts
 
 abbrev pub jump_starts : List ℕ
-jump_starts = code marks.Jmp ∷ code marks.Jnz ∷ code marks.Ret ∷ code marks.Hlt ∷ []
+jump_starts = code terminals.Jmp ∷ code terminals.Jnz ∷ code terminals.Ret ∷ code terminals.Hlt ∷ []
 
 -- ---- words of operations
 
 abbrev pub unary_word : List Tok → Read Tok UnaryOp
-unary_word = one (λ t. unary_at (mark t))
+unary_word = one (λ t. unary_at (terminal t))
 
 abbrev pub binary_word : List Tok → Read Tok BinaryOp
-binary_word = one (λ t. binary_at (mark t))
+binary_word = one (λ t. binary_at (terminal t))
 
 abbrev pub compare_word : List Tok → Read Tok (CompareOp × Class)
-compare_word = one (λ t. compare_at (mark t))
+compare_word = one (λ t. compare_at (terminal t))
 
 abbrev pub extend_word : List Tok → Read Tok Extension
-extend_word = one (λ t. extend_at (mark t))
+extend_word = one (λ t. extend_at (terminal t))
 
 abbrev pub load_word : List Tok → Read Tok LoadOp
-load_word = one (λ t. load_at (mark t))
+load_word = one (λ t. load_at (terminal t))
 
 abbrev pub alloc_word : List Tok → Read Tok AllocOp
-alloc_word = one (λ t. alloc_at (mark t))
+alloc_word = one (λ t. alloc_at (terminal t))
 
 abbrev pub store_word : List Tok → Read Tok (ℕ × Width)
-store_word = one (λ t. store_at (mark t) t.line)
+store_word = one (λ t. store_at (terminal t) t.line)
 
 -- ---- instructions
 
 unfoldable pub dest : List Tok → Read Tok (ℕ × List ℕ)
-dest = before temp_name marks.Equals
+dest = before temp_name terminals.Equals
 
 unfoldable pub extend_or_load : List Tok → Read Tok Expr
 extend_or_load = either index extends (image extend_of (seq extend_word val)) (image load_of (seq load_word val))
@@ -113,22 +113,22 @@ unfoldable pub arguments : List Tok → Read Tok (List Argument)
 arguments = listed types argument
 
 unfoldable pub callee : List Tok → Read Tok (Operand × List Argument)
-callee = seq val (after marks.OpenParen (before arguments marks.CloseParen))
+callee = seq val (after terminals.OpenParen (before arguments terminals.CloseParen))
 
 unfoldable pub called : List Tok → Read Tok (Operand × List Argument)
-called = after marks.Call callee
+called = after terminals.Call callee
 
 abbrev pub store : {A : Type 0} → List Tok → Read Tok (Inst A)
 store = image store_of (seq store_word two)
 
 abbrev pub blit : {A : Type 0} → List Tok → Read Tok (Inst A)
-blit = image blit_of (seq (word_line marks.Blit) (seq (before two marks.Comma) count))
+blit = image blit_of (seq (word_line terminals.Blit) (seq (before two terminals.Comma) count))
 
 abbrev pub plain_call : {A : Type 0} → List Tok → Read Tok (Inst A)
-plain_call = image plain_call_of (seq (word_line marks.Call) callee)
+plain_call = image plain_call_of (seq (word_line terminals.Call) callee)
 
 unfoldable pub plain : {A : Type 0} → List Tok → Read Tok (Inst A)
-plain = either index stores store (either index (the marks.Blit) blit plain_call)
+plain = either index stores store (either index (the terminals.Blit) blit plain_call)
 
 -- after the destination and a class: what depends on both
 abbrev pub expr_for : {A : Type 0} → Expr → Class → ℕ × List ℕ → Inst A
@@ -160,10 +160,10 @@ abbrev pub made_of : {A : Type 0} → (ℕ × List ℕ) × (ℕ × List ℕ → 
 made_of v = v.1 v.0
 
 unfoldable pub inst : {A : Type 0} → List Tok → Read Tok (Inst A)
-inst = either index (the marks.Temp) (image made_of (seq dest of_dest)) plain
+inst = either index (the terminals.Temp) (image made_of (seq dest of_dest)) plain
 
 unfoldable pub lines : {A : Type 0} → List Tok → Read Tok (List (Inst A))
-lines = many index inst_starts (before inst marks.Newline)
+lines = many index inst_starts (before inst terminals.Newline)
 
 -- ---- phis, and then instructions
 
@@ -171,10 +171,10 @@ unfoldable pub source : List Tok → Read Tok PhiSource
 source = image source_of (seq label_name val)
 
 unfoldable pub more_sources : List Tok → Read Tok (List PhiSource)
-more_sources = many index (the marks.Comma) (after marks.Comma source)
+more_sources = many index (the terminals.Comma) (after terminals.Comma source)
 
 unfoldable pub sources : List Tok → Read Tok (List PhiSource)
-sources = after marks.Phi (image list_of (seq source more_sources))
+sources = after terminals.Phi (image list_of (seq source more_sources))
 
 abbrev pub Lines : Type 0 → Type 0
 Lines A = List (Phi A) × List (Inst A)
@@ -199,16 +199,16 @@ abbrev pub insts_alone : {A : Type 0} → Inst A × List (Inst A) → Lines A
 insts_alone v = ([], v.0 ∷ v.1)
 
 abbrev pub after_class : {A : Type 0} → (List Tok → Read Tok (Lines A)) → List Tok → Read Tok (Class → ℕ × List ℕ → Lines A)
-after_class s = either index (the marks.Phi) (image phi_more (seq (before sources marks.Newline) s)) (image class_more (seq (before of_class marks.Newline) lines))
+after_class s = either index (the terminals.Phi) (image phi_more (seq (before sources terminals.Newline) s)) (image class_more (seq (before of_class terminals.Newline) lines))
 
 abbrev pub after_dest : {A : Type 0} → (List Tok → Read Tok (Lines A)) → List Tok → Read Tok (ℕ × List ℕ → Lines A)
-after_dest s = either index classes (image in_class (seq class_word (after_class s))) (image sub_more (seq (before of_sub marks.Newline) lines))
+after_dest s = either index classes (image in_class (seq class_word (after_class s))) (image sub_more (seq (before of_sub terminals.Newline) lines))
 
 abbrev pub no_dest : {A : Type 0} → List Tok → Read Tok (Lines A)
-no_dest = either index plain_starts (image insts_alone (seq (before plain marks.Newline) lines)) (nothing ([], []))
+no_dest = either index plain_starts (image insts_alone (seq (before plain terminals.Newline) lines)) (nothing ([], []))
 
 abbrev pub body_then : {A : Type 0} → (List Tok → Read Tok (Lines A)) → List Tok → Read Tok (Lines A)
-body_then s = either index (the marks.Temp) (image with_dest (seq dest (after_dest s))) no_dest
+body_then s = either index (the terminals.Temp) (image with_dest (seq dest (after_dest s))) no_dest
 
 abbrev pub body_at : {A : Type 0} → ℕ → List Tok → Read Tok (Lines A)
 body_at zero ts = got ([], []) ts
@@ -220,33 +220,33 @@ body ts = body_at (length ts) ts
 
 -- instructions from the one for this destination on, of this class or of a part of a word, and from a plain one on
 abbrev pub class_lines : {A : Type 0} → ℕ × List ℕ → Class → List Tok → Read Tok (List (Inst A))
-class_lines to class = image (λ v. v.0 class to ∷ v.1) (seq (before of_class marks.Newline) lines)
+class_lines to class = image (λ v. v.0 class to ∷ v.1) (seq (before of_class terminals.Newline) lines)
 
 abbrev pub sub_lines : {A : Type 0} → ℕ × List ℕ → List Tok → Read Tok (List (Inst A))
-sub_lines to = image (λ v. v.0 to ∷ v.1) (seq (before of_sub marks.Newline) lines)
+sub_lines to = image (λ v. v.0 to ∷ v.1) (seq (before of_sub terminals.Newline) lines)
 
 abbrev pub plain_lines : {A : Type 0} → List Tok → Read Tok (List (Inst A))
-plain_lines = either index plain_starts (image cons_of (seq (before plain marks.Newline) lines)) (nothing [])
+plain_lines = either index plain_starts (image cons_of (seq (before plain terminals.Newline) lines)) (nothing [])
 
 -- ---- blocks
 
-unfoldable pub head : {A : Type 0} → List Tok → Read Tok (Front A)
-head = seq (before label_name marks.Newline) body
+unfoldable pub head : {A : Type 0} → List Tok → Read Tok (Prefix A)
+head = seq (before label_name terminals.Newline) body
 
 unfoldable pub jnz : List Tok → Read Tok Jump
-jnz = image jnz_of (seq (word_line marks.Jnz) (seq (before val marks.Comma) (seq (before label_name marks.Comma) label_name)))
+jnz = image jnz_of (seq (word_line terminals.Jnz) (seq (before val terminals.Comma) (seq (before label_name terminals.Comma) label_name)))
 
 abbrev pub jmp : List Tok → Read Tok Jump
-jmp = image jmp_of (seq (word_line marks.Jmp) label_name)
+jmp = image jmp_of (seq (word_line terminals.Jmp) label_name)
 
 abbrev pub ret : List Tok → Read Tok Jump
-ret = image ret_of (seq (word_line marks.Ret) (perhaps values val))
+ret = image ret_of (seq (word_line terminals.Ret) (perhaps values val))
 
 abbrev pub hlt : List Tok → Read Tok Jump
-hlt = image hlt_of (word_line marks.Hlt)
+hlt = image hlt_of (word_line terminals.Hlt)
 
 unfoldable pub jump : List Tok → Read Tok Jump
-jump = either index (the marks.Jmp) jmp (either index (the marks.Jnz) jnz (either index (the marks.Ret) ret hlt))
+jump = either index (the terminals.Jmp) jmp (either index (the terminals.Jnz) jnz (either index (the terminals.Ret) ret hlt))
 
 -- the line of the next token, and its text without the sigil
 abbrev pub next_name : List Tok → ℕ × List ℕ
@@ -254,17 +254,17 @@ next_name [] = (0, [])
 next_name (t ∷ ts) = (t.line, drop 1 t.text)
 
 abbrev pub jump_line : List Tok → Read Tok Jump
-jump_line = before jump marks.Newline
+jump_line = before jump terminals.Newline
 
 -- the jump that is written, or one to the label that comes next; a failure is marked where neither comes
 unfoldable pub ending : List Tok → Read Tok Jump
-ending = either index jump_starts jump_line (flagged index (the marks.Label) (λ ts. got (jump_or None (next_name ts)) ts))
+ending = either index jump_starts jump_line (flagged index (the terminals.Label) (λ ts. got (jump_or None (next_name ts)) ts))
 
 unfoldable pub block : {A : Type 0} → List Tok → Read Tok (Block A)
 block = image (λ v. block_of v.0 v.1) (seq head ending)
 
 unfoldable pub more_blocks : {A : Type 0} → List Tok → Read Tok (List (Block A))
-more_blocks = many index (the marks.Label) block
+more_blocks = many index (the terminals.Label) block
 
 unfoldable pub blocks : {A : Type 0} → List Tok → Read Tok (List (Block A))
 blocks = image list_of (seq block more_blocks)
@@ -278,13 +278,13 @@ unfoldable pub params : List Tok → Read Tok (List Param)
 params = listed types param
 
 unfoldable pub all_params : List Tok → Read Tok (List Param)
-all_params = after marks.OpenParen (before params marks.CloseParen)
+all_params = after terminals.OpenParen (before params terminals.CloseParen)
 
 unfoldable pub opening : List Tok → Read Tok (Unit {0})
-opening = image (λ v. v.1) (seq line (after marks.OpenBrace line))
+opening = image (λ v. v.1) (seq line (after terminals.OpenBrace line))
 
 unfoldable pub top : List Tok → Read Tok (Option AbiType × ((ℕ × List ℕ) × List Param))
-top = after marks.Function (seq (perhaps types type_word) (seq global_name (image (λ v. v.0) (seq all_params opening))))
+top = after terminals.Function (seq (perhaps types type_word) (seq global_name (image (λ v. v.0) (seq all_params opening))))
 
 unfoldable pub func : {A : Type 0} → List Tok → Read Tok (Func A)
-func = image func_of (seq top (before blocks marks.CloseBrace))
+func = image func_of (seq top (before blocks terminals.CloseBrace))

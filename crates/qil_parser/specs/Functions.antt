@@ -1,8 +1,8 @@
 -- The grammar of functions: which tokens spell which function.
 use Rattle.std.specs.Prelude.{ℕ, List, [], ◌∷◌, Option, Some, None}
 use Rattle.qil_language.specs.Language.{One, Seq, Image, Either, Many}
-use Rattle.qil_parser.specs.declared.mark.Mark.{Mark}
-use Rattle.qil_parser.specs.declared.mark.Mark.TheVariants as marks
+use Rattle.qil_parser.specs.declared.terminal.Terminal.{Terminal}
+use Rattle.qil_parser.specs.declared.terminal.Terminal.TheVariants as terminals
 use Rattle.qil_tree.specs.declared.ops.Class.{Class}
 use Rattle.qil_tree.specs.declared.ops.AbiType.{AbiType}
 use Rattle.qil_tree.specs.declared.ops.UnaryOp.{UnaryOp}
@@ -27,67 +27,67 @@ use Rattle.qil_tree.specs.declared.tree.JumpKind.TheVariants as jump_kinds
 use Rattle.qil_tree.specs.declared.tree.Block.{Block}
 use Rattle.qil_tree.specs.declared.tree.Param.{Param}
 use Rattle.qil_tree.specs.declared.tree.Func.{Func}
-use Rattle.qil_parser.specs.Token.{Tok, mark}
+use Rattle.qil_parser.specs.Token.{Tok, terminal}
 use Rattle.qil_parser.specs.Grammar.{WordLine, TempName, LabelName, GlobalName, ClassWord, TypeWord, Val, Count, Two, After, Before, Perhaps, list_of, Listed, Line}
 
 -- ---- words of operations
 
-abbrev pub unary_at : Mark → Option UnaryOp
-unary_at (marks.Unary op) = Some op
+abbrev pub unary_at : Terminal → Option UnaryOp
+unary_at (terminals.Unary op) = Some op
 unary_at _ = None
 
-abbrev pub binary_at : Mark → Option BinaryOp
-binary_at (marks.Binary op) = Some op
+abbrev pub binary_at : Terminal → Option BinaryOp
+binary_at (terminals.Binary op) = Some op
 binary_at _ = None
 
-abbrev pub compare_at : Mark → Option (CompareOp × Class)
-compare_at (marks.Compare op class) = Some (op, class)
+abbrev pub compare_at : Terminal → Option (CompareOp × Class)
+compare_at (terminals.Compare op class) = Some (op, class)
 compare_at _ = None
 
-abbrev pub extend_at : Mark → Option Extension
-extend_at (marks.Extend op) = Some op
+abbrev pub extend_at : Terminal → Option Extension
+extend_at (terminals.Extend op) = Some op
 extend_at _ = None
 
-abbrev pub load_at : Mark → Option LoadOp
-load_at (marks.Load op) = Some op
+abbrev pub load_at : Terminal → Option LoadOp
+load_at (terminals.Load op) = Some op
 load_at _ = None
 
-abbrev pub alloc_at : Mark → Option AllocOp
-alloc_at (marks.Alloc op) = Some op
+abbrev pub alloc_at : Terminal → Option AllocOp
+alloc_at (terminals.Alloc op) = Some op
 alloc_at _ = None
 
-abbrev pub store_at : Mark → ℕ → Option (ℕ × Width)
-store_at (marks.Store width) line = Some (line, width)
+abbrev pub store_at : Terminal → ℕ → Option (ℕ × Width)
+store_at (terminals.Store width) line = Some (line, width)
 store_at _ line = None
 
 abbrev pub UnaryWord : List Tok → UnaryOp → Type 0
-UnaryWord = One (λ t. unary_at (mark t))
+UnaryWord = One (λ t. unary_at (terminal t))
 
 abbrev pub BinaryWord : List Tok → BinaryOp → Type 0
-BinaryWord = One (λ t. binary_at (mark t))
+BinaryWord = One (λ t. binary_at (terminal t))
 
 -- with the class of its operands
 abbrev pub CompareWord : List Tok → CompareOp × Class → Type 0
-CompareWord = One (λ t. compare_at (mark t))
+CompareWord = One (λ t. compare_at (terminal t))
 
 abbrev pub ExtendWord : List Tok → Extension → Type 0
-ExtendWord = One (λ t. extend_at (mark t))
+ExtendWord = One (λ t. extend_at (terminal t))
 
 abbrev pub LoadWord : List Tok → LoadOp → Type 0
-LoadWord = One (λ t. load_at (mark t))
+LoadWord = One (λ t. load_at (terminal t))
 
 abbrev pub AllocWord : List Tok → AllocOp → Type 0
-AllocWord = One (λ t. alloc_at (mark t))
+AllocWord = One (λ t. alloc_at (terminal t))
 
 -- with its line
 abbrev pub StoreWord : List Tok → ℕ × Width → Type 0
-StoreWord = One (λ t. store_at (mark t) t.line)
+StoreWord = One (λ t. store_at (terminal t) t.line)
 
 -- ---- instructions
 
 -- TEMP "="
 abbrev pub Dest : List Tok → ℕ × List ℕ → Type 0
-Dest = Before TempName marks.Equals
+Dest = Before TempName terminals.Equals
 
 abbrev pub target_of : (ℕ × List ℕ) × Class → ℕ × Target
 target_of v = (v.0.0, record { name = v.0.1; class = v.1 })
@@ -134,7 +134,7 @@ ArgumentOf = Image argument_of (Seq TypeWord Val)
 
 -- val "(" ( type val ( "," type val )* ","? )? ")"
 abbrev pub Callee : List Tok → Operand × List Argument → Type 0
-Callee = Seq Val (After marks.OpenParen (Before (Listed ArgumentOf) marks.CloseParen))
+Callee = Seq Val (After terminals.OpenParen (Before (Listed ArgumentOf) terminals.CloseParen))
 
 abbrev pub assign_of : {A : Type 0} → (ℕ × Target) × Expr → Inst A
 assign_of v = record { line = v.0.0; kind = inst_kinds.Assign v.0.1 v.1 }
@@ -157,14 +157,14 @@ blit_of v = record { line = v.0; kind = inst_kinds.Blit v.1.0.0 v.1.0.1 v.1.1 }
 -- store val "," val  |  "blit" val "," val "," N  |  "call" callee
 abbrev pub Plain : {A : Type 0} → List Tok → Inst A → Type 0
 Plain = Either (Image store_of (Seq StoreWord Two))
-    (Either (Image blit_of (Seq (WordLine marks.Blit) (Seq (Before Two marks.Comma) Count)))
-    (Image plain_call_of (Seq (WordLine marks.Call) Callee)))
+    (Either (Image blit_of (Seq (WordLine terminals.Blit) (Seq (Before Two terminals.Comma) Count)))
+    (Image plain_call_of (Seq (WordLine terminals.Call) Callee)))
 
 -- TEMP "=" class expr  |  TEMP "=" class alloc val  |  TEMP "=" type "call" callee  |  plain
 abbrev pub InstOf : {A : Type 0} → List Tok → Inst A → Type 0
 InstOf = Either (Image assign_of (Seq TargetOf ExprOf))
     (Either (Image alloc_of (Seq TargetOf (Seq AllocWord Val)))
-    (Either (Image call_of (Seq ResultOf (After marks.Call Callee))) Plain))
+    (Either (Image call_of (Seq ResultOf (After terminals.Call Callee))) Plain))
 
 -- ---- blocks
 
@@ -177,7 +177,7 @@ SourceOf = Image source_of (Seq LabelName Val)
 
 -- "phi" LABEL val ( "," LABEL val )*
 abbrev pub Sources : List Tok → List PhiSource → Type 0
-Sources = After marks.Phi (Image list_of (Seq SourceOf (Many (After marks.Comma SourceOf))))
+Sources = After terminals.Phi (Image list_of (Seq SourceOf (Many (After terminals.Comma SourceOf))))
 
 abbrev pub phi_of : {A : Type 0} → (ℕ × Target) × List PhiSource → Phi A
 phi_of v = record { line = v.0.0; target = v.0.1; sources = v.1 }
@@ -188,15 +188,15 @@ PhiOf = Image phi_of (Seq TargetOf Sources)
 
 -- ( phi NL )* ( inst NL )*
 abbrev pub Body : {A : Type 0} → List Tok → List (Phi A) × List (Inst A) → Type 0
-Body = Seq (Many (Before PhiOf marks.Newline)) (Many (Before InstOf marks.Newline))
+Body = Seq (Many (Before PhiOf terminals.Newline)) (Many (Before InstOf terminals.Newline))
 
 -- what a block begins with: its label, its phis and its instructions
-abbrev pub Front : Type 0 → Type 0
-Front A = (ℕ × List ℕ) × (List (Phi A) × List (Inst A))
+abbrev pub Prefix : Type 0 → Type 0
+Prefix A = (ℕ × List ℕ) × (List (Phi A) × List (Inst A))
 
 -- LABEL NL ( phi NL )* ( inst NL )*
-abbrev pub Head : {A : Type 0} → List Tok → Front A → Type 0
-Head = Seq (Before LabelName marks.Newline) Body
+abbrev pub Head : {A : Type 0} → List Tok → Prefix A → Type 0
+Head = Seq (Before LabelName terminals.Newline) Body
 
 abbrev pub jmp_of : ℕ × (ℕ × List ℕ) → Jump
 jmp_of v = record { line = v.0; kind = jump_kinds.Jmp v.1.1 }
@@ -212,19 +212,19 @@ hlt_of line = record { line = line; kind = jump_kinds.Hlt }
 
 -- "jmp" LABEL  |  "jnz" val "," LABEL "," LABEL  |  "ret" val?  |  "hlt"
 abbrev pub JumpOf : List Tok → Jump → Type 0
-JumpOf = Either (Image jmp_of (Seq (WordLine marks.Jmp) LabelName))
-    (Either (Image jnz_of (Seq (WordLine marks.Jnz) (Seq (Before Val marks.Comma) (Seq (Before LabelName marks.Comma) LabelName))))
-    (Either (Image ret_of (Seq (WordLine marks.Ret) (Perhaps Val))) (Image hlt_of (WordLine marks.Hlt))))
+JumpOf = Either (Image jmp_of (Seq (WordLine terminals.Jmp) LabelName))
+    (Either (Image jnz_of (Seq (WordLine terminals.Jnz) (Seq (Before Val terminals.Comma) (Seq (Before LabelName terminals.Comma) LabelName))))
+    (Either (Image ret_of (Seq (WordLine terminals.Ret) (Perhaps Val))) (Image hlt_of (WordLine terminals.Hlt))))
 
 -- head ( jump NL )?
-abbrev pub BlockOf : {A : Type 0} → List Tok → Front A × Option Jump → Type 0
-BlockOf = Seq Head (Perhaps (Before JumpOf marks.Newline))
+abbrev pub BlockOf : {A : Type 0} → List Tok → Prefix A × Option Jump → Type 0
+BlockOf = Seq Head (Perhaps (Before JumpOf terminals.Newline))
 
 -- head jump NL
-abbrev pub LastBlock : {A : Type 0} → List Tok → Front A × Jump → Type 0
-LastBlock = Seq Head (Before JumpOf marks.Newline)
+abbrev pub LastBlock : {A : Type 0} → List Tok → Prefix A × Jump → Type 0
+LastBlock = Seq Head (Before JumpOf terminals.Newline)
 
-abbrev pub block_of : {A : Type 0} → Front A → Jump → Block A
+abbrev pub block_of : {A : Type 0} → Prefix A → Jump → Block A
 block_of v jump = record { label = v.0.1; line = v.0.0; phis = v.1.0; insts = v.1.1; jump = jump }
 
 -- the jump that is written, or one to the label that comes next
@@ -232,11 +232,11 @@ abbrev pub jump_or : Option Jump → ℕ × List ℕ → Jump
 jump_or (Some jump) next = jump
 jump_or None next = jmp_of (next.0, next)
 
-abbrev pub first_label : {A : Type 0} → List (Front A × Option Jump) → Front A × Jump → ℕ × List ℕ
+abbrev pub first_label : {A : Type 0} → List (Prefix A × Option Jump) → Prefix A × Jump → ℕ × List ℕ
 first_label [] last = last.0.0
 first_label (v ∷ others) last = v.0.0
 
-abbrev pub blocks_of : {A : Type 0} → List (Front A × Option Jump) → Front A × Jump → List (Block A)
+abbrev pub blocks_of : {A : Type 0} → List (Prefix A × Option Jump) → Prefix A × Jump → List (Block A)
 blocks_of [] last = block_of last.0 last.1 ∷ []
 blocks_of (v ∷ others) last = block_of v.0 (jump_or v.1 (first_label others last)) ∷ blocks_of others last
 
@@ -255,19 +255,19 @@ ParamOf = Image param_of (Seq TypeWord TempName)
 
 -- "(" ( type TEMP ( "," type TEMP )* ","? )? ")"
 abbrev pub Params : List Tok → List Param → Type 0
-Params = After marks.OpenParen (Before (Listed ParamOf) marks.CloseParen)
+Params = After terminals.OpenParen (Before (Listed ParamOf) terminals.CloseParen)
 
 -- NL? "{" NL?
 abbrev pub Opening : List Tok → Unit {0} → Type 0
-Opening = Image (λ v. v.1) (Seq Line (After marks.OpenBrace Line))
+Opening = Image (λ v. v.1) (Seq Line (After terminals.OpenBrace Line))
 
 -- "function" type? GLOBAL params NL? "{" NL?
 abbrev pub FuncTop : List Tok → Option AbiType × ((ℕ × List ℕ) × List Param) → Type 0
-FuncTop = After marks.Function (Seq (Perhaps TypeWord) (Seq GlobalName (Image (λ v. v.0) (Seq Params Opening))))
+FuncTop = After terminals.Function (Seq (Perhaps TypeWord) (Seq GlobalName (Image (λ v. v.0) (Seq Params Opening))))
 
 abbrev pub func_of : {A : Type 0} → (Option AbiType × ((ℕ × List ℕ) × List Param)) × List (Block A) → Func A
 func_of v = record { returns = v.0.0; name = v.0.1.0.1; line = v.0.1.0.0; params = v.0.1.1; blocks = v.1 }
 
 -- top blocks "}"
 abbrev pub FuncOf : {A : Type 0} → List Tok → Func A → Type 0
-FuncOf = Image func_of (Seq FuncTop (Before Blocks marks.CloseBrace))
+FuncOf = Image func_of (Seq FuncTop (Before Blocks terminals.CloseBrace))

@@ -67,7 +67,7 @@ TellsError ts marked rest errors.OutOfMemory = ⊥
 abbrev pub extended : {A : Type 0} → Program A → Program A → Program A
 extended p q = record { datas = p.datas ++ q.datas; funcs = p.funcs ++ q.funcs; order = p.order ++ q.order }
 
--- unless memory ran out, the definition stands behind the others
+-- unless memory ran out, the definition stands after the others
 abbrev pub Adds : {A : Type 0} → Program A → Defined A → Program A → Result (Unit {0}) CursorError → Type 0
 Adds before def after (Ok x) = after ≡ extended before (program_of (def ∷ []))
 Adds before def after (Err ends.Memory) = Unit {0}

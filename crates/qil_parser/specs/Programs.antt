@@ -2,7 +2,7 @@
 use Rattle.std.specs.Prelude.{List, [], ◌∷◌, map}
 use Rattle.std.specs.List.{flat_map}
 use Rattle.qil_language.specs.Language.{Seq, Image, Either, Many, Then, Phrase}
-use Rattle.qil_parser.specs.declared.mark.Mark.TheVariants as marks
+use Rattle.qil_parser.specs.declared.terminal.Terminal.TheVariants as terminals
 use Rattle.qil_tree.specs.declared.tree.Data.{Data}
 use Rattle.qil_tree.specs.declared.tree.Func.{Func}
 use Rattle.qil_tree.specs.declared.tree.Definition.{Definition}
@@ -17,7 +17,7 @@ use Rattle.qil_parser.specs.DataGrammar.{DataOf}
 
 -- "export" NL?  |  "section" STRING STRING? NL?
 abbrev pub Link : List Tok → Unit {0} → Type 0
-Link = Either (After marks.Export Line) (After marks.Section (After marks.Quoted (Image (λ v. v.1) (Seq (Perhaps (Word marks.Quoted)) Line))))
+Link = Either (After terminals.Export Line) (After terminals.Section (After terminals.Quoted (Image (λ v. v.1) (Seq (Perhaps (Word terminals.Quoted)) Line))))
 
 -- link*
 abbrev pub Links : List Tok → Unit {0} → Type 0

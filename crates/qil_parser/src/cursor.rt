@@ -6,10 +6,10 @@ ghost use Rattle.qil_parser.specs.Token.{HasNumbers, HasStrings, seen, index};
 ghost use Rattle.qil_parser.specs.Parsing as parsing;
 ghost use Rattle.qil_parser.specs.Grammar.{is_signed};
 ghost use Rattle.qil_parser.specs.Outcome.{Gives};
-ghost use Rattle.qil_parser.specs.declared.mark.Mark.TheVariants.{Comma as comma};
+ghost use Rattle.qil_parser.specs.declared.terminal.Terminal.TheVariants.{Comma as comma};
 
 use crate::cursor_error::CursorError;
-use crate::mark::{Mark, token_mark, token_name};
+use crate::terminal::{Terminal, token_name, token_terminal};
 use qil_lexer::{Token, TokenKind, number_value};
 use qil_tree::{AbiType, Class, Name, Operand};
 
@@ -23,20 +23,20 @@ pub struct Cursor<'t, 'a> {
 
 impl<'t, 'a> Cursor<'t, 'a> {
     /// The mark of the next token, `Other` at the end.
-    pub fn next(&self) -> Mark
-        ensures { result ≡ parsing.next_mark (seen self.now.rest.now) }
+    pub fn next(&self) -> Terminal
+        ensures { result ≡ parsing.next_terminal (seen self.now.rest.now) }
     {
         match self.rest {
-            [first, ..] => token_mark(first),
-            [] => Mark::Other,
+            [first, ..] => token_terminal(first),
+            [] => Terminal::Other,
         }
     }
 
-    pub fn starts_with(&self, mark: Mark) -> bool
-        ensures { result ≡ starts index (parsing.the mark) (seen self.now.rest.now) }
+    pub fn starts_with(&self, terminal: Terminal) -> bool
+        ensures { result ≡ starts index (parsing.the terminal) (seen self.now.rest.now) }
     {
         match self.rest {
-            [first, ..] => token_mark(first).code() == mark.code(),
+            [first, ..] => token_terminal(first).code() == terminal.code(),
             [] => false,
         }
     }
@@ -44,7 +44,7 @@ impl<'t, 'a> Cursor<'t, 'a> {
     pub fn starts_class(&self) -> bool
         ensures { result ≡ starts index parsing.classes (seen self.now.rest.now) }
     {
-        matches!(self.next(), Mark::W | Mark::L)
+        matches!(self.next(), Terminal::W | Terminal::L)
     }
 
     pub fn starts_type(&self) -> bool
@@ -52,7 +52,7 @@ impl<'t, 'a> Cursor<'t, 'a> {
     {
         matches!(
             self.next(),
-            Mark::W | Mark::L | Mark::Sb | Mark::Ub | Mark::Sh | Mark::Uh
+            Terminal::W | Terminal::L | Terminal::Sb | Terminal::Ub | Terminal::Sh | Terminal::Uh
         )
     }
 
@@ -65,11 +65,11 @@ impl<'t, 'a> Cursor<'t, 'a> {
         }
     }
 
-    pub fn word(&mut self, wanted: Mark) -> Result<(), CursorError<'t, 'a>>
+    pub fn word(&mut self, wanted: Terminal) -> Result<(), CursorError<'t, 'a>>
         ensures { Gives (λ x. tt) (seen self.new.rest.now) result (parsing.word wanted (seen self.old.rest.now)) }
     {
         match self.rest {
-            [first, ..] if token_mark(first).code() == wanted.code() => {
+            [first, ..] if token_terminal(first).code() == wanted.code() => {
                 self.skip();
                 Ok(())
             }
@@ -77,11 +77,11 @@ impl<'t, 'a> Cursor<'t, 'a> {
         }
     }
 
-    pub fn word_line(&mut self, wanted: Mark) -> Result<u32, CursorError<'t, 'a>>
+    pub fn word_line(&mut self, wanted: Terminal) -> Result<u32, CursorError<'t, 'a>>
         ensures { Gives (λ x. x) (seen self.new.rest.now) result (parsing.word_line wanted (seen self.old.rest.now)) }
     {
         match self.rest {
-            [first, ..] if token_mark(first).code() == wanted.code() => {
+            [first, ..] if token_terminal(first).code() == wanted.code() => {
                 self.skip();
                 Ok(first.line)
             }
@@ -129,8 +129,8 @@ impl<'t, 'a> Cursor<'t, 'a> {
         ensures { Gives (λ x. x) (seen self.new.rest.now) result (parsing.class_word (seen self.old.rest.now)) }
     {
         let class = match self.next() {
-            Mark::W => Class::W,
-            Mark::L => Class::L,
+            Terminal::W => Class::W,
+            Terminal::L => Class::L,
             _ => return Err(CursorError::Refused(false, self.rest)),
         };
         self.skip();
@@ -142,10 +142,10 @@ impl<'t, 'a> Cursor<'t, 'a> {
         ensures { Gives (λ x. x) (seen self.new.rest.now) result (parsing.sub_word (seen self.old.rest.now)) }
     {
         let abi_type = match self.next() {
-            Mark::Sb => AbiType::Sb,
-            Mark::Ub => AbiType::Ub,
-            Mark::Sh => AbiType::Sh,
-            Mark::Uh => AbiType::Uh,
+            Terminal::Sb => AbiType::Sb,
+            Terminal::Ub => AbiType::Ub,
+            Terminal::Sh => AbiType::Sh,
+            Terminal::Uh => AbiType::Uh,
             _ => return Err(CursorError::Refused(false, self.rest)),
         };
         self.skip();
@@ -201,7 +201,7 @@ impl<'t, 'a> Cursor<'t, 'a> {
         ensures { Gives (λ x. x) (seen self.new.rest.now) result (parsing.perhaps parsing.values parsing.val (seen self.old.rest.now)) }
     {
         match self.next() {
-            Mark::Number | Mark::Global | Mark::Temp => Ok(Some(self.val()?)),
+            Terminal::Number | Terminal::Global | Terminal::Temp => Ok(Some(self.val()?)),
             _ => Ok(None),
         }
     }
@@ -226,16 +226,16 @@ impl<'t, 'a> Cursor<'t, 'a> {
         ensures { Gives (λ x. (x.0, x.1)) (seen self.new.rest.now) result (parsing.two (seen self.old.rest.now)) }
     {
         let left = self.val()?;
-        self.word(Mark::Comma)?;
+        self.word(Terminal::Comma)?;
         let right = self.val()?;
         Ok((left, right))
     }
 
-    /// The comma behind an item of a list: another item may come after it, or none.
+    /// The comma after an item of a list: another item may come after it, or none.
     pub fn separator(&mut self) -> Result<(), CursorError<'t, 'a>>
         ensures { Gives (λ x. tt) (seen self.new.rest.now) result (parsing.word comma (seen self.old.rest.now)) }
     {
-        let comma = Mark::Comma;
+        let comma = Terminal::Comma;
         self.word(comma)
     }
 
@@ -243,8 +243,8 @@ impl<'t, 'a> Cursor<'t, 'a> {
     pub fn line(&mut self) -> Result<(), CursorError<'t, 'a>>
         ensures { Gives (λ x. tt) (seen self.new.rest.now) result (parsing.line (seen self.old.rest.now)) }
     {
-        if self.starts_with(Mark::Newline) {
-            self.word(Mark::Newline)?;
+        if self.starts_with(Terminal::Newline) {
+            self.word(Terminal::Newline)?;
         }
         Ok(())
     }

@@ -11,7 +11,7 @@ ghost use Rattle.qil_parser.specs.Outcome.{Gives};
 
 use crate::cursor::Cursor;
 use crate::cursor_error::CursorError;
-use crate::mark::Mark;
+use crate::terminal::Terminal;
 use qil_lexer::{TokenKind, number_value, string_bytes};
 use qil_tree::{Data, Field, Item, Items, Name, Width};
 use std::alloc::Allocator;
@@ -21,12 +21,12 @@ impl<'t, 'a> Cursor<'t, 'a> {
     fn newlines(&mut self)
         ensures { reading.newlines (seen self.old.rest.now) ≡ got tt (seen self.new.rest.now) }
     {
-        'each: while self.starts_with(Mark::Newline) {
+        'each: while self.starts_with(Terminal::Newline) {
             self.skip();
         }
     }
 
-    fn loose_word(&mut self, wanted: Mark) -> Result<(), CursorError<'t, 'a>>
+    fn loose_word(&mut self, wanted: Terminal) -> Result<(), CursorError<'t, 'a>>
         ensures { Gives (λ x. tt) (seen self.new.rest.now) result (reading.loose (parsing.word wanted) (seen self.old.rest.now)) }
     {
         self.word(wanted)?;
@@ -65,7 +65,7 @@ impl<'t, 'a> Cursor<'t, 'a> {
         Ok(value)
     }
 
-    /// A string, as the bytes that it stands for.
+    /// A string, as the bytes that it represents.
     #[tactic(auto, using(crate::proofs::Strings::first_string, crate::proofs::Strings::string_is))]
     fn text<A: Allocator + Copy>(&mut self, alloc: A) -> Result<Items<u8, A>, CursorError<'t, 'a>>
         ensures { Gives (λ x. x) (seen self.new.rest.now) result (reading.text (seen self.old.rest.now)) }
@@ -106,10 +106,10 @@ impl<'t, 'a> Cursor<'t, 'a> {
     fn offset(&mut self) -> Result<u64, CursorError<'t, 'a>>
         ensures { Gives (λ x. x) (seen self.new.rest.now) result (reading.offset (seen self.old.rest.now)) }
     {
-        if !self.starts_with(Mark::Plus) {
+        if !self.starts_with(Terminal::Plus) {
             return Ok(0);
         }
-        self.loose_word(Mark::Plus)?;
+        self.loose_word(Terminal::Plus)?;
         self.loose_count()
     }
 
@@ -127,9 +127,9 @@ impl<'t, 'a> Cursor<'t, 'a> {
         ensures { result ≡ starts index (reading.item_firsts width) (seen self.now.rest.now) }
     {
         match width {
-            Width::B => self.starts_with(Mark::Number) || self.starts_with(Mark::Quoted),
-            Width::H | Width::W => self.starts_with(Mark::Number),
-            Width::L => self.starts_with(Mark::Number) || self.starts_with(Mark::Global),
+            Width::B => self.starts_with(Terminal::Number) || self.starts_with(Terminal::Quoted),
+            Width::H | Width::W => self.starts_with(Terminal::Number),
+            Width::L => self.starts_with(Terminal::Number) || self.starts_with(Terminal::Global),
         }
     }
 
@@ -141,7 +141,7 @@ impl<'t, 'a> Cursor<'t, 'a> {
     ) -> Result<Item<'a, A>, CursorError<'t, 'a>>
         ensures { Gives (λ x. x) (seen self.new.rest.now) result (reading.item width (seen self.old.rest.now)) }
     {
-        if self.starts_with(Mark::Number) {
+        if self.starts_with(Terminal::Number) {
             return self.number_item();
         }
         match width {
@@ -175,7 +175,7 @@ impl<'t, 'a> Cursor<'t, 'a> {
         &mut self,
         alloc: A,
         width: Width,
-        word: Mark,
+        word: Terminal,
     ) -> Result<Field<'a, A>, CursorError<'t, 'a>>
         requires { word ≡ width_mark width }
         ensures { Gives (λ x. x) (seen self.new.rest.now) result (reading.values width (seen self.old.rest.now)) }
@@ -190,7 +190,7 @@ impl<'t, 'a> Cursor<'t, 'a> {
     fn zeros<A: Allocator + Copy>(&mut self) -> Result<Field<'a, A>, CursorError<'t, 'a>>
         ensures { Gives (λ x. x) (seen self.new.rest.now) result (reading.zeros (seen self.old.rest.now)) }
     {
-        self.loose_word(Mark::Z)?;
+        self.loose_word(Terminal::Z)?;
         let count = self.loose_count()?;
         Ok(Field::Zeros(count))
     }
@@ -198,7 +198,10 @@ impl<'t, 'a> Cursor<'t, 'a> {
     fn starts_field(&self) -> bool
         ensures { result ≡ starts index reading.field_firsts (seen self.now.rest.now) }
     {
-        matches!(self.next(), Mark::B | Mark::H | Mark::W | Mark::L | Mark::Z)
+        matches!(
+            self.next(),
+            Terminal::B | Terminal::H | Terminal::W | Terminal::L | Terminal::Z
+        )
     }
 
     #[tactic(auto, unfolding(crate::specs::DataParsing::field))]
@@ -206,10 +209,10 @@ impl<'t, 'a> Cursor<'t, 'a> {
         ensures { Gives (λ x. x) (seen self.new.rest.now) result (reading.field (seen self.old.rest.now)) }
     {
         match self.next() {
-            Mark::B => self.values(alloc, Width::B, Mark::B),
-            Mark::H => self.values(alloc, Width::H, Mark::H),
-            Mark::W => self.values(alloc, Width::W, Mark::W),
-            Mark::L => self.values(alloc, Width::L, Mark::L),
+            Terminal::B => self.values(alloc, Width::B, Terminal::B),
+            Terminal::H => self.values(alloc, Width::H, Terminal::H),
+            Terminal::W => self.values(alloc, Width::W, Terminal::W),
+            Terminal::L => self.values(alloc, Width::L, Terminal::L),
             _ => self.zeros(),
         }
     }
@@ -225,10 +228,10 @@ impl<'t, 'a> Cursor<'t, 'a> {
         'each: while self.starts_field() {
             let item = self.field(alloc)?;
             items.push(item)?;
-            if !self.starts_with(Mark::Comma) {
+            if !self.starts_with(Terminal::Comma) {
                 return Ok(Items::new(items));
             }
-            self.loose_word(Mark::Comma)?;
+            self.loose_word(Terminal::Comma)?;
         }
         Ok(Items::new(items))
     }
@@ -237,10 +240,10 @@ impl<'t, 'a> Cursor<'t, 'a> {
     fn alignment(&mut self) -> Result<Option<u64>, CursorError<'t, 'a>>
         ensures { Gives (λ x. x) (seen self.new.rest.now) result (reading.alignment (seen self.old.rest.now)) }
     {
-        if !self.starts_with(Mark::Align) {
+        if !self.starts_with(Terminal::Align) {
             return Ok(None);
         }
-        self.loose_word(Mark::Align)?;
+        self.loose_word(Terminal::Align)?;
         let align = self.loose_count()?;
         Ok(Some(align))
     }
@@ -253,9 +256,9 @@ impl<'t, 'a> Cursor<'t, 'a> {
         ensures { Gives (λ x. (x.0, x.1)) (seen self.new.rest.now) result (reading.inside_data (seen self.old.rest.now)) }
     {
         let align = self.alignment()?;
-        self.loose_word(Mark::OpenBrace)?;
+        self.loose_word(Terminal::OpenBrace)?;
         let fields = self.fields(alloc)?;
-        self.word(Mark::CloseBrace)?;
+        self.word(Terminal::CloseBrace)?;
         Ok((align, fields))
     }
 
@@ -266,9 +269,9 @@ impl<'t, 'a> Cursor<'t, 'a> {
     ) -> Result<Data<'a, A>, CursorError<'t, 'a>>
         ensures { Gives (λ x. x) (seen self.new.rest.now) result (reading.data_definition (seen self.old.rest.now)) }
     {
-        self.loose_word(Mark::Data)?;
+        self.loose_word(Terminal::Data)?;
         let (line, name) = self.loose_name()?;
-        self.loose_word(Mark::Equals)?;
+        self.loose_word(Terminal::Equals)?;
         let (align, fields) = self.inside_data(alloc)?;
         Ok(Data {
             name,

@@ -6,11 +6,11 @@ ghost use Rattle.qil_parser.specs.Token.{seen, index};
 ghost use Rattle.qil_parser.specs.Parsing as parsing;
 ghost use Rattle.qil_parser.specs.FunctionParsing as functions;
 ghost use Rattle.qil_parser.specs.Outcome.{Gives};
-ghost use Rattle.qil_parser.specs.declared.mark.Mark.TheVariants.{Newline as newline, Comma as comma};
+ghost use Rattle.qil_parser.specs.declared.terminal.Terminal.TheVariants.{Newline as newline, Comma as comma};
 
 use crate::cursor::Cursor;
 use crate::cursor_error::CursorError;
-use crate::mark::{Mark, token_name};
+use crate::terminal::{Terminal, token_name};
 use qil_tree::{
     AbiType, Block, Class, Func, Inst, Items, Jump, JumpKind, Name, Param, Phi, PhiSource, Target,
 };
@@ -22,20 +22,26 @@ impl<'t, 'a> Cursor<'t, 'a> {
     {
         matches!(
             self.next(),
-            Mark::Temp | Mark::Store(_) | Mark::Blit | Mark::Call
+            Terminal::Temp | Terminal::Store(_) | Terminal::Blit | Terminal::Call
         )
     }
 
     fn starts_plain(&self) -> bool
         ensures { result ≡ starts index functions.plain_starts (seen self.now.rest.now) }
     {
-        matches!(self.next(), Mark::Store(_) | Mark::Blit | Mark::Call)
+        matches!(
+            self.next(),
+            Terminal::Store(_) | Terminal::Blit | Terminal::Call
+        )
     }
 
     fn starts_jump(&self) -> bool
         ensures { result ≡ starts index functions.jump_starts (seen self.now.rest.now) }
     {
-        matches!(self.next(), Mark::Jmp | Mark::Jnz | Mark::Ret | Mark::Hlt)
+        matches!(
+            self.next(),
+            Terminal::Jmp | Terminal::Jnz | Terminal::Ret | Terminal::Hlt
+        )
     }
 
     #[tactic(auto, unfolding(crate::specs::FunctionParsing::source))]
@@ -50,7 +56,7 @@ impl<'t, 'a> Cursor<'t, 'a> {
     fn next_source(&mut self) -> Result<PhiSource<'a>, CursorError<'t, 'a>>
         ensures { Gives (λ x. x) (seen self.new.rest.now) result (parsing.after comma functions.source (seen self.old.rest.now)) }
     {
-        self.word(Mark::Comma)?;
+        self.word(Terminal::Comma)?;
         self.source()
     }
 
@@ -60,7 +66,7 @@ impl<'t, 'a> Cursor<'t, 'a> {
     ) -> Result<Items<PhiSource<'a>, A>, CursorError<'t, 'a>>
         ensures { Gives (λ x. x) (seen self.new.rest.now) result (joined items.entry.items (functions.more_sources (seen self.old.rest.now))) }
     {
-        'each: while self.starts_with(Mark::Comma) {
+        'each: while self.starts_with(Terminal::Comma) {
             let item = self.next_source()?;
             items.push(item)?;
         }
@@ -75,12 +81,12 @@ impl<'t, 'a> Cursor<'t, 'a> {
     ) -> Result<Items<PhiSource<'a>, A>, CursorError<'t, 'a>>
         ensures { Gives (λ x. x) (seen self.new.rest.now) result (parsing.before functions.sources newline (seen self.old.rest.now)) }
     {
-        self.word(Mark::Phi)?;
+        self.word(Terminal::Phi)?;
         let first = self.source()?;
         let mut items = Vec::new(alloc);
         items.push(first)?;
         let sources = self.more_sources(items)?;
-        self.word(Mark::Newline)?;
+        self.word(Terminal::Newline)?;
         Ok(sources)
     }
 
@@ -106,7 +112,7 @@ impl<'t, 'a> Cursor<'t, 'a> {
     ) -> Result<Items<Inst<'a, A>, A>, CursorError<'t, 'a>>
         ensures { Gives (λ x. x) (seen self.new.rest.now) result (joined (first.entry ∷ []) (parsing.after newline functions.lines (seen self.old.rest.now))) }
     {
-        self.word(Mark::Newline)?;
+        self.word(Terminal::Newline)?;
         let mut items = Vec::new(alloc);
         items.push(first)?;
         self.more_lines(items, alloc)
@@ -156,7 +162,7 @@ impl<'t, 'a> Cursor<'t, 'a> {
         Ok(Items::new(Vec::new(alloc)))
     }
 
-    /// The phis and the instructions of a block: which of them a line has is seen behind its class.
+    /// The phis and the instructions of a block: which of them a line has is seen after its class.
     fn body<A: Allocator + Copy>(
         &mut self,
         alloc: A,
@@ -164,14 +170,14 @@ impl<'t, 'a> Cursor<'t, 'a> {
         ensures { Gives (λ x. (x.0, x.1)) (seen self.new.rest.now) result (functions.body (seen self.old.rest.now)) }
     {
         let mut phis = Vec::new(alloc);
-        'each: while self.starts_with(Mark::Temp) {
+        'each: while self.starts_with(Terminal::Temp) {
             let (line, name) = self.dest()?;
             if !self.starts_class() {
                 let insts = self.sub_lines(line, name, alloc)?;
                 return Ok((Items::new(phis), insts));
             }
             let class = self.class()?;
-            if !self.starts_with(Mark::Phi) {
+            if !self.starts_with(Terminal::Phi) {
                 let insts = self.class_lines(line, name, class, alloc)?;
                 return Ok((Items::new(phis), insts));
             }
@@ -186,7 +192,7 @@ impl<'t, 'a> Cursor<'t, 'a> {
         Ok((Items::new(phis), insts))
     }
 
-    /// The front of a block: the line and the name of its label, its phis and its instructions.
+    /// The prefix of a block: the line and the name of its label, its phis and its instructions.
     #[tactic(auto, unfolding(crate::specs::FunctionParsing::head))]
     fn head<A: Allocator + Copy>(
         &mut self,
@@ -201,7 +207,7 @@ impl<'t, 'a> Cursor<'t, 'a> {
         ensures { Gives (λ x. ((x.0.0, x.0.1), (x.1.0, x.1.1))) (seen self.new.rest.now) result (functions.head (seen self.old.rest.now)) }
     {
         let label = self.label_name()?;
-        self.word(Mark::Newline)?;
+        self.word(Terminal::Newline)?;
         let lines = self.body(alloc)?;
         Ok((label, lines))
     }
@@ -210,11 +216,11 @@ impl<'t, 'a> Cursor<'t, 'a> {
     fn jnz(&mut self) -> Result<Jump<'a>, CursorError<'t, 'a>>
         ensures { Gives (λ x. x) (seen self.new.rest.now) result (functions.jnz (seen self.old.rest.now)) }
     {
-        let line = self.word_line(Mark::Jnz)?;
+        let line = self.word_line(Terminal::Jnz)?;
         let value = self.val()?;
-        self.word(Mark::Comma)?;
+        self.word(Terminal::Comma)?;
         let (_, unless_zero) = self.label_name()?;
-        self.word(Mark::Comma)?;
+        self.word(Terminal::Comma)?;
         let (_, if_zero) = self.label_name()?;
         Ok(Jump {
             line,
@@ -225,7 +231,7 @@ impl<'t, 'a> Cursor<'t, 'a> {
     fn jmp(&mut self) -> Result<Jump<'a>, CursorError<'t, 'a>>
         ensures { Gives (λ x. x) (seen self.new.rest.now) result (functions.jmp (seen self.old.rest.now)) }
     {
-        let line = self.word_line(Mark::Jmp)?;
+        let line = self.word_line(Terminal::Jmp)?;
         let (_, label) = self.label_name()?;
         Ok(Jump {
             line,
@@ -236,7 +242,7 @@ impl<'t, 'a> Cursor<'t, 'a> {
     fn ret(&mut self) -> Result<Jump<'a>, CursorError<'t, 'a>>
         ensures { Gives (λ x. x) (seen self.new.rest.now) result (functions.ret (seen self.old.rest.now)) }
     {
-        let line = self.word_line(Mark::Ret)?;
+        let line = self.word_line(Terminal::Ret)?;
         let value = self.perhaps_val()?;
         Ok(Jump {
             line,
@@ -247,7 +253,7 @@ impl<'t, 'a> Cursor<'t, 'a> {
     fn hlt(&mut self) -> Result<Jump<'a>, CursorError<'t, 'a>>
         ensures { Gives (λ x. x) (seen self.new.rest.now) result (functions.hlt (seen self.old.rest.now)) }
     {
-        let line = self.word_line(Mark::Hlt)?;
+        let line = self.word_line(Terminal::Hlt)?;
         Ok(Jump {
             line,
             kind: JumpKind::Hlt,
@@ -259,9 +265,9 @@ impl<'t, 'a> Cursor<'t, 'a> {
         ensures { Gives (λ x. x) (seen self.new.rest.now) result (functions.jump (seen self.old.rest.now)) }
     {
         match self.next() {
-            Mark::Jmp => self.jmp(),
-            Mark::Jnz => self.jnz(),
-            Mark::Ret => self.ret(),
+            Terminal::Jmp => self.jmp(),
+            Terminal::Jnz => self.jnz(),
+            Terminal::Ret => self.ret(),
             _ => self.hlt(),
         }
     }
@@ -270,7 +276,7 @@ impl<'t, 'a> Cursor<'t, 'a> {
         ensures { Gives (λ x. x) (seen self.new.rest.now) result (functions.jump_line (seen self.old.rest.now)) }
     {
         let jump = self.jump()?;
-        self.word(Mark::Newline)?;
+        self.word(Terminal::Newline)?;
         Ok(jump)
     }
 
@@ -283,7 +289,7 @@ impl<'t, 'a> Cursor<'t, 'a> {
             return self.jump_line();
         }
         match self.rest {
-            [first, ..] if self.starts_with(Mark::Label) => Ok(Jump {
+            [first, ..] if self.starts_with(Terminal::Label) => Ok(Jump {
                 line: first.line,
                 kind: JumpKind::Jmp(token_name(first)),
             }),
@@ -313,7 +319,7 @@ impl<'t, 'a> Cursor<'t, 'a> {
     ) -> Result<Items<Block<'a, A>, A>, CursorError<'t, 'a>>
         ensures { Gives (λ x. x) (seen self.new.rest.now) result (joined items.entry.items (functions.more_blocks (seen self.old.rest.now))) }
     {
-        'each: while self.starts_with(Mark::Label) {
+        'each: while self.starts_with(Terminal::Label) {
             let item = self.block(alloc)?;
             items.push(item)?;
         }
@@ -353,7 +359,7 @@ impl<'t, 'a> Cursor<'t, 'a> {
         'each: while self.starts_type() {
             let item = self.param()?;
             items.push(item)?;
-            if !self.starts_with(Mark::Comma) {
+            if !self.starts_with(Terminal::Comma) {
                 return Ok(Items::new(items));
             }
             self.separator()?;
@@ -368,9 +374,9 @@ impl<'t, 'a> Cursor<'t, 'a> {
     ) -> Result<Items<Param<'a>, A>, CursorError<'t, 'a>>
         ensures { Gives (λ x. x) (seen self.new.rest.now) result (functions.all_params (seen self.old.rest.now)) }
     {
-        self.word(Mark::OpenParen)?;
+        self.word(Terminal::OpenParen)?;
         let params = self.params(alloc)?;
-        self.word(Mark::CloseParen)?;
+        self.word(Terminal::CloseParen)?;
         Ok(params)
     }
 
@@ -379,7 +385,7 @@ impl<'t, 'a> Cursor<'t, 'a> {
         ensures { Gives (λ x. tt) (seen self.new.rest.now) result (functions.opening (seen self.old.rest.now)) }
     {
         self.line()?;
-        self.word(Mark::OpenBrace)?;
+        self.word(Terminal::OpenBrace)?;
         self.line()
     }
 
@@ -391,7 +397,7 @@ impl<'t, 'a> Cursor<'t, 'a> {
     ) -> Result<(Option<AbiType>, ((u32, Name<'a>), Items<Param<'a>, A>)), CursorError<'t, 'a>>
         ensures { Gives (λ x. (x.0, ((x.1.0.0, x.1.0.1), x.1.1))) (seen self.new.rest.now) result (functions.top (seen self.old.rest.now)) }
     {
-        self.word(Mark::Function)?;
+        self.word(Terminal::Function)?;
         let returns = self.perhaps_type()?;
         let name = self.global_name()?;
         let params = self.all_params(alloc)?;
@@ -408,7 +414,7 @@ impl<'t, 'a> Cursor<'t, 'a> {
     {
         let (returns, ((line, name), params)) = self.top(alloc)?;
         let blocks = self.blocks(alloc)?;
-        self.word(Mark::CloseBrace)?;
+        self.word(Terminal::CloseBrace)?;
         Ok(Func {
             returns,
             name,

@@ -6,11 +6,11 @@ ghost use Rattle.qil_parser.specs.Token.{seen, index};
 ghost use Rattle.qil_parser.specs.Parsing as parsing;
 ghost use Rattle.qil_parser.specs.FunctionParsing as functions;
 ghost use Rattle.qil_parser.specs.Outcome.{Gives};
-ghost use Rattle.qil_parser.specs.declared.mark.Mark.TheVariants.{Newline as newline};
+ghost use Rattle.qil_parser.specs.declared.terminal.Terminal.TheVariants.{Newline as newline};
 
 use crate::cursor::Cursor;
 use crate::cursor_error::CursorError;
-use crate::mark::Mark;
+use crate::terminal::Terminal;
 use qil_tree::{
     AbiType, AllocOp, Argument, BinaryOp, CallResult, Class, CompareOp, Expr, Extension, Inst,
     InstKind, Items, LoadOp, Name, Operand, Target, UnaryOp, Width,
@@ -22,7 +22,7 @@ impl<'t, 'a> Cursor<'t, 'a> {
         ensures { Gives (λ x. x) (seen self.new.rest.now) result (functions.unary_word (seen self.old.rest.now)) }
     {
         match self.next() {
-            Mark::Unary(op) => {
+            Terminal::Unary(op) => {
                 self.skip();
                 Ok(op)
             }
@@ -34,7 +34,7 @@ impl<'t, 'a> Cursor<'t, 'a> {
         ensures { Gives (λ x. x) (seen self.new.rest.now) result (functions.binary_word (seen self.old.rest.now)) }
     {
         match self.next() {
-            Mark::Binary(op) => {
+            Terminal::Binary(op) => {
                 self.skip();
                 Ok(op)
             }
@@ -47,7 +47,7 @@ impl<'t, 'a> Cursor<'t, 'a> {
         ensures { Gives (λ x. (x.0, x.1)) (seen self.new.rest.now) result (functions.compare_word (seen self.old.rest.now)) }
     {
         match self.next() {
-            Mark::Compare(op, class) => {
+            Terminal::Compare(op, class) => {
                 self.skip();
                 Ok((op, class))
             }
@@ -59,7 +59,7 @@ impl<'t, 'a> Cursor<'t, 'a> {
         ensures { Gives (λ x. x) (seen self.new.rest.now) result (functions.extend_word (seen self.old.rest.now)) }
     {
         match self.next() {
-            Mark::Extend(op) => {
+            Terminal::Extend(op) => {
                 self.skip();
                 Ok(op)
             }
@@ -71,7 +71,7 @@ impl<'t, 'a> Cursor<'t, 'a> {
         ensures { Gives (λ x. x) (seen self.new.rest.now) result (functions.load_word (seen self.old.rest.now)) }
     {
         match self.next() {
-            Mark::Load(op) => {
+            Terminal::Load(op) => {
                 self.skip();
                 Ok(op)
             }
@@ -83,7 +83,7 @@ impl<'t, 'a> Cursor<'t, 'a> {
         ensures { Gives (λ x. x) (seen self.new.rest.now) result (functions.alloc_word (seen self.old.rest.now)) }
     {
         match self.next() {
-            Mark::Alloc(op) => {
+            Terminal::Alloc(op) => {
                 self.skip();
                 Ok(op)
             }
@@ -96,7 +96,7 @@ impl<'t, 'a> Cursor<'t, 'a> {
         ensures { Gives (λ x. (x.0, x.1)) (seen self.new.rest.now) result (functions.store_word (seen self.old.rest.now)) }
     {
         match (self.next(), self.rest) {
-            (Mark::Store(width), [first, ..]) => {
+            (Terminal::Store(width), [first, ..]) => {
                 self.skip();
                 Ok((first.line, width))
             }
@@ -110,7 +110,7 @@ impl<'t, 'a> Cursor<'t, 'a> {
         ensures { Gives (λ x. (x.0, x.1)) (seen self.new.rest.now) result (functions.dest (seen self.old.rest.now)) }
     {
         let (line, name) = self.temp_name()?;
-        self.word(Mark::Equals)?;
+        self.word(Terminal::Equals)?;
         Ok((line, name))
     }
 
@@ -119,7 +119,7 @@ impl<'t, 'a> Cursor<'t, 'a> {
         ensures { Gives (λ x. x) (seen self.new.rest.now) result (functions.extend_or_load (seen self.old.rest.now)) }
     {
         match self.next() {
-            Mark::Extend(_) => {
+            Terminal::Extend(_) => {
                 let op = self.extend_word()?;
                 let value = self.val()?;
                 Ok(Expr::Extend(op, value))
@@ -137,17 +137,17 @@ impl<'t, 'a> Cursor<'t, 'a> {
         ensures { Gives (λ x. x) (seen self.new.rest.now) result (functions.expr (seen self.old.rest.now)) }
     {
         match self.next() {
-            Mark::Unary(_) => {
+            Terminal::Unary(_) => {
                 let op = self.unary_word()?;
                 let value = self.val()?;
                 Ok(Expr::Unary(op, value))
             }
-            Mark::Binary(_) => {
+            Terminal::Binary(_) => {
                 let op = self.binary_word()?;
                 let (left, right) = self.two()?;
                 Ok(Expr::Binary(op, left, right))
             }
-            Mark::Compare(_, _) => {
+            Terminal::Compare(_, _) => {
                 let (op, class) = self.compare_word()?;
                 let (left, right) = self.two()?;
                 Ok(Expr::Compare(op, class, left, right))
@@ -176,7 +176,7 @@ impl<'t, 'a> Cursor<'t, 'a> {
         'each: while self.starts_type() {
             let item = self.argument()?;
             items.push(item)?;
-            if !self.starts_with(Mark::Comma) {
+            if !self.starts_with(Terminal::Comma) {
                 return Ok(Items::new(items));
             }
             self.separator()?;
@@ -194,9 +194,9 @@ impl<'t, 'a> Cursor<'t, 'a> {
         ensures { Gives (λ x. (x.0, x.1)) (seen self.new.rest.now) result (functions.callee (seen self.old.rest.now)) }
     {
         let callee = self.val()?;
-        self.word(Mark::OpenParen)?;
+        self.word(Terminal::OpenParen)?;
         let arguments = self.arguments(alloc)?;
-        self.word(Mark::CloseParen)?;
+        self.word(Terminal::CloseParen)?;
         Ok((callee, arguments))
     }
 
@@ -207,7 +207,7 @@ impl<'t, 'a> Cursor<'t, 'a> {
     ) -> Result<(Operand<'a>, Items<Argument<'a>, A>), CursorError<'t, 'a>>
         ensures { Gives (λ x. (x.0, x.1)) (seen self.new.rest.now) result (functions.called (seen self.old.rest.now)) }
     {
-        self.word(Mark::Call)?;
+        self.word(Terminal::Call)?;
         let (callee, arguments) = self.callee(alloc)?;
         Ok((callee, arguments))
     }
@@ -226,9 +226,9 @@ impl<'t, 'a> Cursor<'t, 'a> {
     fn blit<A: Allocator + Copy>(&mut self) -> Result<Inst<'a, A>, CursorError<'t, 'a>>
         ensures { Gives (λ x. x) (seen self.new.rest.now) result (functions.blit (seen self.old.rest.now)) }
     {
-        let line = self.word_line(Mark::Blit)?;
+        let line = self.word_line(Terminal::Blit)?;
         let (from, to) = self.two()?;
-        self.word(Mark::Comma)?;
+        self.word(Terminal::Comma)?;
         let count = self.count()?;
         Ok(Inst {
             line,
@@ -242,7 +242,7 @@ impl<'t, 'a> Cursor<'t, 'a> {
     ) -> Result<Inst<'a, A>, CursorError<'t, 'a>>
         ensures { Gives (λ x. x) (seen self.new.rest.now) result (functions.plain_call (seen self.old.rest.now)) }
     {
-        let line = self.word_line(Mark::Call)?;
+        let line = self.word_line(Terminal::Call)?;
         let (callee, arguments) = self.callee(alloc)?;
         Ok(Inst {
             line,
@@ -259,8 +259,8 @@ impl<'t, 'a> Cursor<'t, 'a> {
         ensures { Gives (λ x. x) (seen self.new.rest.now) result (functions.plain (seen self.old.rest.now)) }
     {
         match self.next() {
-            Mark::Store(_) => self.store(),
-            Mark::Blit => self.blit(),
+            Terminal::Store(_) => self.store(),
+            Terminal::Blit => self.blit(),
             _ => self.plain_call(alloc),
         }
     }
@@ -277,18 +277,18 @@ impl<'t, 'a> Cursor<'t, 'a> {
         ensures { Gives (λ x. x) (seen self.new.rest.now) result (image (λ f. f class (line, name.entry)) functions.of_class (seen self.old.rest.now)) }
     {
         match self.next() {
-            Mark::Unary(_)
-            | Mark::Binary(_)
-            | Mark::Compare(_, _)
-            | Mark::Extend(_)
-            | Mark::Load(_) => {
+            Terminal::Unary(_)
+            | Terminal::Binary(_)
+            | Terminal::Compare(_, _)
+            | Terminal::Extend(_)
+            | Terminal::Load(_) => {
                 let value = self.expr()?;
                 Ok(Inst {
                     line,
                     kind: InstKind::Assign(Target { name, class }, value),
                 })
             }
-            Mark::Alloc(_) => {
+            Terminal::Alloc(_) => {
                 let op = self.alloc_word()?;
                 let size = self.val()?;
                 Ok(Inst {
@@ -345,7 +345,7 @@ impl<'t, 'a> Cursor<'t, 'a> {
     fn inst<A: Allocator + Copy>(&mut self, alloc: A) -> Result<Inst<'a, A>, CursorError<'t, 'a>>
         ensures { Gives (λ x. x) (seen self.new.rest.now) result (functions.inst (seen self.old.rest.now)) }
     {
-        if self.starts_with(Mark::Temp) {
+        if self.starts_with(Terminal::Temp) {
             let (line, name) = self.dest()?;
             return self.of_dest(line, name, alloc);
         }
@@ -359,7 +359,7 @@ impl<'t, 'a> Cursor<'t, 'a> {
         ensures { Gives (λ x. x) (seen self.new.rest.now) result (parsing.before functions.inst newline (seen self.old.rest.now)) }
     {
         let inst = self.inst(alloc)?;
-        self.word(Mark::Newline)?;
+        self.word(Terminal::Newline)?;
         Ok(inst)
     }
 }

@@ -11,9 +11,9 @@ mod data_cursor;
 mod error;
 mod func_cursor;
 mod inst_cursor;
-mod mark;
 mod parser;
 mod program_cursor;
+mod terminal;
 mod words;
 
 pub use error::{ParseCode, ParseError};

@@ -67,7 +67,7 @@ fn refusal(tokens: &[Token], marked: bool, left: &[Token]) -> ParseError
     }
 }
 
-/// What is answered where this program was read from the front of the tokens, and these are left.
+/// What is answered where this program was read from the prefix of the tokens, and these are left.
 fn whole<'a, A: Allocator>(
     tokens: &[Token<'a>],
     read: Program<'a, A>,

@@ -10,7 +10,7 @@ ghost use Rattle.qil_parser.specs.Outcome.{Gives, Adds};
 
 use crate::cursor::Cursor;
 use crate::cursor_error::CursorError;
-use crate::mark::Mark;
+use crate::terminal::Terminal;
 use qil_tree::{Data, Definition, Func, Items, Program};
 use std::alloc::Allocator;
 use std::marker::Model;
@@ -82,14 +82,14 @@ impl<'t, 'a> Cursor<'t, 'a> {
     fn link(&mut self) -> Result<(), CursorError<'t, 'a>>
         ensures { Gives (λ x. tt) (seen self.new.rest.now) result (reading.link (seen self.old.rest.now)) }
     {
-        if self.starts_with(Mark::Export) {
-            self.word(Mark::Export)?;
+        if self.starts_with(Terminal::Export) {
+            self.word(Terminal::Export)?;
             return self.line();
         }
-        self.word(Mark::Section)?;
-        self.word(Mark::Quoted)?;
-        if self.starts_with(Mark::Quoted) {
-            self.word(Mark::Quoted)?;
+        self.word(Terminal::Section)?;
+        self.word(Terminal::Quoted)?;
+        if self.starts_with(Terminal::Quoted) {
+            self.word(Terminal::Quoted)?;
         }
         self.line()
     }
@@ -97,7 +97,7 @@ impl<'t, 'a> Cursor<'t, 'a> {
     fn starts_link(&self) -> bool
         ensures { result ≡ starts index reading.link_firsts (seen self.now.rest.now) }
     {
-        matches!(self.next(), Mark::Export | Mark::Section)
+        matches!(self.next(), Terminal::Export | Terminal::Section)
     }
 
     fn links(&mut self) -> Result<(), CursorError<'t, 'a>>
@@ -116,7 +116,7 @@ impl<'t, 'a> Cursor<'t, 'a> {
     ) -> Result<Defined<'a, A>, CursorError<'t, 'a>>
         ensures { Gives (λ x. x) (seen self.new.rest.now) result (reading.thing (seen self.old.rest.now)) }
     {
-        if self.starts_with(Mark::Data) {
+        if self.starts_with(Terminal::Data) {
             let data = self.data_definition(alloc)?;
             return Ok(Defined::Data(data));
         }
@@ -142,7 +142,7 @@ impl<'t, 'a> Cursor<'t, 'a> {
     {
         matches!(
             self.next(),
-            Mark::Export | Mark::Section | Mark::Data | Mark::Function
+            Terminal::Export | Terminal::Section | Terminal::Data | Terminal::Function
         )
     }
 

@@ -3,89 +3,89 @@
 ghost use Rattle.std.specs.Prelude.{◌≡◌, map};
 ghost use Rattle.qil_parser.specs.Words as words;
 
-use crate::mark::Mark;
+use crate::terminal::Terminal;
 use qil_lexer::{Token, TokenKind};
 use qil_tree::{AllocOp, BinaryOp, Class, CompareOp, Extension, LoadOp, UnaryOp, Width};
 
 /// Each word of the grammar, and what it is there.
-static WORDS: [(&[u8], Mark); 77] = [
-    (b"w", Mark::W),
-    (b"l", Mark::L),
-    (b"call", Mark::Call),
-    (b"phi", Mark::Phi),
-    (b"ret", Mark::Ret),
-    (b"jmp", Mark::Jmp),
-    (b"jnz", Mark::Jnz),
-    (b"function", Mark::Function),
-    (b"hlt", Mark::Hlt),
-    (b"blit", Mark::Blit),
-    (b"data", Mark::Data),
-    (b"align", Mark::Align),
-    (b"z", Mark::Z),
-    (b"b", Mark::B),
-    (b"h", Mark::H),
-    (b"export", Mark::Export),
-    (b"section", Mark::Section),
-    (b"sb", Mark::Sb),
-    (b"ub", Mark::Ub),
-    (b"sh", Mark::Sh),
-    (b"uh", Mark::Uh),
-    (b"copy", Mark::Unary(UnaryOp::Copy)),
-    (b"neg", Mark::Unary(UnaryOp::Neg)),
-    (b"add", Mark::Binary(BinaryOp::Add)),
-    (b"sub", Mark::Binary(BinaryOp::Sub)),
-    (b"mul", Mark::Binary(BinaryOp::Mul)),
-    (b"div", Mark::Binary(BinaryOp::Div)),
-    (b"rem", Mark::Binary(BinaryOp::Rem)),
-    (b"udiv", Mark::Binary(BinaryOp::Udiv)),
-    (b"urem", Mark::Binary(BinaryOp::Urem)),
-    (b"and", Mark::Binary(BinaryOp::And)),
-    (b"or", Mark::Binary(BinaryOp::Or)),
-    (b"xor", Mark::Binary(BinaryOp::Xor)),
-    (b"sar", Mark::Binary(BinaryOp::Sar)),
-    (b"shr", Mark::Binary(BinaryOp::Shr)),
-    (b"shl", Mark::Binary(BinaryOp::Shl)),
-    (b"extsw", Mark::Extend(Extension::Sw)),
-    (b"extuw", Mark::Extend(Extension::Uw)),
-    (b"extsh", Mark::Extend(Extension::Sh)),
-    (b"extuh", Mark::Extend(Extension::Uh)),
-    (b"extsb", Mark::Extend(Extension::Sb)),
-    (b"extub", Mark::Extend(Extension::Ub)),
-    (b"loadl", Mark::Load(LoadOp::L)),
-    (b"loadw", Mark::Load(LoadOp::Sw)),
-    (b"loadsw", Mark::Load(LoadOp::Sw)),
-    (b"loaduw", Mark::Load(LoadOp::Uw)),
-    (b"loadsh", Mark::Load(LoadOp::Sh)),
-    (b"loaduh", Mark::Load(LoadOp::Uh)),
-    (b"loadsb", Mark::Load(LoadOp::Sb)),
-    (b"loadub", Mark::Load(LoadOp::Ub)),
-    (b"storel", Mark::Store(Width::L)),
-    (b"storew", Mark::Store(Width::W)),
-    (b"storeh", Mark::Store(Width::H)),
-    (b"storeb", Mark::Store(Width::B)),
-    (b"alloc4", Mark::Alloc(AllocOp::Four)),
-    (b"alloc8", Mark::Alloc(AllocOp::Eight)),
-    (b"alloc16", Mark::Alloc(AllocOp::Sixteen)),
-    (b"ceqw", Mark::Compare(CompareOp::Eq, Class::W)),
-    (b"cnew", Mark::Compare(CompareOp::Ne, Class::W)),
-    (b"cslew", Mark::Compare(CompareOp::Sle, Class::W)),
-    (b"csltw", Mark::Compare(CompareOp::Slt, Class::W)),
-    (b"csgew", Mark::Compare(CompareOp::Sge, Class::W)),
-    (b"csgtw", Mark::Compare(CompareOp::Sgt, Class::W)),
-    (b"culew", Mark::Compare(CompareOp::Ule, Class::W)),
-    (b"cultw", Mark::Compare(CompareOp::Ult, Class::W)),
-    (b"cugew", Mark::Compare(CompareOp::Uge, Class::W)),
-    (b"cugtw", Mark::Compare(CompareOp::Ugt, Class::W)),
-    (b"ceql", Mark::Compare(CompareOp::Eq, Class::L)),
-    (b"cnel", Mark::Compare(CompareOp::Ne, Class::L)),
-    (b"cslel", Mark::Compare(CompareOp::Sle, Class::L)),
-    (b"csltl", Mark::Compare(CompareOp::Slt, Class::L)),
-    (b"csgel", Mark::Compare(CompareOp::Sge, Class::L)),
-    (b"csgtl", Mark::Compare(CompareOp::Sgt, Class::L)),
-    (b"culel", Mark::Compare(CompareOp::Ule, Class::L)),
-    (b"cultl", Mark::Compare(CompareOp::Ult, Class::L)),
-    (b"cugel", Mark::Compare(CompareOp::Uge, Class::L)),
-    (b"cugtl", Mark::Compare(CompareOp::Ugt, Class::L)),
+static WORDS: [(&[u8], Terminal); 77] = [
+    (b"w", Terminal::W),
+    (b"l", Terminal::L),
+    (b"call", Terminal::Call),
+    (b"phi", Terminal::Phi),
+    (b"ret", Terminal::Ret),
+    (b"jmp", Terminal::Jmp),
+    (b"jnz", Terminal::Jnz),
+    (b"function", Terminal::Function),
+    (b"hlt", Terminal::Hlt),
+    (b"blit", Terminal::Blit),
+    (b"data", Terminal::Data),
+    (b"align", Terminal::Align),
+    (b"z", Terminal::Z),
+    (b"b", Terminal::B),
+    (b"h", Terminal::H),
+    (b"export", Terminal::Export),
+    (b"section", Terminal::Section),
+    (b"sb", Terminal::Sb),
+    (b"ub", Terminal::Ub),
+    (b"sh", Terminal::Sh),
+    (b"uh", Terminal::Uh),
+    (b"copy", Terminal::Unary(UnaryOp::Copy)),
+    (b"neg", Terminal::Unary(UnaryOp::Neg)),
+    (b"add", Terminal::Binary(BinaryOp::Add)),
+    (b"sub", Terminal::Binary(BinaryOp::Sub)),
+    (b"mul", Terminal::Binary(BinaryOp::Mul)),
+    (b"div", Terminal::Binary(BinaryOp::Div)),
+    (b"rem", Terminal::Binary(BinaryOp::Rem)),
+    (b"udiv", Terminal::Binary(BinaryOp::Udiv)),
+    (b"urem", Terminal::Binary(BinaryOp::Urem)),
+    (b"and", Terminal::Binary(BinaryOp::And)),
+    (b"or", Terminal::Binary(BinaryOp::Or)),
+    (b"xor", Terminal::Binary(BinaryOp::Xor)),
+    (b"sar", Terminal::Binary(BinaryOp::Sar)),
+    (b"shr", Terminal::Binary(BinaryOp::Shr)),
+    (b"shl", Terminal::Binary(BinaryOp::Shl)),
+    (b"extsw", Terminal::Extend(Extension::Sw)),
+    (b"extuw", Terminal::Extend(Extension::Uw)),
+    (b"extsh", Terminal::Extend(Extension::Sh)),
+    (b"extuh", Terminal::Extend(Extension::Uh)),
+    (b"extsb", Terminal::Extend(Extension::Sb)),
+    (b"extub", Terminal::Extend(Extension::Ub)),
+    (b"loadl", Terminal::Load(LoadOp::L)),
+    (b"loadw", Terminal::Load(LoadOp::Sw)),
+    (b"loadsw", Terminal::Load(LoadOp::Sw)),
+    (b"loaduw", Terminal::Load(LoadOp::Uw)),
+    (b"loadsh", Terminal::Load(LoadOp::Sh)),
+    (b"loaduh", Terminal::Load(LoadOp::Uh)),
+    (b"loadsb", Terminal::Load(LoadOp::Sb)),
+    (b"loadub", Terminal::Load(LoadOp::Ub)),
+    (b"storel", Terminal::Store(Width::L)),
+    (b"storew", Terminal::Store(Width::W)),
+    (b"storeh", Terminal::Store(Width::H)),
+    (b"storeb", Terminal::Store(Width::B)),
+    (b"alloc4", Terminal::Alloc(AllocOp::Four)),
+    (b"alloc8", Terminal::Alloc(AllocOp::Eight)),
+    (b"alloc16", Terminal::Alloc(AllocOp::Sixteen)),
+    (b"ceqw", Terminal::Compare(CompareOp::Eq, Class::W)),
+    (b"cnew", Terminal::Compare(CompareOp::Ne, Class::W)),
+    (b"cslew", Terminal::Compare(CompareOp::Sle, Class::W)),
+    (b"csltw", Terminal::Compare(CompareOp::Slt, Class::W)),
+    (b"csgew", Terminal::Compare(CompareOp::Sge, Class::W)),
+    (b"csgtw", Terminal::Compare(CompareOp::Sgt, Class::W)),
+    (b"culew", Terminal::Compare(CompareOp::Ule, Class::W)),
+    (b"cultw", Terminal::Compare(CompareOp::Ult, Class::W)),
+    (b"cugew", Terminal::Compare(CompareOp::Uge, Class::W)),
+    (b"cugtw", Terminal::Compare(CompareOp::Ugt, Class::W)),
+    (b"ceql", Terminal::Compare(CompareOp::Eq, Class::L)),
+    (b"cnel", Terminal::Compare(CompareOp::Ne, Class::L)),
+    (b"cslel", Terminal::Compare(CompareOp::Sle, Class::L)),
+    (b"csltl", Terminal::Compare(CompareOp::Slt, Class::L)),
+    (b"csgel", Terminal::Compare(CompareOp::Sge, Class::L)),
+    (b"csgtl", Terminal::Compare(CompareOp::Sgt, Class::L)),
+    (b"culel", Terminal::Compare(CompareOp::Ule, Class::L)),
+    (b"cultl", Terminal::Compare(CompareOp::Ult, Class::L)),
+    (b"cugel", Terminal::Compare(CompareOp::Uge, Class::L)),
+    (b"cugtl", Terminal::Compare(CompareOp::Ugt, Class::L)),
 ];
 
 /// The words of QBE's IL that are left out.
@@ -97,9 +97,9 @@ static LEFT_OUT: [&[u8]; 40] = [
     b"cuod",
 ];
 
-/// What stands beside a text in a table.
-fn beside(rows: &[(&[u8], Mark)], text: &[u8]) -> Option<Mark>
-    ensures { result ≡ words.beside (map (λ row. (row.0.now, row.1)) rows.now) text.now }
+/// What stands next to a text in a table.
+fn next_to(rows: &[(&[u8], Terminal)], text: &[u8]) -> Option<Terminal>
+    ensures { result ≡ words.next_to (map (λ row. (row.0.now, row.1)) rows.now) text.now }
 {
     for row in rows {
         if text == row.0 {
@@ -121,12 +121,12 @@ fn is_one_of(table: &[&[u8]], text: &[u8]) -> bool
 }
 
 /// Which word of the grammar a text is.
-pub fn word_mark(text: &[u8]) -> Mark
-    ensures { result ≡ words.word_mark text.now }
+pub fn word_terminal(text: &[u8]) -> Terminal
+    ensures { result ≡ words.word_terminal text.now }
 {
-    match beside(&WORDS, text) {
-        Some(mark) => mark,
-        None => Mark::Other,
+    match next_to(&WORDS, text) {
+        Some(terminal) => terminal,
+        None => Terminal::Other,
     }
 }
 
@@ -134,8 +134,8 @@ pub fn word_mark(text: &[u8]) -> Mark
 fn is_constant(text: &[u8]) -> bool
     ensures { result ≡ words.is_constant text.now }
 {
-    let front = if text.len() < 2 { text } else { &text[..2] };
-    front == b"s_".as_slice() || front == b"d_".as_slice()
+    let prefix = if text.len() < 2 { text } else { &text[..2] };
+    prefix == b"s_".as_slice() || prefix == b"d_".as_slice()
 }
 
 #[tactic(auto, unfolding(crate::specs::Words::left_out_word))]

@@ -31,7 +31,7 @@ fn put_piece<P: Put>(out: &mut P, piece: Piece<'_>) -> Result<(), PutError>
 ///
 /// # Errors
 ///
-/// `PutError` where `out` stopped. Then a front of the text was put.
+/// `PutError` where `out` stopped. Then a prefix of the text was put.
 pub fn put_pieces<P: Put>(out: &mut P, pieces: &[Piece<'_>]) -> Result<(), PutError>
     requires { P.stops out.old < 2 ^ 64 - 1 }
     ensures text { Puts result (P.written out.old) (P.written out.new) (flat_map piece_text pieces.now) }

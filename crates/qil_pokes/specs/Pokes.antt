@@ -16,13 +16,13 @@ abbrev pub HasWidth : Poke → Type 0
 HasWidth (pokes.Bytes a n v) = IsWidth n
 HasWidth poke = Unit {0}
 
--- the state behind it
+-- the state after it
 abbrev pub poke_of : {A : Type 0} → Program A → State → Poke → Result State PokeFault
 poke_of p s (pokes.Slot slot v) = poke_slot p s slot v
 poke_of p s (pokes.Named x v) = poke_temp p s x.now v
 poke_of p s (pokes.Bytes a n v) = poke_memory s a n v
 
--- the refusal is the one of the poke; want of memory comes only where there is none
+-- the refusal is the one of the poke; out of memory comes only if there is none
 abbrev pub Explains : Result State PokeFault → PokeError → Type 0
 Explains r errors.NoFrame = r ≡ Err no_frame
 Explains r errors.UnknownTemporary = r ≡ Err unknown_temporary

@@ -42,7 +42,7 @@ impl<'n> Poke<'n> {
         }
     }
 
-    /// Why it isn't kept as a move where there is no memory for that: what refuses it, or want of memory. The machine stays.
+    /// Why it isn't kept as a move where there is no memory for that: what refuses it, or out of memory. The machine stays.
     pub fn refusal<A: Allocator + Copy>(self, machine: &mut Machine<'_, '_, A>) -> PokeError
         requires { HasWidth self }
         ensures why { Explains (poke_of machine.old.program (state_of machine.old) self.entry) result }

@@ -20,5 +20,5 @@ lines_some f [] h = absurd (h refl)
 lines_some f (x ∷ xs) h = lines_of f (x ∷ xs)
 
 -- the text of a thing was put, and so was that of what it is
-pub told_as : {X T E : Type 0} (f : X → List ℕ) (x y : X) (r : Result T E) (a b : Option (List ℕ)) → x ≡ y → Puts r a b (f x) → Puts r a b (f y)
-told_as {X} f x y r a b e p = subst (λ (z : X). Puts r a b (f z)) e p
+pub reported_as : {X T E : Type 0} (f : X → List ℕ) (x y : X) (r : Result T E) (a b : Option (List ℕ)) → x ≡ y → Puts r a b (f x) → Puts r a b (f y)
+reported_as {X} f x y r a b e p = subst (λ (z : X). Puts r a b (f z)) e p

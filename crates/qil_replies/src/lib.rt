@@ -1,6 +1,6 @@
 //! The reply to a command as a value, and its text.
 //!
-//! A debugger's front reads the value; a transcript has the text, which `put_reply` puts. `specs/Reply.antt` says the text of each
+//! A debugger's prefix reads the value; a transcript has the text, which `put_reply` puts. `specs/Reply.antt` says the text of each
 //! reply in the field's words, over the state that a machine represents and the stops.
 #![tactic(auto)]
 

@@ -26,11 +26,11 @@ use Rattle.qil_tree.specs.declared.tree.Definition.TheVariants as definitions
 use Rattle.qil_tree.specs.declared.tree.Program.{Program}
 use Rattle.qil_tree.specs.Types.{class_of}
 use Rattle.qil_rules.specs.Operands.{Read, inst_reads, inst_target, inst_long_class}
-pub use Rattle.qil_rules.specs.declared.mention.What.{What}
-pub use Rattle.qil_rules.specs.declared.mention.What.TheVariants.{DataName, FunctionName, Label, Edge, PhiLabel, PhiOf, Defines, Uses, Global, Returns, Long}
+pub use Rattle.qil_rules.specs.declared.mention.MentionKind.{MentionKind}
+pub use Rattle.qil_rules.specs.declared.mention.MentionKind.TheVariants.{DataName, FunctionName, Label, Edge, PhiLabel, PhiOf, Defines, Uses, Global, Returns, Long}
 pub use Rattle.qil_rules.specs.declared.mention.Mention.{Mention}
 
-abbrev pub on : ℕ → What → Mention
+abbrev pub on : ℕ → MentionKind → Mention
 on line what = record { what = what; line = line }
 
 -- ---- operands and targets
@@ -104,7 +104,7 @@ data_mentions d = on d.line (DataName d.name) ∷ flat_map (field_mentions d.lin
 
 -- ---- the program
 
--- the definitions in this order; what the order leaves out comes behind
+-- the definitions in this order; what the order leaves out comes after
 abbrev pub texts_in : {A : Type 0} → List Definition → List (Data A) → List (Func A) → List (List Mention)
 texts_in [] datas funcs = map data_mentions datas ++ map func_mentions funcs
 texts_in (definitions.Data ∷ order) [] funcs = texts_in order [] funcs

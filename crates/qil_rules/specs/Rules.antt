@@ -8,46 +8,46 @@ use Rattle.qil_tree.specs.declared.tree.PhiSource.{PhiSource}
 use Rattle.qil_tree.specs.declared.tree.Program.{Program}
 use Rattle.qil_rules.specs.declared.rule.Rule.{Rule}
 use Rattle.qil_rules.specs.declared.rule.Rule.TheVariants.{C1, C2, C3, C4, C5, C6, C7, C8, C9, C10, C11, C12}
-use Rattle.qil_rules.specs.Mentions.{What, Mention, FunctionName, Label, Edge, PhiLabel, PhiOf, Defines, Uses, Global, Returns, Long, texts}
-use Rattle.qil_rules.specs.Text.{Stands, Names, FirstClass, IsUndefined, IsTemporary, LacksLabel, IsFirstLabel, ArePredecessors, labels_of}
+use Rattle.qil_rules.specs.Mentions.{MentionKind, Mention, FunctionName, Label, Edge, PhiLabel, PhiOf, Defines, Uses, Global, Returns, Long, texts}
+use Rattle.qil_rules.specs.Text.{IsAt, Names, FirstClass, IsUndefined, IsTemporary, LacksLabel, IsFirstLabel, ArePredecessors, labels_of}
 
 -- ---- the rules of one text: what breaks them at a place
 
 -- a label is that of an earlier block
 abbrev pub IsSecondLabel : List Mention → ℕ → Type 0
-IsSecondLabel text k = (x : List ℕ) × (j : ℕ) × (j < k) × Stands text j (Label x) × Stands text k (Label x)
+IsSecondLabel text k = (x : List ℕ) × (j : ℕ) × (j < k) × IsAt text j (Label x) × IsAt text k (Label x)
 
 -- a jump or a phi names a label that its function lacks
 abbrev pub IsLostLabel : List Mention → ℕ → Type 0
-IsLostLabel text k = (x : List ℕ) × (((from : List ℕ) × Stands text k (Edge from x)) ⊎ Stands text k (PhiLabel x)) × LacksLabel text x
+IsLostLabel text k = (x : List ℕ) × (((from : List ℕ) × IsAt text k (Edge from x)) ⊎ IsAt text k (PhiLabel x)) × LacksLabel text x
 
 -- a jump names the function's first block
 abbrev pub IsJumpToFirst : List Mention → ℕ → Type 0
-IsJumpToFirst text k = (x : List ℕ) × (from : List ℕ) × Stands text k (Edge from x) × IsFirstLabel text x
+IsJumpToFirst text k = (x : List ℕ) × (from : List ℕ) × IsAt text k (Edge from x) × IsFirstLabel text x
 
 -- a definition has another class than the first of its temporary
 abbrev pub IsOtherClass : List Mention → ℕ → Type 0
-IsOtherClass text k = (x : List ℕ) × (c : Class) × (d : Class) × Stands text k (Defines x c) × FirstClass text x d × (c ≢ d)
+IsOtherClass text k = (x : List ℕ) × (c : Class) × (d : Class) × IsAt text k (Defines x c) × FirstClass text x d × (c ≢ d)
 
 -- a temporary is used and has no definition
 abbrev pub IsUndefinedUse : List Mention → ℕ → Type 0
-IsUndefinedUse text k = (x : List ℕ) × (c : Class) × Stands text k (Uses x c) × IsUndefined text x
+IsUndefinedUse text k = (x : List ℕ) × (c : Class) × IsAt text k (Uses x c) × IsUndefined text x
 
 -- a `w` temporary stands in an `l` context
 abbrev pub IsNarrowUse : List Mention → ℕ → Type 0
-IsNarrowUse text k = (x : List ℕ) × Stands text k (Uses x classes.L) × FirstClass text x classes.W
+IsNarrowUse text k = (x : List ℕ) × IsAt text k (Uses x classes.L) × FirstClass text x classes.W
 
 -- the labels of a phi are not exactly the predecessors of its block, each once
 abbrev pub IsWrongPhi : List Mention → ℕ → Type 0
-IsWrongPhi text k = (b : List ℕ) × (sources : List PhiSource) × Stands text k (PhiOf b sources) × (ArePredecessors text b (labels_of sources) → ⊥)
+IsWrongPhi text k = (b : List ℕ) × (sources : List PhiSource) × IsAt text k (PhiOf b sources) × (ArePredecessors text b (labels_of sources) → ⊥)
 
 -- a value is returned where the function has no return type
 abbrev pub IsUntypedReturn : List Mention → ℕ → Type 0
-IsUntypedReturn text k = Stands text k (Returns None)
+IsUntypedReturn text k = IsAt text k (Returns None)
 
 -- a result that is always long has type `w`
 abbrev pub IsNarrowResult : List Mention → ℕ → Type 0
-IsNarrowResult text k = Stands text k (Long classes.W)
+IsNarrowResult text k = IsAt text k (Long classes.W)
 
 -- ---- the rules that look at other texts of the program
 
@@ -73,13 +73,13 @@ IsUnknown all g = ((m : ℕ) → HasName all m g → ⊥) × (is_built_in g ≡ 
 
 -- a global is used that is neither defined nor built in
 abbrev pub IsLostGlobal : List (List Mention) → List Mention → ℕ → Type 0
-IsLostGlobal all text k = (g : List ℕ) × Stands text k (Global g) × IsUnknown all g
+IsLostGlobal all text k = (g : List ℕ) × IsAt text k (Global g) × IsUnknown all g
 
 -- more than 65,535 temporaries
 abbrev pub HasManyTemporaries : List Mention → Type 0
 HasManyTemporaries text = (names : List (List ℕ)) × AllPairs (λ x y. x ≢ y) names × All (IsTemporary text) names × (65535 < length names)
 
-abbrev pub begins_block : What → Bool
+abbrev pub begins_block : MentionKind → Bool
 begins_block (Label x) = true
 begins_block what = false
 
@@ -90,7 +90,7 @@ is_label m = begins_block m.what
 abbrev pub HasManyBlocks : List Mention → Type 0
 HasManyBlocks text = 65535 < count_by is_label text
 
-abbrev pub begins_function : What → Bool
+abbrev pub begins_function : MentionKind → Bool
 begins_function (FunctionName x) = true
 begins_function what = false
 
@@ -101,7 +101,7 @@ is_function (m ∷ text) = begins_function m.what
 -- a function that has too many temporaries or blocks, or is the 1,001st
 abbrev pub IsTooMuch : List (List Mention) → List Mention → ℕ → ℕ → Type 0
 IsTooMuch all text n k =
-    (x : List ℕ) × Stands text k (FunctionName x) × (HasManyTemporaries text ⊎ (HasManyBlocks text ⊎ (count_by is_function (take n all) ≡ 1000)))
+    (x : List ℕ) × IsAt text k (FunctionName x) × (HasManyTemporaries text ⊎ (HasManyBlocks text ⊎ (count_by is_function (take n all) ≡ 1000)))
 
 -- ---- all rules
 

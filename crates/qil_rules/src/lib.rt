@@ -8,5 +8,5 @@ mod rule;
 
 pub use checked::Checked;
 pub use form::Form;
-pub use mention::{Mention, PhiSources, What};
+pub use mention::{Mention, MentionKind, PhiSources};
 pub use rule::Rule;

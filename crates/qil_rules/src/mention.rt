@@ -36,7 +36,7 @@ impl<'p, 'a> PhiSources<'p, 'a> {
 
 /// What a mention says.
 #[derive(Drop)]
-pub enum What<'p, 'a> {
+pub enum MentionKind<'p, 'a> {
     /// A data object of that name begins.
     DataName(Name<'a>),
     /// A function of that name begins.
@@ -64,6 +64,6 @@ pub enum What<'p, 'a> {
 /// A mention, on the line of its definition's name, block's label, phi, instruction or jump.
 #[derive(Drop)]
 pub struct Mention<'p, 'a> {
-    pub what: What<'p, 'a>,
+    pub what: MentionKind<'p, 'a>,
     pub line: u32,
 }

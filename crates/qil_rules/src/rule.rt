@@ -6,7 +6,7 @@ ghost use Rattle.qil_rules.specs.Rules.{order};
 
 use std::fmt;
 
-/// A rule, by the code that is told where it is broken.
+/// A rule, by the code that is reported where it is broken.
 #[derive(Clone, Copy, Debug, PartialEq, Eq)]
 pub enum Rule {
     /// A global name is defined twice.
@@ -59,7 +59,7 @@ impl Rule {
 }
 
 impl Rule {
-    /// The code that is told, as users see it.
+    /// The code that is reported, as users see it.
     pub fn as_str(self) -> &'static str
         ensures { result.now ≡ rule_code self }
     {

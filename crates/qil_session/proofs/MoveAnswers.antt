@@ -16,26 +16,26 @@ use Rattle.qil_replies.specs.declared.reply.Refusal.{Refusal}
 use Rattle.qil_replies.specs.declared.reply.Refusal.TheVariants.{AtEnd, AtStart, HistoryEnds}
 use Rattle.qil_replies.specs.declared.reply.Reply.{Reply}
 use Rattle.qil_replies.specs.declared.reply.Reply.TheVariants.{Refused, Place, Stopped}
-use Rattle.qil_session.specs.Situation.{Situation, sits}
-use Rattle.qil_session.specs.Answers.{Answer, Replies, answer, refuses, goes_to, if_back, back_refusal, stopped_for, reversed, IsLawful}
+use Rattle.qil_session.specs.SessionState.{SessionState, session_at}
+use Rattle.qil_session.specs.Answers.{Answer, Replies, answer, refuses, goes_to, if_back, back_refusal, stopped_for, reversed, IsValid}
 use Rattle.qil_session.proofs.Walks.{least-is}
 
 -- ---- `step N`
 
 pub replies_end : {A : Type 0} (p : Program A) (t : Timeline) (stops : Listed) (limit n : ℕ) →
-    at_end t ≡ true → Replies (sits p t stops limit) (sits p t stops limit) (Ok (Some (Step n))) (Refused AtEnd)
-unfolding answer IsLawful
-replies_end p t stops limit n over = record { want = None; lawful = tt; reply = rw over refl; left = rw over refl }
+    at_end t ≡ true → Replies (session_at p t stops limit) (session_at p t stops limit) (Ok (Some (Step n))) (Refused AtEnd)
+unfolding answer IsValid
+replies_end p t stops limit n over = record { shortage = None; valid = tt; reply = rw over refl; left = rw over refl }
 
 pub replies_step : {A : Type 0} (p : Program A) (t u : Timeline) (stops : Listed) (limit n : ℕ) →
-    at_end t ≡ false → u ≡ forward_by p n t → Replies (sits p t stops limit) (sits p u stops limit) (Ok (Some (Step n))) Place
-unfolding answer IsLawful
-replies_step p t u stops limit n goes moves = record { want = None; lawful = tt; reply = rw goes refl; left = rw (goes, moves) refl }
+    at_end t ≡ false → u ≡ forward_by p n t → Replies (session_at p t stops limit) (session_at p u stops limit) (Ok (Some (Step n))) Place
+unfolding answer IsValid
+replies_step p t u stops limit n goes moves = record { shortage = None; valid = tt; reply = rw goes refl; left = rw (goes, moves) refl }
 
 pub replies_step_wants : {A : Type 0} (p : Program A) (t u : Timeline) (stops : Listed) (limit n k : ℕ) →
-    k < n → u ≡ forward_by p k t → at_end u ≡ false → Replies (sits p t stops limit) (sits p u stops limit) (Ok (Some (Step n))) (Stopped Memory)
-unfolding answer IsLawful
-replies_step_wants p t u stops limit n k lt moves goes = record { want = Some k; lawful = (lt, rw moves at goes); reply = refl; left = rw moves refl }
+    k < n → u ≡ forward_by p k t → at_end u ≡ false → Replies (session_at p t stops limit) (session_at p u stops limit) (Ok (Some (Step n))) (Stopped Memory)
+unfolding answer IsValid
+replies_step_wants p t u stops limit n k lt moves goes = record { shortage = Some k; valid = (lt, rw moves at goes); reply = refl; left = rw moves refl }
 
 -- ---- whether there is a way back
 
@@ -53,36 +53,36 @@ no_way_is : (t : Timeline) (at old : ℕ) → at ≡ position t → old ≡ olde
 no_way_is t at old e f = rw (e, f, none_kept t) refl
 
 -- what `no_way_back` gave says whether there is a way
-pub back_told : (t : Timeline) (at old : ℕ) (o told : Option Refusal) → at ≡ position t → old ≡ oldest t → o ≡ back_refusal at old → o ≡ told → no_way t ≡ told
-back_told t at old o told e f is h = sym (no_way_is t at old e f) ∙ sym is ∙ h
+pub back_reported : (t : Timeline) (at old : ℕ) (o reported : Option Refusal) → at ≡ position t → old ≡ oldest t → o ≡ back_refusal at old → o ≡ reported → no_way t ≡ reported
+back_reported t at old o reported e f is h = sym (no_way_is t at old e f) ∙ sym is ∙ h
 
-refused_by : {A : Type 0} (s : Situation A) (one : Answer A) (why : Refusal) (start none : Bool) →
+refused_by : {A : Type 0} (s : SessionState A) (one : Answer A) (why : Refusal) (start none : Bool) →
     cond start (Some AtStart) (cond none (Some HistoryEnds) None) ≡ Some why →
     cond start (refuses s AtStart) (cond none (refuses s HistoryEnds) one) ≡ refuses s why
 refused_by s one why true none e = let same : AtStart ≡ why = cc in ap (λ (x : Refusal). refuses s x) same
 refused_by s one why false true e = let same : HistoryEnds ≡ why = cc in ap (λ (x : Refusal). refuses s x) same
 refused_by s one why false false e = absurd cc
 
-refused_back : {A : Type 0} (s : Situation A) (one : Answer A) (why : Refusal) → no_way s.timeline ≡ Some why → if_back s one ≡ refuses s why
+refused_back : {A : Type 0} (s : SessionState A) (one : Answer A) (why : Refusal) → no_way s.timeline ≡ Some why → if_back s one ≡ refuses s why
 refused_back s one why e = refused_by s one why (position s.timeline == 0) (length s.timeline.past == 0) e
 
-goes_by : {A : Type 0} (s : Situation A) (one : Answer A) (start none : Bool) →
+goes_by : {A : Type 0} (s : SessionState A) (one : Answer A) (start none : Bool) →
     cond start (Some AtStart) (cond none (Some HistoryEnds) None) ≡ None →
     cond start (refuses s AtStart) (cond none (refuses s HistoryEnds) one) ≡ one
 goes_by s one true none e = absurd cc
 goes_by s one false true e = absurd cc
 goes_by s one false false e = refl
 
-goes_back : {A : Type 0} (s : Situation A) (one : Answer A) → no_way s.timeline ≡ None → if_back s one ≡ one
+goes_back : {A : Type 0} (s : SessionState A) (one : Answer A) → no_way s.timeline ≡ None → if_back s one ≡ one
 goes_back s one e = goes_by s one (position s.timeline == 0) (length s.timeline.past == 0) e
 
--- an answer behind `if_back`, as it is or refused
-record IsSaid {A : Type 0} (after : Situation A) (one : Answer A) (told : Reply) : Type 0 where
-  reply : told ≡ one.reply
+-- an answer after `if_back`, as it is or refused
+record IsSaid {A : Type 0} (after : SessionState A) (one : Answer A) (reported : Reply) : Type 0 where
+  reply : reported ≡ one.reply
   left : after ≡ one.left
 
-said_instead : {A : Type 0} (after : Situation A) (one other : Answer A) (told : Reply) → one ≡ other → IsSaid after other told → IsSaid after one told
-said_instead {A} after one other told e h = record {
+said_instead : {A : Type 0} (after : SessionState A) (one other : Answer A) (reported : Reply) → one ≡ other → IsSaid after other reported → IsSaid after one reported
+said_instead {A} after one other reported e h = record {
   reply = h.reply ∙ sym (ap (λ (x : Answer A). x.reply) e);
   left = h.left ∙ sym (ap (λ (x : Answer A). x.left) e);
 }
@@ -90,22 +90,22 @@ said_instead {A} after one other told e h = record {
 -- ---- `back N`
 
 pub replies_no_back : {A : Type 0} (p : Program A) (t : Timeline) (stops : Listed) (limit n : ℕ) (why : Refusal) →
-    no_way t ≡ Some why → Replies (sits p t stops limit) (sits p t stops limit) (Ok (Some (Back n))) (Refused why)
-unfolding answer IsLawful
+    no_way t ≡ Some why → Replies (session_at p t stops limit) (session_at p t stops limit) (Ok (Some (Back n))) (Refused why)
+unfolding answer IsValid
 replies_no_back p t stops limit n why ends =
-    let s = sits p t stops limit in
+    let s = session_at p t stops limit in
     let one = goes_to s Place (back_by n t) in
     let said = said_instead s (if_back s one) (refuses s why) (Refused why) (refused_back s one why ends) (record { reply = refl; left = refl }) in
-    record { want = None; lawful = tt; reply = said.reply; left = said.left }
+    record { shortage = None; valid = tt; reply = said.reply; left = said.left }
 
 pub replies_back : {A : Type 0} (p : Program A) (t u : Timeline) (stops : Listed) (limit n : ℕ) →
-    no_way t ≡ None → u ≡ back_by n t → Replies (sits p t stops limit) (sits p u stops limit) (Ok (Some (Back n))) Place
-unfolding answer IsLawful
+    no_way t ≡ None → u ≡ back_by n t → Replies (session_at p t stops limit) (session_at p u stops limit) (Ok (Some (Back n))) Place
+unfolding answer IsValid
 replies_back p t u stops limit n way moves =
-    let s = sits p t stops limit in
+    let s = session_at p t stops limit in
     let one = goes_to s Place (back_by n t) in
-    let said = said_instead (sits p u stops limit) (if_back s one) one Place (goes_back s one way) (record { reply = refl; left = rw moves refl }) in
-    record { want = None; lawful = tt; reply = said.reply; left = said.left }
+    let said = said_instead (session_at p u stops limit) (if_back s one) one Place (goes_back s one way) (record { reply = refl; left = rw moves refl }) in
+    record { shortage = None; valid = tt; reply = said.reply; left = said.left }
 
 -- ---- the target of a run
 
@@ -137,64 +137,64 @@ below_limit stop limit k h = elim (cases_lt k limit) [
 -- ---- `continue`
 
 pub replies_run_end : {A : Type 0} (p : Program A) (t : Timeline) (stops : Listed) (limit : ℕ) →
-    at_end t ≡ true → Replies (sits p t stops limit) (sits p t stops limit) (Ok (Some Continue)) (Refused AtEnd)
-unfolding answer IsLawful
-replies_run_end p t stops limit over = record { want = None; lawful = tt; reply = rw over refl; left = rw over refl }
+    at_end t ≡ true → Replies (session_at p t stops limit) (session_at p t stops limit) (Ok (Some Continue)) (Refused AtEnd)
+unfolding answer IsValid
+replies_run_end p t stops limit over = record { shortage = None; valid = tt; reply = rw over refl; left = rw over refl }
 
 run_stops : {A : Type 0} (p : Program A) (t u : Timeline) (stops : Listed) (limit k : ℕ) (why : Reason) →
     at_end t ≡ false → u ≡ moved p k t → target (stop_on p (named_stops p stops.kept) t) limit ≡ k → within limit k (stop_on p (named_stops p stops.kept) t k) ≡ Some why →
-    Replies (sits p t stops limit) (sits p u stops limit) (Ok (Some Continue)) (Stopped why)
-unfolding answer IsLawful
-run_stops p t u stops limit k why goes moves at told = record {
-  want = None;
-  lawful = tt;
-  reply = rw (goes, at, told) refl;
+    Replies (session_at p t stops limit) (session_at p u stops limit) (Ok (Some Continue)) (Stopped why)
+unfolding answer IsValid
+run_stops p t u stops limit k why goes moves at reported = record {
+  shortage = None;
+  valid = tt;
+  reply = rw (goes, at, reported) refl;
   left = rw (goes, at, moves) refl;
 }
 
 run_wants : {A : Type 0} (p : Program A) (t u : Timeline) (stops : Listed) (limit k : ℕ) (why : Reason) →
-    why ≡ Memory → RunsOn p (named_stops p stops.kept) limit t why k u → Replies (sits p t stops limit) (sits p u stops limit) (Ok (Some Continue)) (Stopped why)
-unfolding answer IsLawful
-run_wants p t u stops limit k why wants run =
-    let l : IsLeast (stop_on p (named_stops p stops.kept) t) limit k Memory = subst (λ (x : Reason). IsLeast (stop_on p (named_stops p stops.kept) t) limit k x) wants run.least in
+    why ≡ Memory → RunsOn p (named_stops p stops.kept) limit t why k u → Replies (session_at p t stops limit) (session_at p u stops limit) (Ok (Some Continue)) (Stopped why)
+unfolding answer IsValid
+run_wants p t u stops limit k why shortages run =
+    let l : IsLeast (stop_on p (named_stops p stops.kept) t) limit k Memory = subst (λ (x : Reason). IsLeast (stop_on p (named_stops p stops.kept) t) limit k x) shortages run.least in
     record {
-      want = Some k;
-      lawful = (below_limit (stop_on p (named_stops p stops.kept) t) limit k l, l);
-      reply = ap (λ (x : Reason). Stopped x) wants;
+      shortage = Some k;
+      valid = (below_limit (stop_on p (named_stops p stops.kept) t) limit k l, l);
+      reply = ap (λ (x : Reason). Stopped x) shortages;
       left = rw run.moves refl;
     }
 
 pub replies_run : {A : Type 0} (p : Program A) (t u : Timeline) (stops : Listed) (limit k : ℕ) (why : Reason) →
-    at_end t ≡ false → RunsOn p (named_stops p stops.kept) limit t why k u → Replies (sits p t stops limit) (sits p u stops limit) (Ok (Some Continue)) (Stopped why)
+    at_end t ≡ false → RunsOn p (named_stops p stops.kept) limit t why k u → Replies (session_at p t stops limit) (session_at p u stops limit) (Ok (Some Continue)) (Stopped why)
 replies_run p t u stops limit k why goes run = elim (known why) [
   | inl plain ↦ run_stops p t u stops limit k why goes run.moves (target_is (stop_on p (named_stops p stops.kept) t) limit k why run.least plain) (run.least.reached ∙ plain)
-  | inr wants ↦ run_wants p t u stops limit k why wants run
+  | inr shortages ↦ run_wants p t u stops limit k why shortages run
 ]
 
 -- ---- `reverse`
 
 pub replies_no_reverse : {A : Type 0} (p : Program A) (t : Timeline) (stops : Listed) (limit : ℕ) (why : Refusal) →
-    no_way t ≡ Some why → Replies (sits p t stops limit) (sits p t stops limit) (Ok (Some Reverse)) (Refused why)
-unfolding answer IsLawful
+    no_way t ≡ Some why → Replies (session_at p t stops limit) (session_at p t stops limit) (Ok (Some Reverse)) (Refused why)
+unfolding answer IsValid
 replies_no_reverse p t stops limit why ends =
-    let s = sits p t stops limit in
+    let s = session_at p t stops limit in
     let one = reversed s (target (stop_back (named_stops p stops.kept) t) limit) in
     let said = said_instead s (if_back s one) (refuses s why) (Refused why) (refused_back s one why ends) (record { reply = refl; left = refl }) in
-    record { want = None; lawful = tt; reply = said.reply; left = said.left }
+    record { shortage = None; valid = tt; reply = said.reply; left = said.left }
 
 reverse_stops : {A : Type 0} (p : Program A) (t u : Timeline) (stops : Listed) (limit k : ℕ) (why : Reason) →
     no_way t ≡ None → u ≡ gone k t → target (stop_back (named_stops p stops.kept) t) limit ≡ k → within limit k (stop_back (named_stops p stops.kept) t k) ≡ Some why →
-    Replies (sits p t stops limit) (sits p u stops limit) (Ok (Some Reverse)) (Stopped why)
-unfolding answer IsLawful
-reverse_stops p t u stops limit k why way moves at told =
-    let s = sits p t stops limit in
+    Replies (session_at p t stops limit) (session_at p u stops limit) (Ok (Some Reverse)) (Stopped why)
+unfolding answer IsValid
+reverse_stops p t u stops limit k why way moves at reported =
+    let s = session_at p t stops limit in
     let one = reversed s (target (stop_back (named_stops p stops.kept) t) limit) in
-    let said = said_instead (sits p u stops limit) (if_back s one) one (Stopped why) (goes_back s one way) (record { reply = rw (at, told) refl; left = rw (at, moves) refl }) in
-    record { want = None; lawful = tt; reply = said.reply; left = said.left }
+    let said = said_instead (session_at p u stops limit) (if_back s one) one (Stopped why) (goes_back s one way) (record { reply = rw (at, reported) refl; left = rw (at, moves) refl }) in
+    record { shortage = None; valid = tt; reply = said.reply; left = said.left }
 
 -- going back takes no memory, so it never wants it
 pub replies_reverse : {A : Type 0} (p : Program A) (t u : Timeline) (stops : Listed) (limit k : ℕ) (why : Reason) →
-    no_way t ≡ None → RunsBack (named_stops p stops.kept) limit t why k u → Replies (sits p t stops limit) (sits p u stops limit) (Ok (Some Reverse)) (Stopped why)
+    no_way t ≡ None → RunsBack (named_stops p stops.kept) limit t why k u → Replies (session_at p t stops limit) (session_at p u stops limit) (Ok (Some Reverse)) (Stopped why)
 replies_reverse p t u stops limit k why way run =
     reverse_stops p t u stops limit k why way run.moves
     (target_is (stop_back (named_stops p stops.kept) t) limit k why run.least run.no_memory) (run.least.reached ∙ run.no_memory)

@@ -23,20 +23,20 @@ use Rattle.qil_replies.specs.declared.reply.Refusal.{Refusal}
 use Rattle.qil_replies.specs.declared.reply.Refusal.TheVariants.{UnknownPlace}
 use Rattle.qil_replies.specs.declared.reply.Reply.{Reply}
 use Rattle.qil_replies.specs.declared.reply.Reply.TheVariants.{Refused, Place, Stopped}
-use Rattle.qil_session.specs.Situation.{sits, address_said}
-use Rattle.qil_session.specs.Answers.{Replies, answer, IsLawful, poke_answer, poke_refusal}
+use Rattle.qil_session.specs.SessionState.{session_at, resolved_address}
+use Rattle.qil_session.specs.Answers.{Replies, answer, IsValid, poke_answer, poke_refusal}
 
 -- ---- what comes of a poke
 
 -- the reply and the session that is left are those of a poke with this outcome
-record IsPoke {A : Type 0} (p : Program A) (t u : Timeline) (stops : Listed) (limit : ℕ) (outcome : Result State PokeFault) (told : Reply) : Type 0 where
-  reply : told ≡ (poke_answer (sits p t stops limit) outcome).reply
-  left : sits p u stops limit ≡ (poke_answer (sits p t stops limit) outcome).left
+record IsPoke {A : Type 0} (p : Program A) (t u : Timeline) (stops : Listed) (limit : ℕ) (outcome : Result State PokeFault) (reported : Reply) : Type 0 where
+  reply : reported ≡ (poke_answer (session_at p t stops limit) outcome).reply
+  left : session_at p u stops limit ≡ (poke_answer (session_at p t stops limit) outcome).left
 
 poke_moves : {A : Type 0} (p : Program A) (t u : Timeline) (stops : Listed) (limit : ℕ) (outcome : Result State PokeFault) → poked t outcome ≡ Ok u → IsPoke p t u stops limit outcome Place
 poke_moves {A} p t u stops limit (Ok s) e =
     let same : to s t ≡ u = cc in
-    record { reply = refl; left = ap (λ (v : Timeline). sits p v stops limit) (sym same) }
+    record { reply = refl; left = ap (λ (v : Timeline). session_at p v stops limit) (sym same) }
 poke_moves p t u stops limit (Err why) e = absurd cc
 
 poke_refused : {A : Type 0} (p : Program A) (t u : Timeline) (stops : Listed) (limit : ℕ) (outcome : Result State PokeFault) (why : PokeFault) →
@@ -44,7 +44,7 @@ poke_refused : {A : Type 0} (p : Program A) (t u : Timeline) (stops : Listed) (l
 poke_refused p t u stops limit (Ok s) why e same = absurd cc
 poke_refused p t u stops limit (Err other) why e same =
     let here : other ≡ why = cc in
-    record { reply = ap (λ (x : PokeFault). Refused (poke_refusal x)) (sym here); left = ap (λ (v : Timeline). sits p v stops limit) same }
+    record { reply = ap (λ (x : PokeFault). Refused (poke_refusal x)) (sym here); left = ap (λ (v : Timeline). session_at p v stops limit) same }
 
 poked_position : (t u : Timeline) (outcome : Result State PokeFault) → poked t outcome ≡ Ok u → position u ≡ position t + 1
 poked_position t u (Ok s) e = let same : to s t ≡ u = cc in sym (ap position same) ∙ position-to t s
@@ -53,7 +53,7 @@ poked_position t u (Err why) e = absurd cc
 pub poked_near : (t u : Timeline) (outcome : Result State PokeFault) → poked t outcome ≡ Ok u → position u < position t + 2 ^ 32
 poked_near t u outcome e = let one : position u ≡ position t + 1 = poked_position t u outcome e in omega (arith, one)
 
--- ---- memory is wanting only for a poke that isn't refused
+-- ---- memory runs out only for a poke that isn't refused
 
 in_plain : (s : State) (f : Frame) (fs : List Frame) (x : Name) (v : ℕ) (class : Option Class) → poke_in s f fs x v class ≡ Err dead_bytes → ⊥
 in_plain s f fs x v None e = cc
@@ -77,65 +77,65 @@ memory_by s (Err why) r e dead = let other = dead.1 refl in absurd cc
 -- ---- `set %x N`
 
 pub replies_set : {A : Type 0} (p : Program A) (t u : Timeline) (stops : Listed) (limit : ℕ) (x : Name) (v : ℕ) →
-    poked t (poke_temp p t.now x v) ≡ Ok u → Replies (sits p t stops limit) (sits p u stops limit) (Ok (Some (Set x v))) Place
-unfolding answer IsLawful
+    poked t (poke_temp p t.now x v) ≡ Ok u → Replies (session_at p t stops limit) (session_at p u stops limit) (Ok (Some (Set x v))) Place
+unfolding answer IsValid
 replies_set p t u stops limit x v moved =
     let made = poke_moves p t u stops limit (poke_temp p t.now x v) moved in
-    record { want = None; lawful = tt; reply = made.reply; left = made.left }
+    record { shortage = None; valid = tt; reply = made.reply; left = made.left }
 
 pub replies_set_refused : {A : Type 0} (p : Program A) (t u : Timeline) (stops : Listed) (limit : ℕ) (x : Name) (v : ℕ) (why : PokeFault) →
-    poke_temp p t.now x v ≡ Err why → u ≡ t → Replies (sits p t stops limit) (sits p u stops limit) (Ok (Some (Set x v))) (Refused (poke_refusal why))
-unfolding answer IsLawful
+    poke_temp p t.now x v ≡ Err why → u ≡ t → Replies (session_at p t stops limit) (session_at p u stops limit) (Ok (Some (Set x v))) (Refused (poke_refusal why))
+unfolding answer IsValid
 replies_set_refused p t u stops limit x v why refused same =
     let made = poke_refused p t u stops limit (poke_temp p t.now x v) why refused same in
-    record { want = None; lawful = tt; reply = made.reply; left = made.left }
+    record { shortage = None; valid = tt; reply = made.reply; left = made.left }
 
-pub replies_set_wants : {A : Type 0} (p : Program A) (t u : Timeline) (stops : Listed) (limit : ℕ) (x : Name) (v : ℕ) (told : Result (Unit {0}) PokeError) →
-    told ≡ Err OutOfMemory → (told ≡ Err NoFrame) ↔ (poke_temp p t.now x v ≡ Err no_frame) → (told ≡ Err UnknownTemporary) ↔ (poke_temp p t.now x v ≡ Err unknown_temporary) →
-    u ≡ t → Replies (sits p t stops limit) (sits p u stops limit) (Ok (Some (Set x v))) (Stopped Memory)
-unfolding answer IsLawful
-replies_set_wants p t u stops limit x v told is frame unknown same = record {
-  want = Some 0;
-  lawful = (refl, temp_by (poke_temp p t.now x v) told is frame unknown (frames_plain p t.now t.now.frames x v));
+pub replies_set_wants : {A : Type 0} (p : Program A) (t u : Timeline) (stops : Listed) (limit : ℕ) (x : Name) (v : ℕ) (reported : Result (Unit {0}) PokeError) →
+    reported ≡ Err OutOfMemory → (reported ≡ Err NoFrame) ↔ (poke_temp p t.now x v ≡ Err no_frame) → (reported ≡ Err UnknownTemporary) ↔ (poke_temp p t.now x v ≡ Err unknown_temporary) →
+    u ≡ t → Replies (session_at p t stops limit) (session_at p u stops limit) (Ok (Some (Set x v))) (Stopped Memory)
+unfolding answer IsValid
+replies_set_wants p t u stops limit x v reported is frame unknown same = record {
+  shortage = Some 0;
+  valid = (refl, temp_by (poke_temp p t.now x v) reported is frame unknown (frames_plain p t.now t.now.frames x v));
   reply = refl;
-  left = ap (λ (w : Timeline). sits p w stops limit) same;
+  left = ap (λ (w : Timeline). session_at p w stops limit) same;
 }
 
 -- ---- `poke W ADDR N`
 
 pub replies_nowhere : {A : Type 0} (p : Program A) (t : Timeline) (stops : Listed) (limit : ℕ) (w : Width) (at : Address) (v : ℕ) →
-    address_said p at ≡ None → Replies (sits p t stops limit) (sits p t stops limit) (Ok (Some (Poke w at v))) (Refused UnknownPlace)
-unfolding answer IsLawful
-replies_nowhere p t stops limit w at v is = record { want = None; lawful = tt; reply = rw is refl; left = rw is refl }
+    resolved_address p at ≡ None → Replies (session_at p t stops limit) (session_at p t stops limit) (Ok (Some (Poke w at v))) (Refused UnknownPlace)
+unfolding answer IsValid
+replies_nowhere p t stops limit w at v is = record { shortage = None; valid = tt; reply = rw is refl; left = rw is refl }
 
 pub replies_poke : {A : Type 0} (p : Program A) (t u : Timeline) (stops : Listed) (limit : ℕ) (w : Width) (at : Address) (v start n : ℕ) →
-    address_said p at ≡ Some start → n ≡ width_bytes w →
-    poked t (poke_memory t.now start n v) ≡ Ok u → Replies (sits p t stops limit) (sits p u stops limit) (Ok (Some (Poke w at v))) Place
-unfolding answer IsLawful
+    resolved_address p at ≡ Some start → n ≡ width_bytes w →
+    poked t (poke_memory t.now start n v) ≡ Ok u → Replies (session_at p t stops limit) (session_at p u stops limit) (Ok (Some (Poke w at v))) Place
+unfolding answer IsValid
 replies_poke p t u stops limit w at v start n is wide moved =
     let there = subst (λ i. poked t (poke_memory t.now start i v) ≡ Ok u) wide moved in
     let made = poke_moves p t u stops limit (poke_memory t.now start (width_bytes w) v) there in
-    record { want = None; lawful = tt; reply = rw is made.reply; left = rw is made.left }
+    record { shortage = None; valid = tt; reply = rw is made.reply; left = rw is made.left }
 
 pub replies_poke_dead : {A : Type 0} (p : Program A) (t u : Timeline) (stops : Listed) (limit : ℕ) (w : Width) (at : Address) (v start n : ℕ) →
-    address_said p at ≡ Some start → n ≡ width_bytes w →
-    poke_memory t.now start n v ≡ Err dead_bytes → u ≡ t → Replies (sits p t stops limit) (sits p u stops limit) (Ok (Some (Poke w at v))) (Refused (poke_refusal dead_bytes))
-unfolding answer IsLawful
+    resolved_address p at ≡ Some start → n ≡ width_bytes w →
+    poke_memory t.now start n v ≡ Err dead_bytes → u ≡ t → Replies (session_at p t stops limit) (session_at p u stops limit) (Ok (Some (Poke w at v))) (Refused (poke_refusal dead_bytes))
+unfolding answer IsValid
 replies_poke_dead p t u stops limit w at v start n is wide refused same =
     let there = subst (λ i. poke_memory t.now start i v ≡ Err dead_bytes) wide refused in
     let made = poke_refused p t u stops limit (poke_memory t.now start (width_bytes w) v) dead_bytes there same in
-    record { want = None; lawful = tt; reply = rw is made.reply; left = rw is made.left }
+    record { shortage = None; valid = tt; reply = rw is made.reply; left = rw is made.left }
 
-pub replies_poke_wants : {A : Type 0} (p : Program A) (t u : Timeline) (stops : Listed) (limit : ℕ) (w : Width) (at : Address) (v start n : ℕ) (told : Result (Unit {0}) PokeError) →
-    address_said p at ≡ Some start → n ≡ width_bytes w →
-    told ≡ Err OutOfMemory → (told ≡ Err DeadAddress) ↔ (poke_memory t.now start n v ≡ Err dead_bytes) → u ≡ t →
-    Replies (sits p t stops limit) (sits p u stops limit) (Ok (Some (Poke w at v))) (Stopped Memory)
-unfolding answer IsLawful
-replies_poke_wants p t u stops limit w at v start n told is wide wants dead same =
-    let there = subst (λ i. (told ≡ Err DeadAddress) ↔ (poke_memory t.now start i v ≡ Err dead_bytes)) wide dead in
+pub replies_poke_wants : {A : Type 0} (p : Program A) (t u : Timeline) (stops : Listed) (limit : ℕ) (w : Width) (at : Address) (v start n : ℕ) (reported : Result (Unit {0}) PokeError) →
+    resolved_address p at ≡ Some start → n ≡ width_bytes w →
+    reported ≡ Err OutOfMemory → (reported ≡ Err DeadAddress) ↔ (poke_memory t.now start n v ≡ Err dead_bytes) → u ≡ t →
+    Replies (session_at p t stops limit) (session_at p u stops limit) (Ok (Some (Poke w at v))) (Stopped Memory)
+unfolding answer IsValid
+replies_poke_wants p t u stops limit w at v start n reported is wide shortages dead same =
+    let there = subst (λ i. (reported ≡ Err DeadAddress) ↔ (poke_memory t.now start i v ≡ Err dead_bytes)) wide dead in
     record {
-      want = Some 0;
-      lawful = (refl, start, is, memory_by t.now (stored t.now.memory start (width_bytes w) v) told wants there);
+      shortage = Some 0;
+      valid = (refl, start, is, memory_by t.now (stored t.now.memory start (width_bytes w) v) reported shortages there);
       reply = refl;
-      left = ap (λ (w : Timeline). sits p w stops limit) same;
+      left = ap (λ (w : Timeline). session_at p w stops limit) same;
     }

@@ -9,58 +9,58 @@ use Rattle.qil_meaning.specs.State.{Name}
 use Rattle.qil_replies.specs.declared.reply.Refusal.TheVariants.{Line}
 use Rattle.qil_replies.specs.declared.reply.Reply.{Reply}
 use Rattle.qil_replies.specs.declared.reply.Reply.TheVariants as replies
-use Rattle.qil_session.specs.Situation.{Situation, address_said, text_in}
-use Rattle.qil_session.specs.Answers.{Answers, Replies, answer, answer_text, IsLawful, memory_reply}
+use Rattle.qil_session.specs.SessionState.{SessionState, resolved_address, text_in}
+use Rattle.qil_session.specs.Answers.{Answers, Replies, answer, answer_text, IsValid, memory_reply}
 
-pub replies_stops : {A : Type 0} (s : Situation A) → Replies s s (Ok (Some commands.Stops)) replies.Stops
-unfolding answer IsLawful
-replies_stops s = record { want = None; lawful = tt; reply = refl; left = refl }
+pub replies_stops : {A : Type 0} (s : SessionState A) → Replies s s (Ok (Some commands.Stops)) replies.Stops
+unfolding answer IsValid
+replies_stops s = record { shortage = None; valid = tt; reply = refl; left = refl }
 
-pub replies_print : {A : Type 0} (s : Situation A) (x : Name) → Replies s s (Ok (Some (commands.Print x))) (replies.Temporary x)
-unfolding answer IsLawful
-replies_print s x = record { want = None; lawful = tt; reply = refl; left = refl }
+pub replies_print : {A : Type 0} (s : SessionState A) (x : Name) → Replies s s (Ok (Some (commands.Print x))) (replies.Temporary x)
+unfolding answer IsValid
+replies_print s x = record { shortage = None; valid = tt; reply = refl; left = refl }
 
-pub replies_temps : {A : Type 0} (s : Situation A) → Replies s s (Ok (Some commands.Temps)) replies.Temporaries
-unfolding answer IsLawful
-replies_temps s = record { want = None; lawful = tt; reply = refl; left = refl }
+pub replies_temps : {A : Type 0} (s : SessionState A) → Replies s s (Ok (Some commands.Temps)) replies.Temporaries
+unfolding answer IsValid
+replies_temps s = record { shortage = None; valid = tt; reply = refl; left = refl }
 
-pub replies_mem : {A : Type 0} (s : Situation A) (at : Address) (n : ℕ) (told : Reply) → told ≡ memory_reply n (address_said s.program at) → Replies s s (Ok (Some (commands.Mem at n))) told
-unfolding answer IsLawful
-replies_mem s at n told is = record { want = None; lawful = tt; reply = is; left = refl }
+pub replies_mem : {A : Type 0} (s : SessionState A) (at : Address) (n : ℕ) (reported : Reply) → reported ≡ memory_reply n (resolved_address s.program at) → Replies s s (Ok (Some (commands.Mem at n))) reported
+unfolding answer IsValid
+replies_mem s at n reported is = record { shortage = None; valid = tt; reply = is; left = refl }
 
-pub replies_where : {A : Type 0} (s : Situation A) → Replies s s (Ok (Some commands.Where)) replies.Frames
-unfolding answer IsLawful
-replies_where s = record { want = None; lawful = tt; reply = refl; left = refl }
+pub replies_where : {A : Type 0} (s : SessionState A) → Replies s s (Ok (Some commands.Where)) replies.Frames
+unfolding answer IsValid
+replies_where s = record { shortage = None; valid = tt; reply = refl; left = refl }
 
-pub replies_list : {A : Type 0} (s : Situation A) → Replies s s (Ok (Some commands.List)) replies.Block
-unfolding answer IsLawful
-replies_list s = record { want = None; lawful = tt; reply = refl; left = refl }
+pub replies_list : {A : Type 0} (s : SessionState A) → Replies s s (Ok (Some commands.List)) replies.Block
+unfolding answer IsValid
+replies_list s = record { shortage = None; valid = tt; reply = refl; left = refl }
 
-pub replies_out : {A : Type 0} (s : Situation A) → Replies s s (Ok (Some commands.Out)) replies.Output
-unfolding answer IsLawful
-replies_out s = record { want = None; lawful = tt; reply = refl; left = refl }
+pub replies_out : {A : Type 0} (s : SessionState A) → Replies s s (Ok (Some commands.Out)) replies.Output
+unfolding answer IsValid
+replies_out s = record { shortage = None; valid = tt; reply = refl; left = refl }
 
-pub replies_quit : {A : Type 0} (s : Situation A) → Replies s s (Ok (Some commands.Quit)) replies.Nothing
-unfolding answer IsLawful
-replies_quit s = record { want = None; lawful = tt; reply = refl; left = refl }
+pub replies_quit : {A : Type 0} (s : SessionState A) → Replies s s (Ok (Some commands.Quit)) replies.Nothing
+unfolding answer IsValid
+replies_quit s = record { shortage = None; valid = tt; reply = refl; left = refl }
 
-pub replies_nothing : {A : Type 0} (s : Situation A) → Replies s s (Ok None) replies.Nothing
-unfolding answer IsLawful
-replies_nothing s = record { want = None; lawful = tt; reply = refl; left = refl }
+pub replies_nothing : {A : Type 0} (s : SessionState A) → Replies s s (Ok None) replies.Nothing
+unfolding answer IsValid
+replies_nothing s = record { shortage = None; valid = tt; reply = refl; left = refl }
 
-pub replies_refusal : {A : Type 0} (s : Situation A) (refused : Refused) → Replies s s (Err refused) (replies.Refused (Line refused))
-unfolding answer IsLawful
-replies_refusal s refused = record { want = None; lawful = tt; reply = refl; left = refl }
+pub replies_refusal : {A : Type 0} (s : SessionState A) (refused : Refused) → Replies s s (Err refused) (replies.Refused (Line refused))
+unfolding answer IsValid
+replies_refusal s refused = record { shortage = None; valid = tt; reply = refl; left = refl }
 
 -- what was put is the text of the reply, in the session that is left
-pub answers_by : {A T E : Type 0} (old new : Situation A) (said : Result (Option Command) Refused) (told : Reply) (r : Result T E) (a b : Option (List ℕ)) →
-    Replies old new said told → Puts r a b (text_in new told) → Answers old new said r a b
-answers_by {A} old new said told r a b is text =
-    let one = answer old said is.want in
-    let there = subst (λ (s : Situation A). Puts r a b (text_in s told)) is.left text in
+pub answers_by : {A T E : Type 0} (old new : SessionState A) (said : Result (Option Command) Refused) (reported : Reply) (r : Result T E) (a b : Option (List ℕ)) →
+    Replies old new said reported → Puts r a b (text_in new reported) → Answers old new said r a b
+answers_by {A} old new said reported r a b is text =
+    let one = answer old said is.shortage in
+    let there = subst (λ (s : SessionState A). Puts r a b (text_in s reported)) is.left text in
     record {
-      want = is.want;
-      lawful = is.lawful;
+      shortage = is.shortage;
+      valid = is.valid;
       text = subst (λ (x : Reply). Puts r a b (text_in one.left x)) is.reply there;
       left = is.left;
     }

@@ -21,8 +21,8 @@ use Rattle.qil_stops.specs.Listed.{Listed, IsFull, added, is_listed, without}
 use Rattle.qil_replies.specs.declared.reply.Refusal.TheVariants as refusals
 use Rattle.qil_replies.specs.declared.reply.Reply.{Reply}
 use Rattle.qil_replies.specs.declared.reply.Reply.TheVariants.{Refused, Added, Deleted}
-use Rattle.qil_session.specs.Situation.{sits, address_said, place_said, temp_said, has_kind, is_full}
-use Rattle.qil_session.specs.Answers.{Replies, answer, IsLawful, stop_answer, made_reply}
+use Rattle.qil_session.specs.SessionState.{session_at, resolved_address, resolved_place, resolved_temp, has_kind, is_full}
+use Rattle.qil_session.specs.Answers.{Replies, answer, IsValid, stop_answer, made_reply}
 
 pub not_false : (b : Bool) → (b ≡ false → ⊥) → b ≡ true
 not_false true h = refl
@@ -51,80 +51,80 @@ pub record IsMade {A : Type 0} (p : Program A) (old new : Listed) (kind : StopKi
   pub err : OnErr made (new ≡ old)
 
 -- the reply and the session that is left are those of a stop that is wanted
-record IsAdded {A : Type 0} (p : Program A) (t : Timeline) (old new : Listed) (limit : ℕ) (kind : StopKind) (told : Reply) : Type 0 where
-  reply : told ≡ (stop_answer (sits p t old limit) (Some kind)).reply
-  left : sits p t new limit ≡ (stop_answer (sits p t old limit) (Some kind)).left
+record IsAdded {A : Type 0} (p : Program A) (t : Timeline) (old new : Listed) (limit : ℕ) (kind : StopKind) (reported : Reply) : Type 0 where
+  reply : reported ≡ (stop_answer (session_at p t old limit) (Some kind)).reply
+  left : session_at p t new limit ≡ (stop_answer (session_at p t old limit) (Some kind)).left
 
 stop_made : {A : Type 0} (p : Program A) (t : Timeline) (old new : Listed) (limit : ℕ) (kind : StopKind) (made : Result ℕ StopError) →
     IsMade p old new kind made → IsAdded p t old new limit kind (made_reply made kind)
 stop_made p t old new limit kind (Ok n) is =
     let has : has_kind p kind ≡ true = not_false (has_kind p kind) (λ e. let other = is.unknown.1 e in absurd cc) in
     let room : is_full old ≡ false = none_is (length old.kept) old.given 64 (2 ^ 62) (λ f. let other = is.many.1 (has, f) in absurd cc) in
-    record { reply = rw (has, room) (ap (λ i. Added i kind) is.number); left = rw (has, room) (ap (λ (stops : Listed). sits p t stops limit) is.ok) }
+    record { reply = rw (has, room) (ap (λ i. Added i kind) is.number); left = rw (has, room) (ap (λ (stops : Listed). session_at p t stops limit) is.ok) }
 stop_made p t old new limit kind (Err UnknownPlace) is =
     let has : has_kind p kind ≡ false = is.unknown.0 refl in
-    record { reply = rw has refl; left = rw has (ap (λ (stops : Listed). sits p t stops limit) is.err) }
+    record { reply = rw has refl; left = rw has (ap (λ (stops : Listed). session_at p t stops limit) is.err) }
 stop_made p t old new limit kind (Err TooMany) is =
     let has : has_kind p kind ≡ true = (is.many.0 refl).0 in
     let room : is_full old ≡ true = one_is (length old.kept) old.given 64 (2 ^ 62) (is.many.0 refl).1 in
-    record { reply = rw (has, room) refl; left = rw (has, room) (ap (λ (stops : Listed). sits p t stops limit) is.err) }
+    record { reply = rw (has, room) refl; left = rw (has, room) (ap (λ (stops : Listed). session_at p t stops limit) is.err) }
 stop_made p t old new limit kind (Err NoSuchStop) is = absurd (is.only refl)
 
 -- ---- `break $f @b K`
 
 pub replies_no_place : {A : Type 0} (p : Program A) (t : Timeline) (old : Listed) (limit : ℕ) (func : Name) (at : Option BreakPlace) →
-    place_said p func at ≡ None → Replies (sits p t old limit) (sits p t old limit) (Ok (Some (Break func at))) (Refused refusals.UnknownPlace)
-unfolding answer IsLawful
-replies_no_place p t old limit func at is = record { want = None; lawful = tt; reply = rw is refl; left = rw is refl }
+    resolved_place p func at ≡ None → Replies (session_at p t old limit) (session_at p t old limit) (Ok (Some (Break func at))) (Refused refusals.UnknownPlace)
+unfolding answer IsValid
+replies_no_place p t old limit func at is = record { shortage = None; valid = tt; reply = rw is refl; left = rw is refl }
 
-pub replies_break : {A : Type 0} (p : Program A) (t : Timeline) (old new : Listed) (limit : ℕ) (func : Name) (at : Option BreakPlace) (place : Place) (made : Result ℕ StopError) (told : Reply) →
-    place_said p func at ≡ Some place → IsMade p old new (kinds.Break place) made → told ≡ made_reply made (kinds.Break place) →
-    Replies (sits p t old limit) (sits p t new limit) (Ok (Some (Break func at))) told
-unfolding answer IsLawful
-replies_break p t old new limit func at place made told is how so =
+pub replies_break : {A : Type 0} (p : Program A) (t : Timeline) (old new : Listed) (limit : ℕ) (func : Name) (at : Option BreakPlace) (place : Place) (made : Result ℕ StopError) (reported : Reply) →
+    resolved_place p func at ≡ Some place → IsMade p old new (kinds.Break place) made → reported ≡ made_reply made (kinds.Break place) →
+    Replies (session_at p t old limit) (session_at p t new limit) (Ok (Some (Break func at))) reported
+unfolding answer IsValid
+replies_break p t old new limit func at place made reported is how so =
     let one = stop_made p t old new limit (kinds.Break place) made how in
-    record { want = None; lawful = tt; reply = rw is (so ∙ one.reply); left = rw is one.left }
+    record { shortage = None; valid = tt; reply = rw is (so ∙ one.reply); left = rw is one.left }
 
 -- ---- `watch W ADDR`
 
 pub replies_no_bytes : {A : Type 0} (p : Program A) (t : Timeline) (old : Listed) (limit : ℕ) (w : Width) (at : Address) →
-    address_said p at ≡ None → Replies (sits p t old limit) (sits p t old limit) (Ok (Some (WatchBytes w at))) (Refused refusals.UnknownPlace)
-unfolding answer IsLawful
-replies_no_bytes p t old limit w at is = record { want = None; lawful = tt; reply = rw is refl; left = rw is refl }
+    resolved_address p at ≡ None → Replies (session_at p t old limit) (session_at p t old limit) (Ok (Some (WatchBytes w at))) (Refused refusals.UnknownPlace)
+unfolding answer IsValid
+replies_no_bytes p t old limit w at is = record { shortage = None; valid = tt; reply = rw is refl; left = rw is refl }
 
-pub replies_watch_bytes : {A : Type 0} (p : Program A) (t : Timeline) (old new : Listed) (limit : ℕ) (w : Width) (at : Address) (start n : ℕ) (made : Result ℕ StopError) (told : Reply) →
-    address_said p at ≡ Some start → n ≡ width_bytes w → IsMade p old new (kinds.Watch (watches.Bytes start n)) made → told ≡ made_reply made (kinds.Watch (watches.Bytes start n)) →
-    Replies (sits p t old limit) (sits p t new limit) (Ok (Some (WatchBytes w at))) told
-unfolding answer IsLawful
-replies_watch_bytes p t old new limit w at start n made told is wide how so =
+pub replies_watch_bytes : {A : Type 0} (p : Program A) (t : Timeline) (old new : Listed) (limit : ℕ) (w : Width) (at : Address) (start n : ℕ) (made : Result ℕ StopError) (reported : Reply) →
+    resolved_address p at ≡ Some start → n ≡ width_bytes w → IsMade p old new (kinds.Watch (watches.Bytes start n)) made → reported ≡ made_reply made (kinds.Watch (watches.Bytes start n)) →
+    Replies (session_at p t old limit) (session_at p t new limit) (Ok (Some (WatchBytes w at))) reported
+unfolding answer IsValid
+replies_watch_bytes p t old new limit w at start n made reported is wide how so =
     let there = subst (λ i. IsMade p old new (kinds.Watch (watches.Bytes start i)) made) wide how in
-    let said = subst (λ i. told ≡ made_reply made (kinds.Watch (watches.Bytes start i))) wide so in
+    let said = subst (λ i. reported ≡ made_reply made (kinds.Watch (watches.Bytes start i))) wide so in
     let one = stop_made p t old new limit (kinds.Watch (watches.Bytes start (width_bytes w))) made there in
-    record { want = None; lawful = tt; reply = rw is (said ∙ one.reply); left = rw is one.left }
+    record { shortage = None; valid = tt; reply = rw is (said ∙ one.reply); left = rw is one.left }
 
 -- ---- `watch $f %x`
 
 pub replies_no_temp : {A : Type 0} (p : Program A) (t : Timeline) (old : Listed) (limit : ℕ) (func x : Name) →
-    temp_said p func x ≡ None → Replies (sits p t old limit) (sits p t old limit) (Ok (Some (WatchTemp func x))) (Refused refusals.UnknownPlace)
-unfolding answer IsLawful
-replies_no_temp p t old limit func x is = record { want = None; lawful = tt; reply = rw is refl; left = rw is refl }
+    resolved_temp p func x ≡ None → Replies (session_at p t old limit) (session_at p t old limit) (Ok (Some (WatchTemp func x))) (Refused refusals.UnknownPlace)
+unfolding answer IsValid
+replies_no_temp p t old limit func x is = record { shortage = None; valid = tt; reply = rw is refl; left = rw is refl }
 
-pub replies_watch_temp : {A : Type 0} (p : Program A) (t : Timeline) (old new : Listed) (limit : ℕ) (func x : Name) (watched : Watched) (made : Result ℕ StopError) (told : Reply) →
-    temp_said p func x ≡ Some watched → IsMade p old new (kinds.Watch watched) made → told ≡ made_reply made (kinds.Watch watched) →
-    Replies (sits p t old limit) (sits p t new limit) (Ok (Some (WatchTemp func x))) told
-unfolding answer IsLawful
-replies_watch_temp p t old new limit func x watched made told is how so =
+pub replies_watch_temp : {A : Type 0} (p : Program A) (t : Timeline) (old new : Listed) (limit : ℕ) (func x : Name) (watched : Watched) (made : Result ℕ StopError) (reported : Reply) →
+    resolved_temp p func x ≡ Some watched → IsMade p old new (kinds.Watch watched) made → reported ≡ made_reply made (kinds.Watch watched) →
+    Replies (session_at p t old limit) (session_at p t new limit) (Ok (Some (WatchTemp func x))) reported
+unfolding answer IsValid
+replies_watch_temp p t old new limit func x watched made reported is how so =
     let one = stop_made p t old new limit (kinds.Watch watched) made how in
-    record { want = None; lawful = tt; reply = rw is (so ∙ one.reply); left = rw is one.left }
+    record { shortage = None; valid = tt; reply = rw is (so ∙ one.reply); left = rw is one.left }
 
 -- ---- `delete N`
 
 pub replies_deleted : {A : Type 0} (p : Program A) (t : Timeline) (old new : Listed) (limit n : ℕ) →
-    is_listed n old.kept ≡ true → new ≡ record old { kept = without n old.kept } → Replies (sits p t old limit) (sits p t new limit) (Ok (Some (Delete n))) (Deleted n)
-unfolding answer IsLawful
-replies_deleted p t old new limit n is less = record { want = None; lawful = tt; reply = rw is refl; left = rw is (ap (λ (stops : Listed). sits p t stops limit) less) }
+    is_listed n old.kept ≡ true → new ≡ record old { kept = without n old.kept } → Replies (session_at p t old limit) (session_at p t new limit) (Ok (Some (Delete n))) (Deleted n)
+unfolding answer IsValid
+replies_deleted p t old new limit n is less = record { shortage = None; valid = tt; reply = rw is refl; left = rw is (ap (λ (stops : Listed). session_at p t stops limit) less) }
 
 pub replies_unlisted : {A : Type 0} (p : Program A) (t : Timeline) (old new : Listed) (limit n : ℕ) →
-    is_listed n old.kept ≡ false → new ≡ old → Replies (sits p t old limit) (sits p t new limit) (Ok (Some (Delete n))) (Refused refusals.NoSuchStop)
-unfolding answer IsLawful
-replies_unlisted p t old new limit n is same = record { want = None; lawful = tt; reply = rw is refl; left = rw is (ap (λ (stops : Listed). sits p t stops limit) same) }
+    is_listed n old.kept ≡ false → new ≡ old → Replies (session_at p t old limit) (session_at p t new limit) (Ok (Some (Delete n))) (Refused refusals.NoSuchStop)
+unfolding answer IsValid
+replies_unlisted p t old new limit n is same = record { shortage = None; valid = tt; reply = rw is refl; left = rw is (ap (λ (stops : Listed). session_at p t stops limit) same) }

@@ -3,7 +3,7 @@ use Rattle.std.specs.Prelude.{ℕ}
 use Rattle.qil_tree.specs.declared.tree.Program.{Program}
 use Rattle.qil_meaning.specs.Timeline.{Timeline}
 use Rattle.qil_stops.specs.Listed.{Listed}
-use Rattle.qil_session.specs.Situation.{Situation, sits}
+use Rattle.qil_session.specs.SessionState.{SessionState, session_at}
 
 pub record Kept (H : Type 0) : Type 0 where
   pub history : H
@@ -11,5 +11,5 @@ pub record Kept (H : Type 0) : Type 0 where
   pub limit : ℕ
 
 -- the situation of what is kept, by the program and the timeline of its history
-abbrev pub situation : {A H : Type 0} → (H → Program A) → (H → Timeline) → Kept H → Situation A
-situation program timeline k = sits (program k.history) (timeline k.history) k.stops k.limit
+abbrev pub session_state : {A H : Type 0} → (H → Program A) → (H → Timeline) → Kept H → SessionState A
+session_state program timeline k = session_at (program k.history) (timeline k.history) k.stops k.limit

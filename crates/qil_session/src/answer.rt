@@ -5,7 +5,7 @@ ghost use Rattle.qil_commands.specs.Command.{command_of};
 ghost use Rattle.qil_meaning.specs.Timeline.{position};
 ghost use Rattle.qil_streams.specs.Device.{Counts};
 ghost use Rattle.qil_session.specs.Answers.{AnswersLine};
-ghost use Rattle.qil_session.specs.Kept.{situation};
+ghost use Rattle.qil_session.specs.Kept.{session_state};
 
 use crate::session::{Next, Session};
 use qil_commands::{Command, read_command};
@@ -14,7 +14,7 @@ use qil_machine::Machine;
 use qil_streams::{Put, PutError};
 use std::alloc::Allocator;
 
-/// Answers a line, of which the front is kept: a `quit` is no more than told.
+/// Answers a line, of which the prefix is kept: a `quit` is no more than reported.
 pub fn answer_line<'c, A: Allocator + Copy + 'c, H: History<A, Machine<'c, 'c, A>>, P: Put>(
     session: &mut Session<A, H>,
     kept: &[u8],
@@ -25,7 +25,7 @@ pub fn answer_line<'c, A: Allocator + Copy + 'c, H: History<A, Machine<'c, 'c, A
     requires limit { session.old.limit ≤ 4294967295 }
     ensures near { position (H.timeline session.new.history) < position (H.timeline session.old.history) + 2 ^ 32 }
     ensures limit { session.new.limit ≡ session.old.limit }
-    ensures answered { AnswersLine result (situation H.program H.timeline session.old) (situation H.program H.timeline session.new) (command_of kept.now) (P.written out.old) (P.written out.new) }
+    ensures answered { AnswersLine result (session_state H.program H.timeline session.old) (session_state H.program H.timeline session.new) (command_of kept.now) (P.written out.old) (P.written out.new) }
     ensures counted { Counts result (P.stops out.old) (P.stops out.new) }
     ensures device { P.device out.new ≡ P.device out.old }
 {

@@ -6,7 +6,7 @@ ghost use Rattle.qil_meaning.specs.Timeline.{position};
 ghost use Rattle.qil_meaning.specs.State.{is_final};
 ghost use Rattle.qil_state.specs.State.{state_of};
 ghost use Rattle.qil_stops.specs.Listed.{Listed};
-ghost use Rattle.qil_session.specs.Situation.{sits};
+ghost use Rattle.qil_session.specs.SessionState.{session_at};
 ghost use Rattle.qil_session.specs.Answers.{Replies, back_refusal};
 
 use crate::walk::{back_by, step_by};
@@ -32,7 +32,7 @@ pub fn step<'c, 'r, A: Allocator + Copy + 'c, H: History<A, Machine<'c, 'c, A>>>
     requires { position (H.timeline history.old) < 2 ^ 61 }
     ensures program { H.program history.new ≡ H.program history.old }
     ensures near { position (H.timeline history.new) < position (H.timeline history.old) + 2 ^ 32 }
-    ensures replied { (stops : Listed) (limit : ℕ) → Replies (sits (H.program history.old) (H.timeline history.old) stops limit) (sits (H.program history.old) (H.timeline history.new) stops limit)
+    ensures replied { (stops : Listed) (limit : ℕ) → Replies (session_at (H.program history.old) (H.timeline history.old) stops limit) (session_at (H.program history.old) (H.timeline history.new) stops limit)
         (Ok (Some (commands.Step count))) result }
 {
     if is_over(history.machine()) {
@@ -64,7 +64,7 @@ pub fn back<'c, 'r, A: Allocator + Copy + 'c, H: History<A, Machine<'c, 'c, A>>>
 ) -> Reply<'r>
     ensures program { H.program history.new ≡ H.program history.old }
     ensures near { position (H.timeline history.new) < position (H.timeline history.old) + 2 ^ 32 }
-    ensures replied { (stops : Listed) (limit : ℕ) → Replies (sits (H.program history.old) (H.timeline history.old) stops limit) (sits (H.program history.old) (H.timeline history.new) stops limit)
+    ensures replied { (stops : Listed) (limit : ℕ) → Replies (session_at (H.program history.old) (H.timeline history.old) stops limit) (session_at (H.program history.old) (H.timeline history.new) stops limit)
         (Ok (Some (commands.Back count))) result }
 {
     if let Some(refusal) = no_way_back(history.position(), history.oldest()) {
@@ -84,7 +84,7 @@ pub fn answer_continue<'c, 'r, A: Allocator + Copy + 'c, H: History<A, Machine<'
     requires limit { limit ≤ 4294967295 }
     ensures program { H.program history.new ≡ H.program history.old }
     ensures near { position (H.timeline history.new) < position (H.timeline history.old) + 2 ^ 32 }
-    ensures replied { Replies (sits (H.program history.old) (H.timeline history.old) stops.now limit) (sits (H.program history.old) (H.timeline history.new) stops.now limit)
+    ensures replied { Replies (session_at (H.program history.old) (H.timeline history.old) stops.now limit) (session_at (H.program history.old) (H.timeline history.new) stops.now limit)
         (Ok (Some commands.Continue)) result }
 {
     if is_over(history.machine()) {
@@ -102,7 +102,7 @@ pub fn answer_reverse<'c, 'r, A: Allocator + Copy + 'c, H: History<A, Machine<'c
 ) -> Reply<'r>
     ensures program { H.program history.new ≡ H.program history.old }
     ensures near { position (H.timeline history.new) < position (H.timeline history.old) + 2 ^ 32 }
-    ensures replied { Replies (sits (H.program history.old) (H.timeline history.old) stops.now limit) (sits (H.program history.old) (H.timeline history.new) stops.now limit)
+    ensures replied { Replies (session_at (H.program history.old) (H.timeline history.old) stops.now limit) (session_at (H.program history.old) (H.timeline history.new) stops.now limit)
         (Ok (Some commands.Reverse)) result }
 {
     if let Some(refusal) = no_way_back(history.position(), history.oldest()) {

@@ -4,10 +4,10 @@ ghost use Rattle.std.specs.Prelude.{◌≡◌, ℕ, ◌+◌, ◌<◌, ◌^◌, O
 ghost use Rattle.qil_commands.specs.declared.command.Command.TheVariants as commands;
 ghost use Rattle.qil_meaning.specs.Timeline.{position};
 ghost use Rattle.qil_stops.specs.Listed.{Listed};
-ghost use Rattle.qil_session.specs.Situation.{sits};
+ghost use Rattle.qil_session.specs.SessionState.{session_at};
 ghost use Rattle.qil_session.specs.Answers.{Replies};
 
-use crate::words::{address_said, width_bytes};
+use crate::words::{resolved_address, width_bytes};
 use qil_commands::Address;
 use qil_history::History;
 use qil_machine::{Machine, PokeError};
@@ -25,7 +25,7 @@ pub fn set<'c, 'r, A: Allocator + Copy + 'c, H: History<A, Machine<'c, 'c, A>>>(
     requires { position (H.timeline history.old) < 2 ^ 61 }
     ensures program { H.program history.new ≡ H.program history.old }
     ensures near { position (H.timeline history.new) < position (H.timeline history.old) + 2 ^ 32 }
-    ensures replied { (stops : Listed) (limit : ℕ) → Replies (sits (H.program history.old) (H.timeline history.old) stops limit) (sits (H.program history.old) (H.timeline history.new) stops limit)
+    ensures replied { (stops : Listed) (limit : ℕ) → Replies (session_at (H.program history.old) (H.timeline history.old) stops limit) (session_at (H.program history.old) (H.timeline history.new) stops limit)
         (Ok (Some (commands.Set name.now value))) result }
 {
     match history.poke_named(name, value) {
@@ -47,10 +47,10 @@ pub fn poke<'c, 'r, A: Allocator + Copy + 'c, H: History<A, Machine<'c, 'c, A>>>
     requires { position (H.timeline history.old) < 2 ^ 61 }
     ensures program { H.program history.new ≡ H.program history.old }
     ensures near { position (H.timeline history.new) < position (H.timeline history.old) + 2 ^ 32 }
-    ensures replied { (stops : Listed) (limit : ℕ) → Replies (sits (H.program history.old) (H.timeline history.old) stops limit) (sits (H.program history.old) (H.timeline history.new) stops limit)
+    ensures replied { (stops : Listed) (limit : ℕ) → Replies (session_at (H.program history.old) (H.timeline history.old) stops limit) (session_at (H.program history.old) (H.timeline history.new) stops limit)
         (Ok (Some (commands.Poke width address.entry value))) result }
 {
-    let Some(start) = address_said(history.machine().code(), &address) else {
+    let Some(start) = resolved_address(history.machine().code(), &address) else {
         return Reply::Refused(Refusal::UnknownPlace);
     };
     match history.poke_memory(start, width_bytes(width), value) {

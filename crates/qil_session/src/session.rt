@@ -4,9 +4,9 @@ ghost use Rattle.std.specs.Prelude.{◌≡◌, ◌+◌, ◌-◌, ◌^◌, ◌<�
 ghost use Rattle.qil_meaning.specs.Timeline.{position};
 ghost use Rattle.qil_streams.specs.Device.{Counts, Puts};
 ghost use Rattle.qil_answers.specs.Texts.{place_line};
-ghost use Rattle.qil_session.specs.Situation.{text_in};
+ghost use Rattle.qil_session.specs.SessionState.{text_in};
 ghost use Rattle.qil_session.specs.Answers.{Answers, Replies};
-ghost use Rattle.qil_session.specs.Kept.{situation};
+ghost use Rattle.qil_session.specs.Kept.{session_state};
 
 use crate::moves::{answer_continue, answer_reverse, back, step};
 use crate::poking::{poke, set};
@@ -89,7 +89,7 @@ impl<'c, A: Allocator + Copy + 'c, H: History<A, Machine<'c, 'c, A>>> Session<A,
     /// Puts the line of the place where the session stands.
     pub fn put_now<P: Put>(&self, out: &mut P) -> Result<(), PutError>
         requires { P.stops out.old < 2 ^ 64 - 1 }
-        ensures text { Puts result (P.written out.old) (P.written out.new) (place_line (situation H.program H.timeline self.now).timeline) }
+        ensures text { Puts result (P.written out.old) (P.written out.new) (place_line (session_state H.program H.timeline self.now).timeline) }
         ensures counted { Counts result (P.stops out.old) (P.stops out.new) }
         ensures device { P.device out.new ≡ P.device out.old }
     {
@@ -102,7 +102,7 @@ impl<'c, A: Allocator + Copy + 'c, H: History<A, Machine<'c, 'c, A>>> Session<A,
         requires limit { self.old.limit ≤ 4294967295 }
         ensures near { position (H.timeline self.new.history) < position (H.timeline self.old.history) + 2 ^ 32 }
         ensures limit { self.new.limit ≡ self.old.limit }
-        ensures replied { Replies (situation H.program H.timeline self.old) (situation H.program H.timeline self.new) (Ok (Some command.entry)) result }
+        ensures replied { Replies (session_state H.program H.timeline self.old) (session_state H.program H.timeline self.new) (Ok (Some command.entry)) result }
     {
         match command {
             Command::Step(count) => step(&mut self.history, count),
@@ -145,7 +145,7 @@ impl<'c, A: Allocator + Copy + 'c, H: History<A, Machine<'c, 'c, A>>> Session<A,
         requires limit { self.old.limit ≤ 4294967295 }
         ensures near { position (H.timeline self.new.history) < position (H.timeline self.old.history) + 2 ^ 32 }
         ensures limit { self.new.limit ≡ self.old.limit }
-        ensures replied { Replies (situation H.program H.timeline self.old) (situation H.program H.timeline self.new) said.entry result }
+        ensures replied { Replies (session_state H.program H.timeline self.old) (session_state H.program H.timeline self.new) said.entry result }
     {
         match said {
             Ok(Some(command)) => self.reply_command(command),
@@ -161,7 +161,7 @@ impl<'c, A: Allocator + Copy + 'c, H: History<A, Machine<'c, 'c, A>>> Session<A,
     /// `PutError` where `out` stopped. Then a prefix of the text was put.
     pub fn put_reply<P: Put>(&self, reply: Reply<'_>, out: &mut P) -> Result<(), PutError>
         requires { P.stops out.old < 2 ^ 64 - 1 }
-        ensures text { Puts result (P.written out.old) (P.written out.new) (text_in (situation H.program H.timeline self.now) reply.entry) }
+        ensures text { Puts result (P.written out.old) (P.written out.new) (text_in (session_state H.program H.timeline self.now) reply.entry) }
         ensures counted { Counts result (P.stops out.old) (P.stops out.new) }
         ensures device { P.device out.new ≡ P.device out.old }
     {
@@ -186,7 +186,7 @@ impl<'c, A: Allocator + Copy + 'c, H: History<A, Machine<'c, 'c, A>>> Session<A,
         requires limit { self.old.limit ≤ 4294967295 }
         ensures near { position (H.timeline self.new.history) < position (H.timeline self.old.history) + 2 ^ 32 }
         ensures limit { self.new.limit ≡ self.old.limit }
-        ensures answered { Answers (situation H.program H.timeline self.old) (situation H.program H.timeline self.new) said.entry result (P.written out.old) (P.written out.new) }
+        ensures answered { Answers (session_state H.program H.timeline self.old) (session_state H.program H.timeline self.new) said.entry result (P.written out.old) (P.written out.new) }
         ensures counted { Counts result (P.stops out.old) (P.stops out.new) }
         ensures device { P.device out.new ≡ P.device out.old }
     {

@@ -1,10 +1,10 @@
 //! The reply to `mem`: an address that the program has, or none.
 
 ghost use Rattle.std.specs.Prelude.{◌≡◌};
-ghost use Rattle.qil_session.specs.Situation.{address_said};
+ghost use Rattle.qil_session.specs.SessionState.{resolved_address};
 ghost use Rattle.qil_session.specs.Answers.{memory_reply};
 
-use crate::words::address_said;
+use crate::words::resolved_address;
 use qil_commands::Address;
 use qil_numbering::Code;
 use qil_replies::{Refusal, Reply};
@@ -16,9 +16,9 @@ pub fn show_bytes<'r, A: Allocator + Copy>(
     address: &Address<'_>,
     count: u32,
 ) -> Reply<'r>
-    ensures { result ≡ memory_reply count (address_said code.now address.now) }
+    ensures { result ≡ memory_reply count (resolved_address code.now address.now) }
 {
-    match address_said(code, address) {
+    match resolved_address(code, address) {
         Some(start) => Reply::Bytes(start, count),
         None => Reply::Refused(Refusal::UnknownPlace),
     }

@@ -4,10 +4,10 @@ ghost use Rattle.std.specs.Prelude.{◌≡◌, ℕ, Ok, Some};
 ghost use Rattle.qil_commands.specs.declared.command.Command.TheVariants as commands;
 ghost use Rattle.qil_meaning.specs.Timeline.{Timeline};
 ghost use Rattle.qil_tree.specs.declared.tree.Program.{Program};
-ghost use Rattle.qil_session.specs.Situation.{sits};
+ghost use Rattle.qil_session.specs.SessionState.{session_at};
 ghost use Rattle.qil_session.specs.Answers.{Replies, made_reply};
 
-use crate::words::{address_said, place_said, temp_said, width_bytes};
+use crate::words::{resolved_address, resolved_place, resolved_temp, width_bytes};
 use qil_commands::{Address, BreakPlace};
 use qil_numbering::Code;
 use qil_replies::{Refusal, Reply};
@@ -34,10 +34,10 @@ pub fn add_break<'c, 'a, 'r, A: Allocator + Copy>(
     func: &[u8],
     at: Option<BreakPlace<'_>>,
 ) -> Reply<'r>
-    ensures { (t : Timeline) (limit : ℕ) → Replies (sits code.now t stops.old limit) (sits code.now t stops.new limit)
+    ensures { (t : Timeline) (limit : ℕ) → Replies (session_at code.now t stops.old limit) (session_at code.now t stops.new limit)
         (Ok (Some (commands.Break func.now at.entry))) result }
 {
-    let Some(place) = place_said(code, func, &at) else {
+    let Some(place) = resolved_place(code, func, &at) else {
         return Reply::Refused(Refusal::UnknownPlace);
     };
     let made = stops.add_break(code, place.func, place.block, place.index);
@@ -51,10 +51,10 @@ pub fn watch_bytes<'c, 'a, 'r, A: Allocator + Copy>(
     width: Width,
     address: Address<'_>,
 ) -> Reply<'r>
-    ensures { (t : Timeline) (limit : ℕ) → Replies (sits code.now t stops.old limit) (sits code.now t stops.new limit)
+    ensures { (t : Timeline) (limit : ℕ) → Replies (session_at code.now t stops.old limit) (session_at code.now t stops.new limit)
         (Ok (Some (commands.WatchBytes width address.entry))) result }
 {
-    let Some(address) = address_said(code, &address) else {
+    let Some(address) = resolved_address(code, &address) else {
         return Reply::Refused(Refusal::UnknownPlace);
     };
     let width = width_bytes(width);
@@ -70,10 +70,10 @@ pub fn watch_temp<'c, 'a, 'r, A: Allocator + Copy>(
     func: &[u8],
     name: &[u8],
 ) -> Reply<'r>
-    ensures { (t : Timeline) (limit : ℕ) → Replies (sits code.now t stops.old limit) (sits code.now t stops.new limit)
+    ensures { (t : Timeline) (limit : ℕ) → Replies (session_at code.now t stops.old limit) (session_at code.now t stops.new limit)
         (Ok (Some (commands.WatchTemp func.now name.now))) result }
 {
-    let Some(watched) = temp_said(code, func, name) else {
+    let Some(watched) = resolved_temp(code, func, name) else {
         return Reply::Refused(Refusal::UnknownPlace);
     };
     let made = stops.add_watch(code, watched);
@@ -82,7 +82,7 @@ pub fn watch_temp<'c, 'a, 'r, A: Allocator + Copy>(
 
 /// Replies to `delete N`.
 pub fn delete<'r, A: Allocator + Copy>(stops: &mut Stops<A>, number: u64) -> Reply<'r>
-    ensures { (p : Program A) (t : Timeline) (limit : ℕ) → Replies (sits p t stops.old limit) (sits p t stops.new limit)
+    ensures { (p : Program A) (t : Timeline) (limit : ℕ) → Replies (session_at p t stops.old limit) (session_at p t stops.new limit)
         (Ok (Some (commands.Delete number))) result }
 {
     match stops.delete(number) {

@@ -4,13 +4,13 @@ ghost use Rattle.std.specs.Prelude.{◌≡◌, ◌+◌, ◌<◌, ◌≤◌, ◌^
 ghost use Rattle.qil_meaning.specs.Timeline.{position, at_end};
 ghost use Rattle.qil_meaning.specs.Moves.{forward_by, back_by as gone_by};
 
-use qil_history::{History, Stands};
+use qil_history::{HasState, History};
 use qil_machine::MoveError;
 use std::alloc::Allocator;
 
-/// Moves forward up to so many times, and not past the end. Where memory is wanting, answers how many moves were made.
+/// Moves forward up to so many times, and not past the end. Where memory runs out, answers how many moves were made.
 #[inline(never)]
-pub fn step_by<A: Allocator, M: Stands<A>, H: History<A, M>>(
+pub fn step_by<A: Allocator, M: HasState<A>, H: History<A, M>>(
     history: &mut H,
     count: u32,
 ) -> Result<(), u32>
@@ -33,7 +33,7 @@ pub fn step_by<A: Allocator, M: Stands<A>, H: History<A, M>>(
 
 /// Moves back up to so many times, and not past the oldest state that is kept.
 #[inline(never)]
-pub fn back_by<A: Allocator, M: Stands<A>, H: History<A, M>>(history: &mut H, count: u32)
+pub fn back_by<A: Allocator, M: HasState<A>, H: History<A, M>>(history: &mut H, count: u32)
     ensures program { H.program history.new ≡ H.program history.old }
     ensures near { position (H.timeline history.new) ≤ position (H.timeline history.old) }
     ensures moved { H.timeline history.new ≡ gone_by count (H.timeline history.old) }

@@ -3,7 +3,7 @@
 ghost use Rattle.std.specs.Prelude.{◌≡◌};
 ghost use Rattle.qil_layout.specs.Layout.{width_bytes};
 ghost use Rattle.qil_memory.specs.Calls.{IsWidth};
-ghost use Rattle.qil_session.specs.Situation.{address_said, place_said, temp_said};
+ghost use Rattle.qil_session.specs.SessionState.{resolved_address, resolved_place, resolved_temp};
 
 use qil_commands::{Address, BreakPlace};
 use qil_numbering::{BlockId, Code};
@@ -25,11 +25,11 @@ pub fn width_bytes(width: Width) -> u64
 }
 
 /// The address that a word says, if the program has its global.
-pub fn address_said<A: Allocator + Copy>(
+pub fn resolved_address<A: Allocator + Copy>(
     code: &Code<'_, '_, A>,
     address: &Address<'_>,
 ) -> Option<u64>
-    ensures { result ≡ address_said code.now address.now }
+    ensures { result ≡ resolved_address code.now address.now }
 {
     match address {
         Address::Number(number) => Some(*number),
@@ -41,12 +41,12 @@ pub fn address_said<A: Allocator + Copy>(
 }
 
 /// The place that `break` says, if the program has the function and the block.
-pub fn place_said<A: Allocator + Copy>(
+pub fn resolved_place<A: Allocator + Copy>(
     code: &Code<'_, '_, A>,
     func: &[u8],
     at: &Option<BreakPlace<'_>>,
 ) -> Option<Place>
-    ensures { result ≡ place_said code.now func.now at.now }
+    ensures { result ≡ resolved_place code.now func.now at.now }
 {
     let func = match code.func_named(func) {
         Some(func) => func,
@@ -70,12 +70,12 @@ pub fn place_said<A: Allocator + Copy>(
 }
 
 /// The temporary that `watch` says, if the program has it.
-pub fn temp_said<A: Allocator + Copy>(
+pub fn resolved_temp<A: Allocator + Copy>(
     code: &Code<'_, '_, A>,
     func: &[u8],
     name: &[u8],
 ) -> Option<Watched>
-    ensures { result ≡ temp_said code.now func.now name.now }
+    ensures { result ≡ resolved_temp code.now func.now name.now }
 {
     let func = match code.func_named(func) {
         Some(func) => func,

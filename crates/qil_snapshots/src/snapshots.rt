@@ -9,7 +9,7 @@ ghost use Rattle.qil_snapshots.specs.Kept.{cloned_timeline};
 ghost use Rattle.qil_pokes.specs.Pokes.{HasWidth, poke_of, Explains};
 
 use qil_history::{BackError, History};
-use qil_machine::{Keeps, Machine, MoveError, PokeError};
+use qil_machine::{DeltaSink, Machine, MoveError, PokeError};
 use qil_numbering::Slot;
 use qil_pokes::Poke;
 use std::alloc::{AllocError, Allocator};
@@ -117,7 +117,7 @@ impl<'c, 'a, A: Allocator + Copy> Snapshots<'c, 'a, A> {
         }
     }
 
-    /// Pokes, and keeps that as a move. Where there is no memory for a clone, a poke that wasn't refused is taken back.
+    /// Pokes, and keeps that as a move. Where there is no memory for a clone, a poke that wasn't refused is undone.
     fn poke(&mut self, poke: Poke<'_>) -> Result<(), PokeError>
         requires before { position (cloned_timeline self.old) < 2 ^ 62 }
         requires width { HasWidth poke }

@@ -1,4 +1,4 @@
--- What a step costs, from what stands at the place of the innermost frame.
+-- What a step costs, from what is at the place of the innermost frame.
 use Rattle.std.proofs.Common.{◌≡◌, refl, sym, ap, ◌∙◌, ℕ, ◌+◌, List, ◌∷◌, Option, Some, None, Ok}
 use Rattle.std.specs.Prelude.{option_map, slice_get}
 use Rattle.std.proofs.lemmas.Option.{slice_get-map}

@@ -31,43 +31,43 @@ use Rattle.qil_state.proofs.Reading.{slot_read, slot_written}
 
 -- ---- what is read
 
-abbrev pub value_told : List Name → Result ℕ Slot → Outcome ℕ
-value_told ns (Ok v) = Ok v
-value_told ns (Err s) = Err (unset_temporary (name_at ns s.index))
+abbrev pub value_reported : List Name → Result ℕ Slot → Outcome ℕ
+value_reported ns (Ok v) = Ok v
+value_reported ns (Err s) = Err (unset_temporary (name_at ns s.index))
 
 abbrev pub written_values : List SavedSlot → List ℕ
 written_values ks = map (λ k. unwrap_or k.value 0) ks
 
-abbrev pub gathered_told : List Name → Result (List SavedSlot) Slot → Outcome (List ℕ)
-gathered_told ns (Ok ks) = Ok (written_values ks)
-gathered_told ns (Err s) = Err (unset_temporary (name_at ns s.index))
+abbrev pub gathered_reported : List Name → Result (List SavedSlot) Slot → Outcome (List ℕ)
+gathered_reported ns (Ok ks) = Ok (written_values ks)
+gathered_reported ns (Err s) = Err (unset_temporary (name_at ns s.index))
 
-known_told : (ns : List Name) (c : Class) (s : Slot) (o : Option ℕ) → value_told ns (known c s o) ≡ values.known c (name_at ns s.index) o
-known_told ns c s None = refl
-known_told ns c s (Some v) = refl
+known_reported : (ns : List Name) (c : Class) (s : Slot) (o : Option ℕ) → value_reported ns (known c s o) ≡ values.known c (name_at ns s.index) o
+known_reported ns c s None = refl
+known_reported ns c s (Some v) = refl
 
-value_is_told : {A : Type 0} (p : Program A) (ns : List Name) (vs : List (Option ℕ)) (c : Class) (a : Source) → AreSlots ns vs → InRange (length vs) a
-    → value_told ns (value_in vs c a) ≡ val p (temps_of ns vs) c (named_source ns a)
-value_is_told p ns vs c (sources.Constant n) are is = refl
-value_is_told p ns vs c (sources.Slot s) are is = known_told ns c s (get_or vs s.index None) ∙ ap (values.known c (name_at ns s.index)) (slot_read ns vs s.index are is)
+value_is_reported : {A : Type 0} (p : Program A) (ns : List Name) (vs : List (Option ℕ)) (c : Class) (a : Source) → AreSlots ns vs → InRange (length vs) a
+    → value_reported ns (value_in vs c a) ≡ val p (temps_of ns vs) c (named_source ns a)
+value_is_reported p ns vs c (sources.Constant n) are is = refl
+value_is_reported p ns vs c (sources.Slot s) are is = known_reported ns c s (get_or vs s.index None) ∙ ap (values.known c (name_at ns s.index)) (slot_read ns vs s.index are is)
 
-onto_told : (ns : List Name) (s : Slot) (r : Result ℕ Slot) (others : Result (List SavedSlot) Slot)
-    → gathered_told ns (onto s r others) ≡ (value_told ns r >>= λ v. gathered_told ns others >>= λ vs. Ok (v ∷ vs))
-onto_told ns s (Err e) others = refl
-onto_told ns s (Ok v) (Err e) = refl
-onto_told ns s (Ok v) (Ok ks) = refl
+onto_reported : (ns : List Name) (s : Slot) (r : Result ℕ Slot) (others : Result (List SavedSlot) Slot)
+    → gathered_reported ns (onto s r others) ≡ (value_reported ns r >>= λ v. gathered_reported ns others >>= λ vs. Ok (v ∷ vs))
+onto_reported ns s (Err e) others = refl
+onto_reported ns s (Ok v) (Err e) = refl
+onto_reported ns s (Ok v) (Ok ks) = refl
 
 abbrev moves_named : List Name → List PhiMove → List step.PhiMove
 moves_named ns ms = map (named_move ns) ms
 
-pub gathered_is_told : {A : Type 0} (p : Program A) (ns : List Name) (vs : List (Option ℕ)) (ms : List PhiMove) → AreSlots ns vs → All (MoveInRange (length vs)) ms
-    → gathered_told ns (gathered vs ms) ≡ vals p (temps_of ns vs) (map move_read (moves_named ns ms))
-gathered_is_told p ns vs [] are all = refl
-gathered_is_told p ns vs (m ∷ ms) are all =
+pub gathered_is_reported : {A : Type 0} (p : Program A) (ns : List Name) (vs : List (Option ℕ)) (ms : List PhiMove) → AreSlots ns vs → All (MoveInRange (length vs)) ms
+    → gathered_reported ns (gathered vs ms) ≡ vals p (temps_of ns vs) (map move_read (moves_named ns ms))
+gathered_is_reported p ns vs [] are all = refl
+gathered_is_reported p ns vs (m ∷ ms) are all =
     let head : MoveInRange (length vs) m = All-head (MoveInRange (length vs)) m ms all in
-    let deep = gathered_is_told p ns vs ms are (All-tail (MoveInRange (length vs)) m ms all) in
-    onto_told ns m.target (value_in vs m.class m.source) (gathered vs ms)
-    ∙ (λ i. value_is_told p ns vs m.class m.source are head.source i >>= λ v. deep i >>= λ vs. Ok (v ∷ vs))
+    let deep = gathered_is_reported p ns vs ms are (All-tail (MoveInRange (length vs)) m ms all) in
+    onto_reported ns m.target (value_in vs m.class m.source) (gathered vs ms)
+    ∙ (λ i. value_is_reported p ns vs m.class m.source are head.source i >>= λ v. deep i >>= λ vs. Ok (v ∷ vs))
 
 -- ---- what is written
 
@@ -138,15 +138,15 @@ pub merges_by : {A : Type 0} (p : Program A) (F : meaning.Frame) (tree : List st
     → moves_named ns ms ≡ map (resolved_move p) tree → F.temps ≡ temps_of ns vs → AreSlots ns vs → All (MoveInRange (length vs)) ms → Merges p F tree ns vs ms
 merges_by {A} p F tree ns vs ms same ft are all =
     let xs : List Name = target_names (moves_named ns ms) in
-    let reads : vals p F.temps (map move_read tree) ≡ gathered_told ns (gathered vs ms) =
+    let reads : vals p F.temps (map move_read tree) ≡ gathered_reported ns (gathered vs ms) =
     sym (moves_resolved p F.temps tree)
     ∙ (λ i. vals p (ft i) (map move_read (sym same i)))
-    ∙ sym (gathered_is_told p ns vs ms are all) in
+    ∙ sym (gathered_is_reported p ns vs ms are all) in
     let names : target_names tree ≡ xs = sym (targets_resolved p tree) ∙ ap target_names (sym same) in
-    let all_of : merges p F tree ≡ (gathered_told ns (gathered vs ms) >>= merged F xs) = λ i. reads i >>= merged F (names i) in
+    let all_of : merges p F tree ≡ (gathered_reported ns (gathered vs ms) >>= merged F xs) = λ i. reads i >>= merged F (names i) in
     record {
-      done = λ ks e. all_of ∙ ap (λ r. gathered_told ns r >>= merged F xs) e
+      done = λ ks e. all_of ∙ ap (λ r. gathered_reported ns r >>= merged F xs) e
           ∙ (λ i. Ok (record F { temps = overlay (named xs (written_values ks)) (ft i) }))
           ∙ ap (λ t. Ok (record F { temps = t })) (are_laid ns vs ms ks vs e are all);
-      unset = λ s e. all_of ∙ ap (λ r. gathered_told ns r >>= merged F xs) e;
+      unset = λ s e. all_of ∙ ap (λ r. gathered_reported ns r >>= merged F xs) e;
     }

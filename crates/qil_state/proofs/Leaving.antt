@@ -35,7 +35,7 @@ use Rattle.qil_state.specs.declared.status.Fault.{Fault}
 use Rattle.qil_state.specs.declared.status.Fault.TheVariants as faults
 use Rattle.qil_state.specs.declared.status.Status.{Status}
 use Rattle.qil_state.specs.declared.status.Status.TheVariants.{Running}
-use Rattle.qil_state.specs.Faults.{fault_of, told}
+use Rattle.qil_state.specs.Faults.{fault_of, reported}
 use Rattle.qil_state.specs.State.{Whole, whole, state_of, frame_state, frames_state, head_names, label_in, FrameFits, FramesFit, PlaceFits}
 use Rattle.qil_state.specs.Stepping.{went, left_whole, went_whole, returned_whole}
 use Rattle.qil_state.specs.Values.{AreSlots}
@@ -76,11 +76,11 @@ bare_ret_left {A} x p (f ∷ fs) m out st fr is fits at =
 
 -- what was read of an operand of a frame, by slots and by names
 abbrev pub IsRead : {A : Type 0} → Program A → SlotFrame → Class → Source → Result ℕ Fault → Type 0
-IsRead p f c a r = (ns : List Name) → AreSlots ns f.slots → told ns r ≡ val p (temps_of ns f.slots) c (named_source ns a)
+IsRead p f c a r = (ns : List Name) → AreSlots ns f.slots → reported ns r ≡ val p (temps_of ns f.slots) c (named_source ns a)
 
 abbrev GivesBack : {A : Type 0} → Program A → SlotFrame → Source → Result ℕ Fault → Whole A → Type 0
 GivesBack p fr a r x =
-    left_whole x (numbered_jumps.Ret (Some a)) ≡ (told (head_names x.program x.frames) r >>= λ v. returned_whole x (Some (fit (unwrap_or (returns_at p fr.func) types.W) v)))
+    left_whole x (numbered_jumps.Ret (Some a)) ≡ (reported (head_names x.program x.frames) r >>= λ v. returned_whole x (Some (fit (unwrap_or (returns_at p fr.func) types.W) v)))
 
 pub ret_left : {A : Type 0} (x : Whole A) (p : Program A) (fs : List SlotFrame) (m : Buffers) (out : List ℕ) (st : Status) (fr : SlotFrame) (a : Source) (r : Result ℕ Fault)
     → whole p fs m out st ≡ x → FramesFit p fs → slice_get fs 0 ≡ Some fr → IsRead p fr (returned_class (returns_at p fr.func)) a r → GivesBack p fr a r x
@@ -119,7 +119,7 @@ chosen p f fs m out st func e g ef true = along p f fs m out st func g ef
 chosen p f fs m out st func e g ef false = along p f fs m out st func e ef
 
 abbrev Chooses : {A : Type 0} → Source → Edge A → Edge A → Result ℕ Fault → Whole A → Type 0
-Chooses a e g r x = left_whole x (numbered_jumps.Jnz a e g) ≡ (told (head_names x.program x.frames) r >>= λ v. went_whole x (if v == 0 then g else e))
+Chooses a e g r x = left_whole x (numbered_jumps.Jnz a e g) ≡ (reported (head_names x.program x.frames) r >>= λ v. went_whole x (if v == 0 then g else e))
 
 pub jnz_left : {A : Type 0} (x : Whole A) (p : Program A) (fs : List SlotFrame) (m : Buffers) (out : List ℕ) (st : Status) (fr : SlotFrame) (a : Source) (e g : Edge A) (r : Result ℕ Fault)
     → whole p fs m out st ≡ x → FramesFit p fs → slice_get fs 0 ≡ Some fr → IsRead p fr classes.W a r → Chooses a e g r x

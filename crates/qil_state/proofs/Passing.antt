@@ -49,12 +49,12 @@ both_unless ns v vs (Some s) q = refl
 both_unless ns v vs None (Some s) = refl
 both_unless ns v vs None None = refl
 
-pub arguments_told : {A : Type 0} (p : Program A) (ns : List Name) (vs : List (Option ℕ)) (args : List NumberedArgument) → AreSlots ns vs → All (λ a. InRange (length vs) a.source) args
+pub arguments_reported : {A : Type 0} (p : Program A) (ns : List Name) (vs : List (Option ℕ)) (args : List NumberedArgument) → AreSlots ns vs → All (λ a. InRange (length vs) a.source) args
     → values_unless ns (argument_values vs args) (first_unset vs args) ≡ vals p (temps_of ns vs) (map argument_read (map (named_argument ns) args))
-arguments_told p ns vs [] are all = refl
-arguments_told p ns vs (a ∷ args) are all =
+arguments_reported p ns vs [] are all = refl
+arguments_reported p ns vs (a ∷ args) are all =
     let P : NumberedArgument → Type 0 = λ b. InRange (length vs) b.source in
-    let deep = arguments_told p ns vs args are (All-tail P a args all) in
+    let deep = arguments_reported p ns vs args are (All-tail P a args all) in
     let c : Class = class_of a.abi_type in
     both_unless ns (argument_value vs a) (argument_values vs args) (unset_in vs a.source) (first_unset vs args)
     ∙ (λ i. (slot_val_unless ns vs c a.source ∙ slot_val_is p ns vs c a.source are (All-head P a args all)) i >>= λ w. deep i >>= λ ws. Ok (w ∷ ws))
@@ -89,9 +89,9 @@ counts_differ params args ne =
     (λ e. ne (sym (length-map params (λ q. q.1)) ∙ sym e ∙ length-map args (λ a. a.abi_type))))
 
 -- names don't change the shape of a call
-pub shape_told : (ns : List Name) (params : List (Slot × AbiType)) (returns : Option AbiType) (to : Option Receiver) (args : List NumberedArgument) (b : Bool)
+pub shape_reported : (ns : List Name) (params : List (Slot × AbiType)) (returns : Option AbiType) (to : Option Receiver) (args : List NumberedArgument) (b : Bool)
     → b ≡ agree_all (map (λ a. a.abi_type) args) (map (λ q. q.1) params)
     → (b && gives (option_map (named_receiver ns) to) returns) ≡ is_in_shape (shape_by params returns) (option_map (named_receiver ns) to) (map (named_argument ns) args)
-shape_told ns params returns to args b e =
+shape_reported ns params returns to args b e =
     ap (λ c. c && gives (option_map (named_receiver ns) to) returns) e
     ∙ ap (λ ts. agree_all ts (map (λ q. q.1) params) && gives (option_map (named_receiver ns) to) returns) (sym (types_named ns args))

@@ -24,7 +24,7 @@ use Rattle.qil_state.specs.State.{FrameFits, FramesFit}
 use Rattle.qil_state.specs.Values.{AreSlots}
 use Rattle.qil_state.proofs.Distinct.{names_distinct}
 
--- the slots of a frame stand beside the names of its function
+-- the slots of a frame stand next to the names of its function
 pub are_slots : {A : Type 0} (p : Program A) (f : SlotFrame) → FrameFits p f → AreSlots (names_of p f.func) f.slots
 are_slots p f fits = record { distinct = names_distinct p f.func; long = fits.slots }
 

@@ -38,7 +38,7 @@ faulted_step {A} x y p fs m out st why is same e =
     subst (λ (x : Whole A). stepped_whole x ≡ Err (fault_of (head_names x.program x.frames) why) → state_of (whole p fs m out (Faulted why)) ≡ step_of x.program (state_of x)) (is ∙ same)
     (λ e. sym (step_settled p (state_of (whole p fs m out st)) (Err (fault_of (head_names p fs) why)) e)) e
 
--- ---- what stands at the place of the innermost frame
+-- ---- what is at the place of the innermost frame
 
 pub record Found {A : Type 0} (x : Whole A) (inst : NumberedInst A) (k : ℕ) : Type 0 where
   pub does : stepped_whole x ≡ performed_whole x inst

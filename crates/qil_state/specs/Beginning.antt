@@ -6,7 +6,7 @@ use Rattle.qil_numbering.specs.declared.numbered.Slot.{Slot}
 use Rattle.qil_numbering.specs.declared.numbered.NumberedArgument.{NumberedArgument}
 use Rattle.qil_state.specs.Values.{argument_value}
 
--- slots in which each parameter is set to the value beside it, as its type has it, one after the other
+-- slots in which each parameter is set to the value next to it, as its type has it, one after the other
 abbrev pub begun_slots : List (Slot × AbiType) → List ℕ → List (Option ℕ) → List (Option ℕ)
 begun_slots [] vs slots = slots
 begun_slots (q ∷ qs) [] slots = slots

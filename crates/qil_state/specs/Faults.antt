@@ -28,6 +28,6 @@ status_of ns (statuses.Exited w) = meaning.exited w
 status_of ns (statuses.Faulted f) = meaning.faulted (fault_of ns f)
 
 -- what comes of something by number, read through names
-abbrev pub told : {X : Type 0} → List Name → Result X Fault → Outcome X
-told ns (Ok x) = Ok x
-told ns (Err f) = Err (fault_of ns f)
+abbrev pub reported : {X : Type 0} → List Name → Result X Fault → Outcome X
+reported ns (Ok x) = Ok x
+reported ns (Err f) = Err (fault_of ns f)

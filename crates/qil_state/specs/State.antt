@@ -1,4 +1,4 @@
--- All that a machine holds, and the state that it stands for.
+-- All that a machine holds, and the state that it represents.
 use Rattle.std.specs.Prelude.{◌≡◌, ℕ, ◌+◌, ◌<◌, ◌≤◌, ◌^◌, List, [], ◌∷◌, length, Option, Some, None, option_map}
 use Rattle.qil_tree.specs.declared.tree.CallResult.{CallResult}
 use Rattle.qil_tree.specs.declared.tree.Block.{Block}
@@ -29,7 +29,7 @@ pub record Whole (A : Type 0) : Type 0 where
 abbrev pub whole : {A : Type 0} → Program A → List SlotFrame → Buffers → List ℕ → Status → Whole A
 whole p frames memory output status = record { program = p; frames = frames; memory = memory; output = output; status = status }
 
--- ---- the state that it stands for
+-- ---- the state that it represents
 
 abbrev pub func_name : {A : Type 0} → Option (Func A) → Name
 func_name None = []
@@ -87,12 +87,12 @@ abbrev pub PlaceFits : {A : Type 0} → Option (Block A) → ℕ → Type 0
 PlaceFits None k = ⊥
 PlaceFits (Some b) k = k ≤ length b.insts
 
--- the innermost frame stands at an index, and its block has another behind it
+-- the innermost frame is at an index, and its block has another after it
 abbrev pub IsNext : {A : Type 0} → Program A → List SlotFrame → ℕ → Type 0
 IsNext p [] k = ⊥
 IsNext p (f ∷ fs) k = (f.index ≡ k) × PlaceFits (block_at p f.func f.block) (k + 1)
 
--- a frame stands in a block of the code, at an instruction or behind the last, and has the slots of its function
+-- a frame stands in a block of the code, at an instruction or after the last, and has the slots of its function
 pub record FrameFits {A : Type 0} (p : Program A) (f : SlotFrame) : Type 0 where
   pub place : PlaceFits (block_at p f.func f.block) f.index
   pub slots : length (names_of p f.func) ≡ length f.slots

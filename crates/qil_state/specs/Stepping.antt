@@ -1,4 +1,4 @@
--- What a running state does before a fault is settled, by what stands at its place.
+-- What a running state does before a fault is settled, by what is at its place.
 use Rattle.std.specs.Prelude.{ℕ, List, [], ◌∷◌, Option, Some, None, Ok}
 use Rattle.qil_tree.specs.declared.tree.InstKind.{InstKind}
 use Rattle.qil_tree.specs.declared.tree.JumpKind.{JumpKind}

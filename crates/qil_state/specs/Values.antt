@@ -1,4 +1,4 @@
--- Slots beside their names, and values by number.
+-- Slots next to their names, and values by number.
 use Rattle.std.specs.Prelude.{◌≡◌, ℕ, ◌<◌, List, length, map, get_or, Option, Some, None, unwrap_or, Result, Ok, Err}
 use Rattle.qil_tree.specs.declared.ops.Class.{Class}
 use Rattle.qil_tree.specs.declared.ops.AbiType.{AbiType}
@@ -51,9 +51,9 @@ abbrev pub argument_values : List (Option ℕ) → List NumberedArgument → Lis
 argument_values vs args = map (argument_value vs) args
 
 -- what comes of the arguments: these values, or the fault of one
-abbrev pub told_with : {X : Type 0} → List ℕ → List Name → Result X Fault → Outcome (List ℕ)
-told_with vs ns (Ok x) = Ok vs
-told_with vs ns (Err why) = Err (fault_of ns why)
+abbrev pub reported_with : {X : Type 0} → List ℕ → List Name → Result X Fault → Outcome (List ℕ)
+reported_with vs ns (Ok x) = Ok vs
+reported_with vs ns (Err why) = Err (fault_of ns why)
 
 -- the shape of a function with these parameters
 abbrev pub shape_by : List (Slot × AbiType) → Option AbiType → Shape

@@ -11,7 +11,7 @@ ghost use Rattle.qil_meaning.specs.Values.{vals};
 ghost use Rattle.qil_meaning.specs.Calls.{agree, agree_all, gives, is_in_shape as has_shape};
 ghost use Rattle.qil_numbering.specs.Named.{named_argument, named_receiver};
 ghost use Rattle.qil_numbering.specs.Ranges.{InRange};
-ghost use Rattle.qil_state.specs.Values.{AreSlots, unset_in, held_or_zero, argument_value, argument_values, told_with, shape_by};
+ghost use Rattle.qil_state.specs.Values.{AreSlots, unset_in, held_or_zero, argument_value, argument_values, reported_with, shape_by};
 
 use crate::status::Fault;
 use qil_numbering::{NumberedArgument, Receiver, Slot, Source};
@@ -72,7 +72,7 @@ pub fn check_arguments<A: Allocator>(
 ) -> Result<(), Fault>
     requires { All (λ a. InRange (length slots.now) a.source) args.now }
     ensures { (p : Program A) (ns : List Name) → AreSlots ns slots.now
-        → told_with (argument_values slots.now args.now) ns result ≡ vals p (temps_of ns slots.now) (map argument_read (map (named_argument ns) args.now)) }
+        → reported_with (argument_values slots.now args.now) ns result ≡ vals p (temps_of ns slots.now) (map argument_read (map (named_argument ns) args.now)) }
 {
     for one in args {
         if let Some(slot) = unset_slot(slots, one.source) {

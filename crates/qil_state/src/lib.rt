@@ -1,4 +1,4 @@
-//! The state of a machine as code holds it, by numbers, and the state by names that it stands for.
+//! The state of a machine as code holds it, by numbers, and the state by names that it represents.
 #![tactic(auto)]
 
 mod arguments;

@@ -13,7 +13,7 @@ ghost use Rattle.qil_meaning.specs.Values.{val, load_of, fit};
 ghost use Rattle.qil_meaning.specs.Calls.{taken};
 ghost use Rattle.qil_numbering.specs.Named.{named_source, named_expr};
 ghost use Rattle.qil_numbering.specs.Ranges.{InRange, ExprInRange};
-ghost use Rattle.qil_state.specs.Faults.{told};
+ghost use Rattle.qil_state.specs.Faults.{reported};
 ghost use Rattle.qil_state.specs.Values.{AreSlots, evaluated};
 
 use crate::status::Fault;
@@ -35,7 +35,7 @@ pub fn value<A: Allocator>(
     source: Source,
 ) -> Result<u64, Fault>
     requires { InRange (length slots.now) source }
-    ensures { (p : Program A) (ns : List Name) → AreSlots ns slots.now → told ns result ≡ val p (temps_of ns slots.now) class (named_source ns source) }
+    ensures { (p : Program A) (ns : List Name) → AreSlots ns slots.now → reported ns result ≡ val p (temps_of ns slots.now) class (named_source ns source) }
 {
     match source {
         Source::Constant(v) => Ok(unary(UnaryOp::Copy, class, v)),
@@ -59,7 +59,7 @@ fn right_class(op: BinaryOp, class: Class) -> Class
 
 #[inline(always)]
 fn load<A: Allocator + Copy>(memory: &Memory<A>, op: LoadOp, address: u64) -> Result<u64, Fault>
-    ensures { (ns : List Name) → told ns result ≡ load_of (live memory.now) op address }
+    ensures { (ns : List Name) → reported ns result ≡ load_of (live memory.now) op address }
 {
     Ok(match op {
         LoadOp::L => memory.load(address, 8)?,
@@ -85,7 +85,7 @@ pub fn evaluate<A: Allocator + Copy>(
     expr: NumberedExpr,
 ) -> Result<u64, Fault>
     requires { ExprInRange (length slots.now) expr }
-    ensures { (p : Program A) (ns : List Name) → AreSlots ns slots.now → told ns result ≡ evaluated p (live memory.now) (temps_of ns slots.now) class (named_expr ns expr) }
+    ensures { (p : Program A) (ns : List Name) → AreSlots ns slots.now → reported ns result ≡ evaluated p (live memory.now) (temps_of ns slots.now) class (named_expr ns expr) }
 {
     match expr {
         NumberedExpr::Unary(op, a) => Ok(unary(op, class, value::<A>(slots, class, a)?)),

@@ -64,7 +64,7 @@ bottom-here t now k left same =
     let reached : (length t.past == k) ≡ (length now.past == 0) = same_bottom (length t.past) k (length t.past == k) (length now.past == 0) (length now.past) 0 refl refl (omega (arith, left)) in
     ap (λ b. if_holds b (cond (oldest t == 0) Start Oldest)) reached ∙ ap (λ n. if_holds (length now.past == 0) (cond (n == 0) Start Oldest)) (sym same)
 
--- what a move told of the state that it led back to
+-- what a move reported of the state that it led back to
 pub back-next : (stops : List Numbered) (k : ℕ) (t now new : Timeline) (found : Option Reason) → now ≡ gone k t → new ≡ gone (k + 1) t → found ≡ stopped stops now.now new.now →
     stop_back stops t (k + 1) ≡ option_or found (bottom t (k + 1))
 unfolding stop_back

@@ -61,7 +61,7 @@ all-kept n low given (s ∷ stops) le r =
     let above : low < s.number = r.0 in
     keeps n s stops (λ e. omega (arith, above, le, e)) ∙ ap (λ (l : List Stop). s ∷ l) (all-kept n s.number given stops (omega (arith, above, le)) r.1)
 
--- the number that stands at a place is above those before it
+-- the number that is at a place is above those before it
 above_low : (low given n : ℕ) (stops : List Stop) (i : ℕ) → IsRising low stops given → option_map number_of (slice_get stops i) ≡ Some n → low < n
 above_low low given n [] i r at = absurd cc
 above_low low given n (s ∷ stops) zero r at = let same : s.number ≡ n = ap (λ o. unwrap_or o n) at in let above : low < s.number = r.0 in omega (arith, above, same)

@@ -1,4 +1,4 @@
--- Stops and what they stand for: the first that does is the same in both lists.
+-- Stops and what they represent: the first that does is the same in both lists.
 use Rattle.std.proofs.Common.{◌≡◌, refl, sym, ap, ◌∙◌, ℕ, zero, suc, ◌+◌, ◌<◌, Bool, true, false, cond, List, [], ◌∷◌, length, drop, get_or, Option, Some, None, arith}
 use Rattle.std.proofs.lemmas.Bool.Decides.{Decides-eqb}
 use Rattle.std.specs.Prelude.{◌==◌, find, option_map}
@@ -32,7 +32,7 @@ named-listed p low given stops r = listed_by p low given stops r
 
 -- ---- the first that does
 
--- the test of a stop by what it stands for
+-- the test of a stop by what it represents
 abbrev pub by_name : {A : Type 0} → Program A → (meaning.Stop → Bool) → Stop → Bool
 by_name p q stop = passes q (named_kind p stop.kind)
 
@@ -92,7 +92,7 @@ first-here p q stops i d lt hit = ap (option_map (λ stop. stop.number)) (find_h
 pub first-none : {A : Type 0} (p : Program A) (q : meaning.Stop → Bool) (stops : List Stop) (i : ℕ) → i ≡ length stops → first_by p q (drop i stops) ≡ None
 first-none p q stops i e = rw (e, drop_all stops) refl
 
--- no stops stand for none
+-- no stops represent none
 pub named-none : {A : Type 0} (p : Program A) (stops : List Stop) → length stops ≡ 0 → [] ≡ named_stops p stops
 unfolding named_stops
 named-none p [] e = refl

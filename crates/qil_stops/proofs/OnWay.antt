@@ -29,7 +29,7 @@ unlimited j limit lt = ne_eqb j limit (λ e. omega (arith, lt, e))
 within-none : (stop : ℕ → Option Reason) (limit j : ℕ) → stop j ≡ None → j < limit → within limit j (stop j) ≡ None
 within-none stop limit j e lt = ap (λ r. option_or r (if_holds (j == limit) Limit)) e ∙ ap (λ b. if_holds b Limit) (unlimited j limit lt)
 
--- a reason that is no want of memory
+-- a reason that isn't out of memory
 pub least_at : (stop : ℕ → Option Reason) (limit k : ℕ) (r : Reason) → Passes stop k → k ≤ limit → stop k ≡ Some r → stopping r ≡ Some r → IsLeast stop limit k r
 least_at stop limit k r passed le here plain = record {
   passed = λ j lt. within-none stop limit j (passed j lt) (omega (arith, lt, le));
@@ -48,7 +48,7 @@ least_memory stop limit k lt passed here = record {
   reached = within-none stop limit k here lt;
 }
 
--- a stop that holds is no want of memory
+-- a stop that holds isn't out of memory
 plain_cases : (w k : Option ℕ) (r : Reason) → Some r ≡ option_or (option_map Watch w) (option_map Break k) → stopping r ≡ Some r
 plain_cases (Some n) k r e = let q : Watch n ≡ r = cc in subst (λ (r : Reason). stopping r ≡ Some r) q refl
 plain_cases None (Some n) r e = let q : Break n ≡ r = cc in subst (λ (r : Reason). stopping r ≡ Some r) q refl
@@ -127,8 +127,8 @@ on-over p stops limit k t now new found way goes f is over lt = record {
 -- the end comes before a stop
 pub on-halt : {A : Type 0} (p : Program A) (stops : List Numbered) (limit k : ℕ) (t now new : Timeline) (r q : Reason) (b : Bool) → IsOnWay p stops t k now → at_end now ≡ false → new ≡ forward p now →
     Some r ≡ stopped stops now.now new.now → at_end new ≡ b → q ≡ cond b End r → k < limit → RunsOn p stops limit t q (k + 1) new
-on-halt p stops limit k t now new r q true way goes f is at told lt = subst (λ x. RunsOn p stops limit t x (k + 1) new) (sym told) (on-over p stops limit k t now new (Some r) way goes f is at lt)
-on-halt p stops limit k t now new r q false way goes f is at told lt = subst (λ x. RunsOn p stops limit t x (k + 1) new) (sym told) (on-stop p stops limit k t now new r way goes f is at lt)
+on-halt p stops limit k t now new r q true way goes f is at reported lt = subst (λ x. RunsOn p stops limit t x (k + 1) new) (sym reported) (on-over p stops limit k t now new (Some r) way goes f is at lt)
+on-halt p stops limit k t now new r q false way goes f is at reported lt = subst (λ x. RunsOn p stops limit t x (k + 1) new) (sym reported) (on-stop p stops limit k t now new r way goes f is at lt)
 
 -- no move was left to make
 pub on-end : {A : Type 0} (p : Program A) (stops : List Numbered) (limit k : ℕ) (t now new : Timeline) → IsOnWay p stops t k now → at_end now ≡ true → new ≡ now → k ≤ limit → RunsOn p stops limit t End k new

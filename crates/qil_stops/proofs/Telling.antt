@@ -106,9 +106,9 @@ kind_test p old new (Watch (Temp func slot)) u v s t = temp_test p func.index sl
 -- the test that is made in a loop
 pub watch-test : {A : Type 0} (p : Program A) (old new : State) (stops : List Stop) (before : List (Option ℕ)) (i : ℕ) (d : Stop) (e : Option ℕ) (test : Bool) (v : Option ℕ) → AllTell p old stops before → i < length stops → length before ≡ length stops
     → Tells p new (get_or stops i d).kind v → test ≡ not (option_eq nat_eq v (get_or before i e)) → by_name p (differs old new) (get_or stops i d) ≡ test
-watch-test p old new stops before i d e test v told lt count here is =
+watch-test p old new stops before i d e test v reported lt count here is =
     let same : get_or before i None ≡ get_or before i e = get_or_default before i None e (omega (arith, lt, count)) in
-    kind_test p old new (get_or stops i d).kind (get_or before i None) v (told i d lt) here ∙ ap (λ (o : Option ℕ). not (option_eq nat_eq v o)) same ∙ sym is
+    kind_test p old new (get_or stops i d).kind (get_or before i None) v (reported i d lt) here ∙ ap (λ (o : Option ℕ). not (option_eq nat_eq v o)) same ∙ sym is
 
 -- ---- where nothing differs, what was kept tells the new readings too
 
@@ -163,13 +163,13 @@ no_number None e = refl
 no_number (Some s) e = absurd cc
 
 stays : {A : Type 0} (p : Program A) (old new : State) (stops : List Stop) (before : List (Option ℕ)) → AllTell p old stops before → first_by p (differs old new) stops ≡ None → AllTell p new stops before
-stays p old new stops before told none = λ i d lt.
-    kind_same p old new (get_or stops i d).kind (get_or before i None) (told i d lt) (none_found (by_name p (differs old new)) stops i d (no_number (find (by_name p (differs old new)) stops) none) lt)
+stays p old new stops before reported none = λ i d lt.
+    kind_same p old new (get_or stops i d).kind (get_or before i None) (reported i d lt) (none_found (by_name p (differs old new)) stops i d (no_number (find (by_name p (differs old new)) stops) none) lt)
 
-pub told-still : {A : Type 0} (p : Program A) (old new : State) (stops : List Stop) (before : List (Option ℕ)) → AllTell p old stops before → None ≡ stopped (named_stops p stops) old new → AllTell p new stops before
+pub reported-still : {A : Type 0} (p : Program A) (old new : State) (stops : List Stop) (before : List (Option ℕ)) → AllTell p old stops before → None ≡ stopped (named_stops p stops) old new → AllTell p new stops before
 unfolding stopped
-told-still p old new stops before told none =
-    stays p old new stops before told
+reported-still p old new stops before reported none =
+    stays p old new stops before reported
     (sym (first_watch-by p old new stops) ∙ no_watch (first_watch old new (named_stops p stops)) (first_break new (named_stops p stops)) none)
 
 -- ---- the stop that holds
@@ -219,27 +219,27 @@ only-none p old new stop u v test held s t is miss at none =
 
 -- ---- one more reading
 
-pub told-more : {A : Type 0} (p : Program A) (s : State) (stops : List Stop) (values : List (Option ℕ)) (i : ℕ) (d : Stop) (v : Option ℕ) → length values ≡ i → Tells p s (get_or stops i d).kind v
+pub reported-more : {A : Type 0} (p : Program A) (s : State) (stops : List Stop) (values : List (Option ℕ)) (i : ℕ) (d : Stop) (v : Option ℕ) → length values ≡ i → Tells p s (get_or stops i d).kind v
     → i < length stops
     → ((j : ℕ) (e : Stop) → j < i → Tells p s (get_or stops j e).kind (get_or values j None))
     → (j : ℕ) (e : Stop) → j < i + 1 → Tells p s (get_or stops j e).kind (get_or (values ++ v ∷ []) j None)
-told-more p s stops values i d v count here inside told j e lt = elim (cases_lt j i) [
-  | inl l ↦ subst (λ o. Tells p s (get_or stops j e).kind o) (sym (get_or_append_left values (v ∷ []) None j (omega (arith, l, count)))) (told j e l)
+reported-more p s stops values i d v count here inside reported j e lt = elim (cases_lt j i) [
+  | inl l ↦ subst (λ o. Tells p s (get_or stops j e).kind o) (sym (get_or_append_left values (v ∷ []) None j (omega (arith, l, count)))) (reported j e l)
   | inr g ↦ (let same : j ≡ i = omega (arith, g, lt) in
       let value : get_or (values ++ v ∷ []) j None ≡ v = ap (λ n. get_or (values ++ v ∷ []) n None) (same ∙ sym count) ∙ get_or-append_seam values v [] None in
       let stop : get_or stops i d ≡ get_or stops j e = get_or_default stops i d e inside ∙ ap (λ n. get_or stops n e) (sym same) in
       subst (λ o. Tells p s (get_or stops j e).kind o) (sym value) (subst (λ (x : Stop). Tells p s x.kind v) stop here))
 ]
 
--- ---- what a machine says, of the states that it stands for
+-- ---- what a machine says, of the states that it represents
 
-pub told-at : {A : Type 0} (q p : Program A) (s t : State) (stops : List Stop) (values : List (Option ℕ)) → q ≡ p → s ≡ t → AllTell q s stops values → AllTell p t stops values
-told-at {A} q p s t stops values e f told = subst (λ (r : Program A). AllTell r t stops values) e (subst (λ (u : State). AllTell q u stops values) f told)
+pub reported-at : {A : Type 0} (q p : Program A) (s t : State) (stops : List Stop) (values : List (Option ℕ)) → q ≡ p → s ≡ t → AllTell q s stops values → AllTell p t stops values
+reported-at {A} q p s t stops values e f reported = subst (λ (r : Program A). AllTell r t stops values) e (subst (λ (u : State). AllTell q u stops values) f reported)
 
 pub found-at : {A : Type 0} (q p : Program A) (s old new : State) (stops : List Stop) (before values : List (Option ℕ)) (r : Option Reason) → q ≡ p → s ≡ new → before ≡ values
     → ((old : State) → AllTell q old stops before → r ≡ stopped (named_stops q stops) old s) → AllTell p old stops values → r ≡ stopped (named_stops p stops) old new
-found-at {A} q p s old new stops before values r e f same says told =
-    let there : AllTell q old stops before = subst (λ (l : List (Option ℕ)). AllTell q old stops l) (sym same) (told-at p q old old stops values (sym e) refl told) in
+found-at {A} q p s old new stops before values r e f same says reported =
+    let there : AllTell q old stops before = subst (λ (l : List (Option ℕ)). AllTell q old stops l) (sym same) (reported-at p q old old stops values (sym e) refl reported) in
     says old there ∙ ap (λ (u : Program A). stopped (named_stops u stops) old s) e ∙ ap (λ (u : State). stopped (named_stops p stops) old u) f
 
 pub over-by : (ns : List Name) (st : Status) (b : Bool) → (IsTrue b ↔ (st ≢ Running)) → b ≡ is_final (status_of ns st)

@@ -1,4 +1,4 @@
--- What stops stand for in a program: places and temporaries by their names.
+-- What stops represent in a program: places and temporaries by their names.
 use Rattle.std.specs.Prelude.{ℕ, Bool, true, false, nat_le, List, length, Option, Some, None, option_map, is_some, slice_get}
 use Rattle.std.specs.List.{filter_map}
 use Rattle.qil_tree.specs.declared.tree.Block.{Block}
@@ -41,7 +41,7 @@ watch_in None x = None
 watch_in (Some func) None = None
 watch_in (Some func) (Some x) = Some (watch (temp_in func.name x))
 
--- a breakpoint in a block that the program lacks, and a watch on a temporary that it lacks, stand for nothing
+-- a breakpoint in a block that the program lacks, and a watch on a temporary that it lacks, represent nothing
 abbrev pub named_watch : {A : Type 0} → Program A → Watched → Option meaning.Stop
 named_watch p (Bytes a n) = Some (watch (memory_at a n))
 named_watch p (Temp func slot) = watch_in (func_at p func.index) (slice_get (names_of p func.index) slot.index)
@@ -53,11 +53,11 @@ named_kind p (Watch watched) = named_watch p watched
 abbrev pub named : {A : Type 0} → Program A → Stop → Option Numbered
 named p stop = option_map (λ meant. record { number = stop.number; stop = meant }) (named_kind p stop.kind)
 
--- the stops of the meaning that these stand for in a program
+-- the stops of the meaning that these represent in a program
 unfoldable pub named_stops : {A : Type 0} → Program A → List Stop → List Numbered
 named_stops p stops = filter_map (named p) stops
 
--- a test of what a stop stands for, which fails of nothing
+-- a test of what a stop represents, which fails of nothing
 abbrev pub passes : (meaning.Stop → Bool) → Option meaning.Stop → Bool
 passes test None = false
 passes test (Some meant) = test meant

@@ -33,6 +33,6 @@ abbrev pub Tells : {A : Type 0} → Program A → State → StopKind → Option 
 Tells p s (Break place) v = v ≡ None
 Tells p s (Watch watched) v = TellsWatched p s watched v
 
--- each value is what is kept of the reading of the stop that stands at its place
+-- each value is what is kept of the reading of the stop that is at its place
 abbrev pub AllTell : {A : Type 0} → Program A → State → List Stop → List (Option ℕ) → Type 0
 AllTell p s stops values = (i : ℕ) (d : Stop) → i < length stops → Tells p s (get_or stops i d).kind (get_or values i None)

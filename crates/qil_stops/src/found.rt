@@ -30,7 +30,7 @@ pub fn readings<'c, 'a, A: Allocator + Copy>(
     requires few { length stops.now ≤ 64 }
     requires readable { AreReadable stops.now }
     ensures count { length result.items ≡ length stops.now }
-    ensures told { AllTell machine.now.program (state_of machine.now) stops.now result.items }
+    ensures reported { AllTell machine.now.program (state_of machine.now) stops.now result.items }
 {
     let mut all = ArrayVec::new();
     for stop in stops {
@@ -93,7 +93,7 @@ fn only_stopped<'c, 'a, A: Allocator + Copy>(
     None
 }
 
-/// Which stop holds now, after a move from a state that is told by what was read there: a watch before a breakpoint, and of
+/// Which stop holds now, after a move from a state that is reported by what was read there: a watch before a breakpoint, and of
 /// each kind the one with the lowest number.
 #[inline(always)]
 pub fn stopped<'c, 'a, A: Allocator + Copy>(

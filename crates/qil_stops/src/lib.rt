@@ -1,6 +1,6 @@
 //! Breakpoints and watches, and runs forward and back to the first place where there is a reason to stop.
 //!
-//! `specs/Named.antt` says what a stop stands for in a program, by names; to what a run comes is the meaning's to say.
+//! `specs/Named.antt` says what a stop represents in a program, by names; to what a run comes is the meaning's to say.
 #![tactic(auto)]
 
 mod found;

@@ -87,7 +87,7 @@ fn run_watching<'c, A: Allocator + Copy + 'c, H: History<A, Machine<'c, 'c, A>>>
     (end_or(history, Reason::Limit), limit)
 }
 
-/// The stop that holds where the history stands, after a move from a state that is told by what was read there.
+/// The stop that holds where the history stands, after a move from a state that is reported by what was read there.
 #[inline(always)]
 pub fn stopped_here<'c, A: Allocator + Copy + 'c, H: History<A, Machine<'c, 'c, A>>>(
     history: &H,

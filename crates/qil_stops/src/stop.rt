@@ -36,13 +36,13 @@ pub enum Watched {
 /// What a stop looks for.
 #[derive(Clone, Copy, Debug, PartialEq, Eq)]
 pub enum StopKind {
-    /// The run comes to stand at a place.
+    /// The run comes to are at a place.
     Break(Place),
     /// What is watched reads otherwise than before the move.
     Watch(Watched),
 }
 
-/// A stop, and the number by which it is told and deleted.
+/// A stop, and the number by which it is reported and deleted.
 #[derive(Clone, Copy, Debug, PartialEq, Eq)]
 pub struct Stop {
     pub number: u64,

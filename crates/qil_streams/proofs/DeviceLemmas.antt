@@ -26,11 +26,11 @@ Consumes-append (Some xs) (Some ys) (Some zs) x y p q = p ∙ ap (λ v. x ++ v) 
 
 -- one more write of a text that is written piece by piece
 pub wrote_more : (bytes rest : List ℕ) (n : ℕ) (old mid new : Option (List ℕ))
-    → ((front : List ℕ) × (bytes ≡ front ++ rest) × Appends old mid front) → Appends mid new (take n rest)
-    → (front : List ℕ) × (bytes ≡ front ++ take (length rest - n) (drop n rest)) × Appends old new front
-wrote_more bytes rest n old mid new told more = (
-  told.0 ++ take n rest,
-  told.1 ∙ ap (λ v. told.0 ++ v) (sym (take-append-drop n rest)) ∙ sym (append_assoc told.0 (take n rest) (drop n rest))
-      ∙ ap (λ v. (told.0 ++ take n rest) ++ v) (sym (take_rest rest n)),
-  Appends-append old mid new told.0 (take n rest) told.2 more,
+    → ((prefix : List ℕ) × (bytes ≡ prefix ++ rest) × Appends old mid prefix) → Appends mid new (take n rest)
+    → (prefix : List ℕ) × (bytes ≡ prefix ++ take (length rest - n) (drop n rest)) × Appends old new prefix
+wrote_more bytes rest n old mid new reported more = (
+  reported.0 ++ take n rest,
+  reported.1 ∙ ap (λ v. reported.0 ++ v) (sym (take-append-drop n rest)) ∙ sym (append_assoc reported.0 (take n rest) (drop n rest))
+      ∙ ap (λ v. (reported.0 ++ take n rest) ++ v) (sym (take_rest rest n)),
+  Appends-append old mid new reported.0 (take n rest) reported.2 more,
 )

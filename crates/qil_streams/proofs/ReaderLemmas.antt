@@ -38,8 +38,8 @@ pub Reads-append : (a b c : Reading) (before middle after : Option (List ℕ)) �
 Reads-append a b c before middle after p q =
     (p.0 ++ q.0, Consumes-append before middle after p.0 q.0 p.1 q.1, omega (arith, p.2, q.2, length-append p.0 q.0))
 
--- the front of a line was taken so far, and 257 bytes of it are kept
-pub record TakesFront (old new : Reading) (kept : List ℕ) (before after : Option (List ℕ)) : Type 0 where
+-- the prefix of a line was taken so far, and 257 bytes of it are kept
+pub record TakesPrefix (old new : Reading) (kept : List ℕ) (before after : Option (List ℕ)) : Type 0 where
   pub line : List ℕ
   pub is_line : IsLine line
   pub taken : Consumes (rest_of old before) (rest_of new after) line
@@ -48,8 +48,8 @@ pub record TakesFront (old new : Reading) (kept : List ℕ) (before after : Opti
   pub reads : Reads old new before after
 
 -- nothing was taken so far
-pub TakesFront-nil : (reading : Reading) (kept : List ℕ) (before : Option (List ℕ)) → kept ≡ [] → TakesFront reading reading kept before before
-TakesFront-nil reading kept before none = record {
+pub TakesPrefix-nil : (reading : Reading) (kept : List ℕ) (before : Option (List ℕ)) → kept ≡ [] → TakesPrefix reading reading kept before before
+TakesPrefix-nil reading kept before none = record {
   line = [];
   is_line = tt;
   taken = Consumes-nil (rest_of reading before);

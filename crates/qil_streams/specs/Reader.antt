@@ -32,7 +32,7 @@ TakesPiece (Err e) old new before after = Consumes before after [] × (new.pendi
 abbrev pub IsLine : List ℕ → Type 0
 IsLine line = AllByRecursion (λ b. b ≢ 10) line
 
--- The next line, of which the first 257 bytes are kept. At an `Err` a front of it was taken, and all that was read.
+-- The next line, of which the first 257 bytes are kept. At an `Err` a prefix of it was taken, and all that was read.
 abbrev pub TakesLine : {E : Type 0} → Result LineEnd E → Reading → Reading → List ℕ → Option (List ℕ) → Option (List ℕ) → List ℕ → Type 0
 TakesLine (Ok at.Newline) old new kept before after line =
     Consumes before after (line ++ 10 ∷ []) × (kept ≡ take 257 line) × (new.given ≡ old.given + (length line + 1)) × (new.given ≤ 2 ^ 24)

@@ -1,7 +1,7 @@
 -- The lines of a script, as lists of bytes.
 use Rattle.std.specs.Prelude.{ℕ, List, [], ◌∷◌, nat_eq, cond}
 
--- the lines, with this byte in front of the first of them
+-- the lines, with this byte before the first of them
 abbrev pub onto_first : ℕ → List (List ℕ) → List (List ℕ)
 onto_first b [] = (b ∷ []) ∷ []
 onto_first b (line ∷ lines) = (b ∷ line) ∷ lines

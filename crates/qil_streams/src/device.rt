@@ -18,7 +18,7 @@ pub trait Source {
     /// How many calls failed.
     ghost failures: { Self → ℕ };
 
-    /// Moves bytes into the front of `into` and says how many.
+    /// Moves bytes into the prefix of `into` and says how many.
     ///
     /// Into a slice with room it gives 0 only at the end of the bytes. It may give fewer bytes than there is room for.
     ///
@@ -44,7 +44,7 @@ pub trait Sink {
     /// How many calls failed.
     ghost failures: { Self → ℕ };
 
-    /// Takes bytes from the front of `from` and says how many: at least one, unless `from` is empty.
+    /// Takes bytes from the prefix of `from` and says how many: at least one, unless `from` is empty.
     ///
     /// # Errors
     ///

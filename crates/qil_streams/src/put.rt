@@ -26,7 +26,7 @@ pub trait Put {
     ///
     /// # Errors
     ///
-    /// `PutError` where it could not take them all. Then it has put a front of them, which may be empty.
+    /// `PutError` where it could not take them all. Then it has put a prefix of them, which may be empty.
     fn put(&mut self, bytes: &[u8]) -> Result<(), PutError>
         requires { stops self.old < 2 ^ 64 - 1 }
         ensures text { Puts result (written self.old) (written self.new) bytes.now }
@@ -38,7 +38,7 @@ pub trait Put {
 ///
 /// # Errors
 ///
-/// `DeviceFault` at the first call that fails. Then the sink has taken a front of the bytes.
+/// `DeviceFault` at the first call that fails. Then the sink has taken a prefix of the bytes.
 pub fn write_all<W: Sink>(sink: &mut W, bytes: &[u8]) -> Result<(), DeviceFault>
     requires { W.failures sink.old < 2 ^ 64 - 1 }
     ensures text { Puts result (W.contents sink.old) (W.contents sink.new) bytes.now }
@@ -88,7 +88,7 @@ impl<'a, W: Sink> Put for Outlet<'a, W> {
 ///
 /// # Errors
 ///
-/// `PutError` where `out` stopped. Then a front of the digits was put.
+/// `PutError` where `out` stopped. Then a prefix of the digits was put.
 pub fn put_number<P: Put>(out: &mut P, number: u64) -> Result<(), PutError>
     requires { P.stops out.old < 2 ^ 64 - 1 }
     ensures text { Puts result (P.written out.old) (P.written out.new) (decimal number) }
@@ -103,7 +103,7 @@ pub fn put_number<P: Put>(out: &mut P, number: u64) -> Result<(), PutError>
 ///
 /// # Errors
 ///
-/// `PutError` where `out` stopped. Then a front of the line was put.
+/// `PutError` where `out` stopped. Then a prefix of the line was put.
 pub fn put_line<P: Put>(out: &mut P, text: &[u8]) -> Result<(), PutError>
     requires { P.stops out.old < 2 ^ 64 - 1 }
     ensures text { Puts result (P.written out.old) (P.written out.new) (line text.now) }

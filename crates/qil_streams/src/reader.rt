@@ -133,7 +133,7 @@ impl ScriptBytes {
     }
 }
 
-/// The front of a line, up to 257 bytes.
+/// The prefix of a line, up to 257 bytes.
 #[derive(Drop)]
 pub struct KeptLine {
     bytes: [u8; 257],
@@ -202,7 +202,7 @@ pub enum LineEnd {
 pub struct LineReader {
     /// The bytes that were read and are in no line so far, and how many were taken.
     pub bytes: ScriptBytes,
-    /// The front of the line that `next` gave last.
+    /// The prefix of the line that `next` gave last.
     pub kept: KeptLine,
 }
 
@@ -218,7 +218,7 @@ impl LineReader {
         }
     }
 
-    /// Goes to the next line and keeps its front, 257 bytes at most, in `kept`.
+    /// Goes to the next line and keeps its prefix, 257 bytes at most, in `kept`.
     ///
     /// After `Last`, `End` and `TooLong` no line follows: a caller that stops there makes no read past the end.
     ///

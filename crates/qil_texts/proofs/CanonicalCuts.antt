@@ -13,7 +13,7 @@ use Rattle.qil_lexer.specs.declared.token.TokenKind.TheVariants as kinds
 use Rattle.qil_lexer.specs.declared.token.Token.{Token}
 use Rattle.qil_lexer.specs.Shape.{Are, begins, is_spacing, is_name_byte, is_word_byte, decimal, decimal_after, number_value, first_kind, IsName, HasShape, IsInRange}
 use Rattle.qil_lexer.specs.Cut.{IsLongest, IsLongestGap, CutsBetween, Cuts, line_of}
-use Rattle.qil_lexer.specs.Front.{IsLongestTail}
+use Rattle.qil_lexer.specs.Prefix.{IsLongestTail}
 use Rattle.qil_lexer.proofs.Tails.{name_tail, word_tail, number_tail, longest_token}
 use Rattle.qil_lexer.proofs.Gaps.{gap_of, gap_of-spacing, gap_of-none, gap_of-nil, gap_longest}
 use Rattle.qil_texts.specs.Canonical.{Written, written, text_of}
@@ -159,27 +159,27 @@ abbrev pub tokens_at : List ℕ → ℕ → List Written → List Token
 tokens_at text from [] = []
 tokens_at text from (w ∷ ws) = token_at text (from + length w.gap) w ∷ tokens_at text ((from + length w.gap) + length w.bytes) ws
 
-parts_of : (w : Written) (front rest : List ℕ) → front ++ (written w ++ rest) ≡ (front ++ w.gap) ++ (w.bytes ++ rest)
-parts_of w front rest = ap (λ (l : List ℕ). front ++ l) (append_assoc w.gap w.bytes rest) ∙ sym (append_assoc front w.gap (w.bytes ++ rest))
+parts_of : (w : Written) (prefix rest : List ℕ) → prefix ++ (written w ++ rest) ≡ (prefix ++ w.gap) ++ (w.bytes ++ rest)
+parts_of w prefix rest = ap (λ (l : List ℕ). prefix ++ l) (append_assoc w.gap w.bytes rest) ∙ sym (append_assoc prefix w.gap (w.bytes ++ rest))
 
-behind : (text front rest : List ℕ) (from : ℕ) → text ≡ front ++ rest → from ≡ length front → drop from text ≡ rest
-behind text front rest from e l = rw (e, l) (drop-append_seam front rest)
+behind : (text prefix rest : List ℕ) (from : ℕ) → text ≡ prefix ++ rest → from ≡ length prefix → drop from text ≡ rest
+behind text prefix rest from e l = rw (e, l) (drop-append_seam prefix rest)
 
-pub cuts_from : (ws : List Written) (text front : List ℕ) (from : ℕ) → text ≡ front ++ text_of ws → from ≡ length front → Fine ws → CutsBetween text from (tokens_at text from ws) (length text)
-cuts_from [] text front from e l fine = record {
-  ordered = omega (arith, ap length e, length-append front []);
-  longest = subst (λ (n : ℕ). IsLongestGap n (drop from text)) (none_left text front from e l) (gap_longest (drop from text));
+pub cuts_from : (ws : List Written) (text prefix : List ℕ) (from : ℕ) → text ≡ prefix ++ text_of ws → from ≡ length prefix → Fine ws → CutsBetween text from (tokens_at text from ws) (length text)
+cuts_from [] text prefix from e l fine = record {
+  ordered = omega (arith, ap length e, length-append prefix []);
+  longest = subst (λ (n : ℕ). IsLongestGap n (drop from text)) (none_left text prefix from e l) (gap_longest (drop from text));
 }
   where
-    none_left : (text front : List ℕ) (from : ℕ) → text ≡ front ++ [] → from ≡ length front → gap_of (drop from text) ≡ length text - from
-    none_left text front from e l = ap gap_of (behind text front [] from e l) ∙ gap_of-nil ∙ omega (arith, ap length e, length-append front [])
-cuts_from (w ∷ ws) text front from e l fine =
+    none_left : (text prefix : List ℕ) (from : ℕ) → text ≡ prefix ++ [] → from ≡ length prefix → gap_of (drop from text) ≡ length text - from
+    none_left text prefix from e l = ap gap_of (behind text prefix [] from e l) ∙ gap_of-nil ∙ omega (arith, ap length e, length-append prefix [])
+cuts_from (w ∷ ws) text prefix from e l fine =
     let rest : List ℕ = text_of ws in
     let start : ℕ = from + length w.gap in
-    let split : text ≡ (front ++ w.gap) ++ (w.bytes ++ rest) = e ∙ parts_of w front rest in
-    let at_start : start ≡ length (front ++ w.gap) = omega (arith, length-append front w.gap) in
-    let there : drop start text ≡ w.bytes ++ rest = behind text (front ++ w.gap) (w.bytes ++ rest) start split at_start in
-    let gap_there : drop from text ≡ w.gap ++ (w.bytes ++ rest) = behind text front (w.gap ++ (w.bytes ++ rest)) from (split ∙ append_assoc front w.gap (w.bytes ++ rest)) l in
+    let split : text ≡ (prefix ++ w.gap) ++ (w.bytes ++ rest) = e ∙ parts_of w prefix rest in
+    let at_start : start ≡ length (prefix ++ w.gap) = omega (arith, length-append prefix w.gap) in
+    let there : drop start text ≡ w.bytes ++ rest = behind text (prefix ++ w.gap) (w.bytes ++ rest) start split at_start in
+    let gap_there : drop from text ≡ w.gap ++ (w.bytes ++ rest) = behind text prefix (w.gap ++ (w.bytes ++ rest)) from (split ∙ append_assoc prefix w.gap (w.bytes ++ rest)) l in
     let gap_len : gap_of (drop from text) ≡ start - from = ap gap_of gap_there ∙ gap_is w fine.0 rest ∙ omega arith in (
       record { ordered = omega arith; longest = subst (λ (n : ℕ). IsLongestGap n (drop from text)) gap_len (gap_longest (drop from text)) },
       record {
@@ -188,7 +188,7 @@ cuts_from (w ∷ ws) text front from e l fine =
         line = refl;
         in_range = fine.0.in_range;
       },
-      cuts_from ws text ((front ++ w.gap) ++ w.bytes) (start + length w.bytes) (split ∙ sym (append_assoc (front ++ w.gap) w.bytes rest)) (omega (arith, at_start, length-append (front ++ w.gap) w.bytes)) fine.2,
+      cuts_from ws text ((prefix ++ w.gap) ++ w.bytes) (start + length w.bytes) (split ∙ sym (append_assoc (prefix ++ w.gap) w.bytes rest)) (omega (arith, at_start, length-append (prefix ++ w.gap) w.bytes)) fine.2,
     )
 
 pub cuts : (ws : List Written) → Fine ws → Cuts (text_of ws) (tokens_at (text_of ws) 0 ws)

@@ -41,21 +41,21 @@ each_cut S a text ts c s us d = subst (λ (l : List Tok). S l a) (same_seen text
 
 pub inst_again : {A : Type 0} (i : Inst A) → GoodKind i.kind → InstRespelled i
 inst_again i good =
-    let told = writes_inst i good (seen (tokens_at (inst_text i) 0 (inst_words i))) (shown (inst_text i) 0 (inst_words i)) in
+    let reported = writes_inst i good (seen (tokens_at (inst_text i) 0 (inst_words i))) (shown (inst_text i) 0 (inst_words i)) in
     let cut = cuts (inst_words i) (fits_kind i.kind good) in
-    record { tokens = tokens_at (inst_text i) 0 (inst_words i); cut = cut; again = told.value; spelled = each_cut InstOf told.value (inst_text i) (tokens_at (inst_text i) 0 (inst_words i)) cut told.spelled; same = told.holds }
+    record { tokens = tokens_at (inst_text i) 0 (inst_words i); cut = cut; again = reported.value; spelled = each_cut InstOf reported.value (inst_text i) (tokens_at (inst_text i) 0 (inst_words i)) cut reported.spelled; same = reported.holds }
 
 pub phi_again : {A : Type 0} (p : Phi A) → GoodPhi p → PhiRespelled p
 phi_again p good =
-    let told = writes_phi p good (seen (tokens_at (phi_text p) 0 (phi_words p))) (shown (phi_text p) 0 (phi_words p)) in
+    let reported = writes_phi p good (seen (tokens_at (phi_text p) 0 (phi_words p))) (shown (phi_text p) 0 (phi_words p)) in
     let cut = cuts (phi_words p) (fits_phi p good) in
-    record { tokens = tokens_at (phi_text p) 0 (phi_words p); cut = cut; again = told.value; spelled = each_cut PhiOf told.value (phi_text p) (tokens_at (phi_text p) 0 (phi_words p)) cut told.spelled; same_target = told.holds.0; same_sources = told.holds.1 }
+    record { tokens = tokens_at (phi_text p) 0 (phi_words p); cut = cut; again = reported.value; spelled = each_cut PhiOf reported.value (phi_text p) (tokens_at (phi_text p) 0 (phi_words p)) cut reported.spelled; same_target = reported.holds.0; same_sources = reported.holds.1 }
 
 pub jump_again : (j : Jump) → GoodJump j.kind → JumpRespelled j
 jump_again j good =
-    let told = writes_jump j good (seen (tokens_at (jump_text j) 0 (jump_words j))) (shown (jump_text j) 0 (jump_words j)) in
+    let reported = writes_jump j good (seen (tokens_at (jump_text j) 0 (jump_words j))) (shown (jump_text j) 0 (jump_words j)) in
     let cut = cuts (jump_words j) (fits_going j.kind good) in
-    record { tokens = tokens_at (jump_text j) 0 (jump_words j); cut = cut; again = told.value; spelled = each_cut JumpOf told.value (jump_text j) (tokens_at (jump_text j) 0 (jump_words j)) cut told.spelled; same = told.holds }
+    record { tokens = tokens_at (jump_text j) 0 (jump_words j); cut = cut; again = reported.value; spelled = each_cut JumpOf reported.value (jump_text j) (tokens_at (jump_text j) 0 (jump_words j)) cut reported.spelled; same = reported.holds }
 
 pub inst_respelled : {A : Type 0} (ts : List Token) (i : Inst A) → All IsShaped ts → InstOf (seen ts) i → InstRespelled i
 inst_respelled ts i shaped spelled = inst_again i (yields_inst (seen ts) i (pieces ts shaped) spelled)

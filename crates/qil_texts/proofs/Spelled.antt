@@ -5,8 +5,8 @@ use Rattle.qil_lexer.specs.declared.token.TokenKind.{TokenKind}
 use Rattle.qil_lexer.specs.declared.token.TokenKind.TheVariants as kinds
 use Rattle.qil_lexer.specs.Shape.{decimal, number_value, IsName, IsInRange, HasShape}
 use Rattle.qil_language.specs.Language.{One, Nothing, Seq, Image, Either, Many, Tail}
-use Rattle.qil_parser.specs.declared.mark.Mark.{Mark}
-use Rattle.qil_parser.specs.declared.mark.Mark.TheVariants as marks
+use Rattle.qil_parser.specs.declared.terminal.Terminal.{Terminal}
+use Rattle.qil_parser.specs.declared.terminal.Terminal.TheVariants as terminals
 use Rattle.qil_tree.specs.declared.tree.Operand.{Operand}
 use Rattle.qil_tree.specs.declared.tree.Operand.TheVariants as operands
 use Rattle.qil_tree.specs.declared.tree.Inst.{Inst}
@@ -31,7 +31,7 @@ right_pieces : (p q : List Tok) → AllOf IsPiece (p ++ q) → AllOf IsPiece q
 right_pieces [] q h = h
 right_pieces (t ∷ p) q h = right_pieces p q h.1
 
--- what pieces of a text stand for in a language has a property
+-- what pieces of a text represent in a language has a property
 abbrev pub Yields : {A : Type 0} → (List Tok → A → Type 0) → (A → Type 0) → Type 0
 Yields S P = (ts : List Tok) (v : _) → AllOf IsPiece ts → S ts v → P v
 
@@ -74,10 +74,10 @@ yields_tail C S P f ts (a ∷ others) h s =
     let k = right_pieces s.0 (s.1 ++ s.2) (moved ts (s.0 ++ (s.1 ++ s.2)) s.3 h) in
     (f s.1 a (left_pieces s.1 s.2 k) s.5, yields_tail C S P f s.2 others (right_pieces s.1 s.2 k) s.6)
 
-pub yields_before : {A : Type 0} {S : List Tok → A → Type 0} (m : Mark) (P : A → Type 0) → Yields S P → Yields (Before S m) P
+pub yields_before : {A : Type 0} {S : List Tok → A → Type 0} (m : Terminal) (P : A → Type 0) → Yields S P → Yields (Before S m) P
 yields_before m P f = yields_image (λ v. v.0) P (yields_seq f (yields_any (Word m))) (λ a q. q.0)
 
-pub yields_after : {A : Type 0} {S : List Tok → A → Type 0} (m : Mark) (P : A → Type 0) → Yields S P → Yields (After m S) P
+pub yields_after : {A : Type 0} {S : List Tok → A → Type 0} (m : Terminal) (P : A → Type 0) → Yields S P → Yields (After m S) P
 yields_after m P f = yields_image (λ v. v.1) P (yields_seq (yields_any (Word m)) f) (λ a q. q.1)
 
 -- ---- names and numbers
@@ -132,12 +132,12 @@ yields_count : Yields Count (λ n. n < 2 ^ 64)
 yields_count = yields_one (λ t. count_at t.kind t.text) (λ n. n < 2 ^ 64) (λ t a h e. count_good t.kind t.text a h.in_range e)
 
 yields_two : Yields Two GoodTwo
-yields_two = yields_seq (yields_before marks.Comma GoodOperand yields_val) yields_val
+yields_two = yields_seq (yields_before terminals.Comma GoodOperand yields_val) yields_val
 
 -- ---- instructions
 
 yields_dest : Yields Dest (λ v. IsName v.1)
-yields_dest = yields_before marks.Equals (λ v. IsName v.1) yields_temp
+yields_dest = yields_before terminals.Equals (λ v. IsName v.1) yields_temp
 
 yields_target : Yields TargetOf (λ v. GoodTarget v.1)
 yields_target = yields_image target_of (λ v. GoodTarget v.1) (yields_seq yields_dest (yields_any ClassWord)) (λ a q. q.0)
@@ -156,23 +156,23 @@ yields_argument : Yields ArgumentOf GoodArgument
 yields_argument = yields_image argument_of GoodArgument (yields_seq (yields_any TypeWord) yields_val) (λ a q. q.1)
 
 yields_arguments : Yields (Listed ArgumentOf) (AllOf GoodArgument)
-yields_arguments = yields_either (yields_image list_of (AllOf GoodArgument) (yields_seq yields_argument (yields_tail (Word marks.Comma) ArgumentOf GoodArgument yields_argument)) (λ a q. q)) (yields_nothing [] (AllOf GoodArgument) tt)
+yields_arguments = yields_either (yields_image list_of (AllOf GoodArgument) (yields_seq yields_argument (yields_tail (Word terminals.Comma) ArgumentOf GoodArgument yields_argument)) (λ a q. q)) (yields_nothing [] (AllOf GoodArgument) tt)
 
 yields_callee : Yields Callee (λ v. GoodOperand v.0 × AllOf GoodArgument v.1)
-yields_callee = yields_seq yields_val (yields_after marks.OpenParen (AllOf GoodArgument) (yields_before marks.CloseParen (AllOf GoodArgument) yields_arguments))
+yields_callee = yields_seq yields_val (yields_after terminals.OpenParen (AllOf GoodArgument) (yields_before terminals.CloseParen (AllOf GoodArgument) yields_arguments))
 
 abbrev GoodInst : {A : Type 0} → Inst A → Type 0
 GoodInst i = GoodKind i.kind
 
 yields_plain : {A : Type 0} → Yields (Plain {A = A}) GoodInst
 yields_plain = yields_either (yields_image store_of GoodInst (yields_seq (yields_any StoreWord) yields_two) (λ a q. q.1))
-    (yields_either (yields_image blit_of GoodInst (yields_seq (yields_any (WordLine marks.Blit)) (yields_seq (yields_before marks.Comma GoodTwo yields_two) yields_count)) (λ a q. (q.1.0.0, q.1.0.1, q.1.1)))
-    (yields_image plain_call_of GoodInst (yields_seq (yields_any (WordLine marks.Call)) yields_callee) (λ a q. (tt, q.1.0, q.1.1))))
+    (yields_either (yields_image blit_of GoodInst (yields_seq (yields_any (WordLine terminals.Blit)) (yields_seq (yields_before terminals.Comma GoodTwo yields_two) yields_count)) (λ a q. (q.1.0.0, q.1.0.1, q.1.1)))
+    (yields_image plain_call_of GoodInst (yields_seq (yields_any (WordLine terminals.Call)) yields_callee) (λ a q. (tt, q.1.0, q.1.1))))
 
 pub yields_inst : {A : Type 0} → Yields (InstOf {A = A}) (λ i. GoodKind i.kind)
 yields_inst = yields_either (yields_image assign_of GoodInst (yields_seq yields_target yields_expr) (λ a q. q))
     (yields_either (yields_image alloc_of GoodInst (yields_seq yields_target (yields_seq (yields_any AllocWord) yields_val)) (λ a q. (q.0, q.1.1)))
-    (yields_either (yields_image call_of GoodInst (yields_seq yields_result (yields_after marks.Call (λ v. GoodOperand v.0 × AllOf GoodArgument v.1) yields_callee)) (λ a q. (q.0, q.1.0, q.1.1))) yields_plain))
+    (yields_either (yields_image call_of GoodInst (yields_seq yields_result (yields_after terminals.Call (λ v. GoodOperand v.0 × AllOf GoodArgument v.1) yields_callee)) (λ a q. (q.0, q.1.0, q.1.1))) yields_plain))
 
 -- ---- phis and jumps
 
@@ -180,7 +180,7 @@ yields_source : Yields SourceOf GoodSource
 yields_source = yields_image source_of GoodSource (yields_seq yields_label yields_val) (λ a q. q)
 
 yields_sources : Yields Sources GoodSources
-yields_sources = yields_after marks.Phi GoodSources (yields_image list_of GoodSources (yields_seq yields_source (yields_many (After marks.Comma SourceOf) GoodSource (yields_after marks.Comma GoodSource yields_source))) (λ a q. q))
+yields_sources = yields_after terminals.Phi GoodSources (yields_image list_of GoodSources (yields_seq yields_source (yields_many (After terminals.Comma SourceOf) GoodSource (yields_after terminals.Comma GoodSource yields_source))) (λ a q. q))
 
 pub yields_phi : {A : Type 0} → Yields (PhiOf {A = A}) GoodPhi
 yields_phi = yields_image phi_of GoodPhi (yields_seq yields_target yields_sources) (λ a q. q)
@@ -197,7 +197,7 @@ ret_good v h = go v.1 h
     go (Some a) k = k
 
 pub yields_jump : Yields JumpOf (λ j. GoodJump j.kind)
-yields_jump = yields_either (yields_image jmp_of (λ j. GoodJump j.kind) (yields_seq (yields_any (WordLine marks.Jmp)) yields_label) (λ a q. q.1))
-    (yields_either (yields_image jnz_of (λ j. GoodJump j.kind) (yields_seq (yields_any (WordLine marks.Jnz)) (yields_seq (yields_before marks.Comma GoodOperand yields_val) (yields_seq (yields_before marks.Comma (λ v. IsName v.1) yields_label) yields_label))) (λ a q. (q.1.0, q.1.1.0, q.1.1.1)))
-    (yields_either (yields_image ret_of (λ j. GoodJump j.kind) (yields_seq (yields_any (WordLine marks.Ret)) (yields_either (yields_image Some PerhapsGood yields_val (λ a q. q)) (yields_nothing None PerhapsGood tt))) (λ a q. ret_good a q.1))
-    (yields_image hlt_of (λ j. GoodJump j.kind) (yields_any (WordLine marks.Hlt)) (λ a q. tt))))
+yields_jump = yields_either (yields_image jmp_of (λ j. GoodJump j.kind) (yields_seq (yields_any (WordLine terminals.Jmp)) yields_label) (λ a q. q.1))
+    (yields_either (yields_image jnz_of (λ j. GoodJump j.kind) (yields_seq (yields_any (WordLine terminals.Jnz)) (yields_seq (yields_before terminals.Comma GoodOperand yields_val) (yields_seq (yields_before terminals.Comma (λ v. IsName v.1) yields_label) yields_label))) (λ a q. (q.1.0, q.1.1.0, q.1.1.1)))
+    (yields_either (yields_image ret_of (λ j. GoodJump j.kind) (yields_seq (yields_any (WordLine terminals.Ret)) (yields_either (yields_image Some PerhapsGood yields_val (λ a q. q)) (yields_nothing None PerhapsGood tt))) (λ a q. ret_good a q.1))
+    (yields_image hlt_of (λ j. GoodJump j.kind) (yields_any (WordLine terminals.Hlt)) (λ a q. tt))))

@@ -6,7 +6,7 @@ use Rattle.qil_lexer.specs.Cut.{Cuts}
 use Rattle.qil_lexer.specs.Shape.{IsName}
 use Rattle.qil_lexer.proofs.Law.{cut_shapes}
 use Rattle.qil_language.specs.Language.{Seq, Many}
-use Rattle.qil_parser.specs.declared.mark.Mark.TheVariants as marks
+use Rattle.qil_parser.specs.declared.terminal.Terminal.TheVariants as terminals
 use Rattle.qil_tree.specs.declared.tree.Inst.{Inst}
 use Rattle.qil_tree.specs.declared.tree.Jump.{Jump}
 use Rattle.qil_tree.specs.declared.tree.Block.{Block}
@@ -16,7 +16,7 @@ use Rattle.qil_parser.specs.declared.program_cursor.Defined.{Defined}
 use Rattle.qil_parser.specs.declared.program_cursor.Defined.TheVariants as defined
 use Rattle.qil_parser.specs.Token.{Tok, seen}
 use Rattle.qil_parser.specs.Grammar.{Line, Before}
-use Rattle.qil_parser.specs.Functions.{InstOf, PhiOf, Front, Body, Head, JumpOf, BlockOf, LastBlock, jump_or, first_label, block_of, blocks_of, Blocks, FuncTop, func_of, FuncOf}
+use Rattle.qil_parser.specs.Functions.{InstOf, PhiOf, Prefix, Body, Head, JumpOf, BlockOf, LastBlock, jump_or, first_label, block_of, blocks_of, Blocks, FuncTop, func_of, FuncOf}
 use Rattle.qil_parser.specs.DataGrammar.{DataOf}
 use Rattle.qil_parser.specs.Programs.{Links, ThingOf, DefOf, DefLine, funcs_in, program_of, Spells}
 use Rattle.qil_texts.specs.Respelled.{BlockRespelled, ProgramRespelled}
@@ -28,18 +28,18 @@ use Rattle.qil_texts.proofs.Respells.{pieces, inst_again, phi_again, jump_again}
 abbrev GoodInst : {A : Type 0} → Inst A → Type 0
 GoodInst i = GoodKind i.kind
 
-abbrev GoodFront : {A : Type 0} → Front A → Type 0
-GoodFront v = IsName v.0.1 × (AllOf GoodPhi v.1.0 × AllOf GoodInst v.1.1)
+abbrev GoodPrefix : {A : Type 0} → Prefix A → Type 0
+GoodPrefix v = IsName v.0.1 × (AllOf GoodPhi v.1.0 × AllOf GoodInst v.1.1)
 
 abbrev GoodLeft : Option Jump → Type 0
 GoodLeft None = Unit {0}
 GoodLeft (Some j) = GoodJump j.kind
 
-abbrev GoodPart : {A : Type 0} → Front A × Option Jump → Type 0
-GoodPart v = GoodFront v.0 × GoodLeft v.1
+abbrev GoodPart : {A : Type 0} → Prefix A × Option Jump → Type 0
+GoodPart v = GoodPrefix v.0 × GoodLeft v.1
 
-abbrev GoodLast : {A : Type 0} → Front A × Jump → Type 0
-GoodLast v = GoodFront v.0 × GoodJump v.1.kind
+abbrev GoodLast : {A : Type 0} → Prefix A × Jump → Type 0
+GoodLast v = GoodPrefix v.0 × GoodJump v.1.kind
 
 record GoodBlock {A : Type 0} (b : Block A) : Type 0 where
   phis : AllOf GoodPhi b.phis
@@ -52,22 +52,22 @@ GoodFunc f = AllOf GoodBlock f.blocks
 -- ---- blocks
 
 yields_body : {A : Type 0} → Yields (Body {A = A}) (λ v. AllOf GoodPhi v.0 × AllOf GoodInst v.1)
-yields_body = yields_seq (yields_many (Before PhiOf marks.Newline) GoodPhi (yields_before marks.Newline GoodPhi yields_phi)) (yields_many (Before InstOf marks.Newline) GoodInst (yields_before marks.Newline GoodInst yields_inst))
+yields_body = yields_seq (yields_many (Before PhiOf terminals.Newline) GoodPhi (yields_before terminals.Newline GoodPhi yields_phi)) (yields_many (Before InstOf terminals.Newline) GoodInst (yields_before terminals.Newline GoodInst yields_inst))
 
-yields_head : {A : Type 0} → Yields (Head {A = A}) GoodFront
-yields_head = yields_seq (yields_before marks.Newline (λ v. IsName v.1) yields_label) yields_body
+yields_head : {A : Type 0} → Yields (Head {A = A}) GoodPrefix
+yields_head = yields_seq (yields_before terminals.Newline (λ v. IsName v.1) yields_label) yields_body
 
 yields_part : {A : Type 0} → Yields (BlockOf {A = A}) GoodPart
-yields_part = yields_seq yields_head (yields_either (yields_image Some GoodLeft (yields_before marks.Newline (λ j. GoodJump j.kind) yields_jump) (λ a q. q)) (yields_nothing None GoodLeft tt))
+yields_part = yields_seq yields_head (yields_either (yields_image Some GoodLeft (yields_before terminals.Newline (λ j. GoodJump j.kind) yields_jump) (λ a q. q)) (yields_nothing None GoodLeft tt))
 
 yields_last : {A : Type 0} → Yields (LastBlock {A = A}) GoodLast
-yields_last = yields_seq yields_head (yields_before marks.Newline (λ j. GoodJump j.kind) yields_jump)
+yields_last = yields_seq yields_head (yields_before terminals.Newline (λ j. GoodJump j.kind) yields_jump)
 
-good_block : {A : Type 0} (v : Front A) (j : Jump) → GoodFront v → GoodJump j.kind → GoodBlock (block_of v j)
+good_block : {A : Type 0} (v : Prefix A) (j : Jump) → GoodPrefix v → GoodJump j.kind → GoodBlock (block_of v j)
 good_block v j h k = record { phis = h.1.0; insts = h.1.1; jump = k }
 
 -- the label that comes next is a name
-good_label : {A : Type 0} (vs : List (Front A × Option Jump)) (last : Front A × Jump) → AllOf GoodPart vs → GoodLast last → IsName (first_label vs last).1
+good_label : {A : Type 0} (vs : List (Prefix A × Option Jump)) (last : Prefix A × Jump) → AllOf GoodPart vs → GoodLast last → IsName (first_label vs last).1
 good_label [] last h k = k.0.0
 good_label (v ∷ vs) last h k = h.0.0.0
 
@@ -75,7 +75,7 @@ good_jump : (j : Option Jump) (next : ℕ × List ℕ) → GoodLeft j → IsName
 good_jump (Some j) next h k = h
 good_jump None next h k = k
 
-good_blocks : {A : Type 0} (vs : List (Front A × Option Jump)) (last : Front A × Jump) → AllOf GoodPart vs → GoodLast last → AllOf GoodBlock (blocks_of vs last)
+good_blocks : {A : Type 0} (vs : List (Prefix A × Option Jump)) (last : Prefix A × Jump) → AllOf GoodPart vs → GoodLast last → AllOf GoodBlock (blocks_of vs last)
 good_blocks [] last h k = (good_block last.0 last.1 k.0 k.1, tt)
 good_blocks (v ∷ vs) last h k =
     (good_block v.0 (jump_or v.1 (first_label vs last)) h.0.0 (good_jump v.1 (first_label vs last) h.0.1 (good_label vs last h.1 k)), good_blocks vs last h.1 k)
@@ -86,7 +86,7 @@ yields_blocks = yields_image (λ v. blocks_of v.0 v.1) (AllOf GoodBlock) (yields
 -- ---- programs
 
 yields_func : {A : Type 0} → Yields (FuncOf {A = A}) GoodFunc
-yields_func = yields_image func_of GoodFunc (yields_seq (yields_any FuncTop) (yields_before marks.CloseBrace (AllOf GoodBlock) yields_blocks)) (λ a q. q.1)
+yields_func = yields_image func_of GoodFunc (yields_seq (yields_any FuncTop) (yields_before terminals.CloseBrace (AllOf GoodBlock) yields_blocks)) (λ a q. q.1)
 
 abbrev GoodDefined : {A : Type 0} → Defined A → Type 0
 GoodDefined (defined.Data d) = Unit {0}
@@ -111,7 +111,7 @@ yields_program = yields_image program_of (λ p. AllOf GoodFunc p.funcs) (yields_
 
 -- ---- each of them
 
--- at the first place, and at each one behind it
+-- at the first place, and at each one after it
 here_or_behind : {X : Type 0} (Q : X → Type 0) (x : X) (xs : List X) → Q x → All Q xs → All Q (x ∷ xs)
 here_or_behind Q x xs q all zero d lt = q
 here_or_behind Q x xs q all (suc k) d lt = all k d (omega arith)

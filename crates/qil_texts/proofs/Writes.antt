@@ -37,13 +37,13 @@ AllOf P (x ∷ xs) = P x × AllOf P xs
 
 -- ---- languages whose phrases the words are, with a value of which Q holds
 
-pub record Told {A : Type 0} (S : List Tok → A → Type 0) (us : List Tok) (Q : A → Type 0) : Type 0 where
+pub record Reported {A : Type 0} (S : List Tok → A → Type 0) (us : List Tok) (Q : A → Type 0) : Type 0 where
   pub value : A
   pub spelled : S us value
   pub holds : Q value
 
 abbrev pub Writes : {A : Type 0} → (List Tok → A → Type 0) → List Written → (A → Type 0) → Type 0
-Writes S ws Q = (us : List Tok) → Shows us ws → Told S us Q
+Writes S ws Q = (us : List Tok) → Shows us ws → Reported S us Q
 
 abbrev pub tok_of : Written → ℕ → Tok
 tok_of w line = record { kind = w.kind; text = w.bytes; line = line }
@@ -83,7 +83,7 @@ writes_many S words (x ∷ xs) P all f us s =
     let b = writes_many S words xs P all.1 f k.1 k.4 in
     record { value = a.value ∷ b.value; spelled = (k.0, k.1, k.2, a.spelled, b.spelled); holds = λ i. a.holds i ∷ b.holds i }
 
--- the same behind separators
+-- the same after separators
 pub writes_tail : {T : Type 0} (C : List Tok → Unit {0} → Type 0) (S : List Tok → T → Type 0) (c : Written) (words : T → List Written) (xs : List T) (P : T → Type 0) → AllOf P xs → Writes C (c ∷ []) (λ v. Unit {0}) → ((x : T) → P x → Writes S (words x) (λ v. v ≡ x)) → Writes (Tail C S) (flat_map (λ x. c ∷ words x) xs) (λ v. v ≡ xs)
 writes_tail C S c words [] P all sep f us s = record { value = []; spelled = inl (none_shown us s); holds = refl }
 writes_tail C S c words (x ∷ xs) P all sep f us s =

@@ -158,7 +158,7 @@ pub enum Piece<'p, 'a> {
     Value(&'p Operand<'a>),
 }
 
-/// Puts a name behind its sigil.
+/// Puts a name after its sigil.
 fn put_name<P: Put>(out: &mut P, sigil: &[u8], name: &[u8]) -> Result<(), PutError>
     requires { P.stops out.old < 2 ^ 64 - 1 }
     ensures text { Puts result (P.written out.old) (P.written out.new) (sigil.now ++ name.now) }
@@ -412,7 +412,7 @@ fn put_call<'p, 'a, P: Put>(
 ///
 /// # Errors
 ///
-/// `PutError` where `out` stopped. Then a front of the text was put.
+/// `PutError` where `out` stopped. Then a prefix of the text was put.
 pub fn inst_text<P: Put, A: Allocator>(inst: &Inst<'_, A>, out: &mut P) -> Result<(), PutError>
     requires { P.stops out.old < 2 ^ 64 - 1 }
     ensures text { Puts result (P.written out.old) (P.written out.new) (inst_text inst.now) }
@@ -539,7 +539,7 @@ fn put_phi<P: Put>(out: &mut P, target: &Target) -> Result<(), PutError>
 ///
 /// # Errors
 ///
-/// `PutError` where `out` stopped. Then a front of the text was put.
+/// `PutError` where `out` stopped. Then a prefix of the text was put.
 pub fn phi_text<P: Put, A: Allocator>(phi: &Phi<'_, A>, out: &mut P) -> Result<(), PutError>
     requires { P.stops out.old < 2 ^ 64 - 1 }
     ensures text { Puts result (P.written out.old) (P.written out.new) (phi_text phi.now) }
@@ -554,7 +554,7 @@ pub fn phi_text<P: Put, A: Allocator>(phi: &Phi<'_, A>, out: &mut P) -> Result<(
 ///
 /// # Errors
 ///
-/// `PutError` where `out` stopped. Then a front of the text was put.
+/// `PutError` where `out` stopped. Then a prefix of the text was put.
 pub fn jump_text<P: Put>(jump: &Jump, out: &mut P) -> Result<(), PutError>
     requires { P.stops out.old < 2 ^ 64 - 1 }
     ensures text { Puts result (P.written out.old) (P.written out.new) (jump_text jump.now) }

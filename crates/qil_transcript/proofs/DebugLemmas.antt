@@ -4,7 +4,7 @@ use Rattle.std.proofs.Common.{true, false}
 use Rattle.std.proofs.lemmas.Bool.{false≢true}
 use Rattle.std.specs.Prelude.{Option, Some, None, Ok, Err}
 use Rattle.std.specs.Io.KnownBytes.{Appends}
-use Rattle.qil_streams.specs.Device.{IsFrontOf}
+use Rattle.qil_streams.specs.Device.{IsPrefixOf}
 use Rattle.qil_streams.specs.Script.{lines_of, whole_lines_of}
 use Rattle.qil_streams.proofs.DeviceLemmas.{Appends-nil, Appends-append}
 use Rattle.qil_tree.specs.declared.tree.Program.{Program}
@@ -21,9 +21,9 @@ use Rattle.qil_meaning.specs.State.{State}
 use Rattle.qil_meaning.specs.Start.{start_of}
 use Rattle.qil_meaning.specs.Timeline.{Timeline, begun}
 use Rattle.qil_meaning.specs.declared.start.StartFault.{StartFault}
-use Rattle.qil_session.specs.Situation.{Situation}
+use Rattle.qil_session.specs.SessionState.{SessionState}
 use Rattle.qil_session.specs.Answers.{IsAnswered, answers}
-use Rattle.qil_session.specs.Kept.{Kept, situation}
+use Rattle.qil_session.specs.Kept.{Kept, session_state}
 use Rattle.qil_transcript.specs.declared.serving.IoFault.TheVariants.{Read, Write, TooLong}
 use Rattle.qil_transcript.specs.declared.outcome.Outcome.{Outcome}
 use Rattle.qil_transcript.specs.declared.outcome.Outcome.TheVariants as outcomes
@@ -42,122 +42,122 @@ use Rattle.qil_transcript.proofs.ServeLemmas.{Promise, ample}
 abbrev pub heading : {A : Type 0} → Setup → Verdict A → State → List ℕ
 heading s verdict start = load_lines verdict.program verdict.form (begun s.keeps start)
 
--- a session over a history that has made no move stands at the start of its program
+-- a session over a history that has made no move is at the start of its program
 pub begun_session : {A H : Type 0} (program : H → Program A) (timeline : H → Timeline) (k : Kept H) (h : H) (s : Setup) (p : Program A) (start : State) (limit : ℕ)
     → k ≡ record { history = h; stops = record { given = 0; kept = [] }; limit = limit } → s.limit ≡ limit → program h ≡ p → timeline h ≡ begun s.keeps start
-    → situation program timeline k ≡ opened s p start
+    → session_state program timeline k ≡ opened s p start
 begun_session {A} {H} program timeline k h s p start limit e l ep et =
-    ap (λ (x : Kept H). situation program timeline x) e ∙ (λ i. record { program = ep i; timeline = et i; stops = record { given = 0; kept = [] }; limit = sym l i })
+    ap (λ (x : Kept H). session_state program timeline x) e ∙ (λ i. record { program = ep i; timeline = et i; stops = record { given = 0; kept = [] }; limit = sym l i })
 
 -- what a session began with, and what was written of it before the answers
-pub record Opened {A : Type 0} (s : Setup) (verdict : Verdict A) (start : State) (first : Situation A) (w0 w1 : Option (List ℕ)) : Type 0 where
+pub record Opened {A : Type 0} (s : Setup) (verdict : Verdict A) (start : State) (first : SessionState A) (w0 w1 : Option (List ℕ)) : Type 0 where
   pub begins : Begins s verdict start
   pub first_is : first ≡ opened s verdict.program start
-  pub told : Appends w0 w1 (heading s verdict start)
+  pub reported : Appends w0 w1 (heading s verdict start)
 
 -- the load lines of a session are those of the timeline that it begins with
-heading-is : {A : Type 0} (s : Setup) (verdict : Verdict A) (start : State) (first : Situation A) → first ≡ opened s verdict.program start →
+heading-is : {A : Type 0} (s : Setup) (verdict : Verdict A) (start : State) (first : SessionState A) → first ≡ opened s verdict.program start →
     load_lines verdict.program verdict.form first.timeline ≡ heading s verdict start
-heading-is {A} s verdict start first e = ap (λ (x : Situation A). load_lines verdict.program verdict.form x.timeline) e
+heading-is {A} s verdict start first e = ap (λ (x : SessionState A). load_lines verdict.program verdict.form x.timeline) e
 
-pub opened_with : {A : Type 0} (s : Setup) (verdict : Verdict A) (start : State) (first : Situation A) (w0 w1 : Option (List ℕ)) → Begins s verdict start →
+pub opened_with : {A : Type 0} (s : Setup) (verdict : Verdict A) (start : State) (first : SessionState A) (w0 w1 : Option (List ℕ)) → Begins s verdict start →
     first ≡ opened s verdict.program start → Appends w0 w1 (load_lines verdict.program verdict.form first.timeline) → Opened s verdict start first w0 w1
-opened_with s verdict start first w0 w1 begins e told = record {
+opened_with s verdict start first w0 w1 begins e reported = record {
   begins = begins;
   first_is = e;
-  told = subst (λ (lines : List ℕ). Appends w0 w1 lines) (heading-is s verdict start first e) told;
+  reported = subst (λ (lines : List ℕ). Appends w0 w1 lines) (heading-is s verdict start first e) reported;
 }
 
-pub stopped_heading : {A : Type 0} (s : Setup) (verdict : Verdict A) (start : State) (first : Situation A) (w0 w1 : Option (List ℕ)) → first ≡ opened s verdict.program start
-    → ((front : List ℕ) × IsFrontOf front (load_lines verdict.program verdict.form first.timeline) × Appends w0 w1 front)
-    → (front : List ℕ) × IsFrontOf front (heading s verdict start) × Appends w0 w1 front
+pub stopped_heading : {A : Type 0} (s : Setup) (verdict : Verdict A) (start : State) (first : SessionState A) (w0 w1 : Option (List ℕ)) → first ≡ opened s verdict.program start
+    → ((prefix : List ℕ) × IsPrefixOf prefix (load_lines verdict.program verdict.form first.timeline) × Appends w0 w1 prefix)
+    → (prefix : List ℕ) × IsPrefixOf prefix (heading s verdict start) × Appends w0 w1 prefix
 stopped_heading s verdict start first w0 w1 e stopped =
-    (stopped.0, subst (λ (lines : List ℕ). IsFrontOf stopped.0 lines) (heading-is s verdict start first e) stopped.1, stopped.2)
+    (stopped.0, subst (λ (lines : List ℕ). IsPrefixOf stopped.0 lines) (heading-is s verdict start first e) stopped.1, stopped.2)
 
-is_session : {A : Type 0} (s : Setup) (verdict : Verdict A) (start : State) (first : Situation A) (lines : List (List ℕ)) (told : List ℕ) →
-    Begins s verdict start → first ≡ opened s verdict.program start → IsAnswered first lines told →
-    IsSession A s lines (heading s verdict start ++ told)
-is_session {A} s verdict start first lines told begins first_is answered = record {
+is_session : {A : Type 0} (s : Setup) (verdict : Verdict A) (start : State) (first : SessionState A) (lines : List (List ℕ)) (reported : List ℕ) →
+    Begins s verdict start → first ≡ opened s verdict.program start → IsAnswered first lines reported →
+    IsSession A s lines (heading s verdict start ++ reported)
+is_session {A} s verdict start first lines reported begins first_is answered = record {
   verdict = verdict;
   start = start;
   begins = begins;
-  answered = told;
-  answers = subst (λ (x : Situation A). IsAnswered x lines told) first_is answered;
+  answered = reported;
+  answers = subst (λ (x : SessionState A). IsAnswered x lines reported) first_is answered;
   written_is = refl;
 }
 
-pub Written-ended : {A T : Type 0} (v : T) (s : Setup) (verdict : Verdict A) (start : State) (first : Situation A) (known left w0 w1 w2 : Option (List ℕ)) (now : Situation A)
+pub Written-ended : {A T : Type 0} (v : T) (s : Setup) (verdict : Verdict A) (start : State) (first : SessionState A) (known left w0 w1 w2 : Option (List ℕ)) (now : SessionState A)
     → Opened s verdict start first w0 w1 → Promise (Ok v) first known left w1 w2 now
     → Written A outcomes.Ended s known left w0 w2
 Written-ended v s verdict start first None left w0 w1 w2 now o p = tt
 Written-ended v s verdict start first (Some script) left w0 w1 w2 now o p = (
   heading s verdict start ++ p.0,
-  Appends-append w0 w1 w2 (heading s verdict start) p.0 o.told p.1,
+  Appends-append w0 w1 w2 (heading s verdict start) p.0 o.reported p.1,
   (is_session s verdict start first (lines_of script) p.0 o.begins o.first_is (p.2.0.0, p.2.0.1, p.2.0.2), p.2.1),
 )
 
-pub Written-too_long : {A : Type 0} (T : Type 0) (s : Setup) (verdict : Verdict A) (start : State) (first : Situation A) (known left w0 w1 w2 : Option (List ℕ)) (now : Situation A)
+pub Written-too_long : {A : Type 0} (T : Type 0) (s : Setup) (verdict : Verdict A) (start : State) (first : SessionState A) (known left w0 w1 w2 : Option (List ℕ)) (now : SessionState A)
     → Opened s verdict start first w0 w1 → Promise {T = T} (Err TooLong) first known left w1 w2 now
     → Written A outcomes.TooLong s known left w0 w2
 Written-too_long T s verdict start first None left w0 w1 w2 now o p = tt
 Written-too_long T s verdict start first (Some script) left w0 w1 w2 now o p = (
   heading s verdict start ++ p.0,
-  Appends-append w0 w1 w2 (heading s verdict start) p.0 o.told p.1,
+  Appends-append w0 w1 w2 (heading s verdict start) p.0 o.reported p.1,
   (is_session s verdict start first (whole_lines_of (take (2 ^ 24) script)) p.0 o.begins o.first_is (p.2.0.0, p.2.0.1, p.2.0.2), p.2.1),
 )
 
-pub Written-read : {A : Type 0} (T : Type 0) (s : Setup) (verdict : Verdict A) (start : State) (first : Situation A) (known left w0 w1 w2 : Option (List ℕ)) (now : Situation A)
+pub Written-read : {A : Type 0} (T : Type 0) (s : Setup) (verdict : Verdict A) (start : State) (first : SessionState A) (known left w0 w1 w2 : Option (List ℕ)) (now : SessionState A)
     → Opened s verdict start first w0 w1 → Promise {T = T} (Err Read) first known left w1 w2 now
     → Written A outcomes.ReadFault s known left w0 w2
 Written-read T s verdict start first None left w0 w1 w2 now o p = tt
 Written-read T s verdict start first (Some script) left w0 w1 w2 now o p =
     let (read, taken, answered, goes) = p.2 in (
       heading s verdict start ++ p.0,
-      Appends-append w0 w1 w2 (heading s verdict start) p.0 o.told p.1,
+      Appends-append w0 w1 w2 (heading s verdict start) p.0 o.reported p.1,
       (read, taken, is_session s verdict start first (whole_lines_of read) p.0 o.begins o.first_is (answered.0, answered.1, answered.2), goes),
     )
 
-pub Written-write : {A : Type 0} (T : Type 0) (s : Setup) (verdict : Verdict A) (start : State) (first : Situation A) (known left w0 w1 w2 : Option (List ℕ)) (now : Situation A)
+pub Written-write : {A : Type 0} (T : Type 0) (s : Setup) (verdict : Verdict A) (start : State) (first : SessionState A) (known left w0 w1 w2 : Option (List ℕ)) (now : SessionState A)
     → Opened s verdict start first w0 w1 → Promise {T = T} (Err Write) first known left w1 w2 now
     → Written A outcomes.WriteFault s known left w0 w2
 Written-write T s verdict start first None left w0 w1 w2 now o p = tt
 Written-write T s verdict start first (Some script) left w0 w1 w2 now o p =
-    let (all, answered, front, cut) = p.2 in (
+    let (all, answered, prefix, cut) = p.2 in (
       heading s verdict start ++ p.0,
-      Appends-append w0 w1 w2 (heading s verdict start) p.0 o.told p.1,
+      Appends-append w0 w1 w2 (heading s verdict start) p.0 o.reported p.1,
       (
         heading s verdict start ++ all,
         inr (is_session s verdict start first (lines_of script) all o.begins o.first_is answered),
-        (front.0, ap (λ v. heading s verdict start ++ v) front.1 ∙ sym (append_assoc (heading s verdict start) p.0 front.0)),
+        (prefix.0, ap (λ v. heading s verdict start ++ v) prefix.1 ∙ sym (append_assoc (heading s verdict start) p.0 prefix.0)),
       ),
     )
 
 -- the load lines stopped
 pub Written-load : {A : Type 0} (s : Setup) (verdict : Verdict A) (start : State) (known left w0 w1 : Option (List ℕ))
-    → Begins s verdict start → ((front : List ℕ) × IsFrontOf front (heading s verdict start) × Appends w0 w1 front)
+    → Begins s verdict start → ((prefix : List ℕ) × IsPrefixOf prefix (heading s verdict start) × Appends w0 w1 prefix)
     → Written A outcomes.WriteFault s known left w0 w1
 Written-load s verdict start None left w0 w1 begins p = tt
 Written-load {A} s verdict start (Some script) left w0 w1 begins p =
-    let first : Situation A = opened s verdict.program start in
+    let first : SessionState A = opened s verdict.program start in
     let more = ample first (lines_of script) in
-    let told = answers first (lines_of script) more.0 in (
+    let reported = answers first (lines_of script) more.0 in (
       p.0,
       p.2,
       (
-        heading s verdict start ++ told,
-        inr (is_session s verdict start first (lines_of script) told begins refl (more.0, more.1, refl)),
-        (p.1.0 ++ told, ap (λ v. v ++ told) p.1.1 ∙ append_assoc p.0 p.1.0 told),
+        heading s verdict start ++ reported,
+        inr (is_session s verdict start first (lines_of script) reported begins refl (more.0, more.1, refl)),
+        (p.1.0 ++ reported, ap (λ v. v ++ reported) p.1.1 ∙ append_assoc p.0 p.1.0 reported),
       ),
     )
 
--- memory was wanting before anything was written
+-- memory ran out before anything was written
 pub Written-memory : (A : Type 0) (s : Setup) (known left w0 w1 : Option (List ℕ)) → w1 ≡ w0 → Written A outcomes.Memory s known left w0 w1
 Written-memory A s None left w0 w1 same = tt
 Written-memory A s (Some script) left w0 w1 same = ([], subst (λ (w : Option (List ℕ)). Appends w0 w []) (sym same) (Appends-nil w0), refl)
 
 -- ---- refusals
 
--- a refusal was told
+-- a refusal was reported
 Written-refused : (A : Type 0) (s : Setup) (refusal : Refusal) (known left w0 w1 : Option (List ℕ))
     → Refuses A s.text s.entry s.args refusal → Appends w0 w1 (refused_line refusal)
     → Written A outcomes.Refused s known left w0 w1
@@ -167,13 +167,13 @@ Written-refused A s refusal (Some script) left w0 w1 refuses p =
 
 -- the line of a refusal stopped
 Written-refusal_stopped : (A : Type 0) (s : Setup) (refusal : Refusal) (known left w0 w1 : Option (List ℕ))
-    → Refuses A s.text s.entry s.args refusal → ((front : List ℕ) × IsFrontOf front (refused_line refusal) × Appends w0 w1 front)
+    → Refuses A s.text s.entry s.args refusal → ((prefix : List ℕ) × IsPrefixOf prefix (refused_line refusal) × Appends w0 w1 prefix)
     → Written A outcomes.WriteFault s known left w0 w1
 Written-refusal_stopped A s refusal None left w0 w1 refuses p = tt
 Written-refusal_stopped A s refusal (Some script) left w0 w1 refuses p =
     (p.0, p.2, (refused_line refusal, inl (record { refusal = refusal; refuses = refuses; written_is = refl }), p.1))
 
--- the text is refused for that, or memory was wanting
+-- the text is refused for that, or memory ran out
 abbrev pub Explained : Type 0 → Setup → LoadError → Type 0
 Explained A s (errors.Refused refusal) = Refuses A s.text s.entry s.args refusal
 Explained A s errors.OutOfMemory = Unit {0}
@@ -194,7 +194,7 @@ Written-refuse A outcomes.ReadFault s errors.OutOfMemory known left w0 w1 refuse
 Written-refuse A outcomes.WriteFault s errors.OutOfMemory known left w0 w1 refuses p = absurd p
 Written-refuse A outcomes.TooLong s errors.OutOfMemory known left w0 w1 refuses p = absurd p
 
--- what is told of a refusal is no session
+-- what is reported of a refusal is no session
 pub refused-no_session : (outcome : Outcome) (error : LoadError) (w0 w1 : Option (List ℕ)) → IsRefused outcome error w0 w1 → IsNoSession outcome
 refused-no_session outcomes.Refused error w0 w1 p = tt
 refused-no_session outcomes.WriteFault error w0 w1 p = tt
@@ -206,9 +206,9 @@ refused-no_session outcomes.Ended errors.OutOfMemory w0 w1 p = absurd p
 refused-no_session outcomes.ReadFault errors.OutOfMemory w0 w1 p = absurd p
 refused-no_session outcomes.TooLong errors.OutOfMemory w0 w1 p = absurd p
 
--- want of memory is no refusal
-pub wanting-not_refused : (outcome : Outcome) (error : LoadError) (w0 w1 : Option (List ℕ)) → IsRefused outcome error w0 w1 → error ≡ errors.OutOfMemory → outcome ≢ outcomes.Refused
-wanting-not_refused outcome error w0 w1 p e r =
+-- out of memory is no refusal
+pub shortage-not_refused : (outcome : Outcome) (error : LoadError) (w0 w1 : Option (List ℕ)) → IsRefused outcome error w0 w1 → error ≡ errors.OutOfMemory → outcome ≢ outcomes.Refused
+shortage-not_refused outcome error w0 w1 p e r =
     subst (λ (x : Outcome). IsRefused x errors.OutOfMemory w0 w1) r (subst (λ (x : LoadError). IsRefused outcome x w0 w1) e p)
 
 -- ---- why each part refuses
@@ -236,16 +236,16 @@ start-explained {A} s verdict p start.ArgumentCount load accepts same why e =
 start-explained {A} s verdict p start.OutOfMemory load accepts same why e = subst (λ (x : LoadError). Explained A s x) (sym e) tt
 
 -- a program without a fault of layout isn't refused for one
-pub layout-wanting : {A : Type 0} (p : Program A) (error : LayoutError) (load : LoadError) → fault_of p ≡ None → IsFault (fault_of p) error → load ≡ of_layout error → load ≡ errors.OutOfMemory
-layout-wanting p (layout.Refused code line) load none fault e = absurd cc
-layout-wanting p layout.OutOfMemory load none fault e = e
+pub layout-shortage : {A : Type 0} (p : Program A) (error : LayoutError) (load : LoadError) → fault_of p ≡ None → IsFault (fault_of p) error → load ≡ of_layout error → load ≡ errors.OutOfMemory
+layout-shortage p (layout.Refused code line) load none fault e = absurd cc
+layout-shortage p layout.OutOfMemory load none fault e = e
 
 -- a program that starts isn't refused its start
-pub start-wanting : {A : Type 0} (p : Program A) (entry args : List ℕ) (state : State) (error : StartError) (load : LoadError) → start_of p entry args ≡ Ok state
+pub start-shortage : {A : Type 0} (p : Program A) (entry args : List ℕ) (state : State) (error : StartError) (load : LoadError) → start_of p entry args ≡ Ok state
     → StartExplains (start_of p entry args) error → load ≡ of_start error → load ≡ errors.OutOfMemory
-start-wanting p entry args state start.NoEntry load ok why e = absurd cc
-start-wanting p entry args state start.ArgumentCount load ok why e = absurd cc
-start-wanting p entry args state start.OutOfMemory load ok why e = e
+start-shortage p entry args state start.NoEntry load ok why e = absurd cc
+start-shortage p entry args state start.ArgumentCount load ok why e = absurd cc
+start-shortage p entry args state start.OutOfMemory load ok why e = e
 
 -- ---- where no session can be, and where one must be
 

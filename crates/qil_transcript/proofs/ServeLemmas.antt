@@ -18,15 +18,15 @@ use Rattle.qil_meaning.specs.Timeline.{position, at_end}
 use Rattle.qil_stops.specs.Listed.{is_listed}
 use Rattle.qil_stops.specs.declared.stop.StopKind.{StopKind}
 use Rattle.qil_replies.specs.Reply.{reply_text}
-use Rattle.qil_session.specs.Situation.{Situation, has_kind, is_full}
-use Rattle.qil_session.specs.Answers.{Answer, AnswersLine, answer, answer_text, answers, left_by, AreLawful, IsLawful, IsAnswered, IsAnsweredTo, is_quit, quits, if_back, poke_answer, poke_at, stop_answer}
+use Rattle.qil_session.specs.SessionState.{SessionState, has_kind, is_full}
+use Rattle.qil_session.specs.Answers.{Answer, AnswersLine, answer, answer_text, answers, left_by, AreValid, IsValid, IsAnswered, IsAnsweredTo, is_quit, quits, if_back, poke_answer, poke_at, stop_answer}
 use Rattle.std.specs.Prelude.{IfSome, IsErrAnd, OnOk}
 use Rattle.std.specs.Io.KnownBytes.{Consumes, Appends, IsAtEnd, prepend_known}
 use Rattle.qil_transcript.specs.declared.serving.IoFault.{IoFault}
 use Rattle.qil_transcript.specs.declared.serving.IoFault.TheVariants.{Read, Write, TooLong}
 use Rattle.qil_streams.specs.Reader.{HasMore}
 use Rattle.qil_streams.proofs.DeviceLemmas.{Appends-nil, Appends-append, Consumes-nil, Consumes-append}
-use Rattle.qil_streams.specs.Device.{IsFrontOf}
+use Rattle.qil_streams.specs.Device.{IsPrefixOf}
 use Rattle.std.proofs.Common.{subst}
 use Rattle.std.proofs.Math.Seq.{take-append_seam, take-append-add}
 use Rattle.qil_session.specs.declared.session.Next.{Next}
@@ -34,100 +34,100 @@ use Rattle.qil_transcript.specs.Serve.{AreServed, IsServed, IsCutShort, IsTooLon
 use Rattle.qil_streams.proofs.ScriptLemmas.{Cut, Cut-nil, Cut-line, Cut-whole_part, Cut-end, Cut-last}
 use Rattle.qil_transcript.proofs.KeptLemmas.{command_of-kept}
 
--- After these lines, with these wants, `told` was answered and the session is `now`, whatever comes next.
-pub record Told {A : Type 0} (first : Situation A) (before : List (List ℕ)) (wants : List (Option ℕ)) (told : List ℕ) (now : Situation A) : Type 0 where
+-- After these lines, with these wants, `reported` was answered and the session is `now`, whatever comes next.
+pub record Reported {A : Type 0} (first : SessionState A) (before : List (List ℕ)) (shortages : List (Option ℕ)) (reported : List ℕ) (now : SessionState A) : Type 0 where
   pub goes : quits before ≡ false
-  pub lawful : (rest : List (List ℕ)) (more : List (Option ℕ)) → AreLawful now rest more → AreLawful first (before ++ rest) (wants ++ more)
-  pub text : (rest : List (List ℕ)) (more : List (Option ℕ)) → answers first (before ++ rest) (wants ++ more) ≡ told ++ answers now rest more
-  pub left : (rest : List (List ℕ)) (more : List (Option ℕ)) → left_by first (before ++ rest) (wants ++ more) ≡ left_by now rest more
+  pub valid : (rest : List (List ℕ)) (more : List (Option ℕ)) → AreValid now rest more → AreValid first (before ++ rest) (shortages ++ more)
+  pub text : (rest : List (List ℕ)) (more : List (Option ℕ)) → answers first (before ++ rest) (shortages ++ more) ≡ reported ++ answers now rest more
+  pub left : (rest : List (List ℕ)) (more : List (Option ℕ)) → left_by first (before ++ rest) (shortages ++ more) ≡ left_by now rest more
 
-pub Told-nil : {A : Type 0} (first : Situation A) → Told first [] [] [] first
-Told-nil first = record { goes = refl; lawful = λ rest more h. h; text = λ rest more. refl; left = λ rest more. refl }
+pub Reported-nil : {A : Type 0} (first : SessionState A) → Reported first [] [] [] first
+Reported-nil first = record { goes = refl; valid = λ rest more h. h; text = λ rest more. refl; left = λ rest more. refl }
 
 cond_goes : {A : Type 0} (b : Bool) (x y : Answer A) → x.goes ≡ true → y.goes ≡ true → (cond b x y).goes ≡ true
 cond_goes true x y p q = p
 cond_goes false x y p q = q
 
-if_back-goes : {A : Type 0} (s : Situation A) (x : Answer A) → x.goes ≡ true → (if_back s x).goes ≡ true
+if_back-goes : {A : Type 0} (s : SessionState A) (x : Answer A) → x.goes ≡ true → (if_back s x).goes ≡ true
 if_back-goes s x p = cond_goes (position s.timeline == 0) _ _ refl (cond_goes (length s.timeline.past == 0) _ x refl p)
 
-poke_answer-goes : {A : Type 0} (s : Situation A) (r : Result State PokeFault) → (poke_answer s r).goes ≡ true
+poke_answer-goes : {A : Type 0} (s : SessionState A) (r : Result State PokeFault) → (poke_answer s r).goes ≡ true
 poke_answer-goes s (Ok state) = refl
 poke_answer-goes s (Err why) = refl
 
-poke_at-goes : {A : Type 0} (s : Situation A) (w : Width) (v : ℕ) (a : Option ℕ) → (poke_at s w v a).goes ≡ true
+poke_at-goes : {A : Type 0} (s : SessionState A) (w : Width) (v : ℕ) (a : Option ℕ) → (poke_at s w v a).goes ≡ true
 poke_at-goes s w v None = refl
 poke_at-goes s w v (Some a) = poke_answer-goes s _
 
-stop_answer-goes : {A : Type 0} (s : Situation A) (kind : Option StopKind) → (stop_answer s kind).goes ≡ true
+stop_answer-goes : {A : Type 0} (s : SessionState A) (kind : Option StopKind) → (stop_answer s kind).goes ≡ true
 stop_answer-goes s None = refl
 stop_answer-goes s (Some kind) = cond_goes (has_kind s.program kind) _ _ (cond_goes (is_full s.stops) _ _ refl refl) refl
 
 -- only `quit` ends a session
-pub answer_goes : {A : Type 0} (s : Situation A) (said : Result (Option Command) Refused) (want : Option ℕ) → is_quit said ≡ false → (answer s said want).goes ≡ true
+pub answer_goes : {A : Type 0} (s : SessionState A) (said : Result (Option Command) Refused) (shortage : Option ℕ) → is_quit said ≡ false → (answer s said shortage).goes ≡ true
 unfolding answer
 answer_goes s (Ok (Some (commands.Step n))) None h = cond_goes (at_end s.timeline) _ _ refl refl
 answer_goes s (Ok (Some (commands.Step n))) (Some k) h = refl
-answer_goes s (Ok (Some (commands.Back n))) want h = if_back-goes s _ refl
+answer_goes s (Ok (Some (commands.Back n))) shortage h = if_back-goes s _ refl
 answer_goes s (Ok (Some commands.Continue)) None h = cond_goes (at_end s.timeline) _ _ refl refl
 answer_goes s (Ok (Some commands.Continue)) (Some k) h = refl
-answer_goes s (Ok (Some commands.Reverse)) want h = if_back-goes s _ refl
+answer_goes s (Ok (Some commands.Reverse)) shortage h = if_back-goes s _ refl
 answer_goes s (Ok (Some (commands.Set x v))) None h = poke_answer-goes s _
 answer_goes s (Ok (Some (commands.Set x v))) (Some k) h = refl
 answer_goes s (Ok (Some (commands.Poke w at v))) None h = poke_at-goes s w v _
 answer_goes s (Ok (Some (commands.Poke w at v))) (Some k) h = refl
-answer_goes s (Ok (Some (commands.Break func at))) want h = stop_answer-goes s _
-answer_goes s (Ok (Some (commands.WatchBytes w at))) want h = stop_answer-goes s _
-answer_goes s (Ok (Some (commands.WatchTemp func x))) want h = stop_answer-goes s _
-answer_goes s (Ok (Some (commands.Delete n))) want h = cond_goes (is_listed n s.stops.kept) _ _ refl refl
-answer_goes s (Ok (Some commands.Stops)) want h = refl
-answer_goes s (Ok (Some (commands.Print x))) want h = refl
-answer_goes s (Ok (Some commands.Temps)) want h = refl
-answer_goes s (Ok (Some (commands.Mem at n))) want h = refl
-answer_goes s (Ok (Some commands.Where)) want h = refl
-answer_goes s (Ok (Some commands.List)) want h = refl
-answer_goes s (Ok (Some commands.Out)) want h = refl
-answer_goes s (Ok (Some commands.Quit)) want h = absurd (true≢false h)
-answer_goes s (Ok None) want h = refl
-answer_goes s (Err refusal) want h = refl
+answer_goes s (Ok (Some (commands.Break func at))) shortage h = stop_answer-goes s _
+answer_goes s (Ok (Some (commands.WatchBytes w at))) shortage h = stop_answer-goes s _
+answer_goes s (Ok (Some (commands.WatchTemp func x))) shortage h = stop_answer-goes s _
+answer_goes s (Ok (Some (commands.Delete n))) shortage h = cond_goes (is_listed n s.stops.kept) _ _ refl refl
+answer_goes s (Ok (Some commands.Stops)) shortage h = refl
+answer_goes s (Ok (Some (commands.Print x))) shortage h = refl
+answer_goes s (Ok (Some commands.Temps)) shortage h = refl
+answer_goes s (Ok (Some (commands.Mem at n))) shortage h = refl
+answer_goes s (Ok (Some commands.Where)) shortage h = refl
+answer_goes s (Ok (Some commands.List)) shortage h = refl
+answer_goes s (Ok (Some commands.Out)) shortage h = refl
+answer_goes s (Ok (Some commands.Quit)) shortage h = absurd (true≢false h)
+answer_goes s (Ok None) shortage h = refl
+answer_goes s (Err refusal) shortage h = refl
 
 -- one more line
-pub Told-line : {A : Type 0} (first : Situation A) (before : List (List ℕ)) (wants : List (Option ℕ)) (told : List ℕ) (now : Situation A) (line : List ℕ) (want : Option ℕ) (text : List ℕ) (next : Situation A)
-    → Told first before wants told now → is_quit (command_of line) ≡ false → IsLawful now (command_of line) want
-    → text ≡ answer_text (answer now (command_of line) want) → next ≡ (answer now (command_of line) want).left
-    → Told first (before ++ line ∷ []) (wants ++ want ∷ []) (told ++ text) next
-Told-line first before wants told now line want text next r no_quit lawful is_text is_next =
-    let goes = answer_goes now (command_of line) want no_quit in
+pub Reported-line : {A : Type 0} (first : SessionState A) (before : List (List ℕ)) (shortages : List (Option ℕ)) (reported : List ℕ) (now : SessionState A) (line : List ℕ) (shortage : Option ℕ) (text : List ℕ) (next : SessionState A)
+    → Reported first before shortages reported now → is_quit (command_of line) ≡ false → IsValid now (command_of line) shortage
+    → text ≡ answer_text (answer now (command_of line) shortage) → next ≡ (answer now (command_of line) shortage).left
+    → Reported first (before ++ line ∷ []) (shortages ++ shortage ∷ []) (reported ++ text) next
+Reported-line first before shortages reported now line shortage text next r no_quit valid is_text is_next =
+    let goes = answer_goes now (command_of line) shortage no_quit in
     record {
       goes = list_any-append _ before (line ∷ []) ∙ rw (r.goes, no_quit) refl;
-      lawful = λ rest more h. simp append_assoc (r.lawful (line ∷ rest) (want ∷ more) (lawful, rw goes (rw (← is_next) h)));
-      text = λ rest more. simp append_assoc (r.text (line ∷ rest) (want ∷ more) ∙ rw (goes, is_text, is_next) refl);
-      left = λ rest more. simp append_assoc (r.left (line ∷ rest) (want ∷ more) ∙ rw (goes, is_next) refl);
+      valid = λ rest more h. simp append_assoc (r.valid (line ∷ rest) (shortage ∷ more) (valid, rw goes (rw (← is_next) h)));
+      text = λ rest more. simp append_assoc (r.text (line ∷ rest) (shortage ∷ more) ∙ rw (goes, is_text, is_next) refl);
+      left = λ rest more. simp append_assoc (r.left (line ∷ rest) (shortage ∷ more) ∙ rw (goes, is_next) refl);
     }
 
--- no want is lawful
-pub none_lawful : {A : Type 0} (s : Situation A) (said : Result (Option Command) Refused) → IsLawful s said None
-unfolding IsLawful
-none_lawful s said = tt
+-- no want is valid
+pub none_valid : {A : Type 0} (s : SessionState A) (said : Result (Option Command) Refused) → IsValid s said None
+unfolding IsValid
+none_valid s said = tt
 
-either : (b : Bool) (A : List (Option ℕ) → Type 0) → ((wants : List (Option ℕ)) × A wants) → (wants : List (Option ℕ)) × MatchBool b (A wants) (wants ≡ [])
+either : (b : Bool) (A : List (Option ℕ) → Type 0) → ((shortages : List (Option ℕ)) × A shortages) → (shortages : List (Option ℕ)) × MatchBool b (A shortages) (shortages ≡ [])
 either true A h = h
 either false A h = ([], refl)
 
--- where memory is never wanting, that is lawful
-pub ample : {A : Type 0} (s : Situation A) (lines : List (List ℕ)) → (wants : List (Option ℕ)) × AreLawful s lines wants
+-- where memory never runs out, that is valid
+pub ample : {A : Type 0} (s : SessionState A) (lines : List (List ℕ)) → (shortages : List (Option ℕ)) × AreValid s lines shortages
 ample s [] = ([], refl)
 ample s (line ∷ lines) =
     let one = answer s (command_of line) None in
-    let rest = either one.goes (λ wants. AreLawful one.left lines wants) (ample one.left lines) in
-    (None ∷ rest.0, (none_lawful s (command_of line), rest.1))
+    let rest = either one.goes (λ shortages. AreValid one.left lines shortages) (ample one.left lines) in
+    (None ∷ rest.0, (none_valid s (command_of line), rest.1))
 
--- what was told answers the lines so far
-pub Told-answered : {A : Type 0} (first : Situation A) (before : List (List ℕ)) (wants : List (Option ℕ)) (told : List ℕ) (now : Situation A) → Told first before wants told now → IsAnsweredTo first before told now
-Told-answered first before wants told now r = (
-  wants ++ [],
-  rw (append-nil before) at (r.lawful [] [] refl),
-  sym (rw (append-nil before, append-nil told) at (r.text [] [])),
+-- what was reported answers the lines so far
+pub Reported-answered : {A : Type 0} (first : SessionState A) (before : List (List ℕ)) (shortages : List (Option ℕ)) (reported : List ℕ) (now : SessionState A) → Reported first before shortages reported now → IsAnsweredTo first before reported now
+Reported-answered first before shortages reported now r = (
+  shortages ++ [],
+  rw (append-nil before) at (r.valid [] [] refl),
+  sym (rw (append-nil before, append-nil reported) at (r.text [] [])),
   sym (rw (append-nil before) at (r.left [] [])),
 )
 
@@ -154,96 +154,96 @@ quit_is (Ok (Some commands.Quit)) h = refl
 quit_is (Ok None) h = absurd (false≢true h)
 quit_is (Err refusal) h = absurd (false≢true h)
 
-quit_goes : {A : Type 0} (now : Situation A) (said : Result (Option Command) Refused) → is_quit said ≡ true → (answer now said None).goes ≡ false
+quit_goes : {A : Type 0} (now : SessionState A) (said : Result (Option Command) Refused) → is_quit said ≡ true → (answer now said None).goes ≡ false
 unfolding answer
 quit_goes now said h = rw (quit_is said h) refl
 
-quit_text : {A : Type 0} (now : Situation A) (said : Result (Option Command) Refused) → is_quit said ≡ true → answer_text (answer now said None) ≡ []
+quit_text : {A : Type 0} (now : SessionState A) (said : Result (Option Command) Refused) → is_quit said ≡ true → answer_text (answer now said None) ≡ []
 unfolding answer reply_text
 quit_text now said h = rw (quit_is said h) refl
 
-quit_left : {A : Type 0} (now : Situation A) (said : Result (Option Command) Refused) → is_quit said ≡ true → (answer now said None).left ≡ now
+quit_left : {A : Type 0} (now : SessionState A) (said : Result (Option Command) Refused) → is_quit said ≡ true → (answer now said None).left ≡ now
 unfolding answer
 quit_left now said h = rw (quit_is said h) refl
 
 -- and, with a `quit` after them, any lines that follow
-pub Told-quit : {A : Type 0} (first : Situation A) (before : List (List ℕ)) (wants : List (Option ℕ)) (told : List ℕ) (now : Situation A) (line : List ℕ) (rest : List (List ℕ)) → Told first before wants told now → is_quit (command_of line) ≡ true → IsAnsweredTo first (before ++ line ∷ rest) told now
-Told-quit first before wants told now line rest r quit = (
-  wants ++ None ∷ [],
-  r.lawful (line ∷ rest) (None ∷ []) (none_lawful now (command_of line), rw (quit_goes now (command_of line) quit) refl),
-  sym (r.text (line ∷ rest) (None ∷ []) ∙ rw (quit_goes now (command_of line) quit, quit_text now (command_of line) quit) (append-nil told)),
+pub Reported-quit : {A : Type 0} (first : SessionState A) (before : List (List ℕ)) (shortages : List (Option ℕ)) (reported : List ℕ) (now : SessionState A) (line : List ℕ) (rest : List (List ℕ)) → Reported first before shortages reported now → is_quit (command_of line) ≡ true → IsAnsweredTo first (before ++ line ∷ rest) reported now
+Reported-quit first before shortages reported now line rest r quit = (
+  shortages ++ None ∷ [],
+  r.valid (line ∷ rest) (None ∷ []) (none_valid now (command_of line), rw (quit_goes now (command_of line) quit) refl),
+  sym (r.text (line ∷ rest) (None ∷ []) ∙ rw (quit_goes now (command_of line) quit, quit_text now (command_of line) quit) (append-nil reported)),
   sym (r.left (line ∷ rest) (None ∷ []) ∙ rw (quit_goes now (command_of line) quit) (quit_left now (command_of line) quit)),
 )
 
 -- what is left of the text of a line, and of the answers to any lines that follow
-pub Told-front : {A : Type 0} (first : Situation A) (before : List (List ℕ)) (wants : List (Option ℕ)) (told : List ℕ) (now : Situation A) (line : List ℕ) (rest : List (List ℕ)) (want : Option ℕ) (front : List ℕ)
-    → Told first before wants told now → IsLawful now (command_of line) want → IsFrontOf front (answer_text (answer now (command_of line) want))
-    → (all : List ℕ) × IsAnswered first (before ++ line ∷ rest) all × IsFrontOf (told ++ front) all
-Told-front first before wants told now line rest want front r lawful is_front =
-    let one = answer now (command_of line) want in
-    let more = either one.goes (λ wants. AreLawful one.left rest wants) (ample one.left rest) in (
-      told ++ answers now (line ∷ rest) (want ∷ more.0),
-      (wants ++ want ∷ more.0, r.lawful (line ∷ rest) (want ∷ more.0) (lawful, more.1), sym (r.text (line ∷ rest) (want ∷ more.0))),
+pub Reported-prefix : {A : Type 0} (first : SessionState A) (before : List (List ℕ)) (shortages : List (Option ℕ)) (reported : List ℕ) (now : SessionState A) (line : List ℕ) (rest : List (List ℕ)) (shortage : Option ℕ) (prefix : List ℕ)
+    → Reported first before shortages reported now → IsValid now (command_of line) shortage → IsPrefixOf prefix (answer_text (answer now (command_of line) shortage))
+    → (all : List ℕ) × IsAnswered first (before ++ line ∷ rest) all × IsPrefixOf (reported ++ prefix) all
+Reported-prefix first before shortages reported now line rest shortage prefix r valid is_prefix =
+    let one = answer now (command_of line) shortage in
+    let more = either one.goes (λ shortages. AreValid one.left rest shortages) (ample one.left rest) in (
+      reported ++ answers now (line ∷ rest) (shortage ∷ more.0),
+      (shortages ++ shortage ∷ more.0, r.valid (line ∷ rest) (shortage ∷ more.0) (valid, more.1), sym (r.text (line ∷ rest) (shortage ∷ more.0))),
       (
-        is_front.0 ++ cond one.goes (answers one.left rest more.0) [],
-        rw is_front.1 (simp append_assoc),
+        is_prefix.0 ++ cond one.goes (answers one.left rest more.0) [],
+        rw is_prefix.1 (simp append_assoc),
       ),
     )
 
 -- where that was, and how the session is left
-pub Told-cut : {A : Type 0} (first : Situation A) (before : List (List ℕ)) (wants : List (Option ℕ)) (told : List ℕ) (now : Situation A) (line : List ℕ) (rest : List (List ℕ)) (want : Option ℕ) (front : List ℕ) (next : Situation A) (lines : List (List ℕ))
-    → lines ≡ before ++ line ∷ rest → Told first before wants told now → IsLawful now (command_of line) want → IsFrontOf front (answer_text (answer now (command_of line) want))
-    → next ≡ (answer now (command_of line) want).left
-    → IsCutShort first lines (told ++ front) next
-Told-cut first before wants told now line rest want front next lines are r lawful is_front is_next = record {
+pub Reported-cut : {A : Type 0} (first : SessionState A) (before : List (List ℕ)) (shortages : List (Option ℕ)) (reported : List ℕ) (now : SessionState A) (line : List ℕ) (rest : List (List ℕ)) (shortage : Option ℕ) (prefix : List ℕ) (next : SessionState A) (lines : List (List ℕ))
+    → lines ≡ before ++ line ∷ rest → Reported first before shortages reported now → IsValid now (command_of line) shortage → IsPrefixOf prefix (answer_text (answer now (command_of line) shortage))
+    → next ≡ (answer now (command_of line) shortage).left
+    → IsCutShort first lines (reported ++ prefix) next
+Reported-cut first before shortages reported now line rest shortage prefix next lines are r valid is_prefix is_next = record {
   before = before;
   line = line;
   after = rest;
   lines_are = are;
   goes = r.goes;
-  told = told;
+  reported = reported;
   there = now;
-  answered = Told-answered first before wants told now r;
-  want = want;
-  lawful = lawful;
-  front = front;
-  is_front = is_front;
+  answered = Reported-answered first before shortages reported now r;
+  shortage = shortage;
+  valid = valid;
+  prefix = prefix;
+  is_prefix = is_prefix;
   text_is = refl;
   now_is = is_next;
 }
 
--- After the bytes `done`, which are whole lines, `told` was answered and the session is `now`.
-pub record Reached {A : Type 0} (first : Situation A) (done told : List ℕ) (now : Situation A) : Type 0 where
+-- After the bytes `done`, which are whole lines, `reported` was answered and the session is `now`.
+pub record Reached {A : Type 0} (first : SessionState A) (done reported : List ℕ) (now : SessionState A) : Type 0 where
   pub before : List (List ℕ)
-  pub wants : List (Option ℕ)
+  pub shortages : List (Option ℕ)
   pub cut : Cut done before
-  pub so_far : Told first before wants told now
+  pub so_far : Reported first before shortages reported now
 
-pub Reached-nil : {A : Type 0} (first : Situation A) → Reached first [] [] first
-Reached-nil first = record { before = []; wants = []; cut = Cut-nil; so_far = Told-nil first }
+pub Reached-nil : {A : Type 0} (first : SessionState A) → Reached first [] [] first
+Reached-nil first = record { before = []; shortages = []; cut = Cut-nil; so_far = Reported-nil first }
 
-pub Reached-line : {A : Type 0} (first : Situation A) (done told : List ℕ) (now : Situation A) (line : List ℕ) (want : Option ℕ) (text : List ℕ) (next : Situation A)
-    → Reached first done told now → IsLine line → is_quit (command_of line) ≡ false → IsLawful now (command_of line) want
-    → text ≡ answer_text (answer now (command_of line) want) → next ≡ (answer now (command_of line) want).left
-    → Reached first (done ++ (line ++ 10 ∷ [])) (told ++ text) next
-Reached-line first done told now line want text next r is_line no_quit lawful is_text is_next = record {
+pub Reached-line : {A : Type 0} (first : SessionState A) (done reported : List ℕ) (now : SessionState A) (line : List ℕ) (shortage : Option ℕ) (text : List ℕ) (next : SessionState A)
+    → Reached first done reported now → IsLine line → is_quit (command_of line) ≡ false → IsValid now (command_of line) shortage
+    → text ≡ answer_text (answer now (command_of line) shortage) → next ≡ (answer now (command_of line) shortage).left
+    → Reached first (done ++ (line ++ 10 ∷ [])) (reported ++ text) next
+Reached-line first done reported now line shortage text next r is_line no_quit valid is_text is_next = record {
   before = r.before ++ line ∷ [];
-  wants = r.wants ++ want ∷ [];
+  shortages = r.shortages ++ shortage ∷ [];
   cut = Cut-line done r.before line r.cut is_line;
-  so_far = Told-line first r.before r.wants told now line want text next r.so_far no_quit lawful is_text is_next;
+  so_far = Reported-line first r.before r.shortages reported now line shortage text next r.so_far no_quit valid is_text is_next;
 }
 
 -- Where a loop over the lines stands: what it took of the script, and what it wrote.
-pub record Standing {A : Type 0} (first : Situation A) (known rest : Option (List ℕ)) (w0 w1 : Option (List ℕ)) (now : Situation A) (given : ℕ) : Type 0 where
+pub record Standing {A : Type 0} (first : SessionState A) (known rest : Option (List ℕ)) (w0 w1 : Option (List ℕ)) (now : SessionState A) (given : ℕ) : Type 0 where
   pub done : List ℕ
-  pub told : List ℕ
-  pub reached : Reached first done told now
+  pub reported : List ℕ
+  pub reached : Reached first done reported now
   pub taken : Consumes known rest done
   pub given_is : given ≡ length done
-  pub wrote : Appends w0 w1 told
+  pub wrote : Appends w0 w1 reported
 
 -- what `serve` promises
-abbrev pub Promise : {A T : Type 0} → Result T IoFault → Situation A → Option (List ℕ) → Option (List ℕ) → Option (List ℕ) → Option (List ℕ) → Situation A → Type 0
+abbrev pub Promise : {A T : Type 0} → Result T IoFault → SessionState A → Option (List ℕ) → Option (List ℕ) → Option (List ℕ) → Option (List ℕ) → SessionState A → Type 0
 Promise r first known left w0 w1 now = IfSome known (λ script. (text : List ℕ) × Appends w0 w1 text × IsServed r first script left text now)
 
 consumed_all : (script done : List ℕ) (rest : Option (List ℕ)) → Consumes (Some script) rest done → IsAtEnd rest → script ≡ done
@@ -253,35 +253,35 @@ consumed_all script done (Some ys) p e = p ∙ ap (λ v. done ++ v) e ∙ append
 short_enough : (script : List ℕ) → length script ≤ 2 ^ 24 → IsTooLong script → ⊥
 short_enough script le t = omega (arith, t.0)
 
-pub Standing-start : {A : Type 0} (first : Situation A) (known rest w : Option (List ℕ)) (given : ℕ) → rest ≡ known → given ≡ 0 → Standing first known rest w w first given
+pub Standing-start : {A : Type 0} (first : SessionState A) (known rest w : Option (List ℕ)) (given : ℕ) → rest ≡ known → given ≡ 0 → Standing first known rest w w first given
 Standing-start first known rest w given e h = record {
   done = [];
-  told = [];
+  reported = [];
   reached = Reached-nil first;
   taken = rw e (Consumes-nil known);
   given_is = h;
   wrote = Appends-nil w;
 }
 
-pub Standing-line : {A : Type 0} (first : Situation A) (known rest rest' w0 w1 w2 : Option (List ℕ)) (now next : Situation A) (given given' : ℕ) (line : List ℕ) (want : Option ℕ)
+pub Standing-line : {A : Type 0} (first : SessionState A) (known rest rest' w0 w1 w2 : Option (List ℕ)) (now next : SessionState A) (given given' : ℕ) (line : List ℕ) (shortage : Option ℕ)
     → Standing first known rest w0 w1 now given → IsLine line → Consumes rest rest' (line ++ 10 ∷ []) → given' ≡ given + (length line + 1)
-    → is_quit (command_of line) ≡ false → IsLawful now (command_of line) want → Appends w1 w2 (answer_text (answer now (command_of line) want))
-    → next ≡ (answer now (command_of line) want).left
+    → is_quit (command_of line) ≡ false → IsValid now (command_of line) shortage → Appends w1 w2 (answer_text (answer now (command_of line) shortage))
+    → next ≡ (answer now (command_of line) shortage).left
     → Standing first known rest' w0 w2 next given'
-Standing-line first known rest rest' w0 w1 w2 now next given given' line want s is_line taken given_is no_quit lawful wrote is_next =
-    let text = answer_text (answer now (command_of line) want) in
+Standing-line first known rest rest' w0 w1 w2 now next given given' line shortage s is_line taken given_is no_quit valid wrote is_next =
+    let text = answer_text (answer now (command_of line) shortage) in
     let size : length (s.done ++ (line ++ 10 ∷ [])) ≡ length s.done + (length line + 1) = length-append s.done (line ++ 10 ∷ []) ∙ ap (λ v. length s.done + v) (length-append line (10 ∷ [])) in
     record {
       done = s.done ++ (line ++ 10 ∷ []);
-      told = s.told ++ text;
-      reached = Reached-line first s.done s.told now line want text next s.reached is_line no_quit lawful refl is_next;
+      reported = s.reported ++ text;
+      reached = Reached-line first s.done s.reported now line shortage text next s.reached is_line no_quit valid refl is_next;
       taken = Consumes-append known rest rest' s.done (line ++ 10 ∷ []) s.taken taken;
       given_is = omega (arith, given_is, s.given_is, size);
-      wrote = Appends-append w0 w1 w2 s.told text s.wrote wrote;
+      wrote = Appends-append w0 w1 w2 s.reported text s.wrote wrote;
     }
 
 -- the end of the script
-pub Promise-end : {A T : Type 0} (v : T) (first : Situation A) (known rest rest' left w0 w1 : Option (List ℕ)) (now : Situation A) (given given' : ℕ)
+pub Promise-end : {A T : Type 0} (v : T) (first : SessionState A) (known rest rest' left w0 w1 : Option (List ℕ)) (now : SessionState A) (given given' : ℕ)
     → Standing first known rest w0 w1 now given → Consumes rest rest' [] → IsAtEnd rest' → given' ≡ given → given' ≤ 2 ^ 24
     → Promise (Ok v) first known left w0 w1 now
 Promise-end v first None rest rest' left w0 w1 now given given' s taken end same le = tt
@@ -289,38 +289,38 @@ Promise-end v first (Some script) rest rest' left w0 w1 now given given' s taken
     let all = Consumes-append (Some script) rest rest' s.done [] s.taken taken in
     let is : script ≡ s.done = consumed_all script (s.done ++ []) rest' all end ∙ append-nil s.done in
     let size : length script ≤ 2 ^ 24 = omega (arith, ap length is, s.given_is) in (
-      s.told,
+      s.reported,
       s.wrote,
       (
-        rw is (rw (Cut-end s.done s.reached.before s.reached.cut) (Told-answered first s.reached.before s.reached.wants s.told now s.reached.so_far)),
+        rw is (rw (Cut-end s.done s.reached.before s.reached.cut) (Reported-answered first s.reached.before s.reached.shortages s.reported now s.reached.so_far)),
         short_enough script size,
       ),
     )
 
 -- a last line without byte 10
-pub Promise-last : {A T : Type 0} (v : T) (first : Situation A) (known rest rest' left w0 w1 w2 : Option (List ℕ)) (now next : Situation A) (given given' : ℕ) (line : List ℕ) (want : Option ℕ)
+pub Promise-last : {A T : Type 0} (v : T) (first : SessionState A) (known rest rest' left w0 w1 w2 : Option (List ℕ)) (now next : SessionState A) (given given' : ℕ) (line : List ℕ) (shortage : Option ℕ)
     → Standing first known rest w0 w1 now given → IsLine line → 0 < length line → Consumes rest rest' line → IsAtEnd rest' → given' ≡ given + length line → given' ≤ 2 ^ 24
-    → is_quit (command_of line) ≡ false → IsLawful now (command_of line) want → Appends w1 w2 (answer_text (answer now (command_of line) want))
-    → next ≡ (answer now (command_of line) want).left
+    → is_quit (command_of line) ≡ false → IsValid now (command_of line) shortage → Appends w1 w2 (answer_text (answer now (command_of line) shortage))
+    → next ≡ (answer now (command_of line) shortage).left
     → Promise (Ok v) first known left w0 w2 next
-Promise-last v first None rest rest' left w0 w1 w2 now next given given' line want s is_line some taken end given_is le no_quit lawful wrote is_next = tt
-Promise-last v first (Some script) rest rest' left w0 w1 w2 now next given given' line want s is_line some taken end given_is le no_quit lawful wrote is_next =
-    let text = answer_text (answer now (command_of line) want) in
+Promise-last v first None rest rest' left w0 w1 w2 now next given given' line shortage s is_line some taken end given_is le no_quit valid wrote is_next = tt
+Promise-last v first (Some script) rest rest' left w0 w1 w2 now next given given' line shortage s is_line some taken end given_is le no_quit valid wrote is_next =
+    let text = answer_text (answer now (command_of line) shortage) in
     let r = s.reached in
     let is : script ≡ s.done ++ line = consumed_all script (s.done ++ line) rest' (Consumes-append (Some script) rest rest' s.done line s.taken taken) end in
     let size : length script ≤ 2 ^ 24 = omega (arith, ap length is, s.given_is, given_is, length-append s.done line) in (
-      s.told ++ text,
-      Appends-append w0 w1 w2 s.told text s.wrote wrote,
+      s.reported ++ text,
+      Appends-append w0 w1 w2 s.reported text s.wrote wrote,
       (
         rw is (rw (Cut-last s.done r.before line r.cut is_line some)
-            (Told-answered first (r.before ++ line ∷ []) (r.wants ++ want ∷ []) (s.told ++ text) next
-            (Told-line first r.before r.wants s.told now line want text next r.so_far no_quit lawful refl is_next))),
+            (Reported-answered first (r.before ++ line ∷ []) (r.shortages ++ shortage ∷ []) (s.reported ++ text) next
+            (Reported-line first r.before r.shortages s.reported now line shortage text next r.so_far no_quit valid refl is_next))),
         short_enough script size,
       ),
     )
 
 -- a last line that quits
-pub Promise-last_quit : {A T : Type 0} (v : T) (first : Situation A) (known rest rest' left w0 w1 : Option (List ℕ)) (now : Situation A) (given given' : ℕ) (line : List ℕ)
+pub Promise-last_quit : {A T : Type 0} (v : T) (first : SessionState A) (known rest rest' left w0 w1 : Option (List ℕ)) (now : SessionState A) (given given' : ℕ) (line : List ℕ)
     → Standing first known rest w0 w1 now given → IsLine line → 0 < length line → Consumes rest rest' line → IsAtEnd rest' → given' ≡ given + length line → given' ≤ 2 ^ 24
     → is_quit (command_of line) ≡ true
     → Promise (Ok v) first known left w0 w1 now
@@ -329,10 +329,10 @@ Promise-last_quit v first (Some script) rest rest' left w0 w1 now given given' l
     let r = s.reached in
     let is : script ≡ s.done ++ line = consumed_all script (s.done ++ line) rest' (Consumes-append (Some script) rest rest' s.done line s.taken taken) end in
     let size : length script ≤ 2 ^ 24 = omega (arith, ap length is, s.given_is, given_is, length-append s.done line) in (
-      s.told,
+      s.reported,
       s.wrote,
       (
-        rw is (rw (Cut-last s.done r.before line r.cut is_line some) (Told-quit first r.before r.wants s.told now line [] r.so_far quit)),
+        rw is (rw (Cut-last s.done r.before line r.cut is_line some) (Reported-quit first r.before r.shortages s.reported now line [] r.so_far quit)),
         short_enough script size,
       ),
     )
@@ -342,19 +342,19 @@ prepend_none pending None e = refl
 prepend_none pending (Some xs) e = rw e refl
 
 -- a reading that failed
-pub Promise-read : {A : Type 0} (T : Type 0) (first : Situation A) (known rest left w0 w1 : Option (List ℕ)) (pending : List ℕ) (now : Situation A) (given : ℕ) (line : List ℕ)
+pub Promise-read : {A : Type 0} (T : Type 0) (first : SessionState A) (known rest left w0 w1 : Option (List ℕ)) (pending : List ℕ) (now : SessionState A) (given : ℕ) (line : List ℕ)
     → Standing first known rest w0 w1 now given → IsLine line → Consumes rest (prepend_known pending left) line → pending ≡ []
     → Promise {T = T} (Err Read) first known left w0 w1 now
 Promise-read T first None rest left w0 w1 pending now given line s is_line taken none = tt
 Promise-read T first (Some script) rest left w0 w1 pending now given line s is_line taken none =
     let r = s.reached in
     let all = Consumes-append (Some script) rest left s.done line s.taken (rw (prepend_none pending left none) at taken) in (
-      s.told,
+      s.reported,
       s.wrote,
       (
         s.done ++ line,
         all,
-        rw (Cut-whole_part s.done r.before line r.cut is_line) (Told-answered first r.before r.wants s.told now r.so_far),
+        rw (Cut-whole_part s.done r.before line r.cut is_line) (Reported-answered first r.before r.shortages s.reported now r.so_far),
         ap (λ lines. quits lines) (Cut-whole_part s.done r.before line r.cut is_line) ∙ r.so_far.goes,
       ),
     )
@@ -376,7 +376,7 @@ take_over n xs ys le =
     ap (λ v. take v (xs ++ ys)) e ∙ take-append-add xs ys (n - length xs)
 
 -- a script that is too long
-pub Promise-too_long : {A : Type 0} (T : Type 0) (first : Situation A) (known rest after left w0 w1 : Option (List ℕ)) (now : Situation A) (given : ℕ) (line : List ℕ)
+pub Promise-too_long : {A : Type 0} (T : Type 0) (first : SessionState A) (known rest after left w0 w1 : Option (List ℕ)) (now : SessionState A) (given : ℕ) (line : List ℕ)
     → Standing first known rest w0 w1 now given → IsLine line → Consumes rest after line → HasMore after → given + length line ≡ 2 ^ 24
     → Promise {T = T} (Err TooLong) first known left w0 w1 now
 Promise-too_long T first None rest after left w0 w1 now given line s is_line taken more full = tt
@@ -384,13 +384,13 @@ Promise-too_long T first (Some script) rest after left w0 w1 now given line s is
     let r = s.reached in
     let (ys, is, some) = consumed_part script (s.done ++ line) after (Consumes-append (Some script) rest after s.done line s.taken taken) more in
     let size : length (s.done ++ line) ≡ 2 ^ 24 = length-append s.done line ∙ ap (λ v. v + length line) (sym s.given_is) ∙ full in
-    let front : take (2 ^ 24) script ≡ s.done ++ line = ap (λ v. take (2 ^ 24) v) is ∙ take_seam (2 ^ 24) (s.done ++ line) ys size in
-    let whole : whole_lines_of (take (2 ^ 24) script) ≡ r.before = ap (λ v. whole_lines_of v) front ∙ Cut-whole_part s.done r.before line r.cut is_line in
+    let prefix : take (2 ^ 24) script ≡ s.done ++ line = ap (λ v. take (2 ^ 24) v) is ∙ take_seam (2 ^ 24) (s.done ++ line) ys size in
+    let whole : whole_lines_of (take (2 ^ 24) script) ≡ r.before = ap (λ v. whole_lines_of v) prefix ∙ Cut-whole_part s.done r.before line r.cut is_line in
     let long : 2 ^ 24 < length script = omega (arith, ap length is, length-append (s.done ++ line) ys, size, some) in (
-      s.told,
+      s.reported,
       s.wrote,
       (
-        subst (λ lines. IsAnsweredTo first lines s.told now) (sym whole) (Told-answered first r.before r.wants s.told now r.so_far),
+        subst (λ lines. IsAnsweredTo first lines s.reported now) (sym whole) (Reported-answered first r.before r.shortages s.reported now r.so_far),
         (long, ap (λ lines. quits lines) whole ∙ r.so_far.goes),
       ),
     )
@@ -399,7 +399,7 @@ quits_there : (before : List (List ℕ)) (line : List ℕ) (after : List (List �
 quits_there before line after e f = list_any-append _ before (line ∷ after) ∙ rw (e, f) refl
 
 -- a line that quits
-pub Promise-quit : {A T : Type 0} (v : T) (first : Situation A) (known rest rest' left w0 w1 : Option (List ℕ)) (now : Situation A) (given given' : ℕ) (line : List ℕ)
+pub Promise-quit : {A T : Type 0} (v : T) (first : SessionState A) (known rest rest' left w0 w1 : Option (List ℕ)) (now : SessionState A) (given given' : ℕ) (line : List ℕ)
     → Standing first known rest w0 w1 now given → IsLine line → Consumes rest rest' (line ++ 10 ∷ []) → given' ≡ given + (length line + 1) → given' ≤ 2 ^ 24
     → is_quit (command_of line) ≡ true
     → Promise (Ok v) first known left w0 w1 now
@@ -411,62 +411,62 @@ Promise-quit v first (Some script) rest rest' left w0 w1 now given given' line s
     let (ys, is) = consumed_some script bytes rest' (Consumes-append (Some script) rest rest' s.done (line ++ 10 ∷ []) s.taken taken) in
     let size : length bytes ≤ 2 ^ 24 = omega (arith, s.given_is, given_is, length-append s.done (line ++ 10 ∷ []), length-append line (10 ∷ [])) in
     let all : lines_of script ≡ r.before ++ line ∷ lines_of ys = ap (λ v. lines_of v) is ∙ cut.lines ys ∙ append_assoc r.before (line ∷ []) (lines_of ys) in
-    let front : take (2 ^ 24) script ≡ bytes ++ take (2 ^ 24 - length bytes) ys = ap (λ v. take (2 ^ 24) v) is ∙ take_over (2 ^ 24) bytes ys size in
+    let prefix : take (2 ^ 24) script ≡ bytes ++ take (2 ^ 24 - length bytes) ys = ap (λ v. take (2 ^ 24) v) is ∙ take_over (2 ^ 24) bytes ys size in
     let whole : whole_lines_of (take (2 ^ 24) script) ≡ r.before ++ line ∷ whole_lines_of (take (2 ^ 24 - length bytes) ys) =
-    ap (λ v. whole_lines_of v) front ∙ cut.whole (take (2 ^ 24 - length bytes) ys) ∙ append_assoc r.before (line ∷ []) (whole_lines_of (take (2 ^ 24 - length bytes) ys)) in
+    ap (λ v. whole_lines_of v) prefix ∙ cut.whole (take (2 ^ 24 - length bytes) ys) ∙ append_assoc r.before (line ∷ []) (whole_lines_of (take (2 ^ 24 - length bytes) ys)) in
     let ends : quits (whole_lines_of (take (2 ^ 24) script)) ≡ true = ap (λ lines. quits lines) whole ∙ quits_there r.before line (whole_lines_of (take (2 ^ 24 - length bytes) ys)) r.so_far.goes quit in (
-      s.told,
+      s.reported,
       s.wrote,
       (
-        subst (λ lines. IsAnsweredTo first lines s.told now) (sym all) (Told-quit first r.before r.wants s.told now line (lines_of ys) r.so_far quit),
+        subst (λ lines. IsAnsweredTo first lines s.reported now) (sym all) (Reported-quit first r.before r.shortages s.reported now line (lines_of ys) r.so_far quit),
         λ t. true≢false (sym ends ∙ t.1),
       ),
     )
 
 -- a writing that failed at a line
-pub Promise-write : {A : Type 0} (T : Type 0) (first : Situation A) (known rest rest' left w0 w1 w2 : Option (List ℕ)) (now next : Situation A) (given : ℕ) (line : List ℕ) (want : Option ℕ)
-    → Standing first known rest w0 w1 now given → IsLine line → Consumes rest rest' (line ++ 10 ∷ []) → IsLawful now (command_of line) want
-    → ((front : List ℕ) × IsFrontOf front (answer_text (answer now (command_of line) want)) × Appends w1 w2 front)
-    → next ≡ (answer now (command_of line) want).left
+pub Promise-write : {A : Type 0} (T : Type 0) (first : SessionState A) (known rest rest' left w0 w1 w2 : Option (List ℕ)) (now next : SessionState A) (given : ℕ) (line : List ℕ) (shortage : Option ℕ)
+    → Standing first known rest w0 w1 now given → IsLine line → Consumes rest rest' (line ++ 10 ∷ []) → IsValid now (command_of line) shortage
+    → ((prefix : List ℕ) × IsPrefixOf prefix (answer_text (answer now (command_of line) shortage)) × Appends w1 w2 prefix)
+    → next ≡ (answer now (command_of line) shortage).left
     → Promise {T = T} (Err Write) first known left w0 w2 next
-Promise-write T first None rest rest' left w0 w1 w2 now next given line want s is_line taken lawful wrote is_next = tt
-Promise-write T first (Some script) rest rest' left w0 w1 w2 now next given line want s is_line taken lawful wrote is_next =
+Promise-write T first None rest rest' left w0 w1 w2 now next given line shortage s is_line taken valid wrote is_next = tt
+Promise-write T first (Some script) rest rest' left w0 w1 w2 now next given line shortage s is_line taken valid wrote is_next =
     let r = s.reached in
     let bytes = s.done ++ (line ++ 10 ∷ []) in
     let cut = Cut-line s.done r.before line r.cut is_line in
     let (ys, is) = consumed_some script bytes rest' (Consumes-append (Some script) rest rest' s.done (line ++ 10 ∷ []) s.taken taken) in
     let all : lines_of script ≡ r.before ++ line ∷ lines_of ys = ap (λ v. lines_of v) is ∙ cut.lines ys ∙ append_assoc r.before (line ∷ []) (lines_of ys) in
-    let told = Told-front first r.before r.wants s.told now line (lines_of ys) want wrote.0 r.so_far lawful wrote.1 in (
-      s.told ++ wrote.0,
-      Appends-append w0 w1 w2 s.told wrote.0 s.wrote wrote.2,
-      (told.0, subst (λ lines. IsAnswered first lines told.0) (sym all) told.1, told.2, Told-cut first r.before r.wants s.told now line (lines_of ys) want wrote.0 next _ all r.so_far lawful wrote.1 is_next),
+    let reported = Reported-prefix first r.before r.shortages s.reported now line (lines_of ys) shortage wrote.0 r.so_far valid wrote.1 in (
+      s.reported ++ wrote.0,
+      Appends-append w0 w1 w2 s.reported wrote.0 s.wrote wrote.2,
+      (reported.0, subst (λ lines. IsAnswered first lines reported.0) (sym all) reported.1, reported.2, Reported-cut first r.before r.shortages s.reported now line (lines_of ys) shortage wrote.0 next _ all r.so_far valid wrote.1 is_next),
     )
 
 -- a writing that failed at a last line without byte 10
-pub Promise-write_last : {A : Type 0} (T : Type 0) (first : Situation A) (known rest rest' left w0 w1 w2 : Option (List ℕ)) (now next : Situation A) (given : ℕ) (line : List ℕ) (want : Option ℕ)
-    → Standing first known rest w0 w1 now given → IsLine line → 0 < length line → Consumes rest rest' line → IsAtEnd rest' → IsLawful now (command_of line) want
-    → ((front : List ℕ) × IsFrontOf front (answer_text (answer now (command_of line) want)) × Appends w1 w2 front)
-    → next ≡ (answer now (command_of line) want).left
+pub Promise-write_last : {A : Type 0} (T : Type 0) (first : SessionState A) (known rest rest' left w0 w1 w2 : Option (List ℕ)) (now next : SessionState A) (given : ℕ) (line : List ℕ) (shortage : Option ℕ)
+    → Standing first known rest w0 w1 now given → IsLine line → 0 < length line → Consumes rest rest' line → IsAtEnd rest' → IsValid now (command_of line) shortage
+    → ((prefix : List ℕ) × IsPrefixOf prefix (answer_text (answer now (command_of line) shortage)) × Appends w1 w2 prefix)
+    → next ≡ (answer now (command_of line) shortage).left
     → Promise {T = T} (Err Write) first known left w0 w2 next
-Promise-write_last T first None rest rest' left w0 w1 w2 now next given line want s is_line some taken end lawful wrote is_next = tt
-Promise-write_last T first (Some script) rest rest' left w0 w1 w2 now next given line want s is_line some taken end lawful wrote is_next =
+Promise-write_last T first None rest rest' left w0 w1 w2 now next given line shortage s is_line some taken end valid wrote is_next = tt
+Promise-write_last T first (Some script) rest rest' left w0 w1 w2 now next given line shortage s is_line some taken end valid wrote is_next =
     let r = s.reached in
     let is : script ≡ s.done ++ line = consumed_all script (s.done ++ line) rest' (Consumes-append (Some script) rest rest' s.done line s.taken taken) end in
     let all : lines_of script ≡ r.before ++ line ∷ [] = ap (λ v. lines_of v) is ∙ Cut-last s.done r.before line r.cut is_line some in
-    let told = Told-front first r.before r.wants s.told now line [] want wrote.0 r.so_far lawful wrote.1 in (
-      s.told ++ wrote.0,
-      Appends-append w0 w1 w2 s.told wrote.0 s.wrote wrote.2,
-      (told.0, subst (λ lines. IsAnswered first lines told.0) (sym all) told.1, told.2, Told-cut first r.before r.wants s.told now line [] want wrote.0 next _ all r.so_far lawful wrote.1 is_next),
+    let reported = Reported-prefix first r.before r.shortages s.reported now line [] shortage wrote.0 r.so_far valid wrote.1 in (
+      s.reported ++ wrote.0,
+      Appends-append w0 w1 w2 s.reported wrote.0 s.wrote wrote.2,
+      (reported.0, subst (λ lines. IsAnswered first lines reported.0) (sym all) reported.1, reported.2, Reported-cut first r.before r.shortages s.reported now line [] shortage wrote.0 next _ all r.so_far valid wrote.1 is_next),
     )
 
 -- what is kept of a line says what it says
-pub line_said : {A E : Type 0} (r : Result Next E) (old new : Situation A) (slice kept line : List ℕ) (before after : Option (List ℕ))
+pub line_read : {A E : Type 0} (r : Result Next E) (old new : SessionState A) (slice kept line : List ℕ) (before after : Option (List ℕ))
     → slice ≡ kept → kept ≡ take 257 line → AnswersLine r old new (command_of slice) before after → AnswersLine r old new (command_of line) before after
-line_said r old new slice kept line before after e f h =
+line_read r old new slice kept line before after e f h =
     subst (λ said. AnswersLine r old new said before after) (ap (λ v. command_of v) (e ∙ f) ∙ command_of-kept line) h
 
 -- two scripts, the second from where the first left the session
-pub in_turn : {A T U : Type 0} (r : Result T IoFault) (first there now : Situation A) (one two left left' w0 w1 w2 : Option (List ℕ)) (v : U)
+pub in_turn : {A T U : Type 0} (r : Result T IoFault) (first there now : SessionState A) (one two left left' w0 w1 w2 : Option (List ℕ)) (v : U)
     → Promise (Ok v) first one left w0 w1 there → Promise r there two left' w1 w2 now
     → OnOk r (IfSome one (λ script. IfSome two (λ more. (text : List ℕ) × Appends w0 w2 text × AreServed first script more text now)))
 in_turn (Err e) first there now one two left left' w0 w1 w2 v p q = tt
@@ -478,12 +478,12 @@ in_turn (Ok x) first there now (Some script) (Some more) left left' w0 w1 w2 v p
 -- ---- a script of two is too long
 
 -- the fault of a call is the one that was handed on
-pub fault_is : {T U : Type 0} (r : Result T IoFault) (on : Result U IoFault) (fault told : IoFault) → r ≡ Err fault → IsErrAnd on (λ e. e ≡ fault) → on ≡ Err told → r ≡ Err told
-fault_is r (Ok x) fault told is h e = absurd h
-fault_is r (Err other) fault told is h e = let same : other ≡ told = cc in is ∙ ap Err (sym h ∙ same)
+pub fault_is : {T U : Type 0} (r : Result T IoFault) (on : Result U IoFault) (fault reported : IoFault) → r ≡ Err fault → IsErrAnd on (λ e. e ≡ fault) → on ≡ Err reported → r ≡ Err reported
+fault_is r (Ok x) fault reported is h e = absurd h
+fault_is r (Err other) fault reported is h e = let same : other ≡ reported = cc in is ∙ ap Err (sym h ∙ same)
 
--- one that was told to be too long is
-pub Promise-long : {A T : Type 0} (r : Result T IoFault) (first : Situation A) (known left w0 w1 : Option (List ℕ)) (now : Situation A)
+-- one that was reported to be too long is
+pub Promise-long : {A T : Type 0} (r : Result T IoFault) (first : SessionState A) (known left w0 w1 : Option (List ℕ)) (now : SessionState A)
     → r ≡ Err TooLong → Promise r first known left w0 w1 now → IfSome known IsTooLong
 Promise-long r first None left w0 w1 now e p = tt
 Promise-long r first (Some script) left w0 w1 now e p = (rw e at p).2.1

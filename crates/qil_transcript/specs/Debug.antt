@@ -1,7 +1,7 @@
 -- What `debug` writes.
 use Rattle.std.specs.Prelude.{◌≡◌, ℕ, ◌+◌, ◌^◌, ◌⊎◌, false, List, [], ◌++◌, length, take, Option, Some, Ok, IfSome}
 use Rattle.std.specs.Io.KnownBytes.{Appends, Consumes}
-use Rattle.qil_streams.specs.Device.{IsFrontOf}
+use Rattle.qil_streams.specs.Device.{IsPrefixOf}
 use Rattle.qil_streams.specs.Script.{lines_of, whole_lines_of}
 use Rattle.qil_tree.specs.declared.tree.Program.{Program}
 use Rattle.qil_rules.specs.Verdict.{Verdict}
@@ -14,7 +14,7 @@ use Rattle.qil_loading.specs.Load.{Accepts, Refuses}
 use Rattle.qil_loading.specs.Lines.{loaded_line, refused_line}
 use Rattle.qil_loading.specs.declared.refusal.Refusal.{Refusal}
 use Rattle.qil_answers.specs.Texts.{place_line}
-use Rattle.qil_session.specs.Situation.{Situation, sits}
+use Rattle.qil_session.specs.SessionState.{SessionState, session_at}
 use Rattle.qil_session.specs.Answers.{IsAnswered, quits}
 use Rattle.qil_transcript.specs.declared.outcome.Outcome.{Outcome}
 use Rattle.qil_transcript.specs.declared.outcome.Outcome.TheVariants.{Ended, Refused, ReadFault, WriteFault, TooLong, Memory}
@@ -28,7 +28,7 @@ load_lines p form t = loaded_line (length p.funcs) (length (bytes_of p)) form ++
 
 -- ---- transcripts
 
--- What `debug` is given beside its devices: a text; the function that is run, and its arguments; how many moves `continue` and
+-- What `debug` is given next to its devices: a text; the function that is run, and its arguments; how many moves `continue` and
 -- `reverse` make at most; and how many moves the history keeps, if there is a bound.
 pub record Setup : Type 0 where
   pub text : List ℕ
@@ -43,8 +43,8 @@ pub record Begins {A : Type 0} (s : Setup) (verdict : Verdict A) (start : State)
   pub starts : start_of verdict.program s.entry s.args ≡ Ok start
 
 -- a session at the start of a program: no move was made, and there are no stops
-abbrev pub opened : {A : Type 0} → Setup → Program A → State → Situation A
-opened s p start = sits p (begun s.keeps start) (record { given = 0; kept = [] }) s.limit
+abbrev pub opened : {A : Type 0} → Setup → Program A → State → SessionState A
+opened s p start = session_at p (begun s.keeps start) (record { given = 0; kept = [] }) s.limit
 
 -- the load lines of an accepted text, and the answers to the lines of a script
 pub record IsSession (A : Type 0) (s : Setup) (lines : List (List ℕ)) (written : List ℕ) : Type 0 where
@@ -71,11 +71,11 @@ Leaves A Ended s script left written = IsSession A s (lines_of script) written �
 Leaves A Refused s script left written = IsRefusal A s written
 -- the answers to the lines that end among the first 2^24 bytes
 Leaves A TooLong s script left written = IsSession A s (whole_lines_of (take (2 ^ 24) script)) written × IsTooLong script
--- the answers to the whole lines that were read, none of which quits: behind a `quit` no read is made
+-- the answers to the whole lines that were read, none of which quits: after a `quit` no read is made
 Leaves A ReadFault s script left written =
     (read : List ℕ) × Consumes (Some script) left read × IsSession A s (whole_lines_of read) written × (quits (whole_lines_of read) ≡ false)
--- a front of the transcript
-Leaves A WriteFault s script left written = (all : List ℕ) × IsTranscript A s (lines_of script) all × IsFrontOf written all
+-- a prefix of the transcript
+Leaves A WriteFault s script left written = (all : List ℕ) × IsTranscript A s (lines_of script) all × IsPrefixOf written all
 Leaves A Memory s script left written = written ≡ []
 
 -- what the devices hold after `debug`

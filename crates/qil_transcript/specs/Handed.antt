@@ -1,7 +1,7 @@
 -- What the parts of `debug` hand to one another.
 use Rattle.std.specs.Prelude.{◌≡◌, ℕ, List, Option}
 use Rattle.std.specs.Io.KnownBytes.{Appends}
-use Rattle.qil_streams.specs.Device.{IsFrontOf}
+use Rattle.qil_streams.specs.Device.{IsPrefixOf}
 use Rattle.qil_meaning.specs.declared.start.StartFault.TheVariants as faults
 use Rattle.qil_machine.specs.declared.error.StartError.{StartError}
 use Rattle.qil_machine.specs.declared.error.StartError.TheVariants as start
@@ -24,9 +24,9 @@ of_start start.NoEntry = errors.Refused (refusals.Start faults.NoEntry)
 of_start start.ArgumentCount = errors.Refused (refusals.Start faults.ArgumentCount)
 of_start start.OutOfMemory = errors.OutOfMemory
 
--- the line of a refusal was put, or the sink failed in it; for want of memory nothing was put
+-- the line of a refusal was put, or the sink failed in it; as memory ran out nothing was put
 abbrev pub IsRefused : Outcome → LoadError → Option (List ℕ) → Option (List ℕ) → Type 0
 IsRefused outcomes.Refused (errors.Refused refusal) before after = Appends before after (refused_line refusal)
-IsRefused outcomes.WriteFault (errors.Refused refusal) before after = (front : List ℕ) × IsFrontOf front (refused_line refusal) × Appends before after front
+IsRefused outcomes.WriteFault (errors.Refused refusal) before after = (prefix : List ℕ) × IsPrefixOf prefix (refused_line refusal) × Appends before after prefix
 IsRefused outcomes.Memory errors.OutOfMemory before after = after ≡ before
 IsRefused _ _ before after = ⊥

@@ -1,11 +1,11 @@
 -- What `serve` has written when it returns.
 use Rattle.std.specs.Prelude.{◌≡◌, ℕ, ◌+◌, ◌<◌, ◌^◌, List, ◌∷◌, ◌++◌, length, take, false, Option, Some, Result, Ok, Err}
 use Rattle.std.specs.Io.KnownBytes.{Consumes}
-use Rattle.qil_streams.specs.Device.{IsFrontOf}
+use Rattle.qil_streams.specs.Device.{IsPrefixOf}
 use Rattle.qil_streams.specs.Script.{lines_of, whole_lines_of}
 use Rattle.qil_commands.specs.Command.{command_of}
-use Rattle.qil_session.specs.Situation.{Situation}
-use Rattle.qil_session.specs.Answers.{answer, answer_text, IsLawful, IsAnswered, IsAnsweredTo, quits}
+use Rattle.qil_session.specs.SessionState.{SessionState}
+use Rattle.qil_session.specs.Answers.{answer, answer_text, IsValid, IsAnswered, IsAnsweredTo, quits}
 use Rattle.qil_transcript.specs.declared.serving.IoFault.{IoFault}
 use Rattle.qil_transcript.specs.declared.serving.IoFault.TheVariants.{Read, Write, TooLong}
 
@@ -15,38 +15,38 @@ IsTooLong script = (2 ^ 24 < length script) × (quits (whole_lines_of (take (2 ^
 
 -- A writing failed in the answer to one of the lines: those before it were answered, a part of its own answer was written,
 -- and the session is left as that answer leaves it.
-pub record IsCutShort {A : Type 0} (s : Situation A) (lines : List (List ℕ)) (text : List ℕ) (now : Situation A) : Type 0 where
+pub record IsCutShort {A : Type 0} (s : SessionState A) (lines : List (List ℕ)) (text : List ℕ) (now : SessionState A) : Type 0 where
   pub before : List (List ℕ)
   pub line : List ℕ
   pub after : List (List ℕ)
   pub lines_are : lines ≡ before ++ line ∷ after
   pub goes : quits before ≡ false
-  pub told : List ℕ
-  pub there : Situation A
-  pub answered : IsAnsweredTo s before told there
-  pub want : Option ℕ
-  pub lawful : IsLawful there (command_of line) want
-  pub front : List ℕ
-  pub is_front : IsFrontOf front (answer_text (answer there (command_of line) want))
-  pub text_is : text ≡ told ++ front
-  pub now_is : now ≡ (answer there (command_of line) want).left
+  pub reported : List ℕ
+  pub there : SessionState A
+  pub answered : IsAnsweredTo s before reported there
+  pub shortage : Option ℕ
+  pub valid : IsValid there (command_of line) shortage
+  pub prefix : List ℕ
+  pub is_prefix : IsPrefixOf prefix (answer_text (answer there (command_of line) shortage))
+  pub text_is : text ≡ reported ++ prefix
+  pub now_is : now ≡ (answer there (command_of line) shortage).left
 
 -- What was written of the answers to a script, and how the session was left, by what `serve` returns. `left` is what the
 -- source has left.
-abbrev pub IsServed : {A T : Type 0} → Result T IoFault → Situation A → List ℕ → Option (List ℕ) → List ℕ → Situation A → Type 0
+abbrev pub IsServed : {A T : Type 0} → Result T IoFault → SessionState A → List ℕ → Option (List ℕ) → List ℕ → SessionState A → Type 0
 -- all answers
 IsServed (Ok x) s script left text now = IsAnsweredTo s (lines_of script) text now × ¬ IsTooLong script
--- a front of them
-IsServed (Err Write) s script left text now = (all : List ℕ) × IsAnswered s (lines_of script) all × IsFrontOf text all × IsCutShort s (lines_of script) text now
--- those to the whole lines that were read, none of which quits: behind a `quit` no read is made
+-- a prefix of them
+IsServed (Err Write) s script left text now = (all : List ℕ) × IsAnswered s (lines_of script) all × IsPrefixOf text all × IsCutShort s (lines_of script) text now
+-- those to the whole lines that were read, none of which quits: after a `quit` no read is made
 IsServed (Err Read) s script left text now =
     (read : List ℕ) × Consumes (Some script) left read × IsAnsweredTo s (whole_lines_of read) text now × (quits (whole_lines_of read) ≡ false)
 -- those to the lines that end among the first 2^24 bytes
 IsServed (Err TooLong) s script left text now = IsAnsweredTo s (whole_lines_of (take (2 ^ 24) script)) text now × IsTooLong script
 
 -- Two scripts were answered one after the other: the second where the first left the session.
-pub record AreServed {A : Type 0} (s : Situation A) (one two : List ℕ) (text : List ℕ) (now : Situation A) : Type 0 where
-  pub there : Situation A
+pub record AreServed {A : Type 0} (s : SessionState A) (one two : List ℕ) (text : List ℕ) (now : SessionState A) : Type 0 where
+  pub there : SessionState A
   pub first : List ℕ
   pub second : List ℕ
   pub one_is : IsAnsweredTo s (lines_of one) first there

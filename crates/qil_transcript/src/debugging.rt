@@ -10,7 +10,7 @@ ghost use Rattle.qil_meaning.specs.Timeline.{begun, position};
 ghost use Rattle.qil_meaning.specs.declared.start.StartFault.{StartFault};
 ghost use Rattle.qil_state.specs.State.{state_of};
 ghost use Rattle.qil_streams.specs.Device.{Counts, Puts};
-ghost use Rattle.qil_session.specs.Kept.{situation};
+ghost use Rattle.qil_session.specs.Kept.{session_state};
 ghost use Rattle.qil_loading.specs.Load.{Accepts, Checks, Refuses};
 ghost use Rattle.qil_loading.specs.Lines.{IsLoaded};
 ghost use Rattle.qil_loading.specs.declared.refusal.Refusal.{Refusal};
@@ -41,7 +41,7 @@ pub struct Request<'r> {
     pub args: &'r [u64],
     /// The most moves that one `continue` or `reverse` makes.
     pub limit: u64,
-    /// The most moves that can be taken back, if there is a bound.
+    /// The most moves that can be undone, if there is a bound.
     pub bound: Option<u64>,
 }
 
@@ -56,7 +56,7 @@ fn start_error(error: StartError) -> LoadError
     }
 }
 
-/// Puts the line of a refusal, which ends the run of `debug`. Where memory was wanting nothing is put.
+/// Puts the line of a refusal, which ends the run of `debug`. Where memory ran out nothing is put.
 fn refuse<P: Put>(out: &mut P, error: LoadError) -> Outcome
     requires { P.stops out.old < 2 ^ 64 - 1 }
     ensures refused { IsRefused result error (P.written out.old) (P.written out.new) }
@@ -100,7 +100,7 @@ fn run<'c, A: Allocator + Copy + 'c, H: History<A, Machine<'c, 'c, A>> + Drop, S
     requires before { position (H.timeline session.history) < 2 ^ 60 }
     requires limit { session.limit ≤ 4294967295 }
     ensures written { (s : Setup) (verdict : Verdict A) (start : State) → Begins s verdict start → IsLoaded loaded.now verdict
-        → situation H.program H.timeline session ≡ opened s verdict.program start
+        → session_state H.program H.timeline session ≡ opened s verdict.program start
         → Written A result s (S.remaining source.old) (S.remaining source.new) (P.written out.old) (P.written out.new) }
     ensures served { result ≢ Outcome.Refused }
     ensures untouched { IsUntouched result source.old source.new }
@@ -277,7 +277,7 @@ fn debug_into<A: Allocator + Copy, S: Source, P: Put>(
 /// `keys` are those of the tables by name: a text's author must not know them, so that no names are picked that fall
 /// together. They change nothing that is written. `text` is a program in QBE IL, `entry` the name of the function that is
 /// run, without its sigil, and `args` are its arguments. `limit` is the most moves that one `continue` or `reverse` makes,
-/// 4,294,967,295 at the most. Where `history` is a number, only so many of the latest moves can be taken back, 1 to
+/// 4,294,967,295 at the most. Where `history` is a number, only so many of the latest moves can be undone, 1 to
 /// 1,000,000. The script is read from `source` line by line, and each answer is written to `sink` before the next line is
 /// looked at.
 ///

@@ -9,10 +9,10 @@ pub enum Outcome {
     Refused,
     /// The source failed. What was written answers the whole lines that were read.
     ReadFault,
-    /// The sink failed. What was written is a front of the transcript.
+    /// The sink failed. What was written is a prefix of the transcript.
     WriteFault,
     /// The script has more than 2^24 bytes. What was written answers the lines that end among the first 2^24.
     TooLong,
-    /// Memory was wanting for the load. Nothing was written.
+    /// Memory ran out for the load. Nothing was written.
     Memory,
 }

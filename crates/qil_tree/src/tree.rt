@@ -191,7 +191,7 @@ pub struct Func<'a, A: Allocator> {
 pub enum Item<'a, A: Allocator> {
     /// A constant, as its 64 bits in two's complement.
     Number(u64),
-    /// The bytes that a string stands for.
+    /// The bytes that a string represents.
     Text(Items<u8, A>),
     /// The address of a name, and what is added to it.
     Address(Name<'a>, u64),

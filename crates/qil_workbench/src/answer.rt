@@ -3,19 +3,19 @@
 use std::io;
 use std::process::ExitCode;
 
-/// What came of a text, beside the lines that were told on the way.
+/// What came of a text, next to the lines that were reported on the way.
 #[derive(Clone, Copy)]
 pub enum Answer {
     Refused,
-    /// All that was to be told is told.
-    Told,
+    /// All that was to be reported is reported.
+    Reported,
     /// The code is the tree's in every part.
     Same,
     /// Code and tree differ, first at a line of the text.
     DiffersAtLine(u32),
     /// The run went back to the start.
     Back,
-    /// Going back ended at this position, or at 0 with a machine that doesn't stand at the start.
+    /// Going back ended at this position, or at 0 with a machine that doesn't are at the start.
     DiffersAt(u64),
 }
 
@@ -24,7 +24,7 @@ impl Answer {
     pub fn tell<R: Print>(self, rt: &R) -> anyhow::Result<ExitCode> {
         match self {
             Answer::Refused => println!(rt; "refused")?,
-            Answer::Told => {}
+            Answer::Reported => {}
             Answer::Same => println!(rt; "same")?,
             Answer::DiffersAtLine(line) => {
                 println!(rt; "line {line}")?;

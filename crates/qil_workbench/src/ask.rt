@@ -37,7 +37,7 @@ impl Question {
         }
     }
 
-    /// Whether something can stand behind the text.
+    /// Whether something can stand after the text.
     pub fn has_two_parts(self) -> bool {
         self == Question::ReadBack || self == Question::Histories
     }
@@ -51,7 +51,7 @@ pub struct Bench<'t, R> {
     pub question: Question,
     /// The most moves.
     pub most: u32,
-    /// What stands behind the text.
+    /// What stands after the text.
     pub behind: &'t [u8],
     /// What refuses allocations, where the question is about these.
     pub heap: &'t Refusing<Global>,
@@ -100,7 +100,7 @@ fn ask_checked<R: Clock + Print + Eprint, A: Allocator + Copy>(
         }
         Err(error) => {
             tell_refused(bench.rt, &error)?;
-            Ok(Answer::Told)
+            Ok(Answer::Reported)
         }
     }
 }
@@ -113,6 +113,6 @@ pub fn ask<R: Clock + Print + Eprint, A: Allocator + Copy>(
 ) -> anyhow::Result<Answer> {
     match checked(bench.rt, alloc, bench.keys, text)? {
         Some(checked) => ask_checked(bench, alloc, &checked),
-        None => Ok(Answer::Told),
+        None => Ok(Answer::Reported),
     }
 }

@@ -27,7 +27,7 @@ fn number(words: &mut SplitWhitespace<'_>) -> Option<u64> {
     }
 }
 
-/// The address that two words say: a global's name without its sigil, or `-`, and how many bytes behind it.
+/// The address that two words say: a global's name without its sigil, or `-`, and how many bytes after it.
 fn address<A: Allocator + Copy>(
     image: &Image<'_, '_, A>,
     words: &mut SplitWhitespace<'_>,
@@ -85,7 +85,7 @@ pub enum Came {
 }
 
 impl Came {
-    /// What is told behind the position.
+    /// What is reported after the position.
     pub fn words(self) -> &'static str {
         match self {
             Came::Made => "",

@@ -13,7 +13,7 @@ use qil_numbering::Code;
 use qil_snapshots::Snapshots;
 use std::alloc::Allocator;
 
-/// Whether two histories stand at one position, with machines that are equal in all that they hold.
+/// Whether two histories are at one position, with machines that are equal in all that they hold.
 fn agree<
     'c,
     A: Allocator + Copy + 'c,
@@ -41,7 +41,7 @@ fn ask_two<
 }
 
 /// Asks the history of the newest moves for a move, and the others for the same. A move that the first has forgotten is
-/// taken back by none. What came of it, if all agree.
+/// undone by none. What came of it, if all agree.
 fn ask_all<
     'c,
     A: Allocator + Copy + 'c,
@@ -64,7 +64,7 @@ fn ask_all<
     }
 }
 
-/// Asks the histories for the move of each line, and tells where they stand behind it, up to the first difference.
+/// Asks the histories for the move of each line, and tells where they stand after it, up to the first difference.
 fn ask_lines<
     'c,
     P: Print,
@@ -92,7 +92,7 @@ fn ask_lines<
             None => return Ok(Answer::DiffersAt(newest.position())),
         }
     }
-    Ok(Answer::Told)
+    Ok(Answer::Reported)
 }
 
 /// Tells where the histories stand, the oldest position of the newest moves, and why there was no move.
@@ -152,7 +152,7 @@ fn ask_with_newest<'c, P: Print, A: Allocator + Copy + 'c, H: History<A, Machine
     }
 }
 
-/// How many moves are kept as the newest, which the first line says, and the lines behind it.
+/// How many moves are kept as the newest, which the first line says, and the lines after it.
 fn bound_and_lines(text: &str) -> Option<(u64, &str)> {
     let (first, lines) = text.split_once('\n')?;
     match first.parse() {

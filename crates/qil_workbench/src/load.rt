@@ -45,7 +45,7 @@ fn check_timed<'t, R: Clock + Print + Eprint, A: Allocator + Copy>(
     }
 }
 
-/// The program of a text, checked. Where it is refused the line of that is told.
+/// The program of a text, checked. Where it is refused the line of that is reported.
 pub fn checked<'t, R: Clock + Print + Eprint, A: Allocator + Copy>(
     rt: &R,
     alloc: A,

@@ -1,11 +1,11 @@
 //! `qil_workbench QUESTION [NUMBER]`: asks the layers under the debugger what a session can't be asked. Standard input has
-//! the text of a program, and for some questions something behind it; then NUMBER says how many bytes the text has.
+//! the text of a program, and for some questions something after it; then NUMBER says how many bytes the text has.
 //!
-//! - `read-back`: whether the numbered code, read back through names, is what the tree has; the tree of the text behind
+//! - `read-back`: whether the numbered code, read back through names, is what the tree has; the tree of the text after
 //!   the first, if there is one.
 //! - `run`: where a run of at most NUMBER moves ends, and whether going back comes to the start.
 //! - `moves`: of each of at most NUMBER moves what its record keeps and weighs, and how many allocations it takes.
-//! - `histories`: where all histories stand behind each of the moves that the lines behind the text ask for, of which the
+//! - `histories`: where all histories stand after each of the moves that the lines after the text ask for, of which the
 //!   first says how many moves are kept where only the newest are.
 //!
 //! What comes on standard output is the same on every machine, and `refused` for a text that isn't accepted or has no
@@ -35,7 +35,7 @@ use std::io::{self, Read};
 use std::process::ExitCode;
 use std::rt::Env;
 
-/// The most bytes that are read: a text, and what stands behind it.
+/// The most bytes that are read: a text, and what stands after it.
 const LIMIT: u64 = (1 << 20) + (1 << 24);
 
 /// What the command line asks.

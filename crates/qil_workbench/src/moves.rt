@@ -13,7 +13,7 @@ use refusing::{Refusing, refuse_each};
 use std::alloc::{AllocError, Allocator, Global};
 use std::mem::size_of;
 
-/// The weight of the next move's record, if that fits the machine behind the move and leads back to the one before.
+/// The weight of the next move's record, if that fits the machine after the move and leads back to the one before.
 fn weight<A: Allocator + Copy>(before: &Machine<'_, '_, A>) -> Result<Option<u64>, AllocError> {
     let mut machine = before.try_clone()?;
     let Ok(delta) = machine.advance() else {
@@ -38,7 +38,7 @@ fn kind<A: Allocator + Copy>(before: &Machine<'_, '_, A>) -> Result<&'static str
     }
 }
 
-/// How many allocations the move behind a state takes.
+/// How many allocations the move after a state takes.
 fn taken<B: Allocator, A: Allocator + Copy>(
     heap: &Refusing<B>,
     before: &Machine<'_, '_, A>,
@@ -58,7 +58,7 @@ fn poked(word: &'static str, came: Poked) -> &'static str {
     }
 }
 
-/// Tells of the move behind a state: false where it isn't as it has to be.
+/// Tells of the move after a state: false where it isn't as it has to be.
 fn tell_move<R: Print, B: Allocator, A: Allocator + Copy>(
     rt: &R,
     heap: &Refusing<B>,
@@ -192,17 +192,17 @@ fn tell_moves<R: Print, B: Allocator, A: Allocator + Copy>(
 ) -> anyhow::Result<Answer> {
     for position in 0..most {
         if machine.is_final() {
-            return Ok(Answer::Told);
+            return Ok(Answer::Reported);
         }
         if !tell_move(rt, heap, machine, position)? {
             return Ok(Answer::DiffersAt(u64::from(position)));
         }
         step(machine)?;
     }
-    Ok(Answer::Told)
+    Ok(Answer::Reported)
 }
 
-/// Tells of a start, and of each move behind it, up to the end of the run or so many moves.
+/// Tells of a start, and of each move after it, up to the end of the run or so many moves.
 pub fn each_move<R: Print, B: Allocator, A: Allocator + Copy>(
     rt: &R,
     heap: &Refusing<B>,

@@ -26,7 +26,7 @@ fn compare<'r, A: Allocator + Copy>(
     Answer::Same
 }
 
-/// Compares a code with the tree that it was numbered from, or with that of the text behind the first, if there is one.
+/// Compares a code with the tree that it was numbered from, or with that of the text after the first, if there is one.
 pub fn read_back<R: Clock + Print + Eprint, A: Allocator + Copy>(
     bench: &Bench<'_, R>,
     alloc: A,
@@ -38,6 +38,6 @@ pub fn read_back<R: Clock + Print + Eprint, A: Allocator + Copy>(
     }
     match checked(bench.rt, alloc, bench.keys, bench.behind)? {
         Some(other) => Ok(compare(&other, code)),
-        None => Ok(Answer::Told),
+        None => Ok(Answer::Reported),
     }
 }

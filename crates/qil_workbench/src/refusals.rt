@@ -42,7 +42,7 @@ fn goes_to<A: Allocator + Copy>(
     step(machine).is_ok() && machine.same(moved)
 }
 
-/// What came of a move that gave this answer, by the machine behind it.
+/// What came of a move that gave this answer, by the machine after it.
 fn outcome<A: Allocator + Copy>(
     was_refused: bool,
     answer: Result<(), MoveError>,
@@ -61,7 +61,7 @@ fn outcome<A: Allocator + Copy>(
     }
 }
 
-/// Makes the move behind a state with its nth allocation refused. `moved` is the machine behind that move.
+/// Makes the move after a state with its nth allocation refused. `moved` is the machine after that move.
 fn refused<B: Allocator, A: Allocator + Copy>(
     heap: &Refusing<B>,
     before: &Machine<'_, '_, A>,
@@ -78,7 +78,7 @@ fn refused<B: Allocator, A: Allocator + Copy>(
     Ok(outcome(was_refused, answer, &mut machine, before, moved))
 }
 
-/// How many allocations the move behind a state takes, where want of each leaves the machine as it was.
+/// How many allocations the move after a state takes, where want of each leaves the machine as it was.
 pub fn allocations<B: Allocator, A: Allocator + Copy>(
     heap: &Refusing<B>,
     before: &Machine<'_, '_, A>,
@@ -107,7 +107,7 @@ pub enum Poked {
     Fault,
 }
 
-/// Whether a record fits the machine behind its move, and leads back to the one before.
+/// Whether a record fits the machine after its move, and leads back to the one before.
 pub fn leads_back<A: Allocator + Copy>(
     machine: &mut Machine<'_, '_, A>,
     delta: Delta<A>,

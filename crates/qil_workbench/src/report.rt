@@ -5,7 +5,7 @@ use qil_ops::DivFault;
 use qil_state::{Fault, Status};
 use std::alloc::Allocator;
 
-/// What a fault is called, and the address that is told with it.
+/// What a fault is called, and the address that is reported with it.
 fn words_of_fault(fault: Fault) -> (&'static str, Option<u64>) {
     match fault {
         Fault::Division(DivFault::Zero) => (" fault division by zero", None),
@@ -22,7 +22,7 @@ fn words_of_fault(fault: Fault) -> (&'static str, Option<u64>) {
     }
 }
 
-/// What a status is called, and the number that is told with it.
+/// What a status is called, and the number that is reported with it.
 fn words_of(status: Status) -> (&'static str, Option<u64>) {
     match status {
         Status::Running => ("", None),

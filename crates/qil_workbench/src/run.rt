@@ -10,7 +10,7 @@ use qil_numbering::Code;
 use std::alloc::Allocator;
 use std::time::{Clock, Instant};
 
-/// Makes at most so many moves, up to the end of the run, and none behind that position. Not inlined, so that its loop has the
+/// Makes at most so many moves, up to the end of the run, and none after that position. Not inlined, so that its loop has the
 /// registers to itself.
 #[inline(never)]
 fn forward<A: Allocator + Copy>(run: &mut Deltas<'_, '_, A>, limit: u32) -> anyhow::Result<()> {

@@ -10,7 +10,7 @@ pub front_of : (pending : List ℕ) (n : ℕ) (rest : Option (List ℕ)) → Con
 front_of pending n None = tt
 front_of pending n (Some xs) = ap (λ v. v ++ xs) (sym (take-append-drop n pending)) ∙ append_assoc (take n pending) (drop n pending) xs
 
--- a part of a list, and a front of that part
+-- a part of a list, and a prefix of that part
 pub front_of_part : (chunk : List ℕ) (start end n : ℕ) → n ≤ end - start → take n (drop start chunk) ≡ take n (take (end - start) (drop start chunk))
 front_of_part chunk start end n h = sym (take-take n (end - start) (drop start chunk) h)
 
@@ -25,7 +25,7 @@ moved chunk pending start end n e h =
           ∙ ap (λ v. drop n v) (sym e),
     )
 
--- a body with the first bytes of a chunk behind it
+-- a body with the first bytes of a chunk after it
 pub body_more : (body new was pending left : List ℕ) (n : ℕ) (before known rest : Option (List ℕ)) → Consumes before (prepend_known was known) body
     → Consumes (prepend_known was known) (prepend_known pending rest) [] → new ≡ body ++ take n pending → left ≡ drop n pending → Consumes before (prepend_known left rest) new
 body_more body new was pending left n before known rest taken filled e l =

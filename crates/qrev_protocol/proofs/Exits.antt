@@ -6,22 +6,22 @@ use Rattle.std.specs.Io.KnownBytes.{Consumes}
 use Rattle.std.proofs.lemmas.List.{append-nil}
 use Rattle.qil_streams.proofs.DeviceLemmas.{Consumes-append}
 use Rattle.qrev_protocol.specs.Frame.{ended, IsLine, IsBlank, SayLength, header, IsHeader, HasNone, IsLost}
-use Rattle.qrev_protocol.specs.Incoming.{TakesAll, TakesFront, AreSaid}
+use Rattle.qrev_protocol.specs.Incoming.{TakesAll, TakesPrefix, AreSaid}
 use Rattle.qrev_protocol.specs.declared.header.Said.{Said}
 use Rattle.qrev_protocol.specs.declared.header.Said.TheVariants.{Nothing, Length, Unreadable}
 use Rattle.qrev_protocol.proofs.Heads.{ReadSoFar}
 use Rattle.qrev_protocol.proofs.Lost.{cut_in_line, too_long, unsaid}
 
--- all that was taken, with these bytes behind the lines
+-- all that was taken, with these bytes after the lines
 pub taken_with : (said : Said) (room : ℕ) (part : List ℕ) (before middle after : Option (List ℕ)) → (so_far : ReadSoFar said room before middle) → Consumes middle after part
     → Consumes before after (flat_map ended so_far.lines ++ part)
 taken_with said room part before middle after so_far taken = Consumes-append before middle after (flat_map ended so_far.lines) part so_far.taken taken
 
-pub front_with : (said : Said) (room : ℕ) (before middle after : Option (List ℕ)) → ReadSoFar said room before middle → TakesFront middle after → TakesFront before after
-front_with said room before middle after so_far front = (flat_map ended so_far.lines ++ front.0, taken_with said room front.0 before middle after so_far front.1)
+pub front_with : (said : Said) (room : ℕ) (before middle after : Option (List ℕ)) → ReadSoFar said room before middle → TakesPrefix middle after → TakesPrefix before after
+front_with said room before middle after so_far prefix = (flat_map ended so_far.lines ++ prefix.0, taken_with said room prefix.0 before middle after so_far prefix.1)
 
 pub ends_in_line : (said : Said) (room : ℕ) (line : List ℕ) (before middle after : Option (List ℕ)) → ReadSoFar said room before middle → IsLine line → TakesAll middle after line
-    → (front : List ℕ) × TakesAll before after front × HasNone front
+    → (prefix : List ℕ) × TakesAll before after prefix × HasNone prefix
 ends_in_line said room line before middle after so_far h taken = (
   flat_map ended so_far.lines ++ line,
   (taken_with said room line before middle after so_far taken.0, taken.1),
@@ -29,7 +29,7 @@ ends_in_line said room line before middle after so_far h taken = (
 )
 
 pub line_too_long : (said : Said) (room : ℕ) (line : List ℕ) (before middle after : Option (List ℕ)) → ReadSoFar said room before middle → IsLine line → length line ≡ room → Consumes middle after line
-    → (front : List ℕ) × Consumes before after front × IsLost front
+    → (prefix : List ℕ) × Consumes before after prefix × IsLost prefix
 line_too_long said room line before middle after so_far h full taken = (
   flat_map ended so_far.lines ++ line,
   taken_with said room line before middle after so_far taken,
@@ -60,7 +60,7 @@ say_none (Length m) lines s none n small says = none m refl
 say_none Unreadable lines s none n small says = s [] n small (subst (λ v. SayLength v n) (sym (append-nil lines)) says)
 
 pub no_length : (said : Said) (room : ℕ) (blank : List ℕ) (before middle after : Option (List ℕ)) → ReadSoFar said room before middle → IsBlank blank → ((n : ℕ) → said ≡ Length n → ⊥)
-    → Consumes middle after (ended blank) → (front : List ℕ) × Consumes before after front × IsLost front
+    → Consumes middle after (ended blank) → (prefix : List ℕ) × Consumes before after prefix × IsLost prefix
 no_length said room blank before middle after so_far b none taken = (
   header so_far.lines blank,
   taken_with said room (ended blank) before middle after so_far taken,

@@ -16,10 +16,10 @@ IsDigit d = (48 ≤ d) × (d ≤ 57)
 -- digits, and the last of them
 pub record AreDigits (ds : List ℕ) : Type 0 where
   pub all : AllByRecursion IsDigit ds
-  pub front : List ℕ
+  pub prefix : List ℕ
   pub last : ℕ
   pub last_is : IsDigit last
-  pub whole : ds ≡ front ++ last ∷ []
+  pub whole : ds ≡ prefix ++ last ∷ []
 
 digits_push : (ds : List ℕ) (d : ℕ) → AllByRecursion IsDigit ds → IsDigit d → AllByRecursion IsDigit (ds ++ d ∷ [])
 digits_push [] d h p = (p, tt)
@@ -28,33 +28,33 @@ digits_push (x ∷ xs) d h p = (h.0, digits_push xs d h.1 p)
 pub decimal_digits : (n : ℕ) → n < 2 ^ 64 → AreDigits (decimal n)
 decimal_digits n h =
     decimal_by_steps (λ k ds. AreDigits ds)
-    (λ k small. record { all = ((omega arith, omega arith), tt); front = []; last = 48 + k; last_is = (omega arith, omega arith); whole = refl })
+    (λ k small. record { all = ((omega arith, omega arith), tt); prefix = []; last = 48 + k; last_is = (omega arith, omega arith); whole = refl })
     (λ k ds large so_far.
     let digit : IsDigit (48 + k % 10) = (omega arith, omega arith) in
-    record { all = digits_push ds (48 + k % 10) so_far.all digit; front = ds; last = 48 + k % 10; last_is = digit; whole = refl })
+    record { all = digits_push ds (48 + k % 10) so_far.all digit; prefix = ds; last = 48 + k % 10; last_is = digit; whole = refl })
     n h
 
 digit_no_space : (d : ℕ) → IsDigit d → is_ascii_whitespace d ≡ false
 digit_no_space d h = grind (arith, nat_tests)
 
--- no white space in front
+-- no white space before it
 none_in_front : (ds more : List ℕ) → AllByRecursion IsDigit ds → 0 < length ds → prefix_len is_ascii_whitespace (ds ++ more) ≡ 0
 none_in_front [] more h p = absurd (omega arith)
 none_in_front (d ∷ ds) more h p = rw (digit_no_space d h.0) refl
 
-none_behind : (front : List ℕ) (d : ℕ) → IsDigit d → suffix_len is_ascii_whitespace ((front ++ d ∷ []) ++ 13 ∷ []) ≡ 1
-none_behind front d h =
-    rw (reverse-append (front ++ d ∷ []) (13 ∷ []), reverse-append front (d ∷ []), digit_no_space d h) refl
+none_behind : (prefix : List ℕ) (d : ℕ) → IsDigit d → suffix_len is_ascii_whitespace ((prefix ++ d ∷ []) ++ 13 ∷ []) ≡ 1
+none_behind prefix d h =
+    rw (reverse-append (prefix ++ d ∷ []) (13 ∷ []), reverse-append prefix (d ∷ []), digit_no_space d h) refl
 
--- digits, with a blank before them and byte 13 behind them
+-- digits, with a blank before them and byte 13 after them
 pub trimmed_digits : (ds : List ℕ) → AreDigits ds → trimmed (32 ∷ (ds ++ 13 ∷ [])) ≡ ds
 trimmed_digits ds h =
     let text = ds ++ 13 ∷ [] in
-    let some : 0 < length ds = omega (arith, ap length h.whole, length-append h.front (h.last ∷ [])) in
-    let front : trimmed_front (32 ∷ text) ≡ text = ap (λ k. drop (1 + k) (32 ∷ text)) (none_in_front ds (13 ∷ []) h.all some) in
-    let behind : suffix_len is_ascii_whitespace text ≡ 1 = ap (λ v. suffix_len is_ascii_whitespace (v ++ 13 ∷ [])) h.whole ∙ none_behind h.front h.last h.last_is in
+    let some : 0 < length ds = omega (arith, ap length h.whole, length-append h.prefix (h.last ∷ [])) in
+    let prefix : trimmed_front (32 ∷ text) ≡ text = ap (λ k. drop (1 + k) (32 ∷ text)) (none_in_front ds (13 ∷ []) h.all some) in
+    let behind : suffix_len is_ascii_whitespace text ≡ 1 = ap (λ v. suffix_len is_ascii_whitespace (v ++ 13 ∷ [])) h.whole ∙ none_behind h.prefix h.last h.last_is in
     let count : length ds ≡ length text - suffix_len is_ascii_whitespace text = omega (arith, behind, length-append ds (13 ∷ [])) in
-    ap (λ v. take (length v - suffix_len is_ascii_whitespace v) v) front ∙ take_at ds (13 ∷ []) (length text - suffix_len is_ascii_whitespace text) count
+    ap (λ v. take (length v - suffix_len is_ascii_whitespace v) v) prefix ∙ take_at ds (13 ∷ []) (length text - suffix_len is_ascii_whitespace text) count
 
 pub no_plus : (ds : List ℕ) → AllByRecursion IsDigit ds → without_leading_plus ds ≡ ds
 no_plus [] h = refl
@@ -73,7 +73,7 @@ not_blank : (x : ℕ) (xs : List ℕ) → x ≢ 13 → IsBlank (x ∷ xs) → �
 not_blank x xs h (inl e) = let never : x ∷ xs ≡ [] = e in cc
 not_blank x xs h (inr e) = h (head_same x 13 xs [] e)
 
-line_with : (front rest : List ℕ) → IsLine front → IsLine rest → IsLine (front ++ rest)
+line_with : (prefix rest : List ℕ) → IsLine prefix → IsLine rest → IsLine (prefix ++ rest)
 line_with [] rest h p = p
 line_with (x ∷ xs) rest h p = (h.0, line_with xs rest h.1 p)
 

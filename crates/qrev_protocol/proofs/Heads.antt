@@ -56,7 +56,7 @@ said_still Unreadable lines line s h = λ more n small says. s (line ∷ more) n
 pub said_first : (lines : List (List ℕ)) (line : List ℕ) (n : ℕ) → filter is_length lines ≡ [] → is_length line ≡ true → Says line n → SayLength (lines ++ line ∷ []) n
 said_first lines line n none h says = (line, filter_push lines line h ∙ ap (λ v. v ++ line ∷ []) none, says)
 
--- the lines that say a length, where more come behind one
+-- the lines that say a length, where more come after one
 pub filter_more : (lines more : List (List ℕ)) (line : List ℕ) → is_length line ≡ true → filter is_length ((lines ++ line ∷ []) ++ more) ≡ filter is_length lines ++ line ∷ filter is_length more
 filter_more lines more line h =
     filter-append is_length (lines ++ line ∷ []) more ∙ ap (λ v. v ++ filter is_length more) (filter_push lines line h) ∙ append_assoc (filter is_length lines) (line ∷ []) (filter is_length more)
@@ -71,13 +71,13 @@ pub said_twice : (lines : List (List ℕ)) (line other : List ℕ) → filter is
 said_twice lines line other one h more n small says =
     let two : other ∷ line ∷ filter is_length more ≡ says.0 ∷ [] = sym (filter_more lines more line h ∙ ap (λ v. v ++ line ∷ filter is_length more) one) ∙ says.1 in cc
 
--- lines that say nothing, and one behind them
+-- lines that say nothing, and one after them
 pub said_now : (said : Said) (lines : List (List ℕ)) (line : List ℕ) → filter is_length lines ≡ [] → Reads said line → AreSaid said (lines ++ line ∷ [])
 said_now Nothing lines line none r = filter_push_other lines line r ∙ none
 said_now (Length n) lines line none r = (said_first lines line n none r.0 r.1, r.2)
 said_now Unreadable lines line none r = unreadable_first lines line none r.0 r.1
 
--- lines that say something, and one behind them that does
+-- lines that say something, and one after them that does
 pub said_both : (said next : Said) (lines : List (List ℕ)) (line : List ℕ) → (said ≢ Nothing) → (next ≢ Nothing) → AreSaid said lines → Reads next line → AreSaid Unreadable (lines ++ line ∷ [])
 said_both Nothing next lines line p q s r = absurd (p refl)
 said_both (Length n) Nothing lines line p q s r = absurd (q refl)

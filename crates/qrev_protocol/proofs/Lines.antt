@@ -19,7 +19,7 @@ before_newline (x ∷ xs) more [] rest h e = absurd (h.0 (head_same x 10 (xs ++ 
 before_newline (x ∷ xs) more (y ∷ ys) rest h e =
     let shorter = before_newline xs more ys rest h.1 (tail_same x y (xs ++ more) (ys ++ 10 ∷ rest) e) in omega arith
 
--- two lines that stand at one place
+-- two lines that are at one place
 pub same_line : (a b x y : List ℕ) → IsLine a → IsLine b → a ++ 10 ∷ x ≡ b ++ 10 ∷ y → (a ≡ b) × (x ≡ y)
 same_line [] [] x y p q e = (refl, tail_same 10 10 x y e)
 same_line [] (b ∷ bs) x y p q e = absurd (q.0 (sym (head_same 10 b x (bs ++ 10 ∷ y) e)))
@@ -40,7 +40,7 @@ pub record Follows (lines all : List (List ℕ)) (blank part rest : List ℕ) : 
   pub are_lines : AllByRecursion IsHeaderLine more
   pub part_is : part ≡ header more blank ++ rest
 
--- one line, and what comes behind it
+-- one line, and what comes after it
 pub ended_first : (line lines part : List ℕ) → (ended line ++ lines) ++ part ≡ line ++ 10 ∷ (lines ++ part)
 ended_first line lines part = append_assoc (line ++ 10 ∷ []) lines part ∙ append_assoc line (10 ∷ []) (lines ++ part)
 

@@ -1,4 +1,4 @@
--- One message stands at the front of an input, and no other.
+-- One message is at the start of an input, and no other.
 use Rattle.std.proofs.Common.{◌≡◌, ℕ, ◌<◌, ◌≤◌, ◌^◌, List, [], ◌∷◌, ◌++◌, length, length-append, refl, sym, ap, ◌∙◌, append_assoc, arith, subst, Ok, Err, Result}
 use Rattle.std.specs.Prelude.{Option, Some, None}
 use Rattle.std.specs.Str.Parse.{digits_value}
@@ -13,7 +13,7 @@ use Rattle.qrev_protocol.specs.declared.incoming.ReadError.{ReadError}
 use Rattle.qrev_protocol.proofs.Lines.{head_same, tail_same, first_and_rest}
 use Rattle.qrev_protocol.proofs.Lost.{message_lines}
 
--- two fronts of one length
+-- two prefixes of one length
 pub same_front : (xs ys more rest : List ℕ) → length xs ≡ length ys → xs ++ more ≡ ys ++ rest → (xs ≡ ys) × (more ≡ rest)
 same_front [] [] more rest n e = (refl, e)
 same_front [] (y ∷ ys) more rest n e = absurd (omega arith)
@@ -45,7 +45,7 @@ pub cut_in_body : (text part : List ℕ) (n : ℕ) → IsHeader text n → lengt
 cut_in_body text part n h short message body rest m e =
     let same = header_begins text n part message body rest h m e in omega (arith, same.0, ap length same.1 ∙ length-append body rest)
 
--- what was given is the message that stands at the front
+-- what was given is the message that is at the start
 pub gives : {A : Type 0} (read : Result (Came A) ReadError) (before after : Option (List ℕ)) → TakesMessage read before after
     → (message body more : List ℕ) → IsMessage message body → before ≡ Some (message ++ more) → Gives read body after more
 gives (Err x) before after t message body more m e = tt
@@ -70,6 +70,6 @@ whole_message text body before middle after h small taken more =
 
 -- a header, and the input ends within the body
 pub part_of_message : (text : List ℕ) (n : ℕ) (part : List ℕ) (before middle after : Option (List ℕ)) → IsHeader text n → Consumes before middle text → TakesAll middle after part → length part < n
-    → (front : List ℕ) × TakesAll before after front × HasNone front
+    → (prefix : List ℕ) × TakesAll before after prefix × HasNone prefix
 part_of_message text n part before middle after h taken more short =
     (text ++ part, (Consumes-append before middle after text part taken more.0, more.1), cut_in_body text part n h short)

@@ -31,11 +31,11 @@ trimmed_front text = drop (prefix_len is_ascii_whitespace text) text
 abbrev pub trimmed : List ℕ → List ℕ
 trimmed text = take (length (trimmed_front text) - suffix_len is_ascii_whitespace (trimmed_front text)) (trimmed_front text)
 
--- the digits behind the name
+-- the digits after the name
 abbrev pub digits_in : List ℕ → List ℕ
 digits_in line = without_leading_plus (trimmed (drop 15 line))
 
--- the number that a line says behind the name
+-- the number that a line says after the name
 abbrev pub Says : List ℕ → ℕ → Type 0
 Says line n = IsNumeral 10 (digits_in line) × (digits_value 10 (digits_in line) ≡ n)
 
@@ -43,7 +43,7 @@ Says line n = IsNumeral 10 (digits_in line) × (digits_value 10 (digits_in line)
 abbrev pub SayLength : List (List ℕ) → ℕ → Type 0
 SayLength lines n = (line : List ℕ) × (filter is_length lines ≡ line ∷ []) × Says line n
 
--- the lines of a header, and the blank line behind them
+-- the lines of a header, and the blank line after them
 abbrev pub header : List (List ℕ) → List ℕ → List ℕ
 header lines blank = flat_map ended lines ++ ended blank
 
@@ -64,13 +64,13 @@ pub record IsMessage (message body : List ℕ) : Type 0 where
   pub within : length body ≤ 2 ^ 20
   pub whole : message ≡ text ++ body
 
--- no message stands at the front
+-- no message is at the start
 abbrev pub HasNone : List ℕ → Type 0
 HasNone input = (message body rest : List ℕ) → IsMessage message body → input ≡ message ++ rest → ⊥
 
 -- no message begins so, whatever comes next
 abbrev pub IsLost : List ℕ → Type 0
-IsLost front = (more : List ℕ) → HasNone (front ++ more)
+IsLost prefix = (more : List ℕ) → HasNone (prefix ++ more)
 
 -- a body as it is sent
 abbrev pub framed : List ℕ → List ℕ

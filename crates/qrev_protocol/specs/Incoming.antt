@@ -14,13 +14,13 @@ use Rattle.qrev_protocol.specs.declared.incoming.Came.TheVariants as came
 use Rattle.qrev_protocol.specs.declared.incoming.ReadError.{ReadError}
 use Rattle.qrev_protocol.specs.declared.incoming.ReadError.TheVariants as errors
 
--- a front was taken that ends where the input does
+-- a prefix was taken that ends where the input does
 abbrev pub TakesAll : Option (List ℕ) → Option (List ℕ) → List ℕ → Type 0
-TakesAll before after front = Consumes before after front × IsAtEnd after
+TakesAll before after prefix = Consumes before after prefix × IsAtEnd after
 
--- a call took some front of what was left
-abbrev pub TakesFront : Option (List ℕ) → Option (List ℕ) → Type 0
-TakesFront before after = (front : List ℕ) × Consumes before after front
+-- a call took some prefix of what was left
+abbrev pub TakesPrefix : Option (List ℕ) → Option (List ℕ) → Type 0
+TakesPrefix before after = (prefix : List ℕ) × Consumes before after prefix
 
 -- whether anything is pending, which is false at the end alone
 abbrev pub Fills : {E : Type 0} → Result Bool E → List ℕ → Option (List ℕ) → Option (List ℕ) → Type 0
@@ -34,12 +34,12 @@ TakesByte (Ok (Some b)) before after = Consumes before after (b ∷ [])
 TakesByte (Ok None) before after = TakesAll before after []
 TakesByte (Err e) before after = Consumes before after []
 
--- The next line, of fewer bytes than there is room for. Where it is longer, a front of it was taken that fills the room.
+-- The next line, of fewer bytes than there is room for. Where it is longer, a prefix of it was taken that fills the room.
 abbrev pub TakesLine : {E : Type 0} → Result LineEnd E → ℕ → List ℕ → Option (List ℕ) → Option (List ℕ) → Type 0
 TakesLine (Ok ends.Newline) room line before after = IsLine line × (length line < room) × Consumes before after (ended line)
 TakesLine (Ok ends.EndOfInput) room line before after = IsLine line × TakesAll before after line
 TakesLine (Ok ends.TooLong) room line before after = IsLine line × (length line ≡ room) × Consumes before after line
-TakesLine (Err e) room line before after = TakesFront before after
+TakesLine (Err e) room line before after = TakesPrefix before after
 
 -- what a line says of the length
 abbrev pub Reads : Said → List ℕ → Type 0
@@ -47,7 +47,7 @@ Reads Nothing line = is_length line ≡ false
 Reads (Length n) line = (is_length line ≡ true) × Says line n × (n ≤ 2 ^ 20)
 Reads Unreadable line = (is_length line ≡ true) × ((n : ℕ) → n ≤ 2 ^ 20 → Says line n → ⊥)
 
--- what lines say of it, and where they say nothing that a body may have, whatever comes behind them
+-- what lines say of it, and where they say nothing that a body may have, whatever comes after them
 abbrev pub AreSaid : Said → List (List ℕ) → Type 0
 AreSaid Nothing lines = filter is_length lines ≡ []
 AreSaid (Length n) lines = SayLength lines n × (n ≤ 2 ^ 20)
@@ -56,22 +56,22 @@ AreSaid Unreadable lines = (more : List (List ℕ)) (n : ℕ) → n ≤ 2 ^ 20 �
 -- a header, or what there is in its place
 abbrev pub TakesHead : {E : Type 0} → Result Head E → Option (List ℕ) → Option (List ℕ) → Type 0
 TakesHead (Ok (heads.Length n)) before after = (text : List ℕ) × IsHeader text n × (n ≤ 2 ^ 20) × Consumes before after text
-TakesHead (Ok heads.End) before after = (front : List ℕ) × TakesAll before after front × HasNone front
-TakesHead (Ok heads.Lost) before after = (front : List ℕ) × Consumes before after front × IsLost front
-TakesHead (Err e) before after = TakesFront before after
+TakesHead (Ok heads.End) before after = (prefix : List ℕ) × TakesAll before after prefix × HasNone prefix
+TakesHead (Ok heads.Lost) before after = (prefix : List ℕ) × Consumes before after prefix × IsLost prefix
+TakesHead (Err e) before after = TakesPrefix before after
 
 -- the bytes of a body, or all that there are where they are fewer
 abbrev pub TakesBody : {A E : Type 0} → Result (Option (Vec ℕ A)) E → ℕ → Option (List ℕ) → Option (List ℕ) → Type 0
 TakesBody (Ok (Some body)) n before after = (length body.items ≡ n) × Consumes before after body.items
-TakesBody (Ok None) n before after = (front : List ℕ) × TakesAll before after front × (length front < n)
-TakesBody (Err e) n before after = TakesFront before after
+TakesBody (Ok None) n before after = (prefix : List ℕ) × TakesAll before after prefix × (length prefix < n)
+TakesBody (Err e) n before after = TakesPrefix before after
 
 -- The next message, taken whole. `End`: the input ended, and is no whole message. `Lost`: no message begins so.
 abbrev pub TakesMessage : {A : Type 0} → Result (Came A) ReadError → Option (List ℕ) → Option (List ℕ) → Type 0
 TakesMessage (Ok (came.Body body)) before after = (message : List ℕ) × IsMessage message body.items × Consumes before after message
-TakesMessage (Ok came.End) before after = (front : List ℕ) × TakesAll before after front × HasNone front
-TakesMessage (Ok came.Lost) before after = (front : List ℕ) × Consumes before after front × IsLost front
-TakesMessage (Err e) before after = TakesFront before after
+TakesMessage (Ok came.End) before after = (prefix : List ℕ) × TakesAll before after prefix × HasNone prefix
+TakesMessage (Ok came.Lost) before after = (prefix : List ℕ) × Consumes before after prefix × IsLost prefix
+TakesMessage (Err e) before after = TakesPrefix before after
 
 -- the call gave this body and left these bytes, unless the device failed or memory ran out
 abbrev pub Gives : {A : Type 0} → Result (Came A) ReadError → List ℕ → Option (List ℕ) → List ℕ → Type 0

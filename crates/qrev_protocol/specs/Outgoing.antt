@@ -7,7 +7,7 @@ use Rattle.qrev_protocol.specs.Frame.{framed}
 use Rattle.qrev_protocol.specs.declared.port.Outcome.{Outcome}
 use Rattle.qrev_protocol.specs.declared.port.Outcome.TheVariants.{Done, Failed}
 
--- a call added these tokens behind those that were written
+-- a call added these tokens after those that were written
 abbrev pub Adds : Written → Written → List Token → Type 0
 Adds old new tokens = new.tokens ≡ old.tokens ++ tokens
 

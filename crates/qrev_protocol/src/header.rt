@@ -17,7 +17,7 @@ pub enum Said {
 }
 
 impl Said {
-    /// What lines say that say this, and behind them one that says `next`.
+    /// What lines say that say this, and after them one that says `next`.
     pub fn join(self, next: Said) -> Said
         ensures { (lines : List (List ℕ)) (line : List ℕ) → AreSaid self lines → Reads next line
             → AreSaid result (lines ++ line ∷ []) }

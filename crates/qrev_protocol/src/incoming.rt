@@ -15,7 +15,7 @@ use std::alloc::{AllocError, Allocator};
 /// The most bytes that the body of a message may have.
 pub const BODY_LIMIT: u32 = 1 << 20;
 
-/// The most bytes that a header may have, with the blank line behind it.
+/// The most bytes that a header may have, with the blank line after it.
 pub const HEADER_LIMIT: usize = 4096;
 
 /// Why no message was read.
@@ -54,13 +54,13 @@ impl From<AllocError> for ReadError {
 pub enum Came<A: Allocator> {
     /// The body of a message.
     Body(Vec<u8, A>),
-    /// Nothing: the input has ended, behind a message or within one.
+    /// Nothing: the input has ended, after a message or within one.
     End,
     /// What is no message, so that nobody knows where the next one begins.
     Lost,
 }
 
-/// What stands in front of a body.
+/// What stands before a body.
 #[derive(Clone, Copy)]
 pub enum Head {
     /// A header, which says that the body has so many bytes.
@@ -165,11 +165,11 @@ impl Incoming {
 
     /// Takes the next message off the input, and gives its body.
     ///
-    /// It reads what has come, and waits for no byte behind the message. Behind `End` and `Lost` there is no further message.
+    /// It reads what has come, and waits for no byte after the message. After `End` and `Lost` there is no further message.
     ///
     /// # Errors
     ///
-    /// `Device` where a read failed, `OutOfMemory` where there is no room for the body. A front of the message was taken, so no
+    /// `Device` where a read failed, `OutOfMemory` where there is no room for the body. A prefix of the message was taken, so no
     /// further message can be read.
     pub fn next<A: Allocator, S: Source>(
         &mut self,
@@ -182,7 +182,7 @@ impl Incoming {
         ensures message { TakesMessage result (prepend_known self.old.pending (S.remaining source.old))
             (prepend_known self.new.pending (S.remaining source.new)) }
 
-        // The message that stands at the front is given, and what stands behind it is left.
+        // The message that is at the start is given, and what stands after it is left.
         ensures only { (message body more : List ℕ) → IsMessage message body
             → prepend_known self.old.pending (S.remaining source.old) ≡ Some (message ++ more)
             → Gives result body (prepend_known self.new.pending (S.remaining source.new)) more }

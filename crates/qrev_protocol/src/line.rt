@@ -9,7 +9,7 @@ use crate::pending::Pending;
 use qil_streams::{DeviceFault, Source};
 use std::marker::Model;
 
-/// What comes behind a line of a header.
+/// What comes after a line of a header.
 #[derive(Clone, Copy)]
 pub enum LineEnd {
     /// Byte 10, which was taken.

@@ -86,7 +86,7 @@ impl Pending {
         byte
     }
 
-    /// Moves the first bytes that are pending behind those of `body`, so many at most.
+    /// Moves the first bytes that are pending after those of `body`, so many at most.
     pub fn move_into<A: Allocator>(
         &mut self,
         body: &mut Vec<u8, A>,

@@ -102,7 +102,7 @@ pub struct Port<A: Allocator, W> {
 }
 
 impl<A: Allocator + Copy, W: Sink> Port<A, W> {
-    /// Messages go to `sink`, behind what it holds.
+    /// Messages go to `sink`, after what it holds.
     pub fn new(alloc: A, sink: W) -> Self
         ensures sink { result.sink ≡ sink }
         ensures none { result.sent ≡ 0 }
@@ -118,7 +118,7 @@ impl<A: Allocator + Copy, W: Sink> Port<A, W> {
     ///
     /// # Errors
     ///
-    /// `OutOfMemory`: nothing was written. `Device`: a front of the message was, so nothing that is sent later can be read.
+    /// `OutOfMemory`: nothing was written. `Device`: a prefix of the message was, so nothing that is sent later can be read.
     pub fn send(&mut self, message: Object<A, Whole>) -> Result<(), SendError>
         requires countable { W.failures self.old.sink < 2 ^ 64 - 1 }
         requires numbered { self.old.sent < 2 ^ 64 - 1 }

@@ -7,7 +7,7 @@ use Rattle.std.proofs.lemmas.List.Sums.{count_by-le-length, count_by_more_yes, c
 use Rattle.std.proofs.lemmas.Option.{slice_get_within, slice_get-map}
 use Rattle.qil_rules.specs.declared.rule.Rule.{Rule}
 use Rattle.qil_rules.specs.declared.rule.Rule.TheVariants.{C1, C2, C3, C4, C5, C6, C7, C8, C9, C10, C11, C12}
-use Rattle.qil_checker.specs.declared.text.Text.{Text}
+use Rattle.qil_checker.specs.declared.definition.IndexedDefinition.{IndexedDefinition}
 use Rattle.qil_checker.specs.declared.checker.CheckError.{CheckError}
 use Rattle.qil_checker.specs.declared.checker.CheckError.TheVariants.{Refused, OutOfMemory}
 use Rattle.qil_rules.specs.declared.mention.Mention.{Mention}
@@ -15,19 +15,19 @@ use Rattle.qil_rules.specs.Text.{IsAgain}
 use Rattle.qil_rules.specs.Rules.{Place, IsEarlier, HasName, Breaks, BreaksAt, IsKept, IsBrokenFirst, AreWellFormed, AreBroken, order, line_at, is_function}
 use Rattle.qil_checker.specs.Scan.{Keeps, Breach, IsSingle, IsAgainFirst}
 use Rattle.qil_rules.specs.Forms.{IsAgainAt, IsFirstAgain}
-use Rattle.qil_checker.specs.Check.{IsTold, TellsRule}
+use Rattle.qil_checker.specs.Check.{IsReported, TellsRule}
 use Rattle.qil_checker.specs.Whole.{mentions_of}
 use Rattle.qil_checker.proofs.Programs.Names.{head_names}
 
 -- the mentions of a text of the program
-pub text_there : {A : Type 0} (texts : List (Text A)) (i : ℕ) (t : Text A) → slice_get texts i ≡ Some t → slice_get (mentions_of texts) i ≡ Some t.mentions.items
+pub text_there : {A : Type 0} (texts : List (IndexedDefinition A)) (i : ℕ) (t : IndexedDefinition A) → slice_get texts i ≡ Some t → slice_get (mentions_of texts) i ≡ Some t.mentions.items
 text_there texts i t there = slice_get-map (λ t. t.mentions.items) texts i ∙ ap (option_map (λ t. t.mentions.items)) there
 
-pub length_texts : {A : Type 0} (texts : List (Text A)) → length (mentions_of texts) ≡ length texts
+pub length_texts : {A : Type 0} (texts : List (IndexedDefinition A)) → length (mentions_of texts) ≡ length texts
 length_texts [] = refl
 length_texts (t ∷ texts) = let more = length_texts texts in omega (arith, more)
 
-pub name_there : {A : Type 0} (texts : List (Text A)) (i : ℕ) (t : Text A) → slice_get texts i ≡ Some t → HasName (mentions_of texts) i t.name
+pub name_there : {A : Type 0} (texts : List (IndexedDefinition A)) (i : ℕ) (t : IndexedDefinition A) → slice_get texts i ≡ Some t → HasName (mentions_of texts) i t.name
 name_there texts i t there = (t.mentions.items, text_there texts i t there, head_names t.mentions.items t.name t.name_is)
 
 got : (all : List (List Mention)) (i : ℕ) (t : List Mention) → slice_get all i ≡ Some t → get_or all i t ≡ t
@@ -208,12 +208,12 @@ module _ (all : List (List Mention)) where
       let mention : a.at.mention ≡ b.at.mention = omega (arith, left, right) in
       one_mention k l a.text b.text a.at.mention b.at.mention (same_text b.at.text a.at.text b.text a.text b.is_text text a.is_text) mention a.line_is b.line_is
 
-  pub only_memory : (e : CheckError) → IsTold all e → AreWellFormed all → e ≡ OutOfMemory
-  only_memory (Refused r l) told kept = absurd (not_both r l kept told)
-  only_memory OutOfMemory told kept = refl
+  pub only_memory : (e : CheckError) → IsReported all e → AreWellFormed all → e ≡ OutOfMemory
+  only_memory (Refused r l) reported kept = absurd (not_both r l kept reported)
+  only_memory OutOfMemory reported kept = refl
 
-  pub only_told : (e : CheckError) → IsTold all e → (rule : Rule) (line : ℕ) → AreBroken all rule line → TellsRule rule line e
-  only_told (Refused r l) told rule line b =
-      let same : r ≡ rule = one_rule r rule l line told b in
-      (same, one_line rule l line (subst (λ s. IsBrokenFirst s all l) same told.0) b.0)
-  only_told OutOfMemory told rule line b = tt
+  pub only_reported : (e : CheckError) → IsReported all e → (rule : Rule) (line : ℕ) → AreBroken all rule line → TellsRule rule line e
+  only_reported (Refused r l) reported rule line b =
+      let same : r ≡ rule = one_rule r rule l line reported b in
+      (same, one_line rule l line (subst (λ s. IsBrokenFirst s all l) same reported.0) b.0)
+  only_reported OutOfMemory reported rule line b = tt

@@ -6,7 +6,7 @@ use Rattle.qil_tree.specs.declared.tree.Data.{Data}
 use Rattle.qil_tree.specs.declared.tree.Func.{Func}
 use Rattle.qil_tree.specs.declared.tree.Definition.{Definition}
 use Rattle.qil_tree.specs.declared.tree.Definition.TheVariants as definitions
-use Rattle.qil_checker.specs.declared.text.Text.{Text}
+use Rattle.qil_checker.specs.declared.definition.IndexedDefinition.{IndexedDefinition}
 use Rattle.qil_rules.specs.declared.mention.Mention.{Mention}
 use Rattle.qil_rules.specs.Mentions.{data_mentions, func_mentions, texts_in}
 use Rattle.std.specs.Option.{option_or}
@@ -14,17 +14,17 @@ use Rattle.qil_names.specs.Tables.{for_name}
 use Rattle.qil_checker.specs.Tables.{first, has_name, is_name}
 use Rattle.qil_checker.specs.Whole.{mentions_of}
 
-behind : (front rest : List (List Mention)) (x : List Mention) → (front ++ x ∷ []) ++ rest ≡ front ++ x ∷ rest
+behind : (prefix rest : List (List Mention)) (x : List Mention) → (prefix ++ x ∷ []) ++ rest ≡ prefix ++ x ∷ rest
 behind [] rest x = refl
-behind (y ∷ front) rest x = ap (λ t. y ∷ t) (behind front rest x)
+behind (y ∷ prefix) rest x = ap (λ t. y ∷ t) (behind prefix rest x)
 
-pub one_text : {A : Type 0} (out new : List (Text A)) (t : Text A) (rest : List (List Mention)) → new ≡ out ++ t ∷ [] → mentions_of new ++ rest ≡ mentions_of out ++ t.mentions.items ∷ rest
+pub one_text : {A : Type 0} (out new : List (IndexedDefinition A)) (t : IndexedDefinition A) (rest : List (List Mention)) → new ≡ out ++ t ∷ [] → mentions_of new ++ rest ≡ mentions_of out ++ t.mentions.items ∷ rest
 one_text out new t rest e = ap (λ ts. mentions_of ts ++ rest) e ∙ ap (λ ts. ts ++ rest) (map-append (λ s. s.mentions.items) out (t ∷ [])) ∙ behind (mentions_of out) rest t.mentions.items
 
 all_but_one : {X : Type 0} (x : X) (xs : List X) → take (length (x ∷ xs) - 1) (drop 1 (x ∷ xs)) ≡ xs
 all_but_one x xs = take_all (length (x ∷ xs) - 1) xs (omega arith)
 
-pub next_data : {A : Type 0} (out new : List (Text A)) (t : Text A) (definition : Definition) (order : List Definition) (d : Data A) (ds : List (Data A)) (fs : List (Func A))
+pub next_data : {A : Type 0} (out new : List (IndexedDefinition A)) (t : IndexedDefinition A) (definition : Definition) (order : List Definition) (d : Data A) (ds : List (Data A)) (fs : List (Func A))
     → definition ≡ definitions.Data → 1 ≤ length ds → d ≡ get_or ds 0 d → new ≡ out ++ t ∷ [] → t.mentions.items ≡ data_mentions d
     → mentions_of new ++ texts_in order (take (length ds - 1) (drop 1 ds)) fs ≡ mentions_of out ++ texts_in (definition ∷ order) ds fs
 next_data out new t definition order d [] fs is l there e same = absurd (omega arith)
@@ -34,7 +34,7 @@ next_data out new t definition order d (a ∷ ds) fs is l there e same =
     ∙ ap (λ m. mentions_of out ++ m ∷ texts_in order ds fs) (same ∙ ap data_mentions there)
     ∙ ap (λ n. mentions_of out ++ texts_in (n ∷ order) (a ∷ ds) fs) (sym is)
 
-pub next_func : {A : Type 0} (out new : List (Text A)) (t : Text A) (definition : Definition) (order : List Definition) (f : Func A) (ds : List (Data A)) (fs : List (Func A))
+pub next_func : {A : Type 0} (out new : List (IndexedDefinition A)) (t : IndexedDefinition A) (definition : Definition) (order : List Definition) (f : Func A) (ds : List (Data A)) (fs : List (Func A))
     → definition ≡ definitions.Func → 1 ≤ length fs → f ≡ get_or fs 0 f → new ≡ out ++ t ∷ [] → t.mentions.items ≡ func_mentions f
     → mentions_of new ++ texts_in order ds (take (length fs - 1) (drop 1 fs)) ≡ mentions_of out ++ texts_in (definition ∷ order) ds fs
 next_func out new t definition order f ds [] is l there e same = absurd (omega arith)
@@ -46,14 +46,14 @@ next_func out new t definition order f ds (a ∷ fs) is l there e same =
 
 -- ---- the texts of one kind
 
-at_front : {X : Type 0} (f : X → List Mention) (x : X) (xs : List X) (i : ℕ) → i < length xs → x ≡ get_or xs i x → map f (drop i xs) ≡ f x ∷ map f (drop (i + 1) xs)
-at_front f x xs i l e = ap (map f) (drop_more xs i x l) ∙ ap (λ y. f y ∷ map f (drop (i + 1) xs)) (sym e)
+at_prefix : {X : Type 0} (f : X → List Mention) (x : X) (xs : List X) (i : ℕ) → i < length xs → x ≡ get_or xs i x → map f (drop i xs) ≡ f x ∷ map f (drop (i + 1) xs)
+at_prefix f x xs i l e = ap (map f) (drop_more xs i x l) ∙ ap (λ y. f y ∷ map f (drop (i + 1) xs)) (sym e)
 
-pub one_more : {A X : Type 0} (f : X → List Mention) (out new : List (Text A)) (t : Text A) (x : X) (xs : List X) (i : ℕ) (all : List (List Mention))
+pub one_more : {A X : Type 0} (f : X → List Mention) (out new : List (IndexedDefinition A)) (t : IndexedDefinition A) (x : X) (xs : List X) (i : ℕ) (all : List (List Mention))
     → mentions_of out ++ map f (drop i xs) ≡ all → i < length xs → x ≡ get_or xs i x → new ≡ out ++ t ∷ [] → t.mentions.items ≡ f x
     → mentions_of new ++ map f (drop (i + 1) xs) ≡ all
 one_more f out new t x xs i all so_far l there e same =
-    one_text out new t (map f (drop (i + 1) xs)) e ∙ ap (λ m. mentions_of out ++ m ∷ map f (drop (i + 1) xs)) same ∙ ap (λ ms. mentions_of out ++ ms) (sym (at_front f x xs i l there)) ∙ so_far
+    one_text out new t (map f (drop (i + 1) xs)) e ∙ ap (λ m. mentions_of out ++ m ∷ map f (drop (i + 1) xs)) same ∙ ap (λ ms. mentions_of out ++ ms) (sym (at_prefix f x xs i l there)) ∙ so_far
 
 -- once the order has ended, the objects and functions that are left come last
 pub all_in : {A : Type 0} (order : List Definition) (i : ℕ) (ds : List (Data A)) (fs : List (Func A)) (out more last all : List (List Mention))
@@ -68,33 +68,33 @@ option_or_none : {X : Type 0} (o : Option X) → option_or o None ≡ o
 option_or_none None = refl
 option_or_none (Some x) = refl
 
-first_of_two : {A : Type 0} (x name : List ℕ) (n : ℕ) (t : Text A) (ts : List (Text A)) (old : Option ℕ) (b : Bool) → bytes_eq name x ≡ b → has_name x t.mentions.items ≡ b
+first_of_two : {A : Type 0} (x name : List ℕ) (n : ℕ) (t : IndexedDefinition A) (ts : List (IndexedDefinition A)) (old : Option ℕ) (b : Bool) → bytes_eq name x ≡ b → has_name x t.mentions.items ≡ b
     → option_or (option_or old (if b then Some n else None)) (first (has_name x) (suc n) (mentions_of ts)) ≡ option_or old (if b then Some n else first (has_name x) (suc n) (mentions_of ts))
 first_of_two x name n t ts (Some k) b e h = refl
 first_of_two x name n t ts None true e h = refl
 first_of_two x name n t ts None false e h = refl
 
-text_front : {A : Type 0} (t : Text A) (ts : List (Text A)) (i : ℕ) → i < length ts → t ≡ get_or ts i t → mentions_of (drop i ts) ≡ t.mentions.items ∷ mentions_of (drop (i + 1) ts)
-text_front t ts i l e = ap mentions_of (drop_more ts i t l) ∙ ap (λ y. y.mentions.items ∷ mentions_of (drop (i + 1) ts)) (sym e)
+text_prefix : {A : Type 0} (t : IndexedDefinition A) (ts : List (IndexedDefinition A)) (i : ℕ) → i < length ts → t ≡ get_or ts i t → mentions_of (drop i ts) ≡ t.mentions.items ∷ mentions_of (drop (i + 1) ts)
+text_prefix t ts i l e = ap mentions_of (drop_more ts i t l) ∙ ap (λ y. y.mentions.items ∷ mentions_of (drop (i + 1) ts)) (sym e)
 
-named_so : {A : Type 0} (t : Text A) (x : List ℕ) → has_name x t.mentions.items ≡ bytes_eq t.name x
+named_so : {A : Type 0} (t : IndexedDefinition A) (x : List ℕ) → has_name x t.mentions.items ≡ bytes_eq t.name x
 named_so t x = ap (is_name x) t.name_is
 
-pub noted_name : {A : Type 0} (t : Text A) (ts : List (Text A)) (i : ℕ) (x : List ℕ) (old new : Option ℕ) (all : Option ℕ)
+pub recorded_name : {A : Type 0} (t : IndexedDefinition A) (ts : List (IndexedDefinition A)) (i : ℕ) (x : List ℕ) (old new : Option ℕ) (all : Option ℕ)
     → option_or old (first (has_name x) i (mentions_of (drop i ts))) ≡ all → i < length ts → t ≡ get_or ts i t → new ≡ option_or old (for_name t.name i x)
     → option_or new (first (has_name x) (i + 1) (mentions_of (drop (i + 1) ts))) ≡ all
-noted_name t ts i x old new all so_far l there e =
+recorded_name t ts i x old new all so_far l there e =
     let next : i + 1 ≡ suc i = omega arith in
     ap (λ o. option_or o (first (has_name x) (i + 1) (mentions_of (drop (i + 1) ts)))) e
     ∙ ap (λ k. option_or (option_or old (for_name t.name i x)) (first (has_name x) k (mentions_of (drop (i + 1) ts)))) next
     ∙ first_of_two x t.name i t (drop (i + 1) ts) old (bytes_eq t.name x) refl (named_so t x)
     ∙ ap (λ b. option_or old (if b then Some i else first (has_name x) (suc i) (mentions_of (drop (i + 1) ts)))) (sym (named_so t x))
-    ∙ ap (λ ms. option_or old (first (has_name x) i ms)) (sym (text_front t ts i l there))
+    ∙ ap (λ ms. option_or old (first (has_name x) i ms)) (sym (text_prefix t ts i l there))
     ∙ so_far
 
-pub all_noted : {A : Type 0} (ts : List (Text A)) (i : ℕ) (x : List ℕ) (table all : Option ℕ)
+pub all_recorded : {A : Type 0} (ts : List (IndexedDefinition A)) (i : ℕ) (x : List ℕ) (table all : Option ℕ)
     → option_or table (first (has_name x) i (mentions_of (drop i ts))) ≡ all → length ts ≤ i → table ≡ all
-all_noted ts i x table all so_far l = sym (ap (λ rest. option_or table (first (has_name x) i (mentions_of rest))) (drop_all i ts l) ∙ option_or_none table) ∙ so_far
+all_recorded ts i x table all so_far l = sym (ap (λ rest. option_or table (first (has_name x) i (mentions_of rest))) (drop_all i ts l) ∙ option_or_none table) ∙ so_far
 
 -- ---- the definitions that are left
 

@@ -2,8 +2,8 @@
 use Rattle.std.proofs.Common.{◌≡◌, ◌∙◌, ◌↔◌, sym, ap, refl, subst, not, IsTrue, nat_lt, ℕ, ◌<◌, inl, inr, List, [], ◌∷◌, Option, Some, None, Bool, true, false, slice_get, arith}
 use Rattle.std.proofs.lemmas.Bool.Decides.{nat_tests}
 use Rattle.std.proofs.lemmas.Slice.Eq.{bytes_eq-Decides}
-use Rattle.qil_rules.specs.declared.mention.What.{What}
-use Rattle.qil_rules.specs.declared.mention.What.TheVariants.{DataName, FunctionName, Label, Edge, PhiLabel, PhiOf, Defines, Uses, Global, Returns, Long}
+use Rattle.qil_rules.specs.declared.mention.MentionKind.{MentionKind}
+use Rattle.qil_rules.specs.declared.mention.MentionKind.TheVariants.{DataName, FunctionName, Label, Edge, PhiLabel, PhiOf, Defines, Uses, Global, Returns, Long}
 use Rattle.qil_rules.specs.declared.mention.Mention.{Mention}
 use Rattle.qil_rules.specs.Text.{Names}
 use Rattle.qil_rules.specs.Rules.{HasName, IsNamedBefore, IsUnknown, IsLostGlobal, is_built_in}
@@ -13,7 +13,7 @@ use Rattle.qil_checker.proofs.Texts.Places.{found_here, absent, mention_stands, 
 some_same : {A : Type 0} {a b : A} → Some a ≡ Some b → a ≡ b
 some_same e = cc
 
-begun_so : (m : Mention) (text : List Mention) (x : List ℕ) (w : What) → m.what ≡ w → begun_name w ≡ Some x → Names (m ∷ text) 0 x
+begun_so : (m : Mention) (text : List Mention) (x : List ℕ) (w : MentionKind) → m.what ≡ w → begun_name w ≡ Some x → Names (m ∷ text) 0 x
 begun_so m text x (DataName y) is e = inl (ap Some (is ∙ ap DataName (some_same e)))
 begun_so m text x (FunctionName y) is e = inr (ap Some (is ∙ ap FunctionName (some_same e)))
 begun_so m text x (Label y) is e = absurd cc

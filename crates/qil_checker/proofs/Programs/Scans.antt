@@ -3,7 +3,7 @@ use Rattle.std.proofs.Common.{◌<◌, ℕ, length, List, ⊎_elim, None}
 use Rattle.qil_tree.specs.declared.ops.Class.TheVariants as classes
 use Rattle.qil_rules.specs.declared.rule.Rule.{Rule}
 use Rattle.qil_rules.specs.declared.rule.Rule.TheVariants.{C1, C2, C3, C4, C5, C6, C7, C8, C9, C10, C11, C12}
-use Rattle.qil_rules.specs.declared.mention.What.TheVariants.{DataName, FunctionName, Label, Edge, PhiLabel, PhiOf, Defines, Uses, Global, Returns, Long}
+use Rattle.qil_rules.specs.declared.mention.MentionKind.TheVariants.{DataName, FunctionName, Label, Edge, PhiLabel, PhiOf, Defines, Uses, Global, Returns, Long}
 use Rattle.qil_rules.specs.declared.mention.Mention.{Mention}
 use Rattle.qil_rules.specs.Rules.{Breaks}
 use Rattle.qil_checker.proofs.Texts.Places.{stands_within}

@@ -2,27 +2,27 @@
 use Rattle.std.proofs.Common.{◌≡◌, ◌∙◌, ◌↔◌, sym, refl, ap, subst, ℕ, zero, suc, List, [], ◌∷◌, ◌++◌, Bool, true, false, if◌then◌else◌, Result, Ok, Err, IfOk, IsTrue}
 use Rattle.std.specs.Str.{bytes_eq}
 use Rattle.std.proofs.lemmas.Slice.Eq.{bytes_eq-Decides}
-use Rattle.qil_rules.specs.declared.mention.What.{What}
-use Rattle.qil_rules.specs.declared.mention.What.TheVariants.{DataName, FunctionName, Label, Edge, PhiLabel, PhiOf, Defines, Uses, Global, Returns, Long}
+use Rattle.qil_rules.specs.declared.mention.MentionKind.{MentionKind}
+use Rattle.qil_rules.specs.declared.mention.MentionKind.TheVariants.{DataName, FunctionName, Label, Edge, PhiLabel, PhiOf, Defines, Uses, Global, Returns, Long}
 use Rattle.qil_rules.specs.declared.mention.Mention.{Mention}
-use Rattle.qil_rules.specs.Text.{Stands, IsAmong, IsPredecessor, ArePredecessors}
+use Rattle.qil_rules.specs.Text.{IsAt, IsAmong, IsPredecessor, ArePredecessors}
 use Rattle.qil_checker.specs.Tables.{predecessor, predecessors_of, AreSameOnce}
 
 later : (b l : List ℕ) (m : Mention) (text : List Mention) → IsPredecessor text b l → IsPredecessor (m ∷ text) b l
 later b l m text p = (suc p.0, p.1)
 
--- what follows from an item of the list with a Edge mention in front
-edge_front : (b l from to : List ℕ) (m : Mention) (text : List Mention) (t : Bool) → bytes_eq to b ≡ t → m.what ≡ Edge from to
+-- what follows from an item of the list with a Edge mention before it
+edge_prefix : (b l from to : List ℕ) (m : Mention) (text : List Mention) (t : Bool) → bytes_eq to b ≡ t → m.what ≡ Edge from to
     → (IsAmong l (predecessors_of b text) → IsPredecessor text b l)
     → IsAmong l ((if t then from ∷ [] else []) ++ predecessors_of b text) → IsPredecessor (m ∷ text) b l
-edge_front b l from to m text true e is rest (zero, a) = (let name : from ≡ l = cc in let target : to ≡ b = (bytes_eq-Decides to b).0 e in (zero, cc))
-edge_front b l from to m text true e is rest (suc i, a) = later b l m text (rest (i, a))
-edge_front b l from to m text false e is rest a = later b l m text (rest a)
+edge_prefix b l from to m text true e is rest (zero, a) = (let name : from ≡ l = cc in let target : to ≡ b = (bytes_eq-Decides to b).0 e in (zero, cc))
+edge_prefix b l from to m text true e is rest (suc i, a) = later b l m text (rest (i, a))
+edge_prefix b l from to m text false e is rest a = later b l m text (rest a)
 
-predecessor_case : (b l : List ℕ) (m : Mention) (text : List Mention) (w : What) → m.what ≡ w → (IsAmong l (predecessors_of b text) → IsPredecessor text b l)
+predecessor_case : (b l : List ℕ) (m : Mention) (text : List Mention) (w : MentionKind) → m.what ≡ w → (IsAmong l (predecessors_of b text) → IsPredecessor text b l)
     → IsAmong l (predecessor b w ++ predecessors_of b text) → IsPredecessor (m ∷ text) b l
 predecessor_case b l m text (Label x) is rest a = later b l m text (rest a)
-predecessor_case b l m text (Edge from to) is rest a = edge_front b l from to m text (bytes_eq to b) refl is rest a
+predecessor_case b l m text (Edge from to) is rest a = edge_prefix b l from to m text (bytes_eq to b) refl is rest a
 predecessor_case b l m text (Defines x c) is rest a = later b l m text (rest a)
 predecessor_case b l m text (Uses x c) is rest a = later b l m text (rest a)
 predecessor_case b l m text (PhiOf x ls) is rest a = later b l m text (rest a)
@@ -37,16 +37,16 @@ is_predecessor : (b l : List ℕ) (text : List Mention) → IsAmong l (predecess
 is_predecessor b l [] = λ a. absurd (let e = a.1 in cc)
 is_predecessor b l (m ∷ text) = predecessor_case b l m text m.what refl (is_predecessor b l text)
 
-behind : (l : List ℕ) (front xs : List (List ℕ)) → IsAmong l xs → IsAmong l (front ++ xs)
+behind : (l : List ℕ) (prefix xs : List (List ℕ)) → IsAmong l xs → IsAmong l (prefix ++ xs)
 behind l [] xs a = a
-behind l (f ∷ front) xs a = let b = behind l front xs a in (suc b.0, b.1)
+behind l (f ∷ prefix) xs a = let b = behind l prefix xs a in (suc b.0, b.1)
 
-is_listed : (b l : List ℕ) (text : List Mention) (j : ℕ) → Stands text j (Edge l b) → IsAmong l (predecessors_of b text)
+is_listed : (b l : List ℕ) (text : List Mention) (j : ℕ) → IsAt text j (Edge l b) → IsAmong l (predecessors_of b text)
 is_listed b l [] j e = absurd cc
 is_listed b l (m ∷ text) zero e =
     let is : m.what ≡ Edge l b = cc in
-    let front : predecessor b m.what ≡ l ∷ [] = ap (predecessor b) is ∙ ap (λ t. if t then l ∷ [] else []) ((bytes_eq-Decides b b).1 refl) in
-    subst (λ f. IsAmong l (f ++ predecessors_of b text)) (sym front) (zero, refl)
+    let prefix : predecessor b m.what ≡ l ∷ [] = ap (predecessor b) is ∙ ap (λ t. if t then l ∷ [] else []) ((bytes_eq-Decides b b).1 refl) in
+    subst (λ f. IsAmong l (f ++ predecessors_of b text)) (sym prefix) (zero, refl)
 is_listed b l (m ∷ text) (suc j) e = behind l (predecessor b m.what) (predecessors_of b text) (is_listed b l text j e)
 
 -- a phi is right where its labels are the predecessors, each once

@@ -23,11 +23,11 @@ use Rattle.qil_tree.specs.declared.tree.Field.TheVariants as fields
 use Rattle.qil_tree.specs.declared.tree.Data.{Data}
 use Rattle.qil_checker.specs.declared.lookup.Kind.TheVariants.{Labels}
 use Rattle.qil_rules.specs.Operands.{inst_reads, inst_target, inst_long_class}
-use Rattle.qil_rules.specs.declared.mention.What.{What}
-use Rattle.qil_rules.specs.declared.mention.What.TheVariants.{DataName, FunctionName, Label, Edge, PhiLabel, PhiOf, Defines, Uses, Global, Returns, Long}
+use Rattle.qil_rules.specs.declared.mention.MentionKind.{MentionKind}
+use Rattle.qil_rules.specs.declared.mention.MentionKind.TheVariants.{DataName, FunctionName, Label, Edge, PhiLabel, PhiOf, Defines, Uses, Global, Returns, Long}
 use Rattle.qil_rules.specs.declared.mention.Mention.{Mention}
 use Rattle.qil_rules.specs.Mentions.{operand_mentions, read_mentions, target_mentions, long_mentions, source_mentions, phi_mentions, inst_mentions, returned_class, jump_mentions, block_mentions, param_mention, func_mentions, item_mentions, field_mentions, data_mentions}
-use Rattle.qil_rules.specs.Text.{Stands, IsFirstLabel}
+use Rattle.qil_rules.specs.Text.{IsAt, IsFirstLabel}
 use Rattle.std.specs.Option.{option_or}
 use Rattle.qil_checker.specs.Tables.{named, begun_label, behind, block_from, block_at, AreAtHome, AreAtHand, predecessors_of}
 use Rattle.qil_checker.proofs.Texts.Places.{stands_mention}
@@ -35,7 +35,7 @@ use Rattle.qil_checker.proofs.Texts.Rules.{first_label_test}
 
 -- ---- a text read with the block that it stands in, if any
 
-abbrev Fits : Option (List ℕ) → What → Type 0
+abbrev Fits : Option (List ℕ) → MentionKind → Type 0
 Fits block (PhiOf x sources) = block ≡ Some x
 Fits block what = Unit {0}
 
@@ -44,7 +44,7 @@ IsHome block [] = Unit {0}
 IsHome block (m ∷ text) = Fits block m.what × IsHome (behind block m) text
 
 -- what may stand within a block
-abbrev IsPart : Option (List ℕ) → What → Type 0
+abbrev IsPart : Option (List ℕ) → MentionKind → Type 0
 IsPart block (Label x) = ⊥
 IsPart block (PhiOf x sources) = block ≡ Some x
 IsPart block what = Unit {0}
@@ -53,7 +53,7 @@ abbrev AreParts : Option (List ℕ) → List Mention → Type 0
 AreParts block [] = Unit {0}
 AreParts block (m ∷ text) = IsPart block m.what × AreParts block text
 
-part : (block : Option (List ℕ)) (w : What) → IsPart block w → Fits block w × (option_or (named w Labels) block ≡ block)
+part : (block : Option (List ℕ)) (w : MentionKind) → IsPart block w → Fits block w × (option_or (named w Labels) block ≡ block)
 part block (PhiOf x sources) p = (p, refl)
 part block (Label x) p = absurd p
 part block (DataName x) p = (tt, refl)
@@ -142,7 +142,7 @@ func_home f = (tt, parts_then None (map (param_mention f.line) f.params) _ (para
 
 item_parts : {A : Type 0} (block : Option (List ℕ)) (line : ℕ) (item : Item A) → AreParts block (item_mentions line item)
 item_parts block line (items.Number n) = tt
-item_parts block line (items.Text bytes) = tt
+item_parts block line (items.IndexedDefinition bytes) = tt
 item_parts block line (items.Address g n) = (tt, tt)
 
 field_parts : {A : Type 0} (block : Option (List ℕ)) (line : ℕ) (field : Field A) → AreParts block (field_mentions line field)
@@ -154,10 +154,10 @@ data_home d = (tt, parts_alone None (flat_map (field_mentions d.line) d.fields) 
 
 -- ---- where a phi stands
 
-fits_phi : (block : Option (List ℕ)) (w : What) (x : List ℕ) (sources : List PhiSource) → w ≡ PhiOf x sources → Fits block w → block ≡ Some x
+fits_phi : (block : Option (List ℕ)) (w : MentionKind) (x : List ℕ) (sources : List PhiSource) → w ≡ PhiOf x sources → Fits block w → block ≡ Some x
 fits_phi block w x sources e fits = subst (λ v. Fits block v) e fits
 
-home_at : (block : Option (List ℕ)) (text : List Mention) → IsHome block text → (k : ℕ) (x : List ℕ) (sources : List PhiSource) → Stands text k (PhiOf x sources)
+home_at : (block : Option (List ℕ)) (text : List Mention) → IsHome block text → (k : ℕ) (x : List ℕ) (sources : List PhiSource) → IsAt text k (PhiOf x sources)
     → block_from block text k ≡ Some x
 home_at block [] home k x sources s = absurd cc
 home_at block (m ∷ text) home zero x sources s =
@@ -178,7 +178,7 @@ next_block block [] k m e = absurd cc
 next_block block (n ∷ text) zero m e = let same : n ≡ m = cc in ap (λ a. option_or (named a.what Labels) block) same
 next_block block (n ∷ text) (suc k) m e = next_block (behind block n) text k m e
 
-block_behind : (text : List Mention) (k : ℕ) (m : Mention) (w : What) → slice_get text k ≡ Some m → m.what ≡ w → block_at text (k + 1) ≡ option_or (named w Labels) (block_at text k)
+block_behind : (text : List Mention) (k : ℕ) (m : Mention) (w : MentionKind) → slice_get text k ≡ Some m → m.what ≡ w → block_at text (k + 1) ≡ option_or (named w Labels) (block_at text k)
 block_behind text k m w there is =
     let next : k + 1 ≡ suc k = omega arith in
     ap (block_at text) next ∙ next_block None text k m there ∙ ap (λ v. option_or (named v Labels) (block_at text k)) is
@@ -190,7 +190,7 @@ at_label text k m y labels there is e x w =
     let same : y ≡ x = cc in
     e ∙ ap (λ z. predecessors_of z text) same
 
-no_name : (w : What) → ((y : List ℕ) → w ≡ Label y → ⊥) → named w Labels ≡ None
+no_name : (w : MentionKind) → ((y : List ℕ) → w ≡ Label y → ⊥) → named w Labels ≡ None
 no_name (Label y) n = absurd (n y refl)
 no_name (DataName y) n = refl
 no_name (FunctionName y) n = refl
@@ -210,7 +210,7 @@ still_at_hand text k m labels there no_label at_hand x w =
 
 -- ---- the first label
 
-label_named : (w : What) (x : List ℕ) → named w Labels ≡ Some x → w ≡ Label x
+label_named : (w : MentionKind) (x : List ℕ) → named w Labels ≡ Some x → w ≡ Label x
 label_named (Label y) x e = let same : y ≡ x = cc in ap Label same
 label_named (DataName y) x e = absurd cc
 label_named (FunctionName y) x e = absurd cc
@@ -223,13 +223,13 @@ label_named (Global y) x e = absurd cc
 label_named (Returns t) x e = absurd cc
 label_named (Long c) x e = absurd cc
 
-none_front : (m : Mention) (text : List Mention) (k : ℕ) → named m.what Labels ≡ None → ((i : ℕ) (z : List ℕ) → i < k → Stands text i (Label z) → ⊥)
-    → (i : ℕ) (z : List ℕ) → i < suc k → Stands (m ∷ text) i (Label z) → ⊥
-none_front m text k name none zero z l s =
+none_prefix : (m : Mention) (text : List Mention) (k : ℕ) → named m.what Labels ≡ None → ((i : ℕ) (z : List ℕ) → i < k → IsAt text i (Label z) → ⊥)
+    → (i : ℕ) (z : List ℕ) → i < suc k → IsAt (m ∷ text) i (Label z) → ⊥
+none_prefix m text k name none zero z l s =
     let is : m.what ≡ Label z = cc in
     let same : None ≡ Some z = sym name ∙ ap (λ v. named v Labels) is in
     cc
-none_front m text k name none (suc i) z l s = none i z (omega (arith, l)) s
+none_prefix m text k name none (suc i) z l s = none i z (omega (arith, l)) s
 
 first_behind : (m : Mention) (text : List Mention) (name : Option (List ℕ)) (x : List ℕ) → named m.what Labels ≡ name → option_or name (begun_label text) ≡ Some x
     → (begun_label text ≡ Some x → IsFirstLabel text x) → IsFirstLabel (m ∷ text) x
@@ -237,14 +237,14 @@ first_behind m text (Some y) x name e later =
     let is : m.what ≡ Label y = label_named m.what y name in
     let same : y ≡ x = cc in
     (zero, ap Some (is ∙ ap Label same), λ i z l. absurd (omega (arith, l)))
-first_behind m text None x name e later = let f = later e in (suc f.0, f.1, none_front m text f.0 name f.2)
+first_behind m text None x name e later = let f = later e in (suc f.0, f.1, none_prefix m text f.0 name f.2)
 
 begun_first : (text : List Mention) (x : List ℕ) → begun_label text ≡ Some x → IsFirstLabel text x
 begun_first [] x e = absurd cc
 begun_first (m ∷ text) x e = first_behind m text (named m.what Labels) x refl e (begun_first text x)
 
 none_behind : (m : Mention) (text : List Mention) (name : Option (List ℕ)) → named m.what Labels ≡ name → option_or name (begun_label text) ≡ None
-    → (begun_label text ≡ None → (j : ℕ) (x : List ℕ) → Stands text j (Label x) → ⊥) → (j : ℕ) (x : List ℕ) → Stands (m ∷ text) j (Label x) → ⊥
+    → (begun_label text ≡ None → (j : ℕ) (x : List ℕ) → IsAt text j (Label x) → ⊥) → (j : ℕ) (x : List ℕ) → IsAt (m ∷ text) j (Label x) → ⊥
 none_behind m text (Some y) name e later j x s = absurd cc
 none_behind m text None name e later zero x s =
     let is : m.what ≡ Label x = cc in
@@ -252,7 +252,7 @@ none_behind m text None name e later zero x s =
     cc
 none_behind m text None name e later (suc j) x s = later e j x s
 
-none_begun : (text : List Mention) → begun_label text ≡ None → (j : ℕ) (x : List ℕ) → Stands text j (Label x) → ⊥
+none_begun : (text : List Mention) → begun_label text ≡ None → (j : ℕ) (x : List ℕ) → IsAt text j (Label x) → ⊥
 none_begun [] e j x s = absurd cc
 none_begun (m ∷ text) e j x s = none_behind m text (named m.what Labels) refl e (none_begun text) j x s
 

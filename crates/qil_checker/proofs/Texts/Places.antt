@@ -10,10 +10,10 @@ use Rattle.qil_tree.specs.declared.ops.Class.TheVariants as classes
 use Rattle.qil_tree.specs.contracts.ops.Class.{the_type}
 use denote.Enum.Bare.{sameb}
 use Rattle.qil_checker.specs.declared.lookup.Kind.TheVariants.{Defined, Named, Labels}
-use Rattle.qil_rules.specs.declared.mention.What.{What}
-use Rattle.qil_rules.specs.declared.mention.What.TheVariants.{DataName, FunctionName, Label, Edge, PhiLabel, PhiOf, Defines, Uses, Global, Returns, Long}
+use Rattle.qil_rules.specs.declared.mention.MentionKind.{MentionKind}
+use Rattle.qil_rules.specs.declared.mention.MentionKind.TheVariants.{DataName, FunctionName, Label, Edge, PhiLabel, PhiOf, Defines, Uses, Global, Returns, Long}
 use Rattle.qil_rules.specs.declared.mention.Mention.{Mention}
-use Rattle.qil_rules.specs.Text.{Stands, FirstClass, IsUndefined, IsAgain, IsTemporary, LacksLabel}
+use Rattle.qil_rules.specs.Text.{IsAt, FirstClass, IsUndefined, IsAgain, IsTemporary, LacksLabel}
 use Rattle.qil_checker.specs.Tables.{named, is_name, is_named, first, is}
 
 pub record Found {A : Type 0} (test : A → Bool) (xs : List A) (i : ℕ) : Type 0 where
@@ -58,24 +58,24 @@ pub absent : {A : Type 0} (test : A → Bool) (n : ℕ) (xs : List A) → first 
 absent test n [] e = λ j a there. absurd cc
 absent test n (x ∷ xs) e = absent_case test n x xs (test x) refl e (absent test (suc n) xs)
 
--- the mention that stands at a place
-mention_there : (found : Option Mention) (w : What) → option_map (λ m. m.what) found ≡ Some w → (m : Mention) × (found ≡ Some m) × (m.what ≡ w)
+-- the mention that is at a place
+mention_there : (found : Option Mention) (w : MentionKind) → option_map (λ m. m.what) found ≡ Some w → (m : Mention) × (found ≡ Some m) × (m.what ≡ w)
 mention_there None w e = absurd cc
 mention_there (Some m) w e = (m, refl, cc)
 
-pub stands_mention : (text : List Mention) (k : ℕ) (w : What) → Stands text k w → (m : Mention) × (slice_get text k ≡ Some m) × (m.what ≡ w)
+pub stands_mention : (text : List Mention) (k : ℕ) (w : MentionKind) → IsAt text k w → (m : Mention) × (slice_get text k ≡ Some m) × (m.what ≡ w)
 stands_mention text k w e = mention_there (slice_get text k) w e
 
-pub mention_stands : (text : List Mention) (k : ℕ) (m : Mention) (w : What) → slice_get text k ≡ Some m → m.what ≡ w → Stands text k w
+pub mention_stands : (text : List Mention) (k : ℕ) (m : Mention) (w : MentionKind) → slice_get text k ≡ Some m → m.what ≡ w → IsAt text k w
 mention_stands text k m w e is = ap (option_map (λ m. m.what)) e ∙ ap Some is
 
-pub stands_within : (text : List Mention) (k : ℕ) (w : What) → Stands text k w → k < length text
+pub stands_within : (text : List Mention) (k : ℕ) (w : MentionKind) → IsAt text k w → k < length text
 stands_within text k w s = let m = stands_mention text k w s in slice_get_within text k m.0 m.1
 
 pub same_name : (x : List ℕ) → bytes_eq x x ≡ true
 same_name x = (bytes_eq-Decides x x).1 refl
 
-class_of_mention : (x : List ℕ) (w : What) → is_name x (named w Defined) ≡ true → (c : Class) × (w ≡ Defines x c)
+class_of_mention : (x : List ℕ) (w : MentionKind) → is_name x (named w Defined) ≡ true → (c : Class) × (w ≡ Defines x c)
 class_of_mention x (Defines y c) e = (c, ap (λ n. Defines n c) ((bytes_eq-Decides y x).0 e))
 class_of_mention x (Label y) e = absurd cc
 class_of_mention x (Uses y c) e = absurd cc
@@ -88,7 +88,7 @@ class_of_mention x (Global y) e = absurd cc
 class_of_mention x (Returns y) e = absurd cc
 class_of_mention x (Long y) e = absurd cc
 
-mention_of_temp : (x : List ℕ) (w : What) → is_name x (named w Named) ≡ true → (c : Class) × ((w ≡ Defines x c) ⊎ (w ≡ Uses x c))
+mention_of_temp : (x : List ℕ) (w : MentionKind) → is_name x (named w Named) ≡ true → (c : Class) × ((w ≡ Defines x c) ⊎ (w ≡ Uses x c))
 mention_of_temp x (Defines y c) e = (c, inl (ap (λ n. Defines n c) ((bytes_eq-Decides y x).0 e)))
 mention_of_temp x (Uses y c) e = (c, inr (ap (λ n. Uses n c) ((bytes_eq-Decides y x).0 e)))
 mention_of_temp x (Label y) e = absurd cc
@@ -101,7 +101,7 @@ mention_of_temp x (Global y) e = absurd cc
 mention_of_temp x (Returns y) e = absurd cc
 mention_of_temp x (Long y) e = absurd cc
 
-label_of_mention : (x : List ℕ) (w : What) → is_name x (named w Labels) ≡ true → w ≡ Label x
+label_of_mention : (x : List ℕ) (w : MentionKind) → is_name x (named w Labels) ≡ true → w ≡ Label x
 label_of_mention x (Label y) e = ap Label ((bytes_eq-Decides y x).0 e)
 label_of_mention x (Defines y c) e = absurd cc
 label_of_mention x (Uses y c) e = absurd cc
@@ -126,7 +126,7 @@ brings_name x c m (inl e) = ap (λ w. is_name x (named w Named)) e ∙ same_name
 brings_name x c m (inr e) = ap (λ w. is_name x (named w Named)) e ∙ same_name x
 
 class_found : (text : List Mention) (x : List ℕ) (k : ℕ) → first (is_named Defined x) 0 text ≡ Some k
-    → (c : Class) × Stands text k (Defines x c) × ((j : ℕ) (d : Class) → j < k → Stands text j (Defines x d) → ⊥)
+    → (c : Class) × IsAt text k (Defines x c) × ((j : ℕ) (d : Class) → j < k → IsAt text j (Defines x d) → ⊥)
 class_found text x k e =
     let f = found_here (is_named Defined x) text k e in
     let t = class_of_mention x f.item.what f.passes in (
@@ -151,10 +151,10 @@ pub class_at : (text : List Mention) (x y : List ℕ) (k : ℕ) (m : Mention) (c
     → FirstClass text x c
 class_at text x y k m c e there is =
     let f = class_found text x k e in
-    let now : Stands text k (Defines y c) = mention_stands text k m (Defines y c) there is in
+    let now : IsAt text k (Defines y c) = mention_stands text k m (Defines y c) there is in
     let same : Defines x f.0 ≡ Defines y c = cc in
     let classes : f.0 ≡ c = cc in
-    (k, subst (λ d. Stands text k (Defines x d)) classes f.1, λ j d l. f.2 j d l)
+    (k, subst (λ d. IsAt text k (Defines x d)) classes f.1, λ j d l. f.2 j d l)
 
 pub no_class_at : (text : List Mention) (x : List ℕ) (k : ℕ) (m : Mention) → first (is_named Defined x) 0 text ≡ Some k → slice_get text k ≡ Some m
     → ((y : List ℕ) (c : Class) → m.what ≡ Defines y c → ⊥) → ⊥
@@ -183,8 +183,8 @@ same_temp x y c d e = cc
 same_use : (x y : List ℕ) (c d : Class) → Uses x c ≡ Uses y d → x ≡ y
 same_use x y c d e = cc
 
-same_place : (text : List Mention) (x : List ℕ) (c d : Class) (i j : ℕ) → i ≡ j → Stands text i (Defines x c) → Stands text j (Defines x d) → c ≡ d
-same_place text x c d i j e s t = same_class x c d (some_same (sym (subst (λ k. Stands text k (Defines x c)) e s) ∙ t))
+same_place : (text : List Mention) (x : List ℕ) (c d : Class) (i j : ℕ) → i ≡ j → IsAt text i (Defines x c) → IsAt text j (Defines x d) → c ≡ d
+same_place text x c d i j e s t = same_class x c d (some_same (sym (subst (λ k. IsAt text k (Defines x c)) e s) ∙ t))
 
 pub one_class : (text : List Mention) (x : List ℕ) (c d : Class) → FirstClass text x c → FirstClass text x d → c ≡ d
 one_class text x c d a b =
@@ -200,9 +200,9 @@ other_class classes.L classes.W r e = (λ t s. absurd cc, λ ne. e)
 other_class classes.L classes.L r e = (λ t. absurd cc, λ ne. absurd (ne refl))
 
 abbrev TwoClasses : List Mention → ℕ → Type 0
-TwoClasses text k = (x : List ℕ) × (c : Class) × (d : Class) × Stands text k (Defines x c) × FirstClass text x d × (c ≢ d)
+TwoClasses text k = (x : List ℕ) × (c : Class) × (d : Class) × IsAt text k (Defines x c) × FirstClass text x d × (c ≢ d)
 
-pub two_classes : (text : List Mention) (k : ℕ) (x : List ℕ) (c d : Class) → Stands text k (Defines x c) → FirstClass text x d → TwoClasses text k → c ≢ d
+pub two_classes : (text : List Mention) (k : ℕ) (x : List ℕ) (c d : Class) → IsAt text k (Defines x c) → FirstClass text x d → TwoClasses text k → c ≢ d
 two_classes text k x c d s f b e =
     let same : Defines b.0 b.1 ≡ Defines x c = some_same (sym b.3 ∙ s) in
     let name : b.0 ≡ x = same_temp b.0 x b.1 c same in
@@ -216,7 +216,7 @@ pub is_again : (text : List Mention) (x : List ℕ) (c : Class) (k i : ℕ) (m :
     → first (is_named Defined x) 0 text ≡ Some i → i ≢ k → IsAgain text k x
 is_again text x c k i m there is e apart =
     let f = class_found text x i e in
-    let here : Stands text k (Defines x c) = mention_stands text k m (Defines x c) there is in
+    let here : IsAt text k (Defines x c) = mention_stands text k m (Defines x c) there is in
     let reach : k < i → ⊥ = λ l. f.2 k c l here in
     let l : i < k = omega (arith, reach, apart) in
     (i, c, f.0, l, f.1, here)
@@ -225,9 +225,9 @@ pub is_first : (text : List Mention) (x : List ℕ) (c : Class) (k i : ℕ) (m :
     → first (is_named Defined x) 0 text ≡ Some i → i ≡ k → (y : List ℕ) → IsAgain text k y → ⊥
 is_first text x c k i m there is e same y b =
     let f = class_found text x i e in
-    let here : Stands text k (Defines x c) = mention_stands text k m (Defines x c) there is in
+    let here : IsAt text k (Defines x c) = mention_stands text k m (Defines x c) there is in
     let name : y ≡ x = same_temp y x b.1 c (some_same (sym b.5 ∙ here)) in
-    f.2 b.0 b.2 (subst (λ n. b.0 < n) (sym same) b.3) (subst (λ n. Stands text b.0 (Defines n b.2)) name b.4)
+    f.2 b.0 b.2 (subst (λ n. b.0 < n) (sym same) b.3) (subst (λ n. IsAt text b.0 (Defines n b.2)) name b.4)
 
 pub never_defined : (text : List Mention) (x : List ℕ) (c : Class) (k : ℕ) (m : Mention) → slice_get text k ≡ Some m → m.what ≡ Defines x c
     → first (is_named Defined x) 0 text ≡ None → ⊥
@@ -251,7 +251,7 @@ temp_found text x k e =
     let t = mention_of_temp x f.item.what f.passes in
     (k, t.0, ⊎_elim (λ d. inl (mention_stands text k f.item (Defines x t.0) f.there d)) (λ u. inr (mention_stands text k f.item (Uses x t.0) f.there u)) t.1)
 
-temp_at : (text : List Mention) (x : List ℕ) (k : ℕ) (w : What) (c : Class) → first (is_named Named x) 0 text ≡ None → Stands text k w
+temp_at : (text : List Mention) (x : List ℕ) (k : ℕ) (w : MentionKind) (c : Class) → first (is_named Named x) 0 text ≡ None → IsAt text k w
     → (w ≡ Defines x c) ⊎ (w ≡ Uses x c) → ⊥
 temp_at text x k w c e s which =
     let m = stands_mention text k w s in
@@ -264,15 +264,15 @@ temp_absent text x e t = ⊎_elim (λ d. temp_at text x t.0 (Defines x t.1) t.1 
 
 -- ---- labels
 
--- what stands at a place is one thing
-pub one_what : (text : List Mention) (k : ℕ) (m : Mention) (w : What) → slice_get text k ≡ Some m → Stands text k w → m.what ≡ w
+-- what is at a place is one thing
+pub one_what : (text : List Mention) (k : ℕ) (m : Mention) (w : MentionKind) → slice_get text k ≡ Some m → IsAt text k w → m.what ≡ w
 one_what text k m w there s =
     let f = stands_mention text k w s in
     let same : f.0 ≡ m = cc in
     ap (λ n. n.what) (sym same) ∙ f.2
 
 pub label_found : (text : List Mention) (x : List ℕ) (k : ℕ) → first (is_named Labels x) 0 text ≡ Some k
-    → Stands text k (Label x) × ((j : ℕ) → j < k → Stands text j (Label x) → ⊥)
+    → IsAt text k (Label x) × ((j : ℕ) → j < k → IsAt text j (Label x) → ⊥)
 label_found text x k e =
     let f = found_here (is_named Labels x) text k e in (
       mention_stands text k f.item (Label x) f.there (label_of_mention x f.item.what f.passes),

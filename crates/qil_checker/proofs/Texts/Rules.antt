@@ -6,9 +6,9 @@ use Rattle.std.specs.Str.{bytes_eq}
 use Rattle.qil_tree.specs.declared.ops.Class.{Class}
 use Rattle.qil_tree.specs.declared.tree.PhiSource.{PhiSource}
 use Rattle.qil_checker.specs.declared.lookup.Kind.TheVariants.{Labels}
-use Rattle.qil_rules.specs.declared.mention.What.TheVariants.{Label, PhiLabel, PhiOf, Defines, Uses}
+use Rattle.qil_rules.specs.declared.mention.MentionKind.TheVariants.{Label, PhiLabel, PhiOf, Defines, Uses}
 use Rattle.qil_rules.specs.declared.mention.Mention.{Mention}
-use Rattle.qil_rules.specs.Text.{Stands, FirstClass, IsUndefined, LacksLabel, IsFirstLabel, ArePredecessors, labels_of}
+use Rattle.qil_rules.specs.Text.{IsAt, FirstClass, IsUndefined, LacksLabel, IsFirstLabel, ArePredecessors, labels_of}
 use Rattle.qil_rules.specs.Rules.{IsSecondLabel, IsLostLabel, IsUndefinedUse, IsWrongPhi}
 use Rattle.qil_checker.specs.Tables.{first, is_named}
 use Rattle.qil_checker.proofs.Texts.Places.{mention_stands, one_what, label_found, label_absent}
@@ -31,11 +31,11 @@ pub second_label : (text : List Mention) (x : List ℕ) (k i : ℕ) (m : Mention
     → first (is_named Labels x) 0 text ≡ Some i → IsTrue (not (nat_eq i k)) ↔ IsSecondLabel text k
 second_label text x k i m there is e =
     let f = label_found text x i e in
-    let here : Stands text k (Label x) = mention_stands text k m (Label x) there is in
+    let here : IsAt text k (Label x) = mention_stands text k m (Label x) there is in
     let reach : k < i → ⊥ = λ l. f.1 k l here in (
       λ t. let apart = differ i k t in let l : i < k = omega (arith, reach, apart) in (x, i, l, f.0, here),
       λ b. differs i k (λ same. let name : b.0 ≡ x = same_label b.0 x (some_same (sym b.4 ∙ here)) in
-          f.1 b.1 (subst (λ y. b.1 < y) (sym same) b.2) (subst (λ y. Stands text b.1 (Label y)) name b.3)),
+          f.1 b.1 (subst (λ y. b.1 < y) (sym same) b.2) (subst (λ y. IsAt text b.1 (Label y)) name b.3)),
     )
 
 pub no_label : (text : List Mention) (x : List ℕ) (k : ℕ) (m : Mention) → slice_get text k ≡ Some m → m.what ≡ Label x
@@ -49,7 +49,7 @@ has_label text x k e lacks = lacks k (label_found text x k e).0
 pub lost_phi_label : (text : List Mention) (x : List ℕ) (k : ℕ) (m : Mention) (b : Bool) → slice_get text k ≡ Some m → m.what ≡ PhiLabel x
     → (IsTrue b ↔ LacksLabel text x) → IsTrue b ↔ IsLostLabel text k
 lost_phi_label text x k m b there is lacks =
-    let here : Stands text k (PhiLabel x) = mention_stands text k m (PhiLabel x) there is in (
+    let here : IsAt text k (PhiLabel x) = mention_stands text k m (PhiLabel x) there is in (
       λ t. (x, inr here, lacks.0 t),
       λ lost. lacks.1 (subst (LacksLabel text) (elim lost.1 [
         | inl edge ↦ (let other = some_same (sym edge.1 ∙ here) in absurd cc)
@@ -68,27 +68,27 @@ undefined_use text x c k m (Some d) true there is first e = absurd cc
 undefined_use text x c k m (Some d) false there is first e = (
   λ t. absurd cc,
   λ u.
-      let here : Stands text k (Uses x c) = mention_stands text k m (Uses x c) there is in
+      let here : IsAt text k (Uses x c) = mention_stands text k m (Uses x c) there is in
       let same : u.0 ≡ x = (let uses = some_same (sym u.2 ∙ here) in cc) in
-      absurd (u.3 first.0 d (subst (λ y. Stands text first.0 (Defines y d)) (sym same) first.1)),
+      absurd (u.3 first.0 d (subst (λ y. IsAt text first.0 (Defines y d)) (sym same) first.1)),
 )
 
 -- the label at the first place that has one is the first label
 pub first_label : (text : List Mention) (x y : List ℕ) (k : ℕ) (m : Mention) → slice_get text k ≡ Some m → m.what ≡ Label y
-    → ((j : ℕ) (z : List ℕ) → j < k → Stands text j (Label z) → ⊥) → IsTrue (bytes_eq y x) ↔ IsFirstLabel text x
+    → ((j : ℕ) (z : List ℕ) → j < k → IsAt text j (Label z) → ⊥) → IsTrue (bytes_eq y x) ↔ IsFirstLabel text x
 first_label text x y k m there is none =
-    let here : Stands text k (Label y) = mention_stands text k m (Label y) there is in (
-      λ t. let same : y ≡ x = (bytes_eq-Decides y x).0 t in (k, subst (λ n. Stands text k (Label n)) same here, none),
+    let here : IsAt text k (Label y) = mention_stands text k m (Label y) there is in (
+      λ t. let same : y ≡ x = (bytes_eq-Decides y x).0 t in (k, subst (λ n. IsAt text k (Label n)) same here, none),
       λ f.
           let below : f.0 < k → ⊥ = λ l. none f.0 x l f.1 in
           let above : k < f.0 → ⊥ = λ l. f.2 k y l here in
           let at : f.0 ≡ k = omega (arith, below, above) in
-          let same : Label x ≡ Label y = some_same (sym (subst (λ i. Stands text i (Label x)) at f.1) ∙ here) in
+          let same : Label x ≡ Label y = some_same (sym (subst (λ i. IsAt text i (Label x)) at f.1) ∙ here) in
           (bytes_eq-Decides y x).1 (sym (same_label x y same)),
     )
 
 pub first_label_test : (text : List Mention) (x y a b : List ℕ) (r : Bool) (k : ℕ) (m : Mention) → r ≡ bytes_eq a b → a ≡ y → b ≡ x → slice_get text k ≡ Some m → m.what ≡ Label y
-    → ((j : ℕ) (z : List ℕ) → j < k → Stands text j (Label z) → ⊥) → IsTrue r ↔ IsFirstLabel text x
+    → ((j : ℕ) (z : List ℕ) → j < k → IsAt text j (Label z) → ⊥) → IsTrue r ↔ IsFirstLabel text x
 first_label_test text x y a b r k m e left right there is none =
     let test : r ≡ bytes_eq y x = e ∙ ap (λ n. bytes_eq n b) left ∙ ap (bytes_eq y) right in
     subst (λ t. IsTrue t ↔ IsFirstLabel text x) (sym test) (first_label text x y k m there is none)

@@ -2,20 +2,20 @@
 use Rattle.std.proofs.Common.{◌+◌, ◌∙◌, drop, get_or}
 use Rattle.std.specs.List.{flat_map}
 use Rattle.qil_answers.specs.Texts.{quoted_byte}
-use Rattle.qil_answers.proofs.Told.{told_as, told_stop, told_more}
+use Rattle.qil_answers.proofs.Reported.{reported_as, reported_stop, reported_more}
 use Rattle.qil_answers.proofs.ListLines.{flat_step}
 use Rattle.qil_answers.proofs.bytes.put_all_quoted.Goals as goal
 
 pub returns-in_err-put_quoted-clause-text : goal.returns-in_err-put_quoted-clause-text
 returns-in_err-put_quoted-clause-text g c =
-    told_stop _ (quoted_byte (get_or c.args.bytes.now c.loop-byte.byte-index 0)) (flat_map quoted_byte (drop (c.loop-byte.byte-index + 1) c.args.bytes.now)) _ _ _
-    (told_as _ _ _ _ _ (flat_step quoted_byte c.args.bytes.now c.loop-byte.byte-index 0 c.loop-byte-test.true) c.loop-byte.invariant.text)
+    reported_stop _ (quoted_byte (get_or c.args.bytes.now c.loop-byte.byte-index 0)) (flat_map quoted_byte (drop (c.loop-byte.byte-index + 1) c.args.bytes.now)) _ _ _
+    (reported_as _ _ _ _ _ (flat_step quoted_byte c.args.bytes.now c.loop-byte.byte-index 0 c.loop-byte-test.true) c.loop-byte.invariant.text)
     _ _ c.from_residual.ensures.1 c.in_err-put_quoted.field-0.0 c.in_err-put_quoted.ensures.text
 
 pub loop-byte-preserved : goal.loop-byte-preserved
 loop-byte-preserved g c = record {
-  text = told_more _ (quoted_byte (get_or c.args.bytes.now c.loop-byte.byte-index 0)) (flat_map quoted_byte (drop (c.loop-byte.byte-index + 1) c.args.bytes.now)) _ _ _
-      (told_as _ _ _ _ _ (flat_step quoted_byte c.args.bytes.now c.loop-byte.byte-index 0 c.loop-byte-test.true) c.loop-byte.invariant.text)
+  text = reported_more _ (quoted_byte (get_or c.args.bytes.now c.loop-byte.byte-index 0)) (flat_map quoted_byte (drop (c.loop-byte.byte-index + 1) c.args.bytes.now)) _ _ _
+      (reported_as _ _ _ _ _ (flat_step quoted_byte c.args.bytes.now c.loop-byte.byte-index 0 c.loop-byte-test.true) c.loop-byte.invariant.text)
       c.in_ok-put_quoted.ensures.text;
   counted = c.in_ok-put_quoted.ensures.counted ∙ c.loop-byte.invariant.counted;
   device = c.put_quoted.ensures.device ∙ c.loop-byte.invariant.device;

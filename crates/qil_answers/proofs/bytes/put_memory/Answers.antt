@@ -5,7 +5,7 @@ use Rattle.qil_state.specs.State.{state_of}
 use Rattle.qil_streams.proofs.TextLemmas.{Puts-stop}
 use Rattle.qil_answers.specs.Texts.{byte_text}
 use Rattle.qil_answers.specs.Shown.{spaced_byte, memory_shown}
-use Rattle.qil_answers.proofs.Told.{told_none, told_as, told_stop, told_more, told_last}
+use Rattle.qil_answers.proofs.Reported.{reported_none, reported_as, reported_stop, reported_more, reported_last}
 use Rattle.qil_answers.proofs.MemoryBytes.{positive, later_bytes, memory_first, later_step, later_end}
 use Rattle.qil_answers.proofs.bytes.put_memory.Goals as goal
 
@@ -26,8 +26,8 @@ loop-offset-init g c =
     let a = c.args.address in
     let n = c.args.count in
     record {
-      text = told_more _ (byte_text (m a)) (later_bytes m (a + 1) (n - 1)) _ _ _
-          (told_as _ _ _ _ _ (memory_first (state_of c.args.machine.now) a n (positive n c.if-count-eq0.false)) (told_none (memory_shown (state_of c.args.machine.now) a n) _))
+      text = reported_more _ (byte_text (m a)) (later_bytes m (a + 1) (n - 1)) _ _ _
+          (reported_as _ _ _ _ _ (memory_first (state_of c.args.machine.now) a n (positive n c.if-count-eq0.false)) (reported_none (memory_shown (state_of c.args.machine.now) a n) _))
           (rw c.byte.ensures at c.in_ok-put_byte.ensures.text);
       counted = c.in_ok-put_byte.ensures.counted;
       device = c.put_byte.ensures.device;
@@ -40,8 +40,8 @@ returns-in_err-put_next_byte-clause-text g c =
     let n = c.args.count in
     let i = c.loop-offset.offset in
     let lt : i < n = omega (arith, c.loop-offset-test.true, c.from-offset-end.ensures) in
-    told_stop _ (spaced_byte (m (a + i))) (later_bytes m (a + (i + 1)) (n - (i + 1))) _ _ _
-    (told_as _ _ _ _ _ (later_step m a i n lt) c.loop-offset.invariant.text)
+    reported_stop _ (spaced_byte (m (a + i))) (later_bytes m (a + (i + 1)) (n - (i + 1))) _ _ _
+    (reported_as _ _ _ _ _ (later_step m a i n lt) c.loop-offset.invariant.text)
     _ _ c.from_residual-in_err-put_next_byte.ensures.1 c.in_err-put_next_byte.field-0.0 (rw c.byte_behind.ensures at c.in_err-put_next_byte.ensures.text)
 
 pub loop-offset-preserved : goal.loop-offset-preserved
@@ -52,8 +52,8 @@ loop-offset-preserved g c =
     let i = c.loop-offset.offset in
     let lt : i < n = omega (arith, c.loop-offset-test.true, c.from-offset-end.ensures) in
     record {
-      text = told_more _ (spaced_byte (m (a + i))) (later_bytes m (a + (i + 1)) (n - (i + 1))) _ _ _
-          (told_as _ _ _ _ _ (later_step m a i n lt) c.loop-offset.invariant.text)
+      text = reported_more _ (spaced_byte (m (a + i))) (later_bytes m (a + (i + 1)) (n - (i + 1))) _ _ _
+          (reported_as _ _ _ _ _ (later_step m a i n lt) c.loop-offset.invariant.text)
           (rw c.byte_behind.ensures at c.in_ok-put_next_byte.ensures.text);
       counted = c.in_ok-put_next_byte.ensures.counted ∙ c.loop-offset.invariant.counted;
       device = c.put_next_byte.ensures.device ∙ c.loop-offset.invariant.device;
@@ -66,4 +66,4 @@ returns-clause-text g c =
     let n = c.args.count in
     let i = c.loop-offset.offset in
     let le : n ≤ i = omega (arith, c.loop-offset-test.false, c.from-offset-end.ensures) in
-    told_last _ (codes "\n") _ _ _ (told_as _ _ _ _ _ (later_end m a n i le) c.loop-offset.invariant.text) _ c.put-2.ensures.text
+    reported_last _ (codes "\n") _ _ _ (reported_as _ _ _ _ _ (later_end m a n i le) c.loop-offset.invariant.text) _ c.put-2.ensures.text

@@ -4,7 +4,7 @@ use Rattle.std.proofs.lemmas.List.{length-reverse}
 use Rattle.qil_state.specs.State.{frame_state}
 use Rattle.qil_answers.specs.Texts.{frame_line}
 use Rattle.qil_answers.specs.Frames.{frame_lines}
-use Rattle.qil_answers.proofs.Told.{told_as, told_stop, told_more, told_all}
+use Rattle.qil_answers.proofs.Reported.{reported_as, reported_stop, reported_more, reported_all}
 use Rattle.qil_answers.proofs.ListLines.{frames_none, frames_some, frames_step, frames_end}
 use Rattle.qil_answers.proofs.frames.put_frames.Goals as goal
 
@@ -17,8 +17,8 @@ returns-in_err-put_frame-clause-text g c =
     let fs = c.args.machine.now.frames in
     let i = c.loop-inner.inner in
     rw (frames_some p fs _ c.in-Some.ensures.frame)
-    (told_stop _ (frame_line (frame_state p (drop (i + 1) fs) c.frame_at.result.now)) (frame_lines p (drop (i + 1) fs)) _ _ _
-    (told_as _ _ _ _ _ (frames_step p fs i c.frame_at.result.now c.frame_at.ensures) c.loop-inner.invariant.text)
+    (reported_stop _ (frame_line (frame_state p (drop (i + 1) fs) c.frame_at.result.now)) (frame_lines p (drop (i + 1) fs)) _ _ _
+    (reported_as _ _ _ _ _ (frames_step p fs i c.frame_at.result.now c.frame_at.ensures) c.loop-inner.invariant.text)
     _ _ c.from_residual.ensures.1 c.in_err-put_frame.field-0.0 (rw c.code-code.ensures at (c.in_err-put_frame.ensures.text (drop (i + 1) fs))))
 
 pub loop-inner-preserved : goal.loop-inner-preserved
@@ -27,8 +27,8 @@ loop-inner-preserved g c =
     let fs = c.args.machine.now.frames in
     let i = c.loop-inner.inner in
     record {
-      text = told_more _ (frame_line (frame_state p (drop (i + 1) fs) c.frame_at.result.now)) (frame_lines p (drop (i + 1) fs)) _ _ _
-          (told_as _ _ _ _ _ (frames_step p fs i c.frame_at.result.now c.frame_at.ensures) c.loop-inner.invariant.text)
+      text = reported_more _ (frame_line (frame_state p (drop (i + 1) fs) c.frame_at.result.now)) (frame_lines p (drop (i + 1) fs)) _ _ _
+          (reported_as _ _ _ _ _ (frames_step p fs i c.frame_at.result.now c.frame_at.ensures) c.loop-inner.invariant.text)
           (rw c.code-code.ensures at (c.in_ok-put_frame.ensures.text (drop (i + 1) fs)));
       counted = c.in_ok-put_frame.ensures.counted ∙ c.loop-inner.invariant.counted;
       device = c.put_frame.ensures.device ∙ c.loop-inner.invariant.device;
@@ -41,4 +41,4 @@ returns-clause-text g c =
     let i = c.loop-inner.inner in
     let all : length fs ≤ i = rw (length-reverse fs) at (rw c.frames-inner-end.ensures.value at c.loop-inner-test.false) in
     rw (frames_some p fs _ c.in-Some.ensures.frame)
-    (told_all _ _ _ (told_as _ _ _ _ _ (frames_end p fs i all) c.loop-inner.invariant.text))
+    (reported_all _ _ _ (reported_as _ _ _ _ _ (frames_end p fs i all) c.loop-inner.invariant.text))

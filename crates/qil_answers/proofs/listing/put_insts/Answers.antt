@@ -2,23 +2,23 @@
 use Rattle.std.proofs.Common.{◌+◌, ◌∙◌, drop}
 use Rattle.qil_texts.specs.Canonical.{inst_text}
 use Rattle.qil_answers.specs.Listing.{row, inst_rows}
-use Rattle.qil_answers.proofs.Told.{told_as, told_stop, told_more}
+use Rattle.qil_answers.proofs.Reported.{reported_as, reported_stop, reported_more}
 use Rattle.qil_answers.proofs.ListLines.{rows_at}
 use Rattle.qil_answers.proofs.listing.put_insts.Goals as goal
 
 pub returns-in_err-put_inst-clause-text : goal.returns-in_err-put_inst-clause-text
 returns-in_err-put_inst-clause-text g c =
     let i = c.loop-index.index in
-    told_stop _ (row c.args.at i (inst_text c.index-insts-index.result)) (inst_rows c.args.at (i + 1) (drop (i + 1) c.args.insts.now)) _ _ _
-    (told_as _ _ _ _ _ (rows_at c.args.at c.args.insts.now i c.index-insts-index.result c.index-insts-index.is c.loop-index-test.true) c.loop-index.invariant.text)
+    reported_stop _ (row c.args.at i (inst_text c.index-insts-index.result)) (inst_rows c.args.at (i + 1) (drop (i + 1) c.args.insts.now)) _ _ _
+    (reported_as _ _ _ _ _ (rows_at c.args.at c.args.insts.now i c.index-insts-index.result c.index-insts-index.is c.loop-index-test.true) c.loop-index.invariant.text)
     _ _ c.from_residual.ensures.1 c.in_err-put_inst.field-0.0 c.in_err-put_inst.ensures.text
 
 pub loop-index-preserved : goal.loop-index-preserved
 loop-index-preserved g c =
     let i = c.loop-index.index in
     record {
-      text = told_more _ (row c.args.at i (inst_text c.index-insts-index.result)) (inst_rows c.args.at (i + 1) (drop (i + 1) c.args.insts.now)) _ _ _
-          (told_as _ _ _ _ _ (rows_at c.args.at c.args.insts.now i c.index-insts-index.result c.index-insts-index.is c.loop-index-test.true) c.loop-index.invariant.text)
+      text = reported_more _ (row c.args.at i (inst_text c.index-insts-index.result)) (inst_rows c.args.at (i + 1) (drop (i + 1) c.args.insts.now)) _ _ _
+          (reported_as _ _ _ _ _ (rows_at c.args.at c.args.insts.now i c.index-insts-index.result c.index-insts-index.is c.loop-index-test.true) c.loop-index.invariant.text)
           c.in_ok-put_inst.ensures.text;
       counted = c.in_ok-put_inst.ensures.counted ∙ c.loop-index.invariant.counted;
       device = c.put_inst.ensures.device ∙ c.loop-index.invariant.device;

@@ -2,12 +2,12 @@
 use Rattle.std.proofs.Common.{◌≡◌, drop}
 use Rattle.qil_numbering.specs.Numbered.{names_of}
 use Rattle.qil_answers.specs.Slots.{slot_lines}
-use Rattle.qil_answers.proofs.Told.{Told}
+use Rattle.qil_answers.proofs.Reported.{Reported}
 use Rattle.qil_answers.proofs.temps.put_slots.Given as goal
 
 abbrev pub invariant-loop-index : goal.invariant-loop-index
 invariant-loop-index g l = record {
-  text : Told (slot_lines (names_of l.fn.code l.fn.frame.func) l.fn.frame.slots)
+  text : Reported (slot_lines (names_of l.fn.code l.fn.frame.func) l.fn.frame.slots)
       (slot_lines (drop l.index (names_of l.fn.code l.fn.frame.func)) (drop l.index l.fn.frame.slots)) (g.P.Put.written l.fn.out) (g.P.Put.written l.out);
   counted : g.P.Put.stops l.out ≡ g.P.Put.stops l.fn.out;
   device : g.P.Put.device l.out ≡ g.P.Put.device l.fn.out;

@@ -1,6 +1,6 @@
 -- A program is well-formed or breaks one rule first, never both.
 use Rattle.qil_rules.specs.Mentions.{texts}
-use Rattle.qil_checker.proofs.Programs.Firsts.{not_both, only_memory, only_told}
+use Rattle.qil_checker.proofs.Programs.Firsts.{not_both, only_memory, only_reported}
 use Rattle.qil_checker.proofs.checker.answered.Goals as goal
 
 pub returns-in-Ok-clause-kept : goal.returns-in-Ok-clause-kept
@@ -10,7 +10,7 @@ pub returns-in-Ok-clause-only_broken : goal.returns-in-Ok-clause-only_broken
 returns-in-Ok-clause-only_broken g c = λ rule line b. not_both (texts c.args.program) rule line (rw c.in-Ok.is at c.requires.well_formed) b
 
 pub returns-in-Err-clause-only_kept : goal.returns-in-Err-clause-only_kept
-returns-in-Err-clause-only_kept g c = λ kept. only_memory (texts c.args.program) c.in-Err.error (rw c.in-Err.is at c.requires.told) kept
+returns-in-Err-clause-only_kept g c = λ kept. only_memory (texts c.args.program) c.in-Err.error (rw c.in-Err.is at c.requires.reported) kept
 
 pub returns-in-Err-clause-only_broken : goal.returns-in-Err-clause-only_broken
-returns-in-Err-clause-only_broken g c = λ rule line b. only_told (texts c.args.program) c.in-Err.error (rw c.in-Err.is at c.requires.told) rule line b
+returns-in-Err-clause-only_broken g c = λ rule line b. only_reported (texts c.args.program) c.in-Err.error (rw c.in-Err.is at c.requires.reported) rule line b

@@ -12,5 +12,5 @@ invariant-loop-taken g l = record {
   program : g.H.History.program l.history ≡ g.H.History.program l.fn.history;
   way : IsBackWay (named_stops (g.H.History.program l.fn.history) l.list) (g.H.History.timeline l.fn.history) l.taken (g.H.History.timeline l.history);
   deep : AreDeep (λ j. gone j (g.H.History.timeline l.fn.history)) l.most l.taken;
-  told : AllTell (g.H.History.program l.fn.history) (g.H.History.timeline l.history).now l.list l.before.items;
+  reported : AllTell (g.H.History.program l.fn.history) (g.H.History.timeline l.history).now l.list l.before.items;
 }

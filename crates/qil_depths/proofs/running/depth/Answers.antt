@@ -1,4 +1,4 @@
--- A machine's frames are those of the state that it stands for.
+-- A machine's frames are those of the state that it represents.
 use Rattle.std.proofs.Common.{◌∙◌, ap, length}
 use Rattle.std.proofs.lemmas.List.{length-reverse}
 use Rattle.qil_meaning.specs.State.{State}

@@ -12,5 +12,5 @@ invariant-loop-moves g l = record {
   program : g.H.History.program l.history ≡ g.H.History.program l.fn.history;
   way : IsOnWay (g.H.History.program l.fn.history) (named_stops (g.H.History.program l.fn.history) l.list) (g.H.History.timeline l.fn.history) l.moves (g.H.History.timeline l.history);
   deep : AreDeep (λ j. moved (g.H.History.program l.fn.history) j (g.H.History.timeline l.fn.history)) l.most l.moves;
-  told : AllTell (g.H.History.program l.fn.history) (g.H.History.timeline l.history).now l.list l.before.items;
+  reported : AllTell (g.H.History.program l.fn.history) (g.H.History.timeline l.history).now l.list l.before.items;
 }

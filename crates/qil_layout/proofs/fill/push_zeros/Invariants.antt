@@ -1,4 +1,4 @@
--- As many zeros as were counted stand behind the others.
+-- As many zeros as were counted stand after the others.
 use Rattle.std.proofs.Common.{◌≡◌, ◌++◌, ◌≤◌, replicate}
 use Rattle.qil_layout.proofs.fill.push_zeros.Given as goal
 

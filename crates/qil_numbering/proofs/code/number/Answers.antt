@@ -4,7 +4,7 @@ use Rattle.std.specs.Prelude.{All, map}
 use Rattle.qil_rules.specs.Rules.{WellFormed}
 use Rattle.qil_tree.specs.Trees.{HasBlocks}
 use Rattle.qil_layout.proofs.FewFunctions.{few_functions}
-use Rattle.qil_names.specs.Numbers.{noted}
+use Rattle.qil_names.specs.Numbers.{recorded}
 use Rattle.qil_numbering.specs.Facts.{IsNumerable}
 use Rattle.qil_numbering.specs.Numbered.{func_code}
 use Rattle.qil_numbering.specs.Ranges.{FuncIsShort}
@@ -28,7 +28,7 @@ invariant_of-result g c =
     codes-are p c.args.image.now _ c.in_ok-funcs.funcs.items c.in_ok-funcs.ensures.codes c.as_slice-2.ensures image in
     record {
       image_is = image;
-      names_are = c.in_ok-names.ensures ∙ ap (λ fs. noted [] (map (λ f. f.name) fs)) c.as_slice.ensures ∙ (numerable p kept).names;
+      names_are = c.in_ok-names.ensures ∙ ap (λ fs. recorded [] (map (λ f. f.name) fs)) c.as_slice.ensures ∙ (numerable p kept).names;
       funcs_are = funcs_are;
       few = few_functions p kept;
       blocks = subst HasBlocks (sym c.program-program.ensures.program) c.program-program.ensures.blocks;

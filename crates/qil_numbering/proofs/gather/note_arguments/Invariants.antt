@@ -1,8 +1,8 @@
 -- The names so far, with those that are left, are all.
 use Rattle.std.proofs.Common.{◌≡◌, drop}
-use Rattle.qil_names.specs.Numbers.{noted}
+use Rattle.qil_names.specs.Numbers.{recorded}
 use Rattle.qil_numbering.specs.Gather.{arguments_names}
 use Rattle.qil_numbering.proofs.gather.note_arguments.Given as goal
 
 abbrev pub invariant-loop-argument : goal.invariant-loop-argument
-invariant-loop-argument g l = noted l.names (arguments_names (drop l.argument-index l.arguments)) ≡ noted l.fn.names (arguments_names l.arguments)
+invariant-loop-argument g l = recorded l.names (arguments_names (drop l.argument-index l.arguments)) ≡ recorded l.fn.names (arguments_names l.arguments)

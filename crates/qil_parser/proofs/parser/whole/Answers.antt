@@ -1,4 +1,4 @@
--- A program that was read from all tokens is theirs, and one that was read from their front isn't.
+-- A program that was read from all tokens is theirs, and one that was read from their prefix isn't.
 use Rattle.std.proofs.Common.{sym, arith}
 use Rattle.qil_parser.specs.Token.{seen}
 use Rattle.qil_parser.proofs.Verdict.{spelled_all, fault_after, no_program, no_fault, that_fault}

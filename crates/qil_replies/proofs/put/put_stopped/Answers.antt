@@ -1,4 +1,4 @@
--- The reason, and behind it the place.
+-- The reason, and after it the place.
 use Rattle.qil_streams.proofs.TextLemmas.{Puts-append, Puts-stop}
 use Rattle.qil_state.specs.State.{state_of}
 use Rattle.qil_answers.specs.Texts.{state_line}

@@ -1,14 +1,14 @@
 -- Answers to the goals of `answer_reverse`.
-use Rattle.qil_session.proofs.MoveAnswers.{back_told, replies_no_reverse, replies_reverse}
+use Rattle.qil_session.proofs.MoveAnswers.{back_reported, replies_no_reverse, replies_reverse}
 use Rattle.qil_session.proofs.moves.answer_reverse.Goals as goal
 
 pub returns-in-Some-clause-replied : goal.returns-in-Some-clause-replied
 returns-in-Some-clause-replied g c =
     replies_no_reverse (g.H.History.program c.args.history.now) (g.H.History.timeline c.args.history.now) c.args.stops.now c.args.limit c.in-Some.refusal
-    (back_told (g.H.History.timeline c.args.history.now) c.position.result c.oldest.result _ _ c.position.ensures c.oldest.ensures c.no_way_back.ensures c.in-Some.is)
+    (back_reported (g.H.History.timeline c.args.history.now) c.position.result c.oldest.result _ _ c.position.ensures c.oldest.ensures c.no_way_back.ensures c.in-Some.is)
 
 pub returns-clause-replied : goal.returns-clause-replied
 returns-clause-replied g c =
     replies_reverse (g.H.History.program c.args.history.now) (g.H.History.timeline c.args.history.now) (g.H.History.timeline c.run_back-reason.new.history) c.args.stops.now c.args.limit
     c.run_back-reason.result.1 c.run_back-reason.result.0
-    (back_told (g.H.History.timeline c.args.history.now) c.position.result c.oldest.result _ _ c.position.ensures c.oldest.ensures c.no_way_back.ensures c.in_default.is) c.run_back-reason.ensures.run
+    (back_reported (g.H.History.timeline c.args.history.now) c.position.result c.oldest.result _ _ c.position.ensures c.oldest.ensures c.no_way_back.ensures c.in_default.is) c.run_back-reason.ensures.run

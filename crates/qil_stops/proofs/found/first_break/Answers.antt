@@ -1,4 +1,4 @@
--- The first of the stops is the first of those that they stand for.
+-- The first of the stops is the first of those that they represent.
 use Rattle.qil_state.specs.State.{state_of}
 use Rattle.qil_stops.proofs.Naming.{first_break-by}
 use Rattle.qil_stops.proofs.found.first_break.Goals as goal

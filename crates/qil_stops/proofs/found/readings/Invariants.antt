@@ -10,5 +10,5 @@ abbrev pub invariant-loop-stop : goal.invariant-loop-stop
 invariant-loop-stop g l = record {
   count : length l.all.items ≡ l.stop-index;
   room : array_vec_len l.all ≡ l.stop-index;
-  told : (j : ℕ) (e : Stop) → j < l.stop-index → Tells l.machine.program (state_of l.machine) (get_or l.stops j e).kind (get_or l.all.items j None);
+  reported : (j : ℕ) (e : Stop) → j < l.stop-index → Tells l.machine.program (state_of l.machine) (get_or l.stops j e).kind (get_or l.all.items j None);
 }

@@ -9,5 +9,5 @@ abbrev pub invariant-loop-moves : goal.invariant-loop-moves
 invariant-loop-moves g l = record {
   program : g.H.History.program l.history ≡ g.H.History.program l.fn.history;
   way : IsOnWay (g.H.History.program l.fn.history) (named_stops (g.H.History.program l.fn.history) l.list) (g.H.History.timeline l.fn.history) l.moves (g.H.History.timeline l.history);
-  told : AllTell (g.H.History.program l.fn.history) (g.H.History.timeline l.history).now l.list l.before.items;
+  reported : AllTell (g.H.History.program l.fn.history) (g.H.History.timeline l.history).now l.list l.before.items;
 }

@@ -3,7 +3,7 @@ use Rattle.std.proofs.Common.{◌∙◌, ap}
 use Rattle.qil_tree.specs.declared.tree.Program.{Program}
 use Rattle.qil_meaning.specs.Start.{start_of}
 use Rattle.qil_transcript.specs.Handed.{setup_of}
-use Rattle.qil_transcript.proofs.DebugLemmas.{Written-refuse, refused-no_session, wanting-not_refused, layout-explained, layout-wanting}
+use Rattle.qil_transcript.proofs.DebugLemmas.{Written-refuse, refused-no_session, shortage-not_refused, layout-explained, layout-shortage}
 use Rattle.qil_transcript.proofs.debugging.debug_checked.Goals as goal
 
 pub returns-in-Err-clause-written : goal.returns-in-Err-clause-written
@@ -13,8 +13,8 @@ returns-in-Err-clause-written g c = λ text checks.
 
 pub returns-in-Err-clause-only_started : goal.returns-in-Err-clause-only_started
 returns-in-Err-clause-only_started g c = λ start none ok.
-    wanting-not_refused c.refuse.result c.from.result _ _ c.refuse.ensures.refused
-    (layout-wanting c.args.checked.now.program c.in-Err.error c.from.result none c.in-Err.ensures.fault c.from.ensures)
+    shortage-not_refused c.refuse.result c.from.result _ _ c.refuse.ensures.refused
+    (layout-shortage c.args.checked.now.program c.in-Err.error c.from.result none c.in-Err.ensures.fault c.from.ensures)
 
 pub returns-in-Err-clause-only_refused : goal.returns-in-Err-clause-only_refused
 returns-in-Err-clause-only_refused g c = λ fault e. refused-no_session c.refuse.result c.from.result _ _ c.refuse.ensures.refused

@@ -3,7 +3,7 @@ use Rattle.std.proofs.Common.{◌∙◌, sym, ap}
 use Rattle.qil_tree.specs.declared.tree.Program.{Program}
 use Rattle.qil_meaning.specs.Start.{start_of}
 use Rattle.qil_transcript.specs.Handed.{setup_of}
-use Rattle.qil_transcript.proofs.DebugLemmas.{Written-refuse, refused-no_session, wanting-not_refused, start-explained, start-wanting}
+use Rattle.qil_transcript.proofs.DebugLemmas.{Written-refuse, refused-no_session, shortage-not_refused, start-explained, start-shortage}
 use Rattle.qil_transcript.proofs.debugging.debug_code.Goals as goal
 
 pub returns-in-Ok-clause-written : goal.returns-in-Ok-clause-written
@@ -19,8 +19,8 @@ returns-in-Err-clause-written g c = λ text verdict accepts loaded same.
 
 pub returns-in-Err-clause-only_started : goal.returns-in-Err-clause-only_started
 returns-in-Err-clause-only_started g c = λ start ok.
-    wanting-not_refused c.refuse.result c.start_error.result _ _ c.refuse.ensures.refused
-    (start-wanting c.args.code.now c.args.request.now.func.now c.args.request.now.args.now start c.in-Err.error c.start_error.result ok c.in-Err.ensures.fault c.start_error.ensures)
+    shortage-not_refused c.refuse.result c.start_error.result _ _ c.refuse.ensures.refused
+    (start-shortage c.args.code.now c.args.request.now.func.now c.args.request.now.args.now start c.in-Err.error c.start_error.result ok c.in-Err.ensures.fault c.start_error.ensures)
 
 pub returns-in-Err-clause-only_refused : goal.returns-in-Err-clause-only_refused
 returns-in-Err-clause-only_refused g c = λ fault e. refused-no_session c.refuse.result c.start_error.result _ _ c.refuse.ensures.refused

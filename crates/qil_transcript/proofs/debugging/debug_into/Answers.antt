@@ -4,7 +4,7 @@ use Rattle.qil_tree.specs.declared.tree.Program.{Program}
 use Rattle.qil_layout.specs.Layout.{fault_of}
 use Rattle.qil_meaning.specs.Start.{start_of}
 use Rattle.qil_transcript.specs.Handed.{setup_of}
-use Rattle.qil_transcript.proofs.DebugLemmas.{Written-refuse, check-explained, no_session, refused-no_session, wanting-not_refused}
+use Rattle.qil_transcript.proofs.DebugLemmas.{Written-refuse, check-explained, no_session, refused-no_session, shortage-not_refused}
 use Rattle.qil_transcript.proofs.debugging.debug_into.Goals as goal
 
 pub returns-in-Ok-clause-only_begun : goal.returns-in-Ok-clause-only_begun
@@ -26,7 +26,7 @@ returns-in-Err-clause-written g c =
 
 pub returns-in-Err-clause-only_begun : goal.returns-in-Err-clause-only_begun
 returns-in-Err-clause-only_begun g c = λ verdict start begins.
-    wanting-not_refused c.refuse.result c.in-Err.error _ _ c.refuse.ensures.refused (c.in-Err.ensures.only_accepted verdict begins.accepts.checks)
+    shortage-not_refused c.refuse.result c.in-Err.error _ _ c.refuse.ensures.refused (c.in-Err.ensures.only_accepted verdict begins.accepts.checks)
 
 pub returns-in-Err-clause-only_refused : goal.returns-in-Err-clause-only_refused
 returns-in-Err-clause-only_refused g c = λ refusal refuses. refused-no_session c.refuse.result c.in-Err.error _ _ c.refuse.ensures.refused

@@ -3,7 +3,7 @@ use Rattle.std.proofs.Common.{◌∙◌, arith, refl, None, Ok, Err}
 use Rattle.qil_session.specs.declared.session.Next.TheVariants.{Go, Quit}
 use Rattle.qil_streams.proofs.ReaderLemmas.{Reads-append}
 use Rattle.qil_transcript.proofs.FewLemmas.{unread, Reads-start, few_read}
-use Rattle.qil_transcript.proofs.ServeLemmas.{Standing-start, Standing-line, Promise-end, Promise-last, Promise-last_quit, Promise-read, Promise-too_long, Promise-quit, Promise-write, Promise-write_last, line_said, prepend_none}
+use Rattle.qil_transcript.proofs.ServeLemmas.{Standing-start, Standing-line, Promise-end, Promise-last, Promise-last_quit, Promise-read, Promise-too_long, Promise-quit, Promise-write, Promise-write_last, line_read, prepend_none}
 use Rattle.qil_transcript.proofs.serving.serve_lines.Goals as goal
 
 pub loop-end-init : goal.loop-end-init
@@ -39,9 +39,9 @@ pub loop-end-preserved : goal.loop-end-preserved
 loop-end-preserved g c =
     let (line, is_line, takes) = c.in-Ok.ensures.line in
     let end = rw c.in-Newline.is at takes in
-    let said = line_said (Ok Go) _ _ _ _ line _ _ c.as_slice.ensures end.1 (rw c.in-Ok-Go.field-0-is at c.in-Ok-Go.ensures.answered) in
+    let said = line_read (Ok Go) _ _ _ _ line _ _ c.as_slice.ensures end.1 (rw c.in-Ok-Go.field-0-is at c.in-Ok-Go.ensures.answered) in
     record {
-      standing = Standing-line _ _ _ _ _ _ _ _ _ _ _ line said.1.want c.loop-end.invariant.standing is_line end.0 end.2 said.0 said.1.lawful said.1.text said.1.left;
+      standing = Standing-line _ _ _ _ _ _ _ _ _ _ _ line said.1.shortage c.loop-end.invariant.standing is_line end.0 end.2 said.0 said.1.valid said.1.text said.1.left;
       reads = Reads-append unread _ _ _ _ _ c.loop-end.invariant.reads c.in-Ok.ensures.reads;
       near = omega (arith, end.2, c.answer_line.ensures.near, c.loop-end.invariant.near);
       limit = c.answer_line.ensures.limit ∙ c.loop-end.invariant.limit;
@@ -54,36 +54,36 @@ pub returns-in-Ok-Quit-clause-served : goal.returns-in-Ok-Quit-clause-served
 returns-in-Ok-Quit-clause-served g c =
     let (line, is_line, takes) = c.in-Ok.ensures.line in
     let end = rw c.in-Newline.is at takes in
-    let said = line_said {E = Unit {0}} (Ok Quit) _ _ _ _ line _ _ c.as_slice.ensures end.1 (rw c.in-Ok-Quit.field-0-is at c.in-Ok-Quit.ensures.answered) in
+    let said = line_read {E = Unit {0}} (Ok Quit) _ _ _ _ line _ _ c.as_slice.ensures end.1 (rw c.in-Ok-Quit.field-0-is at c.in-Ok-Quit.ensures.answered) in
     rw (said.1, said.2) (Promise-quit {T = Unit {0}} tt _ _ _ _ None _ _ _ _ _ line c.loop-end.invariant.standing is_line end.0 end.2 end.3 said.0)
 
 pub returns-in-Err-clause-served : goal.returns-in-Err-clause-served
 returns-in-Err-clause-served g c =
     let (line, is_line, takes) = c.in-Ok.ensures.line in
     let end = rw c.in-Newline.is at takes in
-    let said = line_said (Err c.in-Err.field-0) _ _ _ _ line _ _ c.as_slice.ensures end.1 c.in-Err.ensures.answered in
-    Promise-write (Unit {0}) _ _ _ _ None _ _ _ _ _ _ line said.1.want c.loop-end.invariant.standing is_line end.0 said.1.lawful said.1.text said.1.left
+    let said = line_read (Err c.in-Err.field-0) _ _ _ _ line _ _ c.as_slice.ensures end.1 c.in-Err.ensures.answered in
+    Promise-write (Unit {0}) _ _ _ _ None _ _ _ _ _ _ line said.1.shortage c.loop-end.invariant.standing is_line end.0 said.1.valid said.1.text said.1.left
 
 pub returns-in-Ok-Go-answer_line-clause-served : goal.returns-in-Ok-Go-answer_line-clause-served
 returns-in-Ok-Go-answer_line-clause-served g c =
     let (line, is_line, takes) = c.in-Ok.ensures.line in
     let end = rw c.in-Last.is at takes in
-    let said = line_said (Ok Go) _ _ _ _ line _ _ c.as_slice-in-Last.ensures end.1 (rw c.in-Ok-Go-answer_line.field-0-is at c.in-Ok-Go-answer_line.ensures.answered) in
-    Promise-last {T = Unit {0}} tt _ _ _ _ None _ _ _ _ _ _ _ line said.1.want c.loop-end.invariant.standing is_line end.2 end.0 end.3 end.4 end.5 said.0 said.1.lawful said.1.text said.1.left
+    let said = line_read (Ok Go) _ _ _ _ line _ _ c.as_slice-in-Last.ensures end.1 (rw c.in-Ok-Go-answer_line.field-0-is at c.in-Ok-Go-answer_line.ensures.answered) in
+    Promise-last {T = Unit {0}} tt _ _ _ _ None _ _ _ _ _ _ _ line said.1.shortage c.loop-end.invariant.standing is_line end.2 end.0 end.3 end.4 end.5 said.0 said.1.valid said.1.text said.1.left
 
 pub returns-in-Ok-Quit-answer_line-clause-served : goal.returns-in-Ok-Quit-answer_line-clause-served
 returns-in-Ok-Quit-answer_line-clause-served g c =
     let (line, is_line, takes) = c.in-Ok.ensures.line in
     let end = rw c.in-Last.is at takes in
-    let said = line_said {E = Unit {0}} (Ok Quit) _ _ _ _ line _ _ c.as_slice-in-Last.ensures end.1 (rw c.in-Ok-Quit-answer_line.field-0-is at c.in-Ok-Quit-answer_line.ensures.answered) in
+    let said = line_read {E = Unit {0}} (Ok Quit) _ _ _ _ line _ _ c.as_slice-in-Last.ensures end.1 (rw c.in-Ok-Quit-answer_line.field-0-is at c.in-Ok-Quit-answer_line.ensures.answered) in
     rw (said.1, said.2) (Promise-last_quit {T = Unit {0}} tt _ _ _ _ None _ _ _ _ _ line c.loop-end.invariant.standing is_line end.2 end.0 end.3 end.4 end.5 said.0)
 
 pub returns-in-Err-answer_line-clause-served : goal.returns-in-Err-answer_line-clause-served
 returns-in-Err-answer_line-clause-served g c =
     let (line, is_line, takes) = c.in-Ok.ensures.line in
     let end = rw c.in-Last.is at takes in
-    let said = line_said (Err c.in-Err-answer_line.field-0) _ _ _ _ line _ _ c.as_slice-in-Last.ensures end.1 c.in-Err-answer_line.ensures.answered in
-    Promise-write_last (Unit {0}) _ _ _ _ None _ _ _ _ _ _ line said.1.want c.loop-end.invariant.standing is_line end.2 end.0 end.3 said.1.lawful said.1.text said.1.left
+    let said = line_read (Err c.in-Err-answer_line.field-0) _ _ _ _ line _ _ c.as_slice-in-Last.ensures end.1 c.in-Err-answer_line.ensures.answered in
+    Promise-write_last (Unit {0}) _ _ _ _ None _ _ _ _ _ _ line said.1.shortage c.loop-end.invariant.standing is_line end.2 end.0 end.3 said.1.valid said.1.text said.1.left
 
 pub returns-in_default-clause-few : goal.returns-in_default-clause-few
 returns-in_default-clause-few g c = few_read c.loop-end.reader.bytes _ _ _ _ c.loop-end.invariant.reads c.in_default.ensures.reads c.in_default.ensures.within

@@ -2,7 +2,7 @@
 use Rattle.std.proofs.Common.{◌≡◌, ◌+◌, ◌-◌, ◌*◌, ◌≤◌, ◌^◌, []}
 use Rattle.qil_streams.specs.Reader.{rest_of, Reads}
 use Rattle.qil_meaning.specs.Timeline.{position}
-use Rattle.qil_session.specs.Kept.{situation}
+use Rattle.qil_session.specs.Kept.{session_state}
 use Rattle.qil_transcript.proofs.ServeLemmas.{Standing}
 use Rattle.qil_transcript.proofs.serving.serve_lines.Given as goal
 
@@ -10,7 +10,7 @@ abbrev pub invariant-loop-end : goal.invariant-loop-end
 invariant-loop-end g l =
     let remaining = g.S.Source.remaining in
     let written = g.P.Put.written in
-    let seen = situation g.H.History.program g.H.History.timeline in
+    let seen = session_state g.H.History.program g.H.History.timeline in
     record {
       standing : Standing (seen l.fn.session) (remaining l.fn.source) (rest_of l.reader.bytes (remaining l.source)) (written l.fn.out) (written l.out) (seen l.session) l.reader.bytes.given;
       reads : Reads (record { pending = []; given = 0 }) l.reader.bytes (remaining l.fn.source) (remaining l.source);

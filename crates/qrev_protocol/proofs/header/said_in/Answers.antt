@@ -1,4 +1,4 @@
--- The number behind the name, or none.
+-- The number after the name, or none.
 use Rattle.std.proofs.Common.{◌≡◌, arith, rules}
 use Rattle.qrev_protocol.proofs.Numbers.{trimmed_is, says_read, says_none}
 use Rattle.qrev_protocol.proofs.header.said_in.Goals as goal

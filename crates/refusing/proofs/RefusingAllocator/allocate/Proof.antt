@@ -139,5 +139,5 @@ allocate_spec 𝓤 𝓛 𝓜 𝓡 wired row laws g d drops met _ =
     (walk_Meets 𝓛 (ended Z) (stayed Z) (Goes-dropped 𝓛 2 (self Z) yes (λ κs x w. refl), (word, (word, tt))) c Runs (WpFn-mono 𝓤 𝓛.H 𝓛.laws 𝓣 (instance Z))
     (walked 𝓛 (ended Z) (stayed Z) c Runs
     (λ κs. (shr_vals, (uint_vals w64, (uint_vals w64, tt))))
-    (λ κs. ((λ r vs told. told.0), (uint_Tells w64, (uint_Tells w64, tt))))
+    (λ κs. ((λ r vs reported. reported.0), (uint_Tells w64, (uint_Tells w64, tt))))
     (λ κs qs bounds a τ are. walk Z 𝓛 𝓜.mem 𝓡.returns 𝓣 (met.allocate drops) asks κs.0 κs.1.0 qs.0 qs.1.0 bounds.0 a.0 a.1.0 a.1.1.0 τ are.1.0.1 are.1.1.0.1)))

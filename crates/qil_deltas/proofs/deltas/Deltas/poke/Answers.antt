@@ -1,4 +1,4 @@
--- A poke is a move, whose delta comes behind the others.
+-- A poke is a move, whose delta comes after the others.
 use Rattle.std.proofs.Common.{ap, sym, ◌∙◌, [], ◌∷◌, ◌++◌}
 use Rattle.qil_state.specs.State.{state_of}
 use Rattle.qil_deltas.specs.Kept.{Moved}

@@ -1,4 +1,4 @@
--- The latest move is taken back.
+-- The latest move is undone.
 use Rattle.qil_deltas.proofs.RingLemmas.{latest_fits, stays_back, goes_back}
 use Rattle.qil_deltas.proofs.ring.RingHistoryMachine.back.Goals as goal
 

@@ -2,12 +2,12 @@
 use Rattle.std.proofs.Common.{◌≡◌, drop, take, count_by, eqb, arith, subst, sym}
 use Rattle.std.proofs.lemmas.List.{take_rest, length-drop}
 use Rattle.qil_lexer.specs.Cut.{IsGapBetween}
-use Rattle.qil_lexer.specs.Front.{BeginsNoGap, IsFrontToken}
+use Rattle.qil_lexer.specs.Prefix.{BeginsNoGap, IsPrefixToken}
 use Rattle.qil_lexer.proofs.Walk.{line_more, begins_no_gap_behind}
 use Rattle.qil_lexer.proofs.lexer.Lexer.next_token.Goals as goal
 
-pub front_token-requires : goal.front_token-requires
-front_token-requires c =
+pub prefix_token-requires : goal.prefix_token-requires
+prefix_token-requires c =
     let text = c.skip_gap.new.self.text.now in
     let at = c.skip_gap.new.self.at in
     let gap : IsGapBetween text c.args.self.now.at at = subst (λ t. IsGapBetween t c.args.self.now.at at) (sym c.skip_gap.ensures.text) c.skip_gap.ensures.gap in
@@ -19,10 +19,10 @@ invariant_of-self c =
     let at = c.skip_gap.new.self.at in
     let n = c.in-Ok-Some.found.1 in
     let h = rw c.in-Ok-Some.field-0-is at c.in-Ok-Some.ensures in
-    let front : IsFrontToken c.in-Ok-Some.found.0 n (drop at text) = subst (IsFrontToken c.in-Ok-Some.found.0 n) (take_rest text at) h in
+    let prefix : IsPrefixToken c.in-Ok-Some.found.0 n (drop at text) = subst (IsPrefixToken c.in-Ok-Some.found.0 n) (take_rest text at) h in
     let count : c.newline_count.result ≡ count_by (λ b. eqb b 10) (take n (drop at text)) = subst (λ s. c.newline_count.result ≡ count_by (λ b. eqb b 10) (take n s)) (take_rest text at) c.newline_count.ensures in
     record {
-      in_text = omega (arith, front.longest.fits, length-drop at text, c.skip_gap.new.self.in_text);
+      in_text = omega (arith, prefix.longest.fits, length-drop at text, c.skip_gap.new.self.in_text);
       bounded = c.skip_gap.new.self.bounded;
       on_line = omega (arith, c.skip_gap.new.self.on_line, line_more text at n, count);
     }

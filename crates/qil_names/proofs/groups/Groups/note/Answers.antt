@@ -1,4 +1,4 @@
--- A list that a value is noted in has one value more; the other lists stay.
+-- A list that a value is recorded in has one value more; the other lists stay.
 use Rattle.std.proofs.Common.{rules, ◌≡◌, ◌∙◌, sym, ap, Some, [], ◌∷◌, ◌++◌}
 use Rattle.std.specs.Str.{bytes_eq}
 use Rattle.indexmap.specs.IndexMap.{get_by}

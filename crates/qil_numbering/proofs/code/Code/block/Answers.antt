@@ -1,4 +1,4 @@
--- The code of a block stands at the block's number, and is in range.
+-- The code of a block is at the block's number, and is in range.
 use Rattle.std.proofs.Common.{◌∙◌, ap}
 use Rattle.std.specs.Prelude.{slice_get}
 use Rattle.qil_numbering.proofs.RangedCode.{block-ranges}

@@ -1,4 +1,4 @@
--- The code of a function stands at the function's number.
+-- The code of a function is at the function's number.
 use Rattle.std.proofs.Common.{◌∙◌, ap, subst}
 use Rattle.std.specs.Prelude.{slice_get}
 use Rattle.std.proofs.lemmas.Option.{slice_get-map}

@@ -1,12 +1,12 @@
 -- What the loop of `params` keeps.
 use Rattle.std.proofs.Common.{◌≡◌, length}
-use Rattle.qil_language.proofs.Loop.{with_front}
+use Rattle.qil_language.proofs.Loop.{with_prefix}
 use Rattle.qil_parser.specs.Token.{seen}
 use Rattle.qil_parser.specs.FunctionParsing as functions
 use Rattle.qil_parser.proofs.cursor.Cursor.params.Given as goal
 
 abbrev pub invariant-each : goal.invariant-each
-invariant-each g l = with_front l.items.items (functions.params (seen l.self.rest.now)) ≡ functions.params (seen l.fn.self.rest.now)
+invariant-each g l = with_prefix l.items.items (functions.params (seen l.self.rest.now)) ≡ functions.params (seen l.fn.self.rest.now)
 
 abbrev pub decreases-each : goal.decreases-each
 decreases-each g l = length l.self.rest.now

@@ -1,9 +1,9 @@
 -- An answer is a reply, and its text.
-use Rattle.qil_session.specs.Kept.{situation}
+use Rattle.qil_session.specs.Kept.{session_state}
 use Rattle.qil_session.proofs.ShownAnswers.{answers_by}
 use Rattle.qil_session.proofs.session.Session.answer.Goals as goal
 
 pub returns-clause-answered : goal.returns-clause-answered
 returns-clause-answered g c =
-    answers_by (situation g.H.History.program g.H.History.timeline c.args.self.now) (situation g.H.History.program g.H.History.timeline c.reply-reply.new.self) c.args.said c.reply-reply.result
+    answers_by (session_state g.H.History.program g.H.History.timeline c.args.self.now) (session_state g.H.History.program g.H.History.timeline c.reply-reply.new.self) c.args.said c.reply-reply.result
     c.put_reply.result _ _ c.reply-reply.ensures.replied c.put_reply.ensures.text

@@ -1,4 +1,4 @@
--- What the stops stand for is listed by number too.
+-- What the stops represent is listed by number too.
 use Rattle.std.proofs.Common.{subst}
 use Rattle.qil_meaning.specs.Stops.{AreListed}
 use Rattle.qil_stops.specs.Listed.{Listed}

@@ -1,11 +1,11 @@
--- A byte more is a longer front of the line, and byte 10 ends it.
+-- A byte more is a longer prefix of the line, and byte 10 ends it.
 use Rattle.std.proofs.Common.{◌≡◌, ◌+◌, [], ◌∷◌, ◌++◌, take, length, length-append, ap, ◌∙◌, refl, arith}
 use Rattle.qil_streams.proofs.DeviceLemmas.{Consumes-append}
-use Rattle.qil_streams.proofs.ReaderLemmas.{take-take-append, IsLine-append, Reads-append, TakesFront-nil}
+use Rattle.qil_streams.proofs.ReaderLemmas.{take-take-append, IsLine-append, Reads-append, TakesPrefix-nil}
 use Rattle.qil_streams.proofs.reader.LineReader.next.Goals as goal
 
 pub loop-byte-init : goal.loop-byte-init
-loop-byte-init g c = (TakesFront-nil _ _ _ c.clear.ensures, refl)
+loop-byte-init g c = (TakesPrefix-nil _ _ _ c.clear.ensures, refl)
 
 pub loop-byte-preserved : goal.loop-byte-preserved
 loop-byte-preserved g c =

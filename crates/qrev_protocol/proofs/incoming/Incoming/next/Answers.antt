@@ -1,4 +1,4 @@
--- What was read is the message that stands at the front.
+-- What was read is the message that is at the start.
 use Rattle.qrev_protocol.proofs.Messages.{gives}
 use Rattle.qrev_protocol.proofs.Framed.{framed_is_message}
 use Rattle.qrev_protocol.proofs.incoming.Incoming.next.Goals as goal

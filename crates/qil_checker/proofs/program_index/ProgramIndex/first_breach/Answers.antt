@@ -1,0 +1,36 @@
+-- The first mention of a text that breaks the rule.
+use Rattle.std.proofs.Common.{◌≡◌, ap, subst, List, Some, slice_get, ◌<◌, IsTrue, length, arith, below_more}
+use Rattle.qil_rules.specs.declared.mention.Mention.{Mention}
+use Rattle.qil_rules.specs.Rules.{Breaks}
+use Rattle.qil_checker.specs.Whole.{mentions_of}
+use Rattle.qil_checker.proofs.Texts.Places.{read_there}
+use Rattle.qil_checker.proofs.Programs.Scans.{breaks_within}
+use Rattle.qil_checker.proofs.program_index.ProgramIndex.first_breach.Goals as goal
+
+pub breaks-requires-clause-at_hand : goal.breaks-requires-clause-at_hand
+breaks-requires-clause-at_hand g c = c.loop-place.invariant.1
+
+pub predecessors_for-predecessors-requires-clause-there : goal.predecessors_for-predecessors-requires-clause-there
+predecessors_for-predecessors-requires-clause-there g c =
+    subst (λ (t : List Mention). slice_get t c.loop-place.place ≡ Some c.mention-item.result) c.deref-mention-items.ensures.value
+    (read_there c.deref-mention-items.result.now c.loop-place.place c.mention-item.result (omega arith) c.mention-item.is)
+
+pub predecessors_for-predecessors-requires-clause-at_hand : goal.predecessors_for-predecessors-requires-clause-at_hand
+predecessors_for-predecessors-requires-clause-at_hand g c = c.loop-place.invariant.1
+
+pub loop-place-preserved : goal.loop-place-preserved
+loop-place-preserved g c = (
+  λ j l b.
+      let all = mentions_of c.args.self.now.texts.items in
+      let text = c.args.visit.now.text.now.mentions.items in
+      below_more (λ k. Breaks c.args.rule all text c.args.visit.now.number k → ⊥) c.loop-place.place (λ k h. c.loop-place.invariant.0 k h)
+      (λ h. let yes : IsTrue c.in_ok-breaks.field-0 = c.in_ok-breaks.ensures.1 h in absurd (grind arith)) j l b,
+  c.predecessors_for-predecessors.ensures,
+)
+
+pub returns : goal.returns
+returns g c = λ k b.
+    let text = c.args.visit.now.text.now.mentions.items in
+    let l : k < length text = breaks_within c.args.rule (mentions_of c.args.self.now.texts.items) text c.args.visit.now.number k b in
+    let e : length c.deref-mention-items.result.now ≡ length text = ap length c.deref-mention-items.ensures.value in
+    c.loop-place.invariant.0 k (omega arith) b

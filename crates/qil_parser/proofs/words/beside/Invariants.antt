@@ -1,7 +1,0 @@
--- The text stands beside the same in the rows that are left as in all.
-use Rattle.std.proofs.Common.{◌≡◌, map, drop}
-use Rattle.qil_parser.specs.Words.{beside}
-use Rattle.qil_parser.proofs.words.beside.Given as goal
-
-abbrev pub invariant-loop-row : goal.invariant-loop-row
-invariant-loop-row l = beside (map (λ row. (row.0.now, row.1)) (drop l.row-index l.rows)) l.text ≡ beside (map (λ row. (row.0.now, row.1)) l.rows) l.text
