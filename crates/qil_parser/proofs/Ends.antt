@@ -9,8 +9,6 @@ use Rattle.qil_parser.specs.declared.cursor_error.CursorError.TheVariants as end
 use Rattle.qil_parser.specs.declared.terminal.Terminal.TheVariants as terminals
 use Rattle.qil_parser.specs.Token.{Tok, tok, seen, code, index}
 use Rattle.qil_parser.specs.Parsing.{the, word}
-use Rattle.qil_parser.specs.FunctionParsing as functions
-use Rattle.qil_parser.specs.Functions.{jump_or}
 use Rattle.qil_parser.specs.DataParsing.{newlines}
 use Rattle.qil_parser.specs.Outcome.{Fails}
 use Rattle.qil_parser.proofs.DataProductions.{newline_takes}
@@ -64,11 +62,3 @@ newlines_continue (t ∷ ts) h = past_goes_on index (the terminals.Newline) (wor
 pub newlines_stop : (ts : List Token) → starts index (the terminals.Newline) (seen ts) ≡ false → newlines (seen ts) ≡ got tt (seen ts)
 unfolding newlines
 newlines_stop ts h = past_stops index (the terminals.Newline) (word terminals.Newline) newline_takes (seen ts) h
-
--- ---- how a block ends
-
--- where no jump comes next but a label, control falls through to its block
-pub falls_through : (ts : List Tok) → starts index functions.jump_starts ts ≡ false → starts index (the terminals.Label) ts ≡ true
-    → functions.ending ts ≡ got (jump_or None (functions.next_name ts)) ts
-unfolding functions.ending
-falls_through ts jump label = rw (jump, label) refl

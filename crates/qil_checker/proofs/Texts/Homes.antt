@@ -142,7 +142,7 @@ func_home f = (tt, parts_then None (map (param_mention f.line) f.params) _ (para
 
 item_parts : {A : Type 0} (block : Option (List ℕ)) (line : ℕ) (item : Item A) → AreParts block (item_mentions line item)
 item_parts block line (items.Number n) = tt
-item_parts block line (items.IndexedDefinition bytes) = tt
+item_parts block line (items.Text bytes) = tt
 item_parts block line (items.Address g n) = (tt, tt)
 
 field_parts : {A : Type 0} (block : Option (List ℕ)) (line : ℕ) (field : Field A) → AreParts block (field_mentions line field)

@@ -27,7 +27,7 @@ returns-in_err-item g c =
 
 pub returns : goal.returns
 unfolding functions.arguments
-returns g c = rw c.new-2.ensures (separated_stops index (parsing.the terminals.Comma) parsing.types (parsing.word terminals.Comma) functions.argument comma_takes argument_takes _ _ _ (sym c.starts_type.ensures ∙ c.each-test.false) c.each.invariant)
+returns g c = rw c.new-all.ensures (separated_stops index (parsing.the terminals.Comma) parsing.types (parsing.word terminals.Comma) functions.argument comma_takes argument_takes _ _ _ (sym c.starts_type.ensures ∙ c.each-test.false) c.each.invariant)
 
 pub each-smaller : goal.each-smaller
 each-smaller g c = fewer_still _ _ _ (argument_takes.fewer _ _ _ c.in_ok-item.ensures) (comma_takes.fewer _ _ _ c.in_ok-separator.ensures)
