@@ -1,3 +1,4 @@
 -- The lemmas of this crate.
 pub mod Firsts
 pub mod Places
+pub mod Marked

@@ -1,9 +1,9 @@
 -- The line of a place, and the place of a line.
-use Rattle.std.specs.Prelude.{◌≡◌, ℕ, ◌<◌, ◌≤◌, List, [], ◌∷◌, ◌++◌, map, Option, Some, None, slice_get, option_and_then, cond, nat_le}
+use Rattle.std.specs.Prelude.{◌≡◌, ℕ, zero, suc, ◌<◌, ◌≤◌, true, List, [], ◌∷◌, ◌++◌, length, map, Option, Some, None, slice_get, option_and_then, cond, nat_le}
 use Rattle.std.specs.List.{AllByRecursion}
 use Rattle.qil_tree.specs.declared.tree.Func.{Func}
 use Rattle.qil_tree.specs.declared.tree.Block.{Block}
-use Rattle.qil_lines.specs.Marks.{Mark, marks_from}
+use Rattle.qil_lines.specs.Marks.{Mark, is_written, marks_from}
 
 -- the lines of the places of a block: of each instruction, and of the jump after the last
 abbrev pub place_lines : {A : Type 0} → Block A → List ℕ
@@ -25,6 +25,17 @@ place_from line (mark ∷ marks) = cond (nat_le line mark.line) (Some (mark.bloc
 -- a mark is the first whose line isn't before a line: those before it stand before the line
 abbrev pub IsFirst : ℕ → List Mark → Mark → Type 0
 IsFirst line marks mark = (before after : List Mark) × (marks ≡ before ++ mark ∷ after) × AllByRecursion (λ m. m.line < line) before × (line ≤ mark.line)
+
+-- each mark stands on a line after those before it
+abbrev pub Rise : List Mark → Type 0
+Rise [] = Unit {0}
+Rise (mark ∷ marks) = AllByRecursion (λ m. mark.line < m.line) marks × Rise marks
+
+-- the text has what is at a place of blocks: it may leave out a jump
+abbrev pub IsWritten : {A : Type 0} → List (Block A) → ℕ → ℕ → Type 0
+IsWritten [] b k = ⊥
+IsWritten (block ∷ blocks) zero k = k ≡ length block.insts → is_written block blocks ≡ true
+IsWritten (block ∷ blocks) (suc b) k = IsWritten blocks b k
 
 -- every mark stands before a line
 abbrev pub AreBefore : ℕ → List Mark → Type 0

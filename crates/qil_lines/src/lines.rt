@@ -4,7 +4,7 @@ ghost use Rattle.std.specs.Prelude.{◌≡◌, ◌≤◌, ℕ, ◌+◌, List, So
 ghost use Rattle.std.specs.List.{list_any};
 ghost use Rattle.qil_tree.specs.declared.tree.Block.{Block};
 ghost use Rattle.qil_lines.specs.Marks.{Mark, head_marks, inst_marks, jump_marks, is_written, block_marks, marks_from};
-ghost use Rattle.qil_lines.specs.Lines.{place_lines, line_at, marks_of, place_from, at_index, IsFirst, AreBefore};
+ghost use Rattle.qil_lines.specs.Lines.{place_lines, line_at, marks_of, place_from, at_index, IsFirst, AreBefore, Rise, IsWritten};
 ghost use Rattle.qil_lines.specs.Places.{pair_of};
 
 use qil_tree::{Block, Func};
@@ -123,6 +123,10 @@ pub fn place_in<A: Allocator>(func: &Func<'_, A>, line: u32) -> Option<Place>
 
     // The line of a mark means its place, where the marks before it depend on lines before it.
     ensures only { (mark : Mark) → IsFirst line (marks_of func.now) mark → pair_of result ≡ Some (mark.block, mark.index) }
+
+    // The line of a place means that place, where the lines of the marks rise and the text has what is there.
+    ensures there { (b k : ℕ) → Rise (marks_of func.now) → IsWritten func.now.blocks b k → line_at func.now b k ≡ Some line
+        → pair_of result ≡ Some (b, k) }
 {
     first_place(func, line)
 }
