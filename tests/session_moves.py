@@ -1,4 +1,5 @@
-"""The moves of a session, from its script and its transcript alone, one by one, and what must be told behind each."""
+"""The moves of a session that keeps all of them, from its script and its transcript alone, one by one, and what must be told
+behind each."""
 import re
 
 BYTES = {b"b": 1, b"h": 2, b"w": 4, b"l": 8}
@@ -48,14 +49,13 @@ class Answers:
 class Moves:
     """The moves so far, and where the session stands."""
 
-    def __init__(self, bound):
-        self.bound = bound
-        self.position = self.oldest = 0
+    def __init__(self):
+        self.position = 0
         self.asked, self.told = [], []
 
     def ask(self, line, refusal=b""):
         self.asked.append(line)
-        self.told.append(b"#%d oldest %d%s" % (self.position, self.oldest, b": " + refusal if refusal else b""))
+        self.told.append(b"#%d%s" % (self.position, b": " + refusal if refusal else b""))
 
     def go_to(self, position):
         """One move after the other, forward or back."""
@@ -67,11 +67,7 @@ class Moves:
 
     def made(self, line):
         self.position += 1
-        self.oldest = max(self.oldest, self.position - self.bound)
         self.ask(line)
-
-    def no_more_back(self):
-        self.ask(b"back", b"history ends" if self.position else b"at start")
 
 
 def poke_line(width, address, value):
@@ -106,8 +102,8 @@ def take_way(words, answers, moves):
     is_short = abs(moves.position - before) < int(words[1] if len(words) > 1 else b"1") and not reason
     if reason == b"stop: end" or verb == b"step" and is_short:
         moves.ask(b"forward", b"at end")
-    elif reason in (b"stop: start", b"stop: oldest") or verb == b"back" and is_short:
-        moves.no_more_back()
+    elif reason == b"stop: start" or verb == b"back" and is_short:
+        moves.ask(b"back", b"at start")
 
 
 def take_answer(words, answers, moves, stops):
@@ -138,9 +134,9 @@ def take_answer(words, answers, moves, stops):
             answers.take_shown(SHOWN[verb])
 
 
-def moves_of(script, transcript, bound):
-    """What the workbench is asked of a session, and what it must tell; under a bound, if there is one."""
-    answers, moves, stops = Answers(transcript.splitlines()[2:]), Moves(bound), set()
+def moves_of(script, transcript):
+    """What the workbench is asked of a session, and what it must tell."""
+    answers, moves, stops = Answers(transcript.splitlines()[2:]), Moves(), set()
     for line in script.split(b"\n"):
         words = re.findall(rb"[^ \t\r]+", line)
         if words == [b"quit"] and len(line) <= 256:
@@ -150,4 +146,4 @@ def moves_of(script, transcript, bound):
     if answers.at < len(answers.lines):
         raise ValueError("the transcript has more answers than the script has commands")
     lines = lambda items: b"".join(item + b"\n" for item in items)
-    return lines([b"%d" % bound] + moves.asked), lines(moves.told)
+    return lines(moves.asked), lines(moves.told)

@@ -2,7 +2,7 @@
 import tempfile
 
 from harness.preloaded import Run, library
-from harness.running import FIRST, LOADED, LOOP, Case, difference
+from harness.running import FIRST, LOADED, LOOP, ROWS, Case, difference
 
 # A copy of 64 bytes is the third step, an allocation the fourth; then the same of 32 bytes. Then there is no end, and steps
 # take no memory.
@@ -58,8 +58,20 @@ ASKED = {
     PHIS: [(0, b"step", 0), (1, b"step", 1), (2, b"step", 1), (3, b"step", 2), (4, b"step", 0)],
 }
 
-# The moves that make the list of records longer: the first, and the first that finds it full.
-LENGTHENING = (0, 4)
+# The moves that make the list of records longer: the first, and each that finds it full.
+LENGTHENING = (0, 4, 8, 16, 32)
+
+# Of the programs of rows/moves/, how many moves each makes, and which of these take how many allocations of their own: a call
+# one for its frame and one for the slots, if it has some; jumps, copies and allocations as above; and where the output grows.
+OWN = {
+    "calls": (49, {0: 2, 2: 2, 4: 2, 46: 1}),
+    "halted": (1, {}),
+    "jumps": (10, {4: 1, 6: 2}),
+    "output": (5, {0: 1, 2: 1, 3: 1}),
+    "results-and-bytes": (9, {3: 1, 5: 2, 6: 1, 7: 2}),
+}
+# Pokes at each place of these runs; some are refused there.
+POKES = b"set %x 7\nset %a 7\nset %b 7\nset %t0 7\npoke w $d 4294967295\n"
 
 # Moves forward and back of which none takes memory of its own.
 PLAIN = b"data $d = { l 5 }\nfunction $main() {\n@s\n\t%x =w copy 1\n\tstorel 1, $d\n\tjmp @l\n@l\n\tjmp @l\n}\n"
@@ -163,6 +175,27 @@ def of_each_move(running, text, history):
     return None
 
 
+def own_text(name):
+    return (ROWS / "moves" / f"{name}.ssa").read_bytes()
+
+
+def of_own(running, name, history):
+    """Each move of a program of rows/moves/ takes the allocations that it is to, and its way back none; with a bound, where no
+    list grows, pokes take none."""
+    moves, own = OWN[name]
+    with library() as made:
+        counting = Counting(running, made, own_text(name), history)
+        for count in range(moves):
+            wanted = own.get(count, 0) + (history is None and count in LENGTHENING)
+            taken = counting.more(steps(count), b"step\n")
+            back = counting.more(steps(count + 1), b"back\n")
+            poked = counting.more(steps(count), POKES) if history else 0
+            if (taken, back, poked) != (wanted, 0, 0):
+                return f"{taken} allocations of step {count + 1} in place of {wanted}, {back} of its way back, {poked} of pokes"
+        ended = counting.run(steps(moves) + b"step\n").written.splitlines()[-1]
+    return None if ended == b"no: at end" else f"more than {moves} moves: {ended}"
+
+
 def growths(running):
     """From five moves to forty the list grows three times: to more than 8, 16 and 32."""
     with library() as made:
@@ -217,6 +250,9 @@ def cases():
     for history in (None, 3):
         yield Case(f"what each kind of move takes, --history {history}", of_each_move, (MOVES, history))
         yield Case(f"what jumps with phis take, --history {history}", of_each_move, (PHIS, history))
+    for name in OWN:
+        for history in (None, 3):
+            yield Case(f"what the moves of {name} take, --history {history}", of_own, (name, history))
     yield Case("growths of the list of records", growths)
     yield Case("3,000 moves take few allocations", long_run, (None, 20))
     yield Case("3,000 moves with --history 3 take none", long_run, (3, 0))

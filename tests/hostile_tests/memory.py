@@ -289,6 +289,11 @@ def cases():
                (LOOP, b"back\nstep 9\nout\nback 9\nstep 9\n", None, 1000, ("step",)))
     yield Case("pokes, each allocation refused", session_refused,
                (PROGRAM, b"set %v 1\nset %v 2\npoke w $d 1\npoke b $d 2\nback 9\nmem $d 4\n" * 3, None, 1000, ("set",)))
+    for name, (moves, own) in counts.OWN.items():
+        for history in (None, 3):
+            yield Case(f"the moves of {name}, --history {history}, each allocation refused", session_refused,
+                       (counts.own_text(name), b"step\ntemps\nout\n" * moves + b"back 99\nstep 99\n", history, 1000,
+                        ("step",) if own or history is None else ()))
     for name in STATED:
         for history in (None, 3):
             bound = "" if history is None else f" with --history {history}"

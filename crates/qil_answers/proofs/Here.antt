@@ -18,8 +18,9 @@ use Rattle.qil_numbering.proofs.Has.{name-at}
 use Rattle.qil_frames.specs.Frames.{SlotFrame, HasSlot}
 use Rattle.qil_state.specs.State.{func_name, label_in, frame_state, frames_state, PlaceFits, FrameFits, FramesFit, head_names}
 use Rattle.qil_machine.specs.Readings.{temp_here}
-use Rattle.qil_answers.specs.Texts.{text_of, value_line, standing_line}
-use Rattle.qil_answers.specs.Shown.{temps_in, temps_of_frame, is_among, printed, temps_shown}
+use Rattle.qil_pieces.specs.Texts.{text_of}
+use Rattle.qil_answers.specs.Texts.{value_line, standing_line}
+use Rattle.qil_answers.specs.Shown.{temps_in, temps_of_frame, is_among, printed}
 use Rattle.qil_answers.specs.Listing.{block_of_frame, rows_in, block_head, block_shown}
 
 pub head_same : {X : Type 0} (x y : X) → Some x ≡ Some y → y ≡ x

@@ -9,8 +9,9 @@ use Rattle.qil_texts.specs.Canonical.{inst_text}
 use Rattle.qil_streams.specs.Text.{line}
 use Rattle.qil_frames.specs.Frames.{SlotFrame}
 use Rattle.qil_state.specs.State.{frame_state, frames_state}
-use Rattle.qil_answers.specs.Texts.{text_of, frame_line}
-use Rattle.qil_answers.specs.Shown.{or_none, frames_shown}
+use Rattle.qil_pieces.specs.Texts.{text_of}
+use Rattle.qil_answers.specs.Texts.{frame_line}
+use Rattle.qil_answers.specs.Shown.{frames_shown}
 use Rattle.qil_answers.specs.Listing.{row, inst_rows}
 use Rattle.qil_answers.specs.Frames.{frame_lines}
 

@@ -13,7 +13,8 @@ use Rattle.qil_frames.specs.Frames.{SlotFrame}
 use Rattle.qil_state.specs.State.{frame_state, frames_state, FramesFit}
 use Rattle.qil_state.specs.Values.{AreSlots}
 use Rattle.qil_state.proofs.Reading.{are_slots, slot_read}
-use Rattle.qil_answers.specs.Texts.{text_of, value_line}
+use Rattle.qil_pieces.specs.Texts.{text_of}
+use Rattle.qil_answers.specs.Texts.{value_line}
 use Rattle.qil_answers.specs.Shown.{temps_of_frame, or_none, temps_shown}
 use Rattle.qil_answers.specs.Slots.{slot_lines}
 use Rattle.qil_answers.proofs.Here.{head_same, names_here}

@@ -11,7 +11,7 @@ use Rattle.qil_texts.specs.Canonical.{inst_text, phi_text, jump_text}
 use Rattle.qil_streams.specs.Text.{line}
 use Rattle.qil_meaning.specs.State.{Name, Frame}
 use Rattle.qil_meaning.specs.Step.{func_named, block_labelled}
-use Rattle.qil_answers.specs.Texts.{text_of}
+use Rattle.qil_pieces.specs.Texts.{text_of}
 
 -- the block that a frame is in
 abbrev pub block_of_frame : {A : Type 0} → Program A → Frame → Option (Block A)

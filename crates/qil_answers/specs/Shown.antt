@@ -9,7 +9,8 @@ use Rattle.qil_streams.specs.Text.{line}
 use Rattle.qil_meaning.specs.State.{Name, Frame, State}
 use Rattle.qil_meaning.specs.Names.{temps_named}
 use Rattle.qil_meaning.specs.Step.{func_named}
-use Rattle.qil_answers.specs.Texts.{text_of, frame_line, value_line, byte_text, quoted_byte}
+use Rattle.qil_pieces.specs.Texts.{text_of}
+use Rattle.qil_answers.specs.Texts.{frame_line, value_line, byte_text, quoted_byte}
 
 -- ---- lists of lines
 

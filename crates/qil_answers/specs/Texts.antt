@@ -1,21 +1,9 @@
--- Texts: pieces, numbers, places, faults, bytes.
-use Rattle.std.specs.Prelude.{ℕ, ◌+◌, ◌/◌, ◌%◌, ◌<◌, ◌==◌, ◌||◌, ◌&&◌, nat_lt, if◌then◌else◌, List, [], ◌∷◌, ◌++◌, codes, decimal, Option, Some, None}
-use Rattle.std.specs.List.{flat_map}
+-- Texts: places, faults, values, bytes.
+use Rattle.std.specs.Prelude.{ℕ, ◌+◌, ◌/◌, ◌%◌, ◌==◌, ◌||◌, ◌&&◌, nat_lt, if◌then◌else◌, List, [], ◌∷◌, codes, decimal, Option, Some, None}
 use Rattle.qil_ops.specs.declared.division.DivFault.TheVariants as divisions
 use Rattle.qil_meaning.specs.State.{Name, Frame, Fault, division, dead_address, unset_temporary, overlapping_blit, stack_full, calls_too_deep, no_function, call_shape, output_full, halted, Status, running, done, exited, faulted}
 use Rattle.qil_meaning.specs.Timeline.{Timeline, position}
-use Rattle.qil_answers.specs.declared.piece.Piece.{Piece}
-use Rattle.qil_answers.specs.declared.piece.Piece.TheVariants as pieces
-
--- ---- pieces
-
-abbrev pub piece_text : Piece → List ℕ
-piece_text (pieces.Bytes bytes) = bytes.now
-piece_text (pieces.Number n) = decimal n
-
--- texts one after the other
-abbrev pub text_of : List (List ℕ) → List ℕ
-text_of texts = flat_map (λ text. text) texts
+use Rattle.qil_pieces.specs.Texts.{text_of}
 
 -- ---- places
 

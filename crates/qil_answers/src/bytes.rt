@@ -2,14 +2,14 @@
 
 ghost use Rattle.std.specs.Prelude.{◌≡◌, ◌+◌, ◌-◌, ◌^◌, ◌<◌};
 ghost use Rattle.std.specs.List.{flat_map};
-ghost use Rattle.qil_streams.specs.Device.{Counts, Puts};
+ghost use Rattle.qil_streams.specs.Device.{HasPut};
 ghost use Rattle.qil_memory.specs.Live.{live};
 ghost use Rattle.qil_state.specs.State.{state_of};
 ghost use Rattle.qil_answers.specs.Texts.{hex_digit, byte_text, quoted_byte};
 ghost use Rattle.qil_answers.specs.Shown.{spaced_byte, memory_shown, output_shown};
 
-use crate::piece::{Piece, put_pieces};
 use qil_machine::Machine;
+use qil_pieces::{Piece, put_pieces};
 use qil_streams::{Put, PutError};
 use std::alloc::Allocator;
 
@@ -28,9 +28,7 @@ fn hex_digit(digit: u8) -> u8
 /// Puts a byte of memory: two digits, or `--` where it is dead.
 fn put_byte<P: Put>(out: &mut P, byte: Option<u8>) -> Result<(), PutError>
     requires { P.stops out.old < 2 ^ 64 - 1 }
-    ensures text { Puts result (P.written out.old) (P.written out.new) (byte_text byte) }
-    ensures counted { Counts result (P.stops out.old) (P.stops out.new) }
-    ensures device { P.device out.new ≡ P.device out.old }
+    ensures { HasPut P.written P.stops P.device result out.old out.new (byte_text byte) }
 {
     match byte {
         None => out.put(b"--"),
@@ -56,9 +54,7 @@ fn byte_behind<A: Allocator + Copy>(
 /// Puts a space and a byte of memory.
 fn put_next_byte<P: Put>(out: &mut P, byte: Option<u8>) -> Result<(), PutError>
     requires { P.stops out.old < 2 ^ 64 - 1 }
-    ensures text { Puts result (P.written out.old) (P.written out.new) (spaced_byte byte) }
-    ensures counted { Counts result (P.stops out.old) (P.stops out.new) }
-    ensures device { P.device out.new ≡ P.device out.old }
+    ensures { HasPut P.written P.stops P.device result out.old out.new (spaced_byte byte) }
 {
     out.put(b" ")?;
     put_byte(out, byte)
@@ -76,9 +72,7 @@ pub fn put_memory<P: Put, A: Allocator + Copy>(
     count: u32,
 ) -> Result<(), PutError>
     requires { P.stops out.old < 2 ^ 64 - 1 }
-    ensures text { Puts result (P.written out.old) (P.written out.new) (memory_shown (state_of machine.now) address count) }
-    ensures counted { Counts result (P.stops out.old) (P.stops out.new) }
-    ensures device { P.device out.new ≡ P.device out.old }
+    ensures { HasPut P.written P.stops P.device result out.old out.new (memory_shown (state_of machine.now) address count) }
 {
     if count == 0 {
         return out.put(b"\n");
@@ -93,9 +87,7 @@ pub fn put_memory<P: Put, A: Allocator + Copy>(
 /// Puts a byte as it stands in quotes.
 fn put_quoted<P: Put>(out: &mut P, byte: u8) -> Result<(), PutError>
     requires { P.stops out.old < 2 ^ 64 - 1 }
-    ensures text { Puts result (P.written out.old) (P.written out.new) (quoted_byte byte) }
-    ensures counted { Counts result (P.stops out.old) (P.stops out.new) }
-    ensures device { P.device out.new ≡ P.device out.old }
+    ensures { HasPut P.written P.stops P.device result out.old out.new (quoted_byte byte) }
 {
     if byte == b'"' || byte == b'\\' {
         return out.put(&[b'\\', byte]);
@@ -114,9 +106,7 @@ fn put_quoted<P: Put>(out: &mut P, byte: u8) -> Result<(), PutError>
 /// Puts bytes as they stand in quotes.
 fn put_all_quoted<P: Put>(out: &mut P, bytes: &[u8]) -> Result<(), PutError>
     requires { P.stops out.old < 2 ^ 64 - 1 }
-    ensures text { Puts result (P.written out.old) (P.written out.new) (flat_map quoted_byte bytes.now) }
-    ensures counted { Counts result (P.stops out.old) (P.stops out.new) }
-    ensures device { P.device out.new ≡ P.device out.old }
+    ensures { HasPut P.written P.stops P.device result out.old out.new (flat_map quoted_byte bytes.now) }
 {
     for byte in bytes {
         put_quoted(out, *byte)?;
@@ -127,9 +117,7 @@ fn put_all_quoted<P: Put>(out: &mut P, bytes: &[u8]) -> Result<(), PutError>
 /// Puts how many bytes these are, and which, in quotes.
 fn put_counted<P: Put>(out: &mut P, bytes: &[u8]) -> Result<(), PutError>
     requires { P.stops out.old < 2 ^ 64 - 1 }
-    ensures text { Puts result (P.written out.old) (P.written out.new) (output_shown bytes.now) }
-    ensures counted { Counts result (P.stops out.old) (P.stops out.new) }
-    ensures device { P.device out.new ≡ P.device out.old }
+    ensures { HasPut P.written P.stops P.device result out.old out.new (output_shown bytes.now) }
 {
     put_pieces(
         out,
@@ -153,9 +141,7 @@ pub fn put_output<P: Put, A: Allocator + Copy>(
     machine: &Machine<'_, '_, A>,
 ) -> Result<(), PutError>
     requires { P.stops out.old < 2 ^ 64 - 1 }
-    ensures text { Puts result (P.written out.old) (P.written out.new) (output_shown (state_of machine.now).output) }
-    ensures counted { Counts result (P.stops out.old) (P.stops out.new) }
-    ensures device { P.device out.new ≡ P.device out.old }
+    ensures { HasPut P.written P.stops P.device result out.old out.new (output_shown (state_of machine.now).output) }
 {
     put_counted(out, machine.output())
 }

@@ -1,17 +1,17 @@
 //! The frames of a run, a line each.
 
 ghost use Rattle.std.specs.Prelude.{◌≡◌, ◌-◌, ◌^◌, ◌<◌, List, Some, length, slice_get};
-ghost use Rattle.qil_streams.specs.Device.{Counts, Puts};
+ghost use Rattle.qil_streams.specs.Device.{Counts, HasPut, Puts};
 ghost use Rattle.qil_frames.specs.Frames.{SlotFrame};
 ghost use Rattle.qil_state.specs.State.{state_of, frame_state};
 ghost use Rattle.qil_answers.specs.Texts.{frame_line};
 ghost use Rattle.qil_answers.specs.Shown.{frames_shown};
 
 use crate::names::{func_name, innermost, label_name};
-use crate::piece::{Piece, put_pieces};
 use qil_frames::Frame;
 use qil_machine::Machine;
 use qil_numbering::Code;
+use qil_pieces::{Piece, put_pieces};
 use qil_streams::{Put, PutError, put_line};
 use std::alloc::Allocator;
 
@@ -59,9 +59,7 @@ pub fn put_frames<P: Put, A: Allocator + Copy>(
     machine: &Machine<'_, '_, A>,
 ) -> Result<(), PutError>
     requires { P.stops out.old < 2 ^ 64 - 1 }
-    ensures text { Puts result (P.written out.old) (P.written out.new) (frames_shown (state_of machine.now).frames) }
-    ensures counted { Counts result (P.stops out.old) (P.stops out.new) }
-    ensures device { P.device out.new ≡ P.device out.old }
+    ensures { HasPut P.written P.stops P.device result out.old out.new (frames_shown (state_of machine.now).frames) }
 {
     let Some(_) = innermost(machine) else {
         return put_line(out, b"none");

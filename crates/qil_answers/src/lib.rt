@@ -7,7 +7,6 @@ mod bytes;
 mod frames;
 mod listing;
 mod names;
-mod piece;
 mod place;
 mod temps;
 
@@ -15,6 +14,5 @@ pub use bytes::{put_memory, put_output};
 pub use frames::put_frames;
 pub use listing::put_block;
 pub use names::{func_name, label_name, temp_name};
-pub use piece::{Piece, put_pieces};
 pub use place::put_place;
 pub use temps::{put_printed, put_temps};

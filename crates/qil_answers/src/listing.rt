@@ -1,18 +1,18 @@
 //! The block that the innermost frame is in: its phis, its instructions and its jump, in canonical texts.
 
-ghost use Rattle.std.specs.Prelude.{◌≡◌, ◌-◌, ◌^◌, ◌<◌};
+ghost use Rattle.std.specs.Prelude.{◌-◌, ◌^◌, ◌<◌};
 ghost use Rattle.std.specs.List.{flat_map};
-ghost use Rattle.qil_streams.specs.Device.{Counts, Puts};
+ghost use Rattle.qil_streams.specs.Device.{HasPut};
 ghost use Rattle.qil_texts.specs.Canonical.{inst_text as inst_words, jump_text as jump_words};
 ghost use Rattle.qil_numbering.specs.Numbered.{func_at, block_at};
 ghost use Rattle.qil_state.specs.State.{state_of, func_name, label_in};
 ghost use Rattle.qil_answers.specs.Listing.{phi_row, row, row_prefix, inst_rows, all_rows, rows_in, block_head, block_shown};
 
 use crate::names::{func_name, innermost, label_name};
-use crate::piece::{Piece, put_pieces};
 use qil_frames::Frame;
 use qil_machine::Machine;
 use qil_numbering::Code;
+use qil_pieces::{Piece, put_pieces};
 use qil_streams::{Put, PutError, put_line};
 use qil_texts::{inst_text, jump_text, phi_text};
 use qil_tree::{Inst, Jump, Phi};
@@ -21,9 +21,7 @@ use std::alloc::Allocator;
 /// Puts a phi.
 fn put_phi<P: Put, A: Allocator>(out: &mut P, phi: &Phi<'_, A>) -> Result<(), PutError>
     requires { P.stops out.old < 2 ^ 64 - 1 }
-    ensures text { Puts result (P.written out.old) (P.written out.new) (phi_row phi.now) }
-    ensures counted { Counts result (P.stops out.old) (P.stops out.new) }
-    ensures device { P.device out.new ≡ P.device out.old }
+    ensures { HasPut P.written P.stops P.device result out.old out.new (phi_row phi.now) }
 {
     out.put(b"  - ")?;
     phi_text(phi, out)?;
@@ -33,9 +31,7 @@ fn put_phi<P: Put, A: Allocator>(out: &mut P, phi: &Phi<'_, A>) -> Result<(), Pu
 /// Puts the prefix of a row: its index, and whether the frame stands there.
 fn put_prefix<P: Put>(out: &mut P, at: u32, index: u64) -> Result<(), PutError>
     requires { P.stops out.old < 2 ^ 64 - 1 }
-    ensures text { Puts result (P.written out.old) (P.written out.new) (row_prefix at index) }
-    ensures counted { Counts result (P.stops out.old) (P.stops out.new) }
-    ensures device { P.device out.new ≡ P.device out.old }
+    ensures { HasPut P.written P.stops P.device result out.old out.new (row_prefix at index) }
 {
     let mark = if index == u64::from(at) {
         b"> ".as_slice()
@@ -56,9 +52,7 @@ fn put_inst<P: Put, A: Allocator>(
     inst: &Inst<'_, A>,
 ) -> Result<(), PutError>
     requires { P.stops out.old < 2 ^ 64 - 1 }
-    ensures text { Puts result (P.written out.old) (P.written out.new) (row at index (inst_words inst.now)) }
-    ensures counted { Counts result (P.stops out.old) (P.stops out.new) }
-    ensures device { P.device out.new ≡ P.device out.old }
+    ensures { HasPut P.written P.stops P.device result out.old out.new (row at index (inst_words inst.now)) }
 {
     put_prefix(out, at, index)?;
     inst_text(inst, out)?;
@@ -68,9 +62,7 @@ fn put_inst<P: Put, A: Allocator>(
 /// Puts a jump.
 fn put_jump<P: Put>(out: &mut P, at: u32, index: u64, jump: &Jump<'_>) -> Result<(), PutError>
     requires { P.stops out.old < 2 ^ 64 - 1 }
-    ensures text { Puts result (P.written out.old) (P.written out.new) (row at index (jump_words jump.now)) }
-    ensures counted { Counts result (P.stops out.old) (P.stops out.new) }
-    ensures device { P.device out.new ≡ P.device out.old }
+    ensures { HasPut P.written P.stops P.device result out.old out.new (row at index (jump_words jump.now)) }
 {
     put_prefix(out, at, index)?;
     jump_text(jump, out)?;
@@ -80,9 +72,7 @@ fn put_jump<P: Put>(out: &mut P, at: u32, index: u64, jump: &Jump<'_>) -> Result
 /// Puts phis.
 fn put_phis<P: Put, A: Allocator>(out: &mut P, phis: &[Phi<'_, A>]) -> Result<(), PutError>
     requires { P.stops out.old < 2 ^ 64 - 1 }
-    ensures text { Puts result (P.written out.old) (P.written out.new) (flat_map phi_row phis.now) }
-    ensures counted { Counts result (P.stops out.old) (P.stops out.new) }
-    ensures device { P.device out.new ≡ P.device out.old }
+    ensures { HasPut P.written P.stops P.device result out.old out.new (flat_map phi_row phis.now) }
 {
     for phi in phis {
         put_phi(out, phi)?;
@@ -97,9 +87,7 @@ fn put_insts<P: Put, A: Allocator>(
     insts: &[Inst<'_, A>],
 ) -> Result<(), PutError>
     requires { P.stops out.old < 2 ^ 64 - 1 }
-    ensures text { Puts result (P.written out.old) (P.written out.new) (inst_rows at 0 insts.now) }
-    ensures counted { Counts result (P.stops out.old) (P.stops out.new) }
-    ensures device { P.device out.new ≡ P.device out.old }
+    ensures { HasPut P.written P.stops P.device result out.old out.new (inst_rows at 0 insts.now) }
 {
     for index in 0..insts.len() {
         put_inst(out, at, index as u64, &insts[index])?;
@@ -116,9 +104,7 @@ fn put_rows<P: Put, A: Allocator>(
     jump: &Jump<'_>,
 ) -> Result<(), PutError>
     requires { P.stops out.old < 2 ^ 64 - 1 }
-    ensures text { Puts result (P.written out.old) (P.written out.new) (all_rows at phis.now insts.now jump.now) }
-    ensures counted { Counts result (P.stops out.old) (P.stops out.new) }
-    ensures device { P.device out.new ≡ P.device out.old }
+    ensures { HasPut P.written P.stops P.device result out.old out.new (all_rows at phis.now insts.now jump.now) }
 {
     put_phis(out, phis)?;
     put_insts(out, at, insts)?;
@@ -132,9 +118,7 @@ fn put_head<'c, 'a, P: Put, A: Allocator + Copy>(
     frame: &Frame<A>,
 ) -> Result<(), PutError>
     requires { P.stops out.old < 2 ^ 64 - 1 }
-    ensures text { Puts result (P.written out.old) (P.written out.new) (block_head (func_name (func_at code.now frame.now.func)) (label_in (block_at code.now frame.now.func frame.now.block))) }
-    ensures counted { Counts result (P.stops out.old) (P.stops out.new) }
-    ensures device { P.device out.new ≡ P.device out.old }
+    ensures { HasPut P.written P.stops P.device result out.old out.new (block_head (func_name (func_at code.now frame.now.func)) (label_in (block_at code.now frame.now.func frame.now.block))) }
 {
     put_pieces(
         out,
@@ -155,9 +139,7 @@ fn put_block_of<'c, 'a, P: Put, A: Allocator + Copy>(
     frame: &Frame<A>,
 ) -> Result<(), PutError>
     requires { P.stops out.old < 2 ^ 64 - 1 }
-    ensures text { Puts result (P.written out.old) (P.written out.new) (rows_in frame.now.index (block_at code.now frame.now.func frame.now.block)) }
-    ensures counted { Counts result (P.stops out.old) (P.stops out.new) }
-    ensures device { P.device out.new ≡ P.device out.old }
+    ensures { HasPut P.written P.stops P.device result out.old out.new (rows_in frame.now.index (block_at code.now frame.now.func frame.now.block)) }
 {
     match code.source(frame.func(), frame.block()) {
         Some(block) => put_rows(
@@ -181,9 +163,7 @@ pub fn put_block<P: Put, A: Allocator + Copy>(
     machine: &Machine<'_, '_, A>,
 ) -> Result<(), PutError>
     requires { P.stops out.old < 2 ^ 64 - 1 }
-    ensures text { Puts result (P.written out.old) (P.written out.new) (block_shown machine.now.program (state_of machine.now).frames) }
-    ensures counted { Counts result (P.stops out.old) (P.stops out.new) }
-    ensures device { P.device out.new ≡ P.device out.old }
+    ensures { HasPut P.written P.stops P.device result out.old out.new (block_shown machine.now.program (state_of machine.now).frames) }
 {
     let Some(frame) = innermost(machine) else {
         return put_line(out, b"no: no frame");

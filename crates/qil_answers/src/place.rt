@@ -1,16 +1,16 @@
 //! The line of a place: how many moves were made, and where the run stands or how it ended.
 
 ghost use Rattle.std.specs.Prelude.{◌≡◌, ℕ, List, ◌-◌, ◌^◌, ◌<◌};
-ghost use Rattle.qil_streams.specs.Device.{Counts, Puts};
-ghost use Rattle.qil_meaning.specs.State.{running};
+ghost use Rattle.qil_streams.specs.Device.{HasPut};
+ghost use Rattle.qil_pieces.specs.Texts.{piece_text};
 ghost use Rattle.qil_state.specs.State.{state_of, head_names};
 ghost use Rattle.qil_state.specs.Faults.{fault_of};
-ghost use Rattle.qil_answers.specs.Texts.{piece_text, fault_words, fault_detail, standing_line, state_line};
+ghost use Rattle.qil_answers.specs.Texts.{fault_words, fault_detail, standing_line, state_line};
 
 use crate::names::{func_name, innermost, label_name, temp_name};
-use crate::piece::{Piece, put_pieces};
 use qil_machine::Machine;
 use qil_ops::DivFault;
+use qil_pieces::{Piece, put_pieces};
 use qil_state::{Fault, Status};
 use qil_streams::{Put, PutError};
 use std::alloc::Allocator;
@@ -58,9 +58,7 @@ fn put_standing<P: Put, A: Allocator + Copy>(
     machine: &Machine<'_, '_, A>,
 ) -> Result<(), PutError>
     requires { P.stops out.old < 2 ^ 64 - 1 }
-    ensures text { Puts result (P.written out.old) (P.written out.new) (standing_line position (state_of machine.now).frames) }
-    ensures counted { Counts result (P.stops out.old) (P.stops out.new) }
-    ensures device { P.device out.new ≡ P.device out.old }
+    ensures { HasPut P.written P.stops P.device result out.old out.new (standing_line position (state_of machine.now).frames) }
 {
     let Some(frame) = innermost(machine) else {
         return put_pieces(
@@ -100,9 +98,7 @@ pub fn put_place<P: Put, A: Allocator + Copy>(
     machine: &Machine<'_, '_, A>,
 ) -> Result<(), PutError>
     requires { P.stops out.old < 2 ^ 64 - 1 }
-    ensures text { Puts result (P.written out.old) (P.written out.new) (state_line position (state_of machine.now).frames (state_of machine.now).status) }
-    ensures counted { Counts result (P.stops out.old) (P.stops out.new) }
-    ensures device { P.device out.new ≡ P.device out.old }
+    ensures { HasPut P.written P.stops P.device result out.old out.new (state_line position (state_of machine.now).frames (state_of machine.now).status) }
 {
     let prefix = Piece::Bytes(b"#");
     let position_piece = Piece::Number(position);

@@ -1,8 +1,7 @@
 //! Temporaries of the innermost frame: one, or all.
 
-ghost use Rattle.std.specs.Prelude.{◌≡◌, ℕ, List, Option, ◌-◌, ◌^◌, ◌<◌, length, map, zip};
-ghost use Rattle.std.specs.List.{flat_map};
-ghost use Rattle.qil_streams.specs.Device.{Counts, Puts};
+ghost use Rattle.std.specs.Prelude.{◌≡◌, ◌-◌, ◌^◌, ◌<◌, length};
+ghost use Rattle.qil_streams.specs.Device.{HasPut};
 ghost use Rattle.qil_numbering.specs.Numbered.{names_of};
 ghost use Rattle.qil_state.specs.State.{state_of};
 ghost use Rattle.qil_answers.specs.Texts.{value_line};
@@ -10,19 +9,17 @@ ghost use Rattle.qil_answers.specs.Shown.{printed, temps_shown};
 ghost use Rattle.qil_answers.specs.Slots.{slot_lines};
 
 use crate::names::{innermost, temp_name};
-use crate::piece::{Piece, put_pieces};
 use qil_frames::Frame;
 use qil_machine::Machine;
 use qil_numbering::{Code, Slot};
+use qil_pieces::{Piece, put_pieces};
 use qil_streams::{Put, PutError, put_line};
 use std::alloc::Allocator;
 
 /// Puts the line that says what a temporary holds.
 fn put_value<P: Put>(out: &mut P, name: &[u8], value: Option<u64>) -> Result<(), PutError>
     requires { P.stops out.old < 2 ^ 64 - 1 }
-    ensures text { Puts result (P.written out.old) (P.written out.new) (value_line name.now value) }
-    ensures counted { Counts result (P.stops out.old) (P.stops out.new) }
-    ensures device { P.device out.new ≡ P.device out.old }
+    ensures { HasPut P.written P.stops P.device result out.old out.new (value_line name.now value) }
 {
     match value {
         Some(value) => put_pieces(
@@ -58,9 +55,7 @@ pub fn put_printed<P: Put, A: Allocator + Copy>(
     name: &[u8],
 ) -> Result<(), PutError>
     requires { P.stops out.old < 2 ^ 64 - 1 }
-    ensures text { Puts result (P.written out.old) (P.written out.new) (printed machine.now.program (state_of machine.now).frames name.now) }
-    ensures counted { Counts result (P.stops out.old) (P.stops out.new) }
-    ensures device { P.device out.new ≡ P.device out.old }
+    ensures { HasPut P.written P.stops P.device result out.old out.new (printed machine.now.program (state_of machine.now).frames name.now) }
 {
     let Some(frame) = innermost(machine) else {
         return put_line(out, b"no: no frame");
@@ -79,9 +74,7 @@ fn put_slots<'c, 'a, P: Put, A: Allocator + Copy>(
 ) -> Result<(), PutError>
     requires stops { P.stops out.old < 2 ^ 64 - 1 }
     requires slots { length (names_of code.now frame.now.func) ≡ length frame.now.slots }
-    ensures text { Puts result (P.written out.old) (P.written out.new) (slot_lines (names_of code.now frame.now.func) frame.now.slots) }
-    ensures counted { Counts result (P.stops out.old) (P.stops out.new) }
-    ensures device { P.device out.new ≡ P.device out.old }
+    ensures { HasPut P.written P.stops P.device result out.old out.new (slot_lines (names_of code.now frame.now.func) frame.now.slots) }
 {
     let slots = frame.slots();
     for index in 0..slots.len() {
@@ -103,9 +96,7 @@ pub fn put_temps<P: Put, A: Allocator + Copy>(
     machine: &Machine<'_, '_, A>,
 ) -> Result<(), PutError>
     requires { P.stops out.old < 2 ^ 64 - 1 }
-    ensures text { Puts result (P.written out.old) (P.written out.new) (temps_shown machine.now.program (state_of machine.now).frames) }
-    ensures counted { Counts result (P.stops out.old) (P.stops out.new) }
-    ensures device { P.device out.new ≡ P.device out.old }
+    ensures { HasPut P.written P.stops P.device result out.old out.new (temps_shown machine.now.program (state_of machine.now).frames) }
 {
     let Some(frame) = innermost(machine) else {
         return put_line(out, b"no: no frame");

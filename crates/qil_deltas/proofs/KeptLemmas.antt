@@ -1,13 +1,14 @@
 -- Facts on what is kept.
-use Rattle.std.proofs.Common.{◌≡◌, ℕ, ◌+◌, ◌≤◌, suc, List, [], ◌∷◌, ◌++◌, length, reverse, None, Result, Ok, ap, sym, ◌∙◌, subst, refl, arith}
+use Rattle.std.proofs.Common.{◌≡◌, ℕ, ◌+◌, ◌≤◌, suc, List, [], ◌∷◌, ◌++◌, length, reverse, None, Result, Ok, Err, OnOk, ap, sym, ◌∙◌, subst, refl, arith}
 use Rattle.std.proofs.lemmas.List.{length-reverse, reverse-append}
 use Rattle.std.proofs.lemmas.List.Sums.{sum_by_push}
 use Rattle.qil_meaning.specs.State.{State}
 use Rattle.qil_meaning.specs.Poke.{PokeFault}
-use Rattle.qil_meaning.specs.Timeline.{to, poked}
+use Rattle.qil_meaning.specs.Step.{step_of}
+use Rattle.qil_meaning.specs.Timeline.{to, forward, poked}
 use Rattle.qil_state.specs.State.{Whole, state_of}
 use Rattle.qil_machine.specs.Moves.{Move, undone, weight}
-use Rattle.qil_machine.specs.Places.{Made}
+use Rattle.qil_machine.specs.Places.{Made, HasMade}
 use Rattle.qil_deltas.specs.Kept.{before, AllFit, Moved, moved_timeline}
 use Rattle.qil_deltas.specs.Weights.{total}
 
@@ -55,9 +56,14 @@ module _ {A : Type 0} (m w : Whole A) (ds es : List Move) (d : Move) where
       let whole : total es ≡ total ds + weight d = ap total e ∙ sum_by_push weight ds d in
       subst (λ (r : Moved A). total es ≤ total r.deltas + k) view (omega (arith, whole, few))
 
-abbrev moved : {A : Type 0} → Whole A → List Move → Moved A
-moved m ds = record { machine = m; deltas = ds }
-
 -- where the list is the same and the machine too, so is the timeline
-pub kept_moves : {A : Type 0} (m : Whole A) (ds es : List Move) (k : Moved A) → ds ≡ es → moved m es ≡ k → moved_timeline (moved m ds) ≡ moved_timeline k
-kept_moves {A} m ds es k e is = ap (λ (xs : List Move). moved_timeline (moved m xs)) e ∙ ap (λ (x : Moved A). moved_timeline x) is
+pub kept_moves : {A : Type 0} (m : Whole A) (ds es : List Move) (k : Moved A) → ds ≡ es → kept m es ≡ k → moved_timeline (kept m ds) ≡ moved_timeline k
+kept_moves {A} m ds es k e is = ap (λ (xs : List Move). moved_timeline (kept m xs)) e ∙ ap (λ (x : Moved A). moved_timeline x) is
+
+-- a step that was kept behind the others is the move forward
+pub steps_kept : {A T E : Type 0} (r : Result T E) (m w : Whole A) (ds es fs : List Move) (now : Moved A) → OnOk r (state_of w ≡ step_of m.program (state_of m)) → OnOk r (HasMade ds es m w) → ds ≡ fs → kept m fs ≡ now
+    → OnOk r (moved_timeline (kept w es) ≡ forward now.machine.program (moved_timeline now))
+steps_kept (Err e) m w ds es fs now step made same view = tt
+steps_kept {A} (Ok x) m w ds es fs now step made same view =
+    subst (λ (k : Moved A). moved_timeline (kept w es) ≡ forward k.machine.program (moved_timeline k)) (ap (λ (xs : List Move). kept m xs) same ∙ view)
+    (moved-on m w ds es made.move made.kept made.made ∙ ap (λ (s : State). to s (moved_timeline (kept m ds))) step)

@@ -1,6 +1,6 @@
 -- Values that are written and put back.
-use Rattle.std.proofs.Common.{◌≡◌, ℕ, ◌+◌, ◌<◌, List, [], ◌∷◌, ◌++◌, Option, None, length, drop, get_or, set, sym, ap, ◌∙◌, refl}
-use Rattle.std.proofs.lemmas.List.{set-get_or, set-set, drop_more, length-set}
+use Rattle.std.proofs.Common.{◌≡◌, ℕ, ◌+◌, ◌-◌, ◌<◌, ◌≤◌, List, [], ◌∷◌, ◌++◌, Option, None, length, drop, get_or, set, sym, ap, ◌∙◌, refl, arith}
+use Rattle.std.proofs.lemmas.List.{set-get_or, set-set, drop_more, length-set, get_or_default}
 use Rattle.qil_numbering.specs.declared.numbered.Slot.{Slot}
 use Rattle.qil_frames.specs.declared.saved.SavedSlot.{SavedSlot}
 use Rattle.qil_frames.specs.Enter.{put_back, written}
@@ -29,5 +29,16 @@ put_back-exchanged ks vs s v =
     ∙ ap (put_back ks) (set-set vs s.index v (get_or vs s.index None) ∙ set-get_or vs s.index None)
 
 -- one more is put back
-pub put_back_more : (ks : List SavedSlot) (i : ℕ) (vs : List (Option ℕ)) (k : SavedSlot) → i < length ks → k ≡ get_or ks i k → put_back (drop i ks) vs ≡ set (put_back (drop (i + 1) ks) vs) k.slot.index k.value
+put_back_more : (ks : List SavedSlot) (i : ℕ) (vs : List (Option ℕ)) (k : SavedSlot) → i < length ks → k ≡ get_or ks i k → put_back (drop i ks) vs ≡ set (put_back (drop (i + 1) ks) vs) k.slot.index k.value
 put_back_more ks i vs k h e = ap (λ js. put_back js vs) (drop_more ks i k h ∙ ap (λ (j : SavedSlot). j ∷ drop (i + 1) ks) (sym e))
+
+-- the one before those that are put back is put back next
+pub restored_more : (ks : List SavedSlot) (i : ℕ) (vs us : List (Option ℕ)) (d : SavedSlot) → 0 < i → i ≤ length ks → us ≡ put_back (drop i ks) vs
+    → set us (get_or ks (i - 1) d).slot.index (get_or ks (i - 1) d).value ≡ put_back (drop (i - 1) ks) vs
+restored_more ks i vs us d some inside so_far =
+    let j : ℕ = i - 1 in
+    let k : SavedSlot = get_or ks j d in
+    let next : i ≡ j + 1 = omega (arith, some) in
+    let there : j < length ks = omega (arith, some, inside) in
+    ap (λ (ws : List (Option ℕ)). set ws k.slot.index k.value) (so_far ∙ ap (λ n. put_back (drop n ks) vs) next)
+    ∙ sym (put_back_more ks j vs k there (get_or_default ks j d k there))

@@ -6,7 +6,6 @@ ghost use Rattle.qil_frames.specs.Enter.{AreSlots, put_back, written};
 use crate::saved::SavedSlot;
 
 /// Puts back the values that were kept.
-#[tactic(auto, using(crate::proofs::ValueLemmas::put_back_more))]
 pub fn restore(values: &mut [Option<u64>], kept: &[SavedSlot])
     requires { AreSlots kept.now (length values.old) }
     ensures { values.new ≡ put_back kept.now values.old }

@@ -1,7 +1,7 @@
 //! What was loaded, and the line that says so.
 
 ghost use Rattle.std.specs.Prelude.{◌≡◌, ◌-◌, ◌^◌, ◌<◌};
-ghost use Rattle.qil_streams.specs.Device.{Counts, Puts};
+ghost use Rattle.qil_streams.specs.Device.{HasPut};
 ghost use Rattle.qil_loading.specs.Lines.{IsLoaded, loaded_line};
 
 use qil_layout::Image;
@@ -41,9 +41,7 @@ impl<'l> Loaded<'l> {
 /// Puts the line that counts what was loaded: functions, and bytes of data.
 pub fn put_loaded_line<P: Put>(out: &mut P, loaded: &Loaded<'_>) -> Result<(), PutError>
     requires { P.stops out.old < 2 ^ 64 - 1 }
-    ensures text { Puts result (P.written out.old) (P.written out.new) (loaded_line loaded.now.funcs loaded.now.bytes loaded.now.form.now) }
-    ensures counted { Counts result (P.stops out.old) (P.stops out.new) }
-    ensures device { P.device out.new ≡ P.device out.old }
+    ensures { HasPut P.written P.stops P.device result out.old out.new (loaded_line loaded.now.funcs loaded.now.bytes loaded.now.form.now) }
 {
     match loaded.form {
         Form::Single => put_pieces(

@@ -1,7 +1,7 @@
 //! Why a program is refused, and the line that says so.
 
-ghost use Rattle.std.specs.Prelude.{◌≡◌, ◌-◌, ◌^◌, ◌<◌};
-ghost use Rattle.qil_streams.specs.Device.{Counts, Puts};
+ghost use Rattle.std.specs.Prelude.{◌-◌, ◌^◌, ◌<◌};
+ghost use Rattle.qil_streams.specs.Device.{HasPut};
 ghost use Rattle.qil_loading.specs.Lines.{refused_at, refused_line};
 
 use qil_layout::LayoutCode;
@@ -29,9 +29,7 @@ pub enum Refusal {
 
 fn put_refused_at<P: Put>(out: &mut P, code: &[u8], line: u32) -> Result<(), PutError>
     requires { P.stops out.old < 2 ^ 64 - 1 }
-    ensures text { Puts result (P.written out.old) (P.written out.new) (refused_at code.now line) }
-    ensures counted { Counts result (P.stops out.old) (P.stops out.new) }
-    ensures device { P.device out.new ≡ P.device out.old }
+    ensures { HasPut P.written P.stops P.device result out.old out.new (refused_at code.now line) }
 {
     put_pieces(
         out,
@@ -48,9 +46,7 @@ fn put_refused_at<P: Put>(out: &mut P, code: &[u8], line: u32) -> Result<(), Put
 /// Puts the line of a refusal.
 pub fn put_refusal_line<P: Put>(out: &mut P, refusal: Refusal) -> Result<(), PutError>
     requires { P.stops out.old < 2 ^ 64 - 1 }
-    ensures text { Puts result (P.written out.old) (P.written out.new) (refused_line refusal) }
-    ensures counted { Counts result (P.stops out.old) (P.stops out.new) }
-    ensures device { P.device out.new ≡ P.device out.old }
+    ensures { HasPut P.written P.stops P.device result out.old out.new (refused_line refusal) }
 {
     match refusal {
         Refusal::Text { code, line } => put_refused_at(out, code.as_str().as_bytes(), line),

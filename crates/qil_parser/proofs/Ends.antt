@@ -1,5 +1,5 @@
 -- Loops that stop at a fault, and the tokens that are left to them.
-use Rattle.std.proofs.Common.{◌≡◌, ℕ, ◌<◌, Bool, true, false, ◌||◌, cond, eqb, List, [], ◌∷◌, drop, length, Option, Some, None, arith, refl}
+use Rattle.std.proofs.Common.{◌≡◌, ℕ, ◌<◌, Bool, true, false, ◌||◌, cond, eqb, List, [], ◌∷◌, drop, length, get_or, Option, Some, None, ap, sym, ◌∙◌, arith, refl}
 use Rattle.qil_lexer.specs.declared.token.Token.{Token}
 use Rattle.qil_language.specs.Reading.{Read, got, taken, starts, many, tail}
 use Rattle.qil_language.specs.Reads.{Takes}
@@ -9,6 +9,8 @@ use Rattle.qil_parser.specs.declared.cursor_error.CursorError.TheVariants as end
 use Rattle.qil_parser.specs.declared.terminal.Terminal.TheVariants as terminals
 use Rattle.qil_parser.specs.Token.{Tok, tok, seen, code, index}
 use Rattle.qil_parser.specs.Parsing.{the, word}
+use Rattle.qil_parser.specs.FunctionParsing as functions
+use Rattle.qil_parser.specs.Functions.{jump_or}
 use Rattle.qil_parser.specs.DataParsing.{newlines}
 use Rattle.qil_parser.specs.Outcome.{Fails}
 use Rattle.qil_parser.proofs.DataProductions.{newline_takes}
@@ -62,3 +64,15 @@ newlines_continue (t ∷ ts) h = past_goes_on index (the terminals.Newline) (wor
 pub newlines_stop : (ts : List Token) → starts index (the terminals.Newline) (seen ts) ≡ false → newlines (seen ts) ≡ got tt (seen ts)
 unfolding newlines
 newlines_stop ts h = past_stops index (the terminals.Newline) (word terminals.Newline) newline_takes (seen ts) h
+
+-- ---- how a block ends
+
+without_jump : (ts : List Tok) → starts index functions.jump_starts ts ≡ false → starts index (the terminals.Label) ts ≡ true → functions.ending ts ≡ got (jump_or None (functions.next_name ts)) ts
+unfolding functions.ending
+without_jump ts jump label = rw (jump, label) refl
+
+-- where no jump comes next but a label, control falls through to the block of its name
+pub falls_through : (ts : List Token) (d : Token) (name : List ℕ) → starts index functions.jump_starts (seen ts) ≡ false → starts index (the terminals.Label) (seen ts) ≡ true
+    → name ≡ drop 1 (get_or ts 0 d).text.now → functions.ending (seen ts) ≡ got (jump_or None ((get_or ts 0 d).line, name)) (seen ts)
+falls_through [] d name jump label is = absurd cc
+falls_through (t ∷ ts) d name jump label is = without_jump (seen (t ∷ ts)) jump label ∙ ap (λ x. got (jump_or None (t.line, x)) (seen (t ∷ ts))) (sym is)

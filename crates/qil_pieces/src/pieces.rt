@@ -1,8 +1,8 @@
 //! A text that is put as a list of pieces.
 
-ghost use Rattle.std.specs.Prelude.{◌≡◌, ◌-◌, ◌^◌, ◌<◌};
+ghost use Rattle.std.specs.Prelude.{◌-◌, ◌^◌, ◌<◌};
 ghost use Rattle.std.specs.List.{flat_map};
-ghost use Rattle.qil_streams.specs.Device.{Counts, Puts};
+ghost use Rattle.qil_streams.specs.Device.{HasPut};
 ghost use Rattle.qil_pieces.specs.Texts.{piece_text};
 
 use qil_streams::{Put, PutError, put_number};
@@ -17,9 +17,7 @@ pub enum Piece<'p> {
 /// Puts one piece.
 fn put_piece<P: Put>(out: &mut P, piece: Piece<'_>) -> Result<(), PutError>
     requires { P.stops out.old < 2 ^ 64 - 1 }
-    ensures text { Puts result (P.written out.old) (P.written out.new) (piece_text piece.entry) }
-    ensures counted { Counts result (P.stops out.old) (P.stops out.new) }
-    ensures device { P.device out.new ≡ P.device out.old }
+    ensures { HasPut P.written P.stops P.device result out.old out.new (piece_text piece.entry) }
 {
     match piece {
         Piece::Bytes(bytes) => out.put(bytes),
@@ -34,9 +32,7 @@ fn put_piece<P: Put>(out: &mut P, piece: Piece<'_>) -> Result<(), PutError>
 /// `PutError` where `out` stopped. Then a prefix of the text was put.
 pub fn put_pieces<P: Put>(out: &mut P, pieces: &[Piece<'_>]) -> Result<(), PutError>
     requires { P.stops out.old < 2 ^ 64 - 1 }
-    ensures text { Puts result (P.written out.old) (P.written out.new) (flat_map piece_text pieces.now) }
-    ensures counted { Counts result (P.stops out.old) (P.stops out.new) }
-    ensures device { P.device out.new ≡ P.device out.old }
+    ensures { HasPut P.written P.stops P.device result out.old out.new (flat_map piece_text pieces.now) }
 {
     for piece in pieces {
         put_piece(out, *piece)?;

@@ -12,7 +12,7 @@ use Rattle.qil_stops.specs.declared.stop.Watched.TheVariants as watches
 use Rattle.qil_stops.specs.declared.stop.StopKind.{StopKind}
 use Rattle.qil_stops.specs.declared.stop.StopKind.TheVariants as kinds
 use Rattle.qil_stops.specs.declared.stop.Stop.{Stop}
-use Rattle.qil_answers.specs.Texts.{text_of}
+use Rattle.qil_pieces.specs.Texts.{text_of}
 use Rattle.qil_answers.specs.Shown.{or_none}
 use Rattle.qil_replies.specs.declared.reply.Refusal.{Refusal}
 use Rattle.qil_replies.specs.declared.reply.Refusal.TheVariants as refusals

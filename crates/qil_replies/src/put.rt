@@ -1,7 +1,7 @@
 //! The text of a reply is put.
 
-ghost use Rattle.std.specs.Prelude.{◌≡◌, ◌-◌, ◌<◌, ◌^◌, ◌++◌};
-ghost use Rattle.qil_streams.specs.Device.{Counts, Puts};
+ghost use Rattle.std.specs.Prelude.{◌-◌, ◌<◌, ◌^◌, ◌++◌};
+ghost use Rattle.qil_streams.specs.Device.{HasPut};
 ghost use Rattle.qil_state.specs.State.{state_of};
 ghost use Rattle.qil_answers.specs.Texts.{state_line};
 ghost use Rattle.qil_replies.specs.Texts.{reason_line};
@@ -27,9 +27,7 @@ fn put_stopped<P: Put, A: Allocator + Copy>(
     reason: Reason,
 ) -> Result<(), PutError>
     requires { P.stops out.old < 2 ^ 64 - 1 }
-    ensures text { Puts result (P.written out.old) (P.written out.new) (reason_line reason ++ state_line position (state_of machine.now).frames (state_of machine.now).status) }
-    ensures counted { Counts result (P.stops out.old) (P.stops out.new) }
-    ensures device { P.device out.new ≡ P.device out.old }
+    ensures { HasPut P.written P.stops P.device result out.old out.new (reason_line reason ++ state_line position (state_of machine.now).frames (state_of machine.now).status) }
 {
     put_reason(out, reason)?;
     put_place(out, position, machine)
@@ -48,9 +46,7 @@ pub fn put_reply<P: Put, A: Allocator + Copy>(
     reply: Reply<'_>,
 ) -> Result<(), PutError>
     requires { P.stops out.old < 2 ^ 64 - 1 }
-    ensures text { Puts result (P.written out.old) (P.written out.new) (reply_text machine.now.program position (state_of machine.now) stops.now reply.entry) }
-    ensures counted { Counts result (P.stops out.old) (P.stops out.new) }
-    ensures device { P.device out.new ≡ P.device out.old }
+    ensures { HasPut P.written P.stops P.device result out.old out.new (reply_text machine.now.program position (state_of machine.now) stops.now reply.entry) }
 {
     match reply {
         Reply::Nothing => Ok(()),

@@ -1,8 +1,8 @@
 //! The lines of all stops.
 
-ghost use Rattle.std.specs.Prelude.{◌≡◌, ◌-◌, ◌<◌, ◌^◌};
+ghost use Rattle.std.specs.Prelude.{◌-◌, ◌<◌, ◌^◌};
 ghost use Rattle.std.specs.List.{flat_map};
-ghost use Rattle.qil_streams.specs.Device.{Counts, Puts};
+ghost use Rattle.qil_streams.specs.Device.{HasPut};
 ghost use Rattle.qil_replies.specs.Texts.{listed_line, stops_shown};
 
 use crate::texts::put_stop;
@@ -18,9 +18,7 @@ fn put_listed<'c, 'a, P: Put, A: Allocator + Copy>(
     stops: &[Stop],
 ) -> Result<(), PutError>
     requires { P.stops out.old < 2 ^ 64 - 1 }
-    ensures text { Puts result (P.written out.old) (P.written out.new) (flat_map (listed_line code.now) stops.now) }
-    ensures counted { Counts result (P.stops out.old) (P.stops out.new) }
-    ensures device { P.device out.new ≡ P.device out.old }
+    ensures { HasPut P.written P.stops P.device result out.old out.new (flat_map (listed_line code.now) stops.now) }
 {
     for stop in stops {
         put_stop(out, code, stop.number, stop.kind)?;
@@ -35,9 +33,7 @@ pub fn put_stops<'c, 'a, P: Put, A: Allocator + Copy>(
     stops: &[Stop],
 ) -> Result<(), PutError>
     requires { P.stops out.old < 2 ^ 64 - 1 }
-    ensures text { Puts result (P.written out.old) (P.written out.new) (stops_shown code.now stops.now) }
-    ensures counted { Counts result (P.stops out.old) (P.stops out.new) }
-    ensures device { P.device out.new ≡ P.device out.old }
+    ensures { HasPut P.written P.stops P.device result out.old out.new (stops_shown code.now stops.now) }
 {
     if stops.len() == 0 {
         put_line(out, b"none")

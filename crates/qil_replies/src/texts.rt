@@ -1,14 +1,15 @@
 //! The lines of refusals, reasons and stops.
 
 ghost use Rattle.std.specs.Prelude.{◌≡◌, ◌-◌, ◌^◌, ◌<◌};
-ghost use Rattle.qil_streams.specs.Device.{Counts, Puts};
+ghost use Rattle.qil_streams.specs.Device.{HasPut};
 ghost use Rattle.qil_replies.specs.Texts.{line_refusal_text, refusal_text, reason_line, width_letter, stop_line, deleted_line};
 
 use crate::reply::Refusal;
-use qil_answers::{Piece, func_name, label_name, put_pieces, temp_name};
+use qil_answers::{func_name, label_name, temp_name};
 use qil_commands::Refused;
 use qil_meaning::Reason;
 use qil_numbering::Code;
+use qil_pieces::{Piece, put_pieces};
 use qil_stops::{StopKind, Watched};
 use qil_streams::{Put, PutError};
 use std::alloc::Allocator;
@@ -16,9 +17,7 @@ use std::alloc::Allocator;
 /// Puts why a run stopped.
 pub fn put_reason<P: Put>(out: &mut P, reason: Reason) -> Result<(), PutError>
     requires { P.stops out.old < 2 ^ 64 - 1 }
-    ensures text { Puts result (P.written out.old) (P.written out.new) (reason_line reason) }
-    ensures counted { Counts result (P.stops out.old) (P.stops out.new) }
-    ensures device { P.device out.new ≡ P.device out.old }
+    ensures { HasPut P.written P.stops P.device result out.old out.new (reason_line reason) }
 {
     match reason {
         Reason::End => out.put(b"stop: end\n"),
@@ -99,9 +98,7 @@ pub fn put_stop<'c, 'a, P: Put, A: Allocator + Copy>(
     kind: StopKind,
 ) -> Result<(), PutError>
     requires { P.stops out.old < 2 ^ 64 - 1 }
-    ensures text { Puts result (P.written out.old) (P.written out.new) (stop_line code.now number kind) }
-    ensures counted { Counts result (P.stops out.old) (P.stops out.new) }
-    ensures device { P.device out.new ≡ P.device out.old }
+    ensures { HasPut P.written P.stops P.device result out.old out.new (stop_line code.now number kind) }
 {
     match kind {
         StopKind::Break(place) => put_pieces(
@@ -148,9 +145,7 @@ pub fn put_stop<'c, 'a, P: Put, A: Allocator + Copy>(
 /// Puts that a stop was deleted.
 pub fn put_deleted<P: Put>(out: &mut P, number: u64) -> Result<(), PutError>
     requires { P.stops out.old < 2 ^ 64 - 1 }
-    ensures text { Puts result (P.written out.old) (P.written out.new) (deleted_line number) }
-    ensures counted { Counts result (P.stops out.old) (P.stops out.new) }
-    ensures device { P.device out.new ≡ P.device out.old }
+    ensures { HasPut P.written P.stops P.device result out.old out.new (deleted_line number) }
 {
     put_pieces(
         out,

@@ -2,11 +2,13 @@
 
 ghost use Rattle.std.specs.Prelude.{◌≡◌, ◌+◌, ◌-◌, ◌^◌, ◌<◌, ◌≤◌, [], IfOk, IfErr, Ok, Some};
 ghost use Rattle.qil_meaning.specs.Timeline.{position};
-ghost use Rattle.qil_streams.specs.Device.{Counts, Puts};
+ghost use Rattle.qil_streams.specs.Device.{Counts, HasPut};
 ghost use Rattle.qil_answers.specs.Texts.{place_line};
 ghost use Rattle.qil_session.specs.SessionState.{text_in};
 ghost use Rattle.qil_session.specs.Answers.{Answers, Replies};
 ghost use Rattle.qil_session.specs.Kept.{session_state};
+ghost use Rattle.qil_stops.specs.Named.{named_stops};
+ghost use Rattle.qil_depths.specs.Depths.{RunsToDepth, RunsBackToDepth};
 
 use crate::moves::{answer_continue, answer_reverse, back, step};
 use crate::poking::{poke, set};
@@ -14,6 +16,7 @@ use crate::showing::show_bytes;
 use crate::stopping::{add_break, delete, watch_bytes, watch_temp};
 use qil_answers::put_place;
 use qil_commands::{Command, Refused};
+use qil_depths::{DepthEnd, run_back_to_depth, run_to_depth};
 use qil_history::History;
 use qil_machine::Machine;
 use qil_replies::{Refusal, Reply, put_reply};
@@ -89,9 +92,7 @@ impl<'c, A: Allocator + Copy + 'c, H: History<A, Machine<'c, 'c, A>>> Session<A,
     /// Puts the line of the place where the session stands.
     pub fn put_now<P: Put>(&self, out: &mut P) -> Result<(), PutError>
         requires { P.stops out.old < 2 ^ 64 - 1 }
-        ensures text { Puts result (P.written out.old) (P.written out.new) (place_line (session_state H.program H.timeline self.now).timeline) }
-        ensures counted { Counts result (P.stops out.old) (P.stops out.new) }
-        ensures device { P.device out.new ≡ P.device out.old }
+        ensures { HasPut P.written P.stops P.device result out.old out.new (place_line (session_state H.program H.timeline self.now).timeline) }
     {
         put_place(out, self.history.position(), self.history.machine())
     }
@@ -161,9 +162,7 @@ impl<'c, A: Allocator + Copy + 'c, H: History<A, Machine<'c, 'c, A>>> Session<A,
     /// `PutError` where `out` stopped. Then a prefix of the text was put.
     pub fn put_reply<P: Put>(&self, reply: Reply<'_>, out: &mut P) -> Result<(), PutError>
         requires { P.stops out.old < 2 ^ 64 - 1 }
-        ensures text { Puts result (P.written out.old) (P.written out.new) (text_in (session_state H.program H.timeline self.now) reply.entry) }
-        ensures counted { Counts result (P.stops out.old) (P.stops out.new) }
-        ensures device { P.device out.new ≡ P.device out.old }
+        ensures { HasPut P.written P.stops P.device result out.old out.new (text_in (session_state H.program H.timeline self.now) reply.entry) }
     {
         let position = self.history.position();
         put_reply(
@@ -192,5 +191,45 @@ impl<'c, A: Allocator + Copy + 'c, H: History<A, Machine<'c, 'c, A>>> Session<A,
     {
         let reply = self.reply(said);
         self.put_reply(reply, out)
+    }
+}
+
+/// Runs over calls. No command makes one: a front end keeps it as the `step N` or `back N` that makes the same moves.
+impl<'c, A: Allocator + Copy + 'c, H: History<A, Machine<'c, 'c, A>>> Session<A, H> {
+    /// Moves forward to the first place, after a move, where at most `most` calls are open, or to a stop, the end, the limit, or
+    /// where there is no memory for a move. Gives why, and how many moves were made.
+    pub fn run_to_depth(&mut self, most: usize) -> (DepthEnd, u64)
+        requires before { position (H.timeline self.old.history) < 2 ^ 61 }
+        requires limit { self.old.limit ≤ 4294967295 }
+        ensures near { position (H.timeline self.new.history) < position (H.timeline self.old.history) + 2 ^ 32 }
+        ensures limit { self.new.limit ≡ self.old.limit }
+        ensures stops { self.new.stops ≡ self.old.stops }
+        ensures program { H.program self.new.history ≡ H.program self.old.history }
+        ensures run { RunsToDepth (H.program self.old.history) (named_stops (H.program self.old.history) self.old.stops.kept) most self.old.limit
+            (H.timeline self.old.history) result.0 result.1 (H.timeline self.new.history) }
+    {
+        run_to_depth(&mut self.history, &self.stops, most, self.limit)
+    }
+
+    /// The same backward: to a stop, the oldest state that is kept, or the limit. It takes no memory.
+    pub fn run_back_to_depth(&mut self, most: usize) -> (DepthEnd, u64)
+        ensures limit { self.new.limit ≡ self.old.limit }
+        ensures stops { self.new.stops ≡ self.old.stops }
+        ensures program { H.program self.new.history ≡ H.program self.old.history }
+        ensures run { RunsBackToDepth (named_stops (H.program self.old.history) self.old.stops.kept) most self.old.limit
+            (H.timeline self.old.history) result.0 result.1 (H.timeline self.new.history) }
+    {
+        run_back_to_depth(&mut self.history, &self.stops, most, self.limit)
+    }
+
+    /// As `run_back_to_depth`, with these stops in place of the session's.
+    pub fn run_back_past(&mut self, stops: &Stops<A>, most: usize) -> (DepthEnd, u64)
+        ensures limit { self.new.limit ≡ self.old.limit }
+        ensures stops { self.new.stops ≡ self.old.stops }
+        ensures program { H.program self.new.history ≡ H.program self.old.history }
+        ensures run { RunsBackToDepth (named_stops (H.program self.old.history) stops.now.kept) most self.old.limit
+            (H.timeline self.old.history) result.0 result.1 (H.timeline self.new.history) }
+    {
+        run_back_to_depth(&mut self.history, stops, most, self.limit)
     }
 }

@@ -105,6 +105,27 @@ fn poke_alone<A: Allocator + Copy>(
     }
 }
 
+/// Pokes a machine whose clone is the latest. Where the poke is refused, the clone goes.
+fn poke_cloned<'c, 'a, A: Allocator + Copy>(
+    machine: &mut Machine<'c, 'a, A>,
+    clones: &mut Vec<Machine<'c, 'a, A>, A>,
+    poke: Poke<'_>,
+) -> Result<(), PokeError>
+    requires { HasWidth poke }
+    ensures program { machine.new.program ≡ machine.old.program }
+    ensures poke { OnOk result (poke_of machine.old.program (state_of machine.old) poke.entry ≡ Ok (state_of machine.new)) }
+    ensures kept { OnOk result (clones.new.items ≡ clones.old.items) }
+    ensures why { IfErr result (Explains (poke_of machine.old.program (state_of machine.old) poke.entry)) }
+    ensures gone { OnErr result (clones.new.items ≡ take (length clones.old.items - 1) clones.old.items) }
+    ensures err { OnErr result (machine.new ≡ machine.old) }
+{
+    if let Err(error) = poke_alone(machine, poke) {
+        forget_latest(clones);
+        return Err(error);
+    }
+    Ok(())
+}
+
 impl<'c, 'a, A: Allocator + Copy> Snapshots<'c, 'a, A> {
     /// A history that begins at a machine. It takes no memory.
     pub fn new(alloc: A, machine: Machine<'c, 'a, A>) -> Snapshots<'c, 'a, A>
@@ -129,11 +150,7 @@ impl<'c, 'a, A: Allocator + Copy> Snapshots<'c, 'a, A> {
         if keep_clone(&self.machine, &mut self.clones).is_err() {
             return Err(poke.refusal(&mut self.machine));
         }
-        let result = poke_alone(&mut self.machine, poke);
-        if result.is_err() {
-            forget_latest(&mut self.clones);
-        }
-        result
+        poke_cloned(&mut self.machine, &mut self.clones, poke)
     }
 }
 

@@ -219,17 +219,25 @@ only-none p old new stop u v test held s t is miss at none =
 
 -- ---- one more reading
 
-pub reported-more : {A : Type 0} (p : Program A) (s : State) (stops : List Stop) (values : List (Option ℕ)) (i : ℕ) (d : Stop) (v : Option ℕ) → length values ≡ i → Tells p s (get_or stops i d).kind v
+reported-next : {A : Type 0} (p : Program A) (s : State) (stops : List Stop) (values : List (Option ℕ)) (i : ℕ) (d : Stop) (v : Option ℕ) → length values ≡ i → Tells p s (get_or stops i d).kind v
     → i < length stops
     → ((j : ℕ) (e : Stop) → j < i → Tells p s (get_or stops j e).kind (get_or values j None))
     → (j : ℕ) (e : Stop) → j < i + 1 → Tells p s (get_or stops j e).kind (get_or (values ++ v ∷ []) j None)
-reported-more p s stops values i d v count here inside reported j e lt = elim (cases_lt j i) [
+reported-next p s stops values i d v count here inside reported j e lt = elim (cases_lt j i) [
   | inl l ↦ subst (λ o. Tells p s (get_or stops j e).kind o) (sym (get_or_append_left values (v ∷ []) None j (omega (arith, l, count)))) (reported j e l)
   | inr g ↦ (let same : j ≡ i = omega (arith, g, lt) in
       let value : get_or (values ++ v ∷ []) j None ≡ v = ap (λ n. get_or (values ++ v ∷ []) n None) (same ∙ sym count) ∙ get_or-append_seam values v [] None in
       let stop : get_or stops i d ≡ get_or stops j e = get_or_default stops i d e inside ∙ ap (λ n. get_or stops n e) (sym same) in
       subst (λ o. Tells p s (get_or stops j e).kind o) (sym value) (subst (λ (x : Stop). Tells p s x.kind v) stop here))
 ]
+
+-- the values once that of the next stop is pushed
+pub reported-more : {A : Type 0} (p : Program A) (s : State) (stops : List Stop) (values more : List (Option ℕ)) (i : ℕ) (d : Stop) (v : Option ℕ) → length values ≡ i → more ≡ values ++ v ∷ []
+    → Tells p s (get_or stops i d).kind v → i < length stops
+    → ((j : ℕ) (e : Stop) → j < i → Tells p s (get_or stops j e).kind (get_or values j None))
+    → (j : ℕ) (e : Stop) → j < i + 1 → Tells p s (get_or stops j e).kind (get_or more j None)
+reported-more p s stops values more i d v count pushed here inside reported j e lt =
+    subst (λ (xs : List (Option ℕ)). Tells p s (get_or stops j e).kind (get_or xs j None)) (sym pushed) (reported-next p s stops values i d v count here inside reported j e lt)
 
 -- ---- what a machine says, of the states that it represents
 
@@ -241,6 +249,10 @@ pub found-at : {A : Type 0} (q p : Program A) (s old new : State) (stops : List 
 found-at {A} q p s old new stops before values r e f same says reported =
     let there : AllTell q old stops before = subst (λ (l : List (Option ℕ)). AllTell q old stops l) (sym same) (reported-at p q old old stops values (sym e) refl reported) in
     says old there ∙ ap (λ (u : Program A). stopped (named_stops u stops) old s) e ∙ ap (λ (u : State). stopped (named_stops p stops) old u) f
+
+-- the end is told where the run is over, and the other reason where it goes on
+pub end-told : (s t : State) (over is : Bool) (other : Reason) → s ≡ t → over ≡ is_final s.status → over ≡ is → cond is reasons.End other ≡ cond (is_final t.status) reasons.End other
+end-told s t over is other same says so = ap (λ b. cond b reasons.End other) (sym so ∙ says ∙ ap (λ (u : State). is_final u.status) same)
 
 pub over-by : (ns : List Name) (st : Status) (b : Bool) → (IsTrue b ↔ (st ≢ Running)) → b ≡ is_final (status_of ns st)
 over-by ns Running true h = absurd (h.0 refl refl)

@@ -1,7 +1,7 @@
 //! Texts that are put piece by piece, and a sink that takes each piece whole.
 
 ghost use Rattle.std.specs.Prelude.{◌≡◌, ℕ, ◌-◌, ◌^◌, ◌<◌, List, Option, decimal};
-ghost use Rattle.qil_streams.specs.Device.{Counts, Puts};
+ghost use Rattle.qil_streams.specs.Device.{Counts, HasPut, Puts};
 ghost use Rattle.qil_streams.specs.Text.{line};
 
 use crate::device::{DeviceFault, Sink};
@@ -29,9 +29,7 @@ pub trait Put {
     /// `PutError` where it could not take them all. Then it has put a prefix of them, which may be empty.
     fn put(&mut self, bytes: &[u8]) -> Result<(), PutError>
         requires { stops self.old < 2 ^ 64 - 1 }
-        ensures text { Puts result (written self.old) (written self.new) bytes.now }
-        ensures counted { Counts result (stops self.old) (stops self.new) }
-        ensures device { device self.new ≡ device self.old };
+        ensures { HasPut written stops device result self.old self.new bytes.now };
 }
 
 /// Writes all bytes to the sink, by as many calls as it takes.
@@ -91,9 +89,7 @@ impl<'a, W: Sink> Put for Outlet<'a, W> {
 /// `PutError` where `out` stopped. Then a prefix of the digits was put.
 pub fn put_number<P: Put>(out: &mut P, number: u64) -> Result<(), PutError>
     requires { P.stops out.old < 2 ^ 64 - 1 }
-    ensures text { Puts result (P.written out.old) (P.written out.new) (decimal number) }
-    ensures counted { Counts result (P.stops out.old) (P.stops out.new) }
-    ensures device { P.device out.new ≡ P.device out.old }
+    ensures { HasPut P.written P.stops P.device result out.old out.new (decimal number) }
 {
     let mut digits = Buffer::new();
     out.put(digits.format(number).as_bytes())
@@ -106,9 +102,7 @@ pub fn put_number<P: Put>(out: &mut P, number: u64) -> Result<(), PutError>
 /// `PutError` where `out` stopped. Then a prefix of the line was put.
 pub fn put_line<P: Put>(out: &mut P, text: &[u8]) -> Result<(), PutError>
     requires { P.stops out.old < 2 ^ 64 - 1 }
-    ensures text { Puts result (P.written out.old) (P.written out.new) (line text.now) }
-    ensures counted { Counts result (P.stops out.old) (P.stops out.new) }
-    ensures device { P.device out.new ≡ P.device out.old }
+    ensures { HasPut P.written P.stops P.device result out.old out.new (line text.now) }
 {
     out.put(text)?;
     out.put(b"\n")

@@ -1,13 +1,13 @@
 -- Canonical texts that are put piece by piece.
-use Rattle.std.proofs.Common.{◌≡◌, ℕ, ◌+◌, ◌-◌, ◌<◌, ◌≤◌, List, [], ◌∷◌, ◌++◌, length, take, drop, get_or, slice_index_or, arith, Option, Result, Err, refl, sym, ap, subst, ◌∙◌}
+use Rattle.std.proofs.Common.{◌≡◌, ℕ, ◌+◌, ◌-◌, ◌<◌, ◌≤◌, List, [], ◌∷◌, ◌++◌, length, take, drop, get_or, slice_index_or, arith, Option, Result, Ok, Err, refl, sym, ap, subst, ◌∙◌}
 use Rattle.std.specs.Prelude.{IsErrAnd}
 use Rattle.std.specs.List.{flat_map}
 use Rattle.std.specs.Io.KnownBytes.{Appends}
 use Rattle.std.proofs.lemmas.List.{take_all}
 use Rattle.std.proofs.lemmas.Grind.{flat_map-append}
-use Rattle.qil_streams.specs.Device.{Puts}
+use Rattle.qil_streams.specs.Device.{HasPut, Puts}
 use Rattle.qil_streams.proofs.PieceLemmas.{put_more, put_stop}
-use Rattle.qil_streams.proofs.TextLemmas.{Puts-append, Puts-stop}
+use Rattle.qil_streams.proofs.TextLemmas.{HasPut-as, HasPut-append, HasPut-stop}
 use Rattle.qil_texts.specs.Canonical.{Written, written, text_of}
 
 -- ---- a loop over items, each of which has a text
@@ -31,12 +31,14 @@ pub texts_of_each : {T : Type 0} (words : T → List Written) (xs : List T) → 
 texts_of_each words [] = refl
 texts_of_each words (x ∷ xs) = text_append (words x) (flat_map words xs) ∙ ap (λ (t : List ℕ). text_of (words x) ++ t) (texts_of_each words xs)
 
-module _ {T E : Type 0} (xs ys : List Written) where
-  pub words_put : (r : Result T E) (a b c : Option (List ℕ)) → Appends a b (text_of xs) → Puts r b c (text_of ys) → Puts r a c (text_of (xs ++ ys))
-  words_put r a b c p q = subst (λ (t : List ℕ). Puts r a c t) (sym (text_append xs ys)) (Puts-append r a b c (text_of xs) (text_of ys) p q)
+module _ {S : Type 0} {bytes : S → Option (List ℕ)} {stops goes_to : S → ℕ} (xs ys : List Written) where
+  pub words_put : {R F T E : Type 0} (v : R) (r : Result T E) (a b c : S) →
+      HasPut {T = R} {E = F} bytes stops goes_to (Ok v) a b (text_of xs) → HasPut bytes stops goes_to r b c (text_of ys) → HasPut bytes stops goes_to r a c (text_of (xs ++ ys))
+  words_put v r a b c p q = HasPut-as (sym (text_append xs ys)) (HasPut-append v r a b c (text_of xs) (text_of ys) p q)
 
-  pub words_stop : {F : Type 0} (Q : E → Type 0) (r : Result T E) → IsErrAnd r Q → (e : F) (a b : Option (List ℕ)) → Puts {T = T} (Err e) a b (text_of xs) → Puts r a b (text_of (xs ++ ys))
-  words_stop Q r k e a b p = subst (λ (t : List ℕ). Puts r a b t) (sym (text_append xs ys)) (Puts-stop Q r k e a b (text_of xs) (text_of ys) p)
+  pub words_stop : {R F T E : Type 0} (Q : E → Type 0) (r : Result T E) → IsErrAnd r Q → (e : F) (a b : S) →
+      HasPut {T = R} {E = F} bytes stops goes_to (Err e) a b (text_of xs) → HasPut bytes stops goes_to r a b (text_of (xs ++ ys))
+  words_stop Q r k e a b p = HasPut-as (sym (text_append xs ys)) (HasPut-stop Q r k e a b (text_of xs) (text_of ys) p)
 
 -- ---- a first item and others
 
@@ -54,8 +56,13 @@ module _ {T : Type 0} (first more : T → List Written) (all : List T → List W
   all_is : all xs ≡ first x ++ flat_map more others
   all_is = ap all (parted xs x le is) ∙ made x others
 
-  pub listed_put : {R E : Type 0} (r : Result R E) (a b c : Option (List ℕ)) → Appends a b (text_of (first x)) → Puts r b c (flat_map (λ y. text_of (more y)) others) → Puts r a c (text_of (all xs))
-  listed_put r a b c p q = subst (λ (ws : List Written). Puts r a c (text_of ws)) (sym all_is) (words_put (first x) (flat_map more others) r a b c p (subst (λ (t : List ℕ). Puts r b c t) (sym (texts_of_each more others)) q))
+  text_is : text_of (first x ++ flat_map more others) ≡ text_of (all xs)
+  text_is = ap text_of (sym all_is)
 
-  pub listed_stop : {R E F : Type 0} (Q : E → Type 0) (r : Result R E) → IsErrAnd r Q → (e : F) (a b : Option (List ℕ)) → Puts {T = R} (Err e) a b (text_of (first x)) → Puts r a b (text_of (all xs))
-  listed_stop Q r k e a b p = subst (λ (ws : List Written). Puts r a b (text_of ws)) (sym all_is) (words_stop (first x) (flat_map more others) Q r k e a b p)
+  pub listed_put : {S R F U E : Type 0} {bytes : S → Option (List ℕ)} {stops goes_to : S → ℕ} (v : R) (r : Result U E) (a b c : S) →
+      HasPut {T = R} {E = F} bytes stops goes_to (Ok v) a b (text_of (first x)) → HasPut bytes stops goes_to r b c (flat_map (λ y. text_of (more y)) others) → HasPut bytes stops goes_to r a c (text_of (all xs))
+  listed_put v r a b c p q = HasPut-as text_is (words_put (first x) (flat_map more others) v r a b c p (HasPut-as (sym (texts_of_each more others)) q))
+
+  pub listed_stop : {S R F U E : Type 0} {bytes : S → Option (List ℕ)} {stops goes_to : S → ℕ} (Q : E → Type 0) (r : Result U E) → IsErrAnd r Q → (e : F) (a b : S) →
+      HasPut {T = R} {E = F} bytes stops goes_to (Err e) a b (text_of (first x)) → HasPut bytes stops goes_to r a b (text_of (all xs))
+  listed_stop Q r k e a b p = HasPut-as text_is (words_stop (first x) (flat_map more others) Q r k e a b p)

@@ -2,7 +2,7 @@
 
 ghost use Rattle.std.specs.Prelude.{◌≡◌, List, ℕ, All, ◌-◌, ◌^◌, ◌<◌, ◌++◌, ◌∷◌, []};
 ghost use Rattle.std.specs.List.{flat_map};
-ghost use Rattle.qil_streams.specs.Device.{Counts, Puts};
+ghost use Rattle.qil_streams.specs.Device.{HasPut};
 ghost use Rattle.qil_texts.specs.Pieces.{piece_bytes, more_argument_text, more_source_text};
 ghost use Rattle.qil_texts.specs.Canonical.{class_name, type_name, unary_name, binary_name, compare_name, extension_name, load_name, alloc_name, store_name, operand_bytes, text_of, target_words, one_value, two_values, expr_words, close_paren, phi_start, call_words, argument_words, arguments_words, source_words, sources_words, inst_text, phi_text, jump_text};
 ghost use Rattle.qil_lexer.specs.declared.token.Token.{Token};
@@ -161,9 +161,7 @@ pub enum Piece<'p, 'a> {
 /// Puts a name after its sigil.
 fn put_name<P: Put>(out: &mut P, sigil: &[u8], name: &[u8]) -> Result<(), PutError>
     requires { P.stops out.old < 2 ^ 64 - 1 }
-    ensures text { Puts result (P.written out.old) (P.written out.new) (sigil.now ++ name.now) }
-    ensures counted { Counts result (P.stops out.old) (P.stops out.new) }
-    ensures device { P.device out.new ≡ P.device out.old }
+    ensures { HasPut P.written P.stops P.device result out.old out.new (sigil.now ++ name.now) }
 {
     out.put(sigil)?;
     out.put(name)
@@ -171,9 +169,7 @@ fn put_name<P: Put>(out: &mut P, sigil: &[u8], name: &[u8]) -> Result<(), PutErr
 
 fn put_operand<P: Put>(out: &mut P, operand: &Operand) -> Result<(), PutError>
     requires { P.stops out.old < 2 ^ 64 - 1 }
-    ensures text { Puts result (P.written out.old) (P.written out.new) (operand_bytes operand.now) }
-    ensures counted { Counts result (P.stops out.old) (P.stops out.new) }
-    ensures device { P.device out.new ≡ P.device out.old }
+    ensures { HasPut P.written P.stops P.device result out.old out.new (operand_bytes operand.now) }
 {
     match operand {
         Operand::Number(number) => put_number(out, *number),
@@ -184,9 +180,7 @@ fn put_operand<P: Put>(out: &mut P, operand: &Operand) -> Result<(), PutError>
 
 fn put_piece<P: Put>(out: &mut P, piece: &Piece) -> Result<(), PutError>
     requires { P.stops out.old < 2 ^ 64 - 1 }
-    ensures text { Puts result (P.written out.old) (P.written out.new) (piece_bytes piece.now) }
-    ensures counted { Counts result (P.stops out.old) (P.stops out.new) }
-    ensures device { P.device out.new ≡ P.device out.old }
+    ensures { HasPut P.written P.stops P.device result out.old out.new (piece_bytes piece.now) }
 {
     match piece {
         Piece::Bytes(bytes) => out.put(bytes),
@@ -198,9 +192,7 @@ fn put_piece<P: Put>(out: &mut P, piece: &Piece) -> Result<(), PutError>
 /// Puts pieces of a text one after the other.
 fn put_pieces<P: Put>(out: &mut P, pieces: &[Piece]) -> Result<(), PutError>
     requires { P.stops out.old < 2 ^ 64 - 1 }
-    ensures text { Puts result (P.written out.old) (P.written out.new) (flat_map piece_bytes pieces.now) }
-    ensures counted { Counts result (P.stops out.old) (P.stops out.new) }
-    ensures device { P.device out.new ≡ P.device out.old }
+    ensures { HasPut P.written P.stops P.device result out.old out.new (flat_map piece_bytes pieces.now) }
 {
     for piece in pieces {
         put_piece(out, piece)?;
@@ -216,9 +208,7 @@ fn put_one<'p, 'a, P: Put>(
     value: &'p Operand<'a>,
 ) -> Result<(), PutError>
     requires { P.stops out.old < 2 ^ 64 - 1 }
-    ensures text { Puts result (P.written out.old) (P.written out.new) (text_of (target_words target.now.name (class_name target.now.class) ++ one_value op.now value.now)) }
-    ensures counted { Counts result (P.stops out.old) (P.stops out.new) }
-    ensures device { P.device out.new ≡ P.device out.old }
+    ensures { HasPut P.written P.stops P.device result out.old out.new (text_of (target_words target.now.name (class_name target.now.class) ++ one_value op.now value.now)) }
 {
     put_pieces(
         out,
@@ -245,9 +235,7 @@ fn put_two<'p, 'a, P: Put>(
     right: &'p Operand<'a>,
 ) -> Result<(), PutError>
     requires { P.stops out.old < 2 ^ 64 - 1 }
-    ensures text { Puts result (P.written out.old) (P.written out.new) (text_of (target_words target.now.name (class_name target.now.class) ++ two_values (op.now ++ class.now) left.now right.now)) }
-    ensures counted { Counts result (P.stops out.old) (P.stops out.new) }
-    ensures device { P.device out.new ≡ P.device out.old }
+    ensures { HasPut P.written P.stops P.device result out.old out.new (text_of (target_words target.now.name (class_name target.now.class) ++ two_values (op.now ++ class.now) left.now right.now)) }
 {
     put_pieces(
         out,
@@ -273,9 +261,7 @@ fn put_assign<'p, 'a, P: Put>(
     value: &'p Expr<'a>,
 ) -> Result<(), PutError>
     requires { P.stops out.old < 2 ^ 64 - 1 }
-    ensures text { Puts result (P.written out.old) (P.written out.new) (text_of (target_words target.now.name (class_name target.now.class) ++ expr_words value.now)) }
-    ensures counted { Counts result (P.stops out.old) (P.stops out.new) }
-    ensures device { P.device out.new ≡ P.device out.old }
+    ensures { HasPut P.written P.stops P.device result out.old out.new (text_of (target_words target.now.name (class_name target.now.class) ++ expr_words value.now)) }
 {
     match value {
         Expr::Unary(op, value) => put_one(out, target, unary_name(*op), value),
@@ -300,9 +286,7 @@ fn put_called<'p, 'a, P: Put>(
     callee: &'p Operand<'a>,
 ) -> Result<(), PutError>
     requires { P.stops out.old < 2 ^ 64 - 1 }
-    ensures text { Puts result (P.written out.old) (P.written out.new) (text_of (call_words target.now callee.now)) }
-    ensures counted { Counts result (P.stops out.old) (P.stops out.new) }
-    ensures device { P.device out.new ≡ P.device out.old }
+    ensures { HasPut P.written P.stops P.device result out.old out.new (text_of (call_words target.now callee.now)) }
 {
     match target {
         None => put_pieces(
@@ -331,9 +315,7 @@ fn put_called<'p, 'a, P: Put>(
 /// Puts a comma and an argument.
 fn put_argument<P: Put>(out: &mut P, argument: &Argument) -> Result<(), PutError>
     requires { P.stops out.old < 2 ^ 64 - 1 }
-    ensures text { Puts result (P.written out.old) (P.written out.new) (more_argument_text argument.now) }
-    ensures counted { Counts result (P.stops out.old) (P.stops out.new) }
-    ensures device { P.device out.new ≡ P.device out.old }
+    ensures { HasPut P.written P.stops P.device result out.old out.new (more_argument_text argument.now) }
 {
     put_pieces(
         out,
@@ -349,9 +331,7 @@ fn put_argument<P: Put>(out: &mut P, argument: &Argument) -> Result<(), PutError
 /// Puts the arguments after a first.
 fn put_more_arguments<P: Put>(out: &mut P, arguments: &[Argument]) -> Result<(), PutError>
     requires { P.stops out.old < 2 ^ 64 - 1 }
-    ensures text { Puts result (P.written out.old) (P.written out.new) (flat_map more_argument_text arguments.now) }
-    ensures counted { Counts result (P.stops out.old) (P.stops out.new) }
-    ensures device { P.device out.new ≡ P.device out.old }
+    ensures { HasPut P.written P.stops P.device result out.old out.new (flat_map more_argument_text arguments.now) }
 {
     for argument in arguments {
         put_argument(out, argument)?;
@@ -362,9 +342,7 @@ fn put_more_arguments<P: Put>(out: &mut P, arguments: &[Argument]) -> Result<(),
 /// Puts an argument.
 fn put_first_argument<P: Put>(out: &mut P, argument: &Argument) -> Result<(), PutError>
     requires { P.stops out.old < 2 ^ 64 - 1 }
-    ensures text { Puts result (P.written out.old) (P.written out.new) (text_of (argument_words argument.now)) }
-    ensures counted { Counts result (P.stops out.old) (P.stops out.new) }
-    ensures device { P.device out.new ≡ P.device out.old }
+    ensures { HasPut P.written P.stops P.device result out.old out.new (text_of (argument_words argument.now)) }
 {
     put_pieces(
         out,
@@ -378,9 +356,7 @@ fn put_first_argument<P: Put>(out: &mut P, argument: &Argument) -> Result<(), Pu
 
 fn put_arguments<P: Put>(out: &mut P, arguments: &[Argument]) -> Result<(), PutError>
     requires { P.stops out.old < 2 ^ 64 - 1 }
-    ensures text { Puts result (P.written out.old) (P.written out.new) (text_of (arguments_words arguments.now)) }
-    ensures counted { Counts result (P.stops out.old) (P.stops out.new) }
-    ensures device { P.device out.new ≡ P.device out.old }
+    ensures { HasPut P.written P.stops P.device result out.old out.new (text_of (arguments_words arguments.now)) }
 {
     match arguments {
         [] => Ok(()),
@@ -398,9 +374,7 @@ fn put_call<'p, 'a, P: Put>(
     arguments: &'p [Argument<'a>],
 ) -> Result<(), PutError>
     requires { P.stops out.old < 2 ^ 64 - 1 }
-    ensures text { Puts result (P.written out.old) (P.written out.new) (text_of (call_words target.now callee.now ++ (arguments_words arguments.now ++ close_paren ∷ []))) }
-    ensures counted { Counts result (P.stops out.old) (P.stops out.new) }
-    ensures device { P.device out.new ≡ P.device out.old }
+    ensures { HasPut P.written P.stops P.device result out.old out.new (text_of (call_words target.now callee.now ++ (arguments_words arguments.now ++ close_paren ∷ []))) }
 {
     put_called(out, target, callee)?;
     put_arguments(out, arguments)?;
@@ -415,9 +389,7 @@ fn put_call<'p, 'a, P: Put>(
 /// `PutError` where `out` stopped. Then a prefix of the text was put.
 pub fn inst_text<P: Put, A: Allocator>(inst: &Inst<'_, A>, out: &mut P) -> Result<(), PutError>
     requires { P.stops out.old < 2 ^ 64 - 1 }
-    ensures text { Puts result (P.written out.old) (P.written out.new) (inst_text inst.now) }
-    ensures counted { Counts result (P.stops out.old) (P.stops out.new) }
-    ensures device { P.device out.new ≡ P.device out.old }
+    ensures { HasPut P.written P.stops P.device result out.old out.new (inst_text inst.now) }
 {
     match &inst.kind {
         InstKind::Assign(target, value) => put_assign(out, target, value),
@@ -455,9 +427,7 @@ pub fn inst_text<P: Put, A: Allocator>(inst: &Inst<'_, A>, out: &mut P) -> Resul
 /// Puts a comma and a source.
 fn put_source<P: Put>(out: &mut P, source: &PhiSource) -> Result<(), PutError>
     requires { P.stops out.old < 2 ^ 64 - 1 }
-    ensures text { Puts result (P.written out.old) (P.written out.new) (more_source_text source.now) }
-    ensures counted { Counts result (P.stops out.old) (P.stops out.new) }
-    ensures device { P.device out.new ≡ P.device out.old }
+    ensures { HasPut P.written P.stops P.device result out.old out.new (more_source_text source.now) }
 {
     put_pieces(
         out,
@@ -473,9 +443,7 @@ fn put_source<P: Put>(out: &mut P, source: &PhiSource) -> Result<(), PutError>
 /// Puts the sources after a first.
 fn put_more_sources<P: Put>(out: &mut P, sources: &[PhiSource]) -> Result<(), PutError>
     requires { P.stops out.old < 2 ^ 64 - 1 }
-    ensures text { Puts result (P.written out.old) (P.written out.new) (flat_map more_source_text sources.now) }
-    ensures counted { Counts result (P.stops out.old) (P.stops out.new) }
-    ensures device { P.device out.new ≡ P.device out.old }
+    ensures { HasPut P.written P.stops P.device result out.old out.new (flat_map more_source_text sources.now) }
 {
     for source in sources {
         put_source(out, source)?;
@@ -486,9 +454,7 @@ fn put_more_sources<P: Put>(out: &mut P, sources: &[PhiSource]) -> Result<(), Pu
 /// Puts a source.
 fn put_first_source<P: Put>(out: &mut P, source: &PhiSource) -> Result<(), PutError>
     requires { P.stops out.old < 2 ^ 64 - 1 }
-    ensures text { Puts result (P.written out.old) (P.written out.new) (text_of (source_words source.now)) }
-    ensures counted { Counts result (P.stops out.old) (P.stops out.new) }
-    ensures device { P.device out.new ≡ P.device out.old }
+    ensures { HasPut P.written P.stops P.device result out.old out.new (text_of (source_words source.now)) }
 {
     put_pieces(
         out,
@@ -503,9 +469,7 @@ fn put_first_source<P: Put>(out: &mut P, source: &PhiSource) -> Result<(), PutEr
 
 fn put_sources<P: Put>(out: &mut P, sources: &[PhiSource]) -> Result<(), PutError>
     requires { P.stops out.old < 2 ^ 64 - 1 }
-    ensures text { Puts result (P.written out.old) (P.written out.new) (text_of (sources_words sources.now)) }
-    ensures counted { Counts result (P.stops out.old) (P.stops out.new) }
-    ensures device { P.device out.new ≡ P.device out.old }
+    ensures { HasPut P.written P.stops P.device result out.old out.new (text_of (sources_words sources.now)) }
 {
     match sources {
         [] => Ok(()),
@@ -519,9 +483,7 @@ fn put_sources<P: Put>(out: &mut P, sources: &[PhiSource]) -> Result<(), PutErro
 /// Puts a phi up to its sources.
 fn put_phi<P: Put>(out: &mut P, target: &Target) -> Result<(), PutError>
     requires { P.stops out.old < 2 ^ 64 - 1 }
-    ensures text { Puts result (P.written out.old) (P.written out.new) (text_of (phi_start target.now)) }
-    ensures counted { Counts result (P.stops out.old) (P.stops out.new) }
-    ensures device { P.device out.new ≡ P.device out.old }
+    ensures { HasPut P.written P.stops P.device result out.old out.new (text_of (phi_start target.now)) }
 {
     put_pieces(
         out,
@@ -542,9 +504,7 @@ fn put_phi<P: Put>(out: &mut P, target: &Target) -> Result<(), PutError>
 /// `PutError` where `out` stopped. Then a prefix of the text was put.
 pub fn phi_text<P: Put, A: Allocator>(phi: &Phi<'_, A>, out: &mut P) -> Result<(), PutError>
     requires { P.stops out.old < 2 ^ 64 - 1 }
-    ensures text { Puts result (P.written out.old) (P.written out.new) (phi_text phi.now) }
-    ensures counted { Counts result (P.stops out.old) (P.stops out.new) }
-    ensures device { P.device out.new ≡ P.device out.old }
+    ensures { HasPut P.written P.stops P.device result out.old out.new (phi_text phi.now) }
 {
     put_phi(out, &phi.target)?;
     put_sources(out, phi.sources.as_slice())
@@ -557,9 +517,7 @@ pub fn phi_text<P: Put, A: Allocator>(phi: &Phi<'_, A>, out: &mut P) -> Result<(
 /// `PutError` where `out` stopped. Then a prefix of the text was put.
 pub fn jump_text<P: Put>(jump: &Jump, out: &mut P) -> Result<(), PutError>
     requires { P.stops out.old < 2 ^ 64 - 1 }
-    ensures text { Puts result (P.written out.old) (P.written out.new) (jump_text jump.now) }
-    ensures counted { Counts result (P.stops out.old) (P.stops out.new) }
-    ensures device { P.device out.new ≡ P.device out.old }
+    ensures { HasPut P.written P.stops P.device result out.old out.new (jump_text jump.now) }
 {
     match &jump.kind {
         JumpKind::Jmp(to) => put_pieces(out, &[Piece::Bytes(b"jmp @"), Piece::Bytes(to.bytes())]),

@@ -13,10 +13,10 @@ pub enum Answer {
     Same,
     /// Code and tree differ, first at a line of the text.
     DiffersAtLine(u32),
-    /// The run went back to the start.
-    Back,
-    /// Going back ended at this position, or at 0 with a machine that doesn't are at the start.
+    /// The histories differ, first at a position.
     DiffersAt(u64),
+    /// Something went on that was refused memory, or wanted memory that was there.
+    WrongWant,
 }
 
 impl Answer {
@@ -30,9 +30,12 @@ impl Answer {
                 println!(rt; "line {line}")?;
                 return Ok(ExitCode::FAILURE);
             }
-            Answer::Back => println!(rt; "back")?,
             Answer::DiffersAt(position) => {
                 println!(rt; "differs at {position}")?;
+                return Ok(ExitCode::FAILURE);
+            }
+            Answer::WrongWant => {
+                println!(rt; "a start, a copy or a history begun without memory")?;
                 return Ok(ExitCode::FAILURE);
             }
         }

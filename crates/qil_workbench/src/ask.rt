@@ -7,20 +7,16 @@ use crate::histories::ask_histories;
 use crate::load::{checked, tell_refused};
 use crate::moves::each_move;
 use crate::read_back::read_back;
-use crate::run::run;
-use crate::stopwatch::tell_since;
 use qil_layout::{Image, layout};
 use qil_numbering::{Code, number};
 use qil_rules::Checked;
 use refusing::Refusing;
 use std::alloc::{Allocator, Global};
 use std::hash::RandomState;
-use std::time::{Clock, Instant};
 
-#[derive(Clone, Copy, PartialEq, Eq)]
+#[derive(Clone, Copy)]
 pub enum Question {
     ReadBack,
-    Run,
     Moves,
     Histories,
 }
@@ -30,16 +26,10 @@ impl Question {
     pub fn of(word: &str) -> Option<Question> {
         match word {
             "read-back" => Some(Question::ReadBack),
-            "run" => Some(Question::Run),
             "moves" => Some(Question::Moves),
             "histories" => Some(Question::Histories),
             _ => None,
         }
-    }
-
-    /// Whether something can stand after the text.
-    pub fn has_two_parts(self) -> bool {
-        self == Question::ReadBack || self == Question::Histories
     }
 }
 
@@ -49,15 +39,13 @@ pub struct Bench<'t, R> {
     pub rt: &'t R,
     pub keys: RandomState,
     pub question: Question,
-    /// The most moves.
-    pub most: u32,
     /// What stands after the text.
     pub behind: &'t [u8],
-    /// What refuses allocations, where the question is about these.
+    /// What refuses allocations. It allocates all that there is, so that no code is proved for two allocators.
     pub heap: &'t Refusing<Global>,
 }
 
-fn ask_code<R: Clock + Print + Eprint, A: Allocator + Copy>(
+fn ask_code<R: Print, A: Allocator + Copy>(
     bench: &Bench<'_, R>,
     alloc: A,
     checked: &Checked<'_, A>,
@@ -65,14 +53,13 @@ fn ask_code<R: Clock + Print + Eprint, A: Allocator + Copy>(
 ) -> anyhow::Result<Answer> {
     match bench.question {
         Question::ReadBack => read_back(bench, alloc, checked, code),
-        Question::Run => run(bench.rt, alloc, code, bench.most),
-        Question::Moves => each_move(bench.rt, bench.heap, alloc, code, bench.most),
+        Question::Moves => each_move(bench.rt, bench.heap, alloc, code),
         Question::Histories => ask_histories(bench.rt, alloc, code, bench.behind),
     }
 }
 
-/// Numbers a program, and tells the microseconds that it took.
-fn ask_laid_out<'c, 'a, R: Clock + Print + Eprint, A: Allocator + Copy>(
+/// Numbers a program, and asks its code.
+fn ask_laid_out<'c, 'a, R: Print, A: Allocator + Copy>(
     bench: &Bench<'_, R>,
     alloc: A,
     checked: &'c Checked<'a, A>,
@@ -80,24 +67,18 @@ fn ask_laid_out<'c, 'a, R: Clock + Print + Eprint, A: Allocator + Copy>(
 ) -> anyhow::Result<Answer>
     requires { image.now ≡ checked.now.program }
 {
-    let start = Instant::now(bench.rt)?;
     let code = number(alloc, bench.keys, checked, image)?;
-    tell_since(bench.rt, "number", start)?;
     ask_code(bench, alloc, checked, &code)
 }
 
-/// Lays a program out, and tells the microseconds that it took.
-fn ask_checked<R: Clock + Print + Eprint, A: Allocator + Copy>(
+/// Lays a program out, and goes on.
+fn ask_checked<R: Print, A: Allocator + Copy>(
     bench: &Bench<'_, R>,
     alloc: A,
     checked: &Checked<'_, A>,
 ) -> anyhow::Result<Answer> {
-    let start = Instant::now(bench.rt)?;
     match layout(alloc, bench.keys, checked) {
-        Ok(image) => {
-            tell_since(bench.rt, "layout", start)?;
-            ask_laid_out(bench, alloc, checked, &image)
-        }
+        Ok(image) => ask_laid_out(bench, alloc, checked, &image),
         Err(error) => {
             tell_refused(bench.rt, &error)?;
             Ok(Answer::Reported)
@@ -106,7 +87,7 @@ fn ask_checked<R: Clock + Print + Eprint, A: Allocator + Copy>(
 }
 
 /// Asks the question of a text.
-pub fn ask<R: Clock + Print + Eprint, A: Allocator + Copy>(
+pub fn ask<R: Print, A: Allocator + Copy>(
     bench: &Bench<'_, R>,
     alloc: A,
     text: &[u8],

@@ -2,14 +2,12 @@
 
 ghost use Rattle.qil_tree.specs.Trees.{HasBlocks};
 
-use crate::stopwatch::tell_since;
 use qil_checker::{Checked, check};
 use qil_lexer::tokens;
 use qil_parser::{Program, parse};
 use std::alloc::Allocator;
 use std::fmt::Display;
 use std::hash::RandomState;
-use std::time::{Clock, Instant};
 
 /// Tells why there is no program, as its error says it.
 pub fn tell_refused<R: Print, E: Display>(rt: &R, error: &E) -> anyhow::Result<()> {
@@ -25,8 +23,8 @@ fn refused<'t, R: Print, A: Allocator, E: Display>(
     Ok(None)
 }
 
-/// Checks a program, and tells the microseconds that it took, or why it is refused.
-fn check_timed<'t, R: Clock + Print + Eprint, A: Allocator + Copy>(
+/// Checks a program, or tells why it is refused.
+fn check_parsed<'t, R: Print, A: Allocator + Copy>(
     rt: &R,
     alloc: A,
     keys: RandomState,
@@ -35,18 +33,14 @@ fn check_timed<'t, R: Clock + Print + Eprint, A: Allocator + Copy>(
     // As `parse` gives it.
     requires { HasBlocks program }
 {
-    let start = Instant::now(rt)?;
     match check(alloc, keys, program) {
-        Ok(checked) => {
-            tell_since(rt, "check", start)?;
-            Ok(Some(checked))
-        }
+        Ok(checked) => Ok(Some(checked)),
         Err((_program, error)) => refused(rt, &error),
     }
 }
 
 /// The program of a text, checked. Where it is refused the line of that is reported.
-pub fn checked<'t, R: Clock + Print + Eprint, A: Allocator + Copy>(
+pub fn checked<'t, R: Print, A: Allocator + Copy>(
     rt: &R,
     alloc: A,
     keys: RandomState,
@@ -57,7 +51,7 @@ pub fn checked<'t, R: Clock + Print + Eprint, A: Allocator + Copy>(
         Err(error) => return refused(rt, &error),
     };
     match parse(alloc, &found) {
-        Ok(program) => check_timed(rt, alloc, keys, program),
+        Ok(program) => check_parsed(rt, alloc, keys, program),
         Err(error) => refused(rt, &error),
     }
 }

@@ -3,13 +3,13 @@
 //!
 //! - `read-back`: whether the numbered code, read back through names, is what the tree has; the tree of the text after
 //!   the first, if there is one.
-//! - `run`: where a run of at most NUMBER moves ends, and whether going back comes to the start.
-//! - `moves`: of each of at most NUMBER moves what its record keeps and weighs, and how many allocations it takes.
-//! - `histories`: where all histories stand after each of the moves that the lines after the text ask for, of which the
-//!   first says how many moves are kept where only the newest are.
+//! - `moves`: of a poke of a temporary and of bytes, and of each move of a run, what its record keeps and weighs; and how many
+//!   allocations a start and a copy take, and the begin of a history.
+//! - `histories`: where the history of deltas and that of clones stand after each of the moves that the lines after the text
+//!   ask for.
 //!
 //! What comes on standard output is the same on every machine, and `refused` for a text that isn't accepted or has no
-//! `$main` without parameters. Times come on standard error. The status is 1 where something isn't as it has to be.
+//! `$main` without parameters. The status is 1 where something isn't as it has to be.
 #![tactic(auto)]
 
 mod answer;
@@ -21,10 +21,6 @@ mod moves;
 mod read_back;
 mod reader;
 mod record;
-mod refusals;
-mod report;
-mod run;
-mod stopwatch;
 
 use answer::Answer;
 use anyhow::bail;
@@ -42,20 +38,21 @@ const LIMIT: u64 = (1 << 20) + (1 << 24);
 #[derive(Clone, Copy)]
 struct Words {
     question: Option<Question>,
-    number: Option<u32>,
+    /// How many bytes the text has, if something stands after it.
+    length: Option<u32>,
 }
 
 fn read_words<R: Env + AllocGlobal>(rt: &R) -> anyhow::Result<Words> {
     let mut words = Words {
         question: None,
-        number: None,
+        length: None,
     };
     for word in std::env::args(rt)? {
         match Question::of(word.as_str()) {
             Some(question) => words.question = Some(question),
             None => {
-                if let Ok(number) = word.parse() {
-                    words.number = Some(number);
+                if let Ok(length) = word.parse() {
+                    words.length = Some(length);
                 }
             }
         }
@@ -63,10 +60,10 @@ fn read_words<R: Env + AllocGlobal>(rt: &R) -> anyhow::Result<Words> {
     Ok(words)
 }
 
-/// Cuts the input where NUMBER says that the text ends; with no number it is all text.
-fn split(input: &[u8], words: Words) -> (&[u8], &[u8]) {
-    match words.number {
-        Some(number) if number as usize <= input.len() => input.split_at(number as usize),
+/// Cuts the input where the text ends; with no length it is all text.
+fn split(input: &[u8], length: Option<u32>) -> (&[u8], &[u8]) {
+    match length {
+        Some(length) if length as usize <= input.len() => input.split_at(length as usize),
         _ => input.split_at(input.len()),
     }
 }
@@ -74,29 +71,19 @@ fn split(input: &[u8], words: Words) -> (&[u8], &[u8]) {
 fn main(rt: HostRuntime) -> anyhow::Result<ExitCode> {
     let words = read_words(&rt)?;
     let Some(question) = words.question else {
-        bail!("read-back, run, moves or histories");
+        bail!("read-back, moves or histories");
     };
     let keys = RandomState::new(&rt)?;
     let mut input = Vec::new(rt.alloc());
     rt.reader().take(LIMIT).read_to_end(&mut input)?;
-    let (text, behind) = if question.has_two_parts() {
-        split(input.as_slice(), words)
-    } else {
-        (input.as_slice(), [].as_slice())
-    };
+    let (text, behind) = split(input.as_slice(), words.length);
     let heap = Refusing::new(rt.alloc());
     let bench = Bench {
         rt: &rt,
         keys,
         question,
-        most: words.number.unwrap_or(1_000_000),
         behind,
         heap: &heap,
     };
-    let answer = if question == Question::Moves {
-        ask(&bench, &heap, text)?
-    } else {
-        ask(&bench, rt.alloc(), text)?
-    };
-    answer.tell(&rt)
+    ask(&bench, &heap, text)?.tell(&rt)
 }

@@ -7,7 +7,6 @@ use crate::reader::Reader;
 use qil_numbering::Code;
 use qil_rules::Checked;
 use std::alloc::Allocator;
-use std::time::Clock;
 
 /// Whether each function of a tree is read back as it stands there.
 fn compare<'r, A: Allocator + Copy>(
@@ -27,7 +26,7 @@ fn compare<'r, A: Allocator + Copy>(
 }
 
 /// Compares a code with the tree that it was numbered from, or with that of the text after the first, if there is one.
-pub fn read_back<R: Clock + Print + Eprint, A: Allocator + Copy>(
+pub fn read_back<R: Print, A: Allocator + Copy>(
     bench: &Bench<'_, R>,
     alloc: A,
     tree: &Checked<'_, A>,

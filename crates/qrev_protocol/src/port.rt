@@ -5,6 +5,7 @@ ghost use Rattle.std.specs.Io.KnownBytes.{Appends};
 ghost use Rattle.qrev_protocol.specs.Frame.{framed};
 ghost use Rattle.qrev_protocol.specs.Outgoing.{response_head, event_head, message_head, sent_text};
 
+use crate::request::Request;
 use crate::values::{Object, Whole, begin_whole};
 use itoa::Buffer;
 use qil_streams::{DeviceFault, Sink, write_all};
@@ -59,15 +60,14 @@ fn begin<A: Allocator>(alloc: A, kind: &str) -> Result<Object<A, Whole>, AllocEr
 /// The response to a request, up to its body.
 pub fn response<A: Allocator>(
     alloc: A,
-    request: u64,
-    command: &str,
+    request: &Request<'_>,
     outcome: Outcome<'_>,
 ) -> Result<Object<A, Whole>, AllocError>
-    ensures { IfOk result (λ o. o.out.tokens ≡ response_head request command.now outcome.entry) }
+    ensures { IfOk result (λ o. o.out.tokens ≡ response_head request.now.seq request.now.command.now outcome.entry) }
 {
     let message = begin(alloc, "response")?
-        .number("request_seq", request)?
-        .text("command", command)?;
+        .number("request_seq", request.seq())?
+        .text("command", request.command())?;
     match outcome {
         Outcome::Done => message.flag("success", true),
         Outcome::Failed(why) => message.flag("success", false)?.text("message", why),
@@ -133,5 +133,17 @@ impl<A: Allocator + Copy, W: Sink> Port<A, W> {
         write_all(&mut self.sink, frame.as_slice())?;
         self.sent = number;
         Ok(())
+    }
+
+    /// As `send`, of a port that can count it: one that sent 2^64 - 1 messages, or whose device failed as often, sends nothing more.
+    ///
+    /// # Errors
+    ///
+    /// As of `send`.
+    pub fn send_counted(&mut self, message: Object<A, Whole>) -> Result<(), SendError> {
+        if self.sent == u64::MAX || self.sink.faults() == u64::MAX {
+            return Err(SendError::Device);
+        }
+        self.send(message)
     }
 }

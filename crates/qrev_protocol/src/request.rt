@@ -41,11 +41,31 @@ pub fn flag_of<A: Allocator>(object: &Value<'_, A>, name: &str) -> Option<bool>
     object.get(name)?.as_bool()
 }
 
-/// A request: its number, by which it is answered, and what it asks for.
-#[derive(Clone, Copy)]
+/// A request: its number, by which it is answered, and what it asks for. It can't be let go: it ends in a turn.
 pub struct Request<'a> {
-    pub seq: u64,
-    pub command: &'a str,
+    seq: u64,
+    command: &'a str,
+}
+
+impl<'a> Request<'a> {
+    /// The number by which it is answered.
+    pub fn seq(&self) -> u64
+        ensures { result ≡ self.now.seq }
+    {
+        self.seq
+    }
+
+    /// What it asks for.
+    pub fn command(&self) -> &'a str
+        ensures { result.now ≡ self.now.command.now }
+    {
+        self.command
+    }
+
+    /// Ends it: it is answered, or never will be.
+    pub fn end(self) {
+        let Request { seq: _, command: _ } = self;
+    }
 }
 
 /// The request that a message is, if it is one.

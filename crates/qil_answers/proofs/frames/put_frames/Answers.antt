@@ -1,5 +1,5 @@
 -- Answers to the goals of `put_frames`.
-use Rattle.std.proofs.Common.{◌+◌, ◌≤◌, ◌∙◌, drop, length, reverse, arith}
+use Rattle.std.proofs.Common.{◌+◌, ◌≤◌, ◌∙◌, drop, length, rules}
 use Rattle.std.proofs.lemmas.List.{length-reverse}
 use Rattle.qil_state.specs.State.{frame_state}
 use Rattle.qil_answers.specs.Texts.{frame_line}
@@ -8,18 +8,22 @@ use Rattle.qil_answers.proofs.Reported.{reported_as, reported_stop, reported_mor
 use Rattle.qil_answers.proofs.ListLines.{frames_none, frames_some, frames_step, frames_end}
 use Rattle.qil_answers.proofs.frames.put_frames.Goals as goal
 
-pub returns-in_default-clause-text : goal.returns-in_default-clause-text
-returns-in_default-clause-text g c = rw (frames_none c.args.machine.now.program c.args.machine.now.frames c.in_default.ensures.frame) c.put_line.ensures.text
+pub returns-in_default : goal.returns-in_default
+returns-in_default g c = rw (frames_none c.args.machine.now.program c.args.machine.now.frames c.in_default.ensures.frame) c.put_line.ensures
 
-pub returns-in_err-put_frame-clause-text : goal.returns-in_err-put_frame-clause-text
-returns-in_err-put_frame-clause-text g c =
+pub returns-in_err-put_frame : goal.returns-in_err-put_frame
+returns-in_err-put_frame g c =
     let p = c.args.machine.now.program in
     let fs = c.args.machine.now.frames in
     let i = c.loop-inner.inner in
-    rw (frames_some p fs _ c.in-Some.ensures.frame)
-    (reported_stop _ (frame_line (frame_state p (drop (i + 1) fs) c.frame_at.result.now)) (frame_lines p (drop (i + 1) fs)) _ _ _
-    (reported_as _ _ _ _ _ (frames_step p fs i c.frame_at.result.now c.frame_at.ensures) c.loop-inner.invariant.text)
-    _ _ c.from_residual.ensures.1 c.in_err-put_frame.field-0.0 (rw c.code-code.ensures at (c.in_err-put_frame.ensures.text (drop (i + 1) fs))))
+    record {
+      text = rw (frames_some p fs _ c.in-Some.ensures.frame)
+          (reported_stop _ (frame_line (frame_state p (drop (i + 1) fs) c.frame_at.result.now)) (frame_lines p (drop (i + 1) fs)) _ _ _
+          (reported_as _ _ _ _ _ (frames_step p fs i c.frame_at.result.now c.frame_at.ensures) c.loop-inner.invariant.text)
+          _ _ c.from_residual.ensures.1 c.in_err-put_frame.field-0.0 (rw c.code-code.ensures at (c.in_err-put_frame.ensures.text (drop (i + 1) fs))));
+      counted = search rules;
+      device = search rules;
+    }
 
 pub loop-inner-preserved : goal.loop-inner-preserved
 loop-inner-preserved g c =
@@ -34,11 +38,15 @@ loop-inner-preserved g c =
       device = c.put_frame.ensures.device ∙ c.loop-inner.invariant.device;
     }
 
-pub returns-clause-text : goal.returns-clause-text
-returns-clause-text g c =
+pub returns : goal.returns
+returns g c =
     let p = c.args.machine.now.program in
     let fs = c.args.machine.now.frames in
     let i = c.loop-inner.inner in
     let all : length fs ≤ i = rw (length-reverse fs) at (rw c.frames-inner-end.ensures.value at c.loop-inner-test.false) in
-    rw (frames_some p fs _ c.in-Some.ensures.frame)
-    (reported_all _ _ _ (reported_as _ _ _ _ _ (frames_end p fs i all) c.loop-inner.invariant.text))
+    record {
+      text = rw (frames_some p fs _ c.in-Some.ensures.frame)
+          (reported_all _ _ _ (reported_as _ _ _ _ _ (frames_end p fs i all) c.loop-inner.invariant.text));
+      counted = search rules;
+      device = search rules;
+    }

@@ -3,10 +3,10 @@ use Rattle.std.proofs.Common.{rules}
 use Rattle.qil_answers.proofs.Here.{standing_none, standing_some}
 use Rattle.qil_answers.proofs.place.put_standing.Goals as goal
 
-pub returns-in_default-clause-text : goal.returns-in_default-clause-text
-returns-in_default-clause-text g c =
+pub returns-in_default : goal.returns-in_default
+returns-in_default g c =
     rw (standing_none c.args.machine.now.program c.args.machine.now.frames c.args.position c.in_default.ensures.frame) (search rules)
 
-pub returns-clause-text : goal.returns-clause-text
-returns-clause-text g c =
+pub returns : goal.returns
+returns g c =
     rw (standing_some c.args.machine.now.program c.args.machine.now.frames c.in-Some.frame.now c.args.position c.in-Some.ensures.frame) (search rules)

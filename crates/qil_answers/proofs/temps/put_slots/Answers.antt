@@ -1,5 +1,5 @@
 -- Answers to the goals of `put_slots`.
-use Rattle.std.proofs.Common.{◌+◌, ◌∙◌, drop, get_or, None}
+use Rattle.std.proofs.Common.{◌+◌, ◌∙◌, drop, get_or, None, rules}
 use Rattle.qil_numbering.specs.Numbered.{names_of}
 use Rattle.qil_numbering.specs.Slots.{name_at}
 use Rattle.qil_answers.specs.Texts.{value_line}
@@ -8,14 +8,18 @@ use Rattle.qil_answers.proofs.Reported.{reported_as, reported_stop, reported_mor
 use Rattle.qil_answers.proofs.SlotValues.{slot_lines_step}
 use Rattle.qil_answers.proofs.temps.put_slots.Goals as goal
 
-pub returns-in_err-put_value-clause-text : goal.returns-in_err-put_value-clause-text
-returns-in_err-put_value-clause-text g c =
+pub returns-in_err-put_value : goal.returns-in_err-put_value
+returns-in_err-put_value g c =
     let ns = names_of c.args.code.now c.args.frame.now.func in
     let vs = c.args.frame.now.slots in
     let i = c.loop-index.index in
-    reported_stop _ (value_line (name_at ns i) (get_or vs i None)) (slot_lines (drop (i + 1) ns) (drop (i + 1) vs)) _ _ _
-    (reported_as _ _ _ _ _ (slot_lines_step ns vs i None c.requires.slots (rw c.slots-slots.ensures.value at c.loop-index-test.true)) c.loop-index.invariant.text)
-    _ _ c.from_residual.ensures.1 c.in_err-put_value.field-0.0 (rw (c.temp_name.ensures, c.func.ensures, c.slots-slots.ensures.value) at c.in_err-put_value.ensures.text)
+    record {
+      text = reported_stop _ (value_line (name_at ns i) (get_or vs i None)) (slot_lines (drop (i + 1) ns) (drop (i + 1) vs)) _ _ _
+          (reported_as _ _ _ _ _ (slot_lines_step ns vs i None c.requires.slots (rw c.slots-slots.ensures.value at c.loop-index-test.true)) c.loop-index.invariant.text)
+          _ _ c.from_residual.ensures.1 c.in_err-put_value.field-0.0 (rw (c.temp_name.ensures, c.func.ensures, c.slots-slots.ensures.value) at c.in_err-put_value.ensures.text);
+      counted = search rules;
+      device = search rules;
+    }
 
 pub loop-index-preserved : goal.loop-index-preserved
 loop-index-preserved g c =

@@ -3,21 +3,21 @@ use Rattle.qil_answers.proofs.SlotValues.{temps_none, temps_unnamed, temps_named
 use Rattle.std.proofs.Common.{sym, ◌∙◌}
 use Rattle.qil_answers.proofs.temps.put_temps.Goals as goal
 
-pub returns-in_default-clause-text : goal.returns-in_default-clause-text
-returns-in_default-clause-text g c = rw (temps_none c.args.machine.now.program c.args.machine.now.frames c.in_default.ensures.frame) c.put_line.ensures.text
+pub returns-in_default : goal.returns-in_default
+returns-in_default g c = rw (temps_none c.args.machine.now.program c.args.machine.now.frames c.in_default.ensures.frame) c.put_line.ensures
 
-pub returns-then-slot_count-eq0-clause-text : goal.returns-then-slot_count-eq0-clause-text
-returns-then-slot_count-eq0-clause-text g c =
+pub returns-then-slot_count-eq0 : goal.returns-then-slot_count-eq0
+returns-then-slot_count-eq0 g c =
     let none = rw (c.code-code.ensures, c.func-2.ensures) at c.slot_count.ensures in
     rw (temps_unnamed c.args.machine.now.program c.args.machine.now.frames c.in-Some.frame.now c.innermost.ensures.fits (rw c.code-code.ensures at c.func-known.ensures.finds) c.in-Some.ensures.frame (sym none ∙ c.if-slot_count-eq0.true))
-    c.put_line-then-slot_count-eq0.ensures.text
+    c.put_line-then-slot_count-eq0.ensures
 
 pub put_slots-requires-clause-slots : goal.put_slots-requires-clause-slots
 put_slots-requires-clause-slots g c =
     rw c.code-code.ensures (slots_long c.args.machine.now.program c.args.machine.now.frames c.in-Some.frame.now c.innermost.ensures.fits c.in-Some.ensures.frame)
 
-pub returns-clause-text : goal.returns-clause-text
-returns-clause-text g c =
+pub returns : goal.returns
+returns g c =
     let some = rw (c.code-code.ensures, c.func-2.ensures) at c.slot_count.ensures in
     rw (temps_named c.args.machine.now.program c.args.machine.now.frames c.in-Some.frame.now c.innermost.ensures.fits (rw c.code-code.ensures at c.func-known.ensures.finds) c.in-Some.ensures.frame (λ none. c.if-slot_count-eq0.false (some ∙ none)))
-    (rw c.code-code.ensures at c.put_slots.ensures.text)
+    (rw c.code-code.ensures at c.put_slots.ensures)

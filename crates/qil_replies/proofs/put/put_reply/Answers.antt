@@ -1,68 +1,68 @@
 -- Each reply has its text, by the function that puts it.
-use Rattle.std.proofs.Common.{ℕ, List}
+use Rattle.std.proofs.Common.{ℕ, List, ap, refl}
 use Rattle.qil_tree.specs.declared.tree.Program.{Program}
 use Rattle.qil_streams.specs.Text.{line}
 use Rattle.qil_streams.proofs.DeviceLemmas.{Appends-nil}
+use Rattle.qil_streams.proofs.TextLemmas.{HasPut-as}
 use Rattle.qil_meaning.specs.State.{Name}
 use Rattle.qil_state.specs.State.{state_of}
 use Rattle.qil_answers.specs.Shown.{printed}
 use Rattle.qil_replies.specs.Reply.{reply_text}
 use Rattle.qil_replies.specs.Texts.{stop_line, stops_shown}
-use Rattle.qil_replies.proofs.Lines.{reported_as}
 use Rattle.qil_replies.proofs.put.put_reply.Goals as goal
 
-pub returns-in-Nothing-clause-text : goal.returns-in-Nothing-clause-text
+pub returns-in-Nothing : goal.returns-in-Nothing
 unfolding reply_text
-returns-in-Nothing-clause-text g c = rw c.in-Nothing.is (Appends-nil (g.P.Put.written c.args.out.now))
+returns-in-Nothing g c = rw c.in-Nothing.is (record { text = Appends-nil (g.P.Put.written c.args.out.now); counted = refl; device = refl })
 
-pub returns-in-Refused-clause-text : goal.returns-in-Refused-clause-text
+pub returns-in-Refused : goal.returns-in-Refused
 unfolding reply_text
-returns-in-Refused-clause-text g c = rw c.in-Refused.is (reported_as (λ (x : List ℕ). line x) _ _ _ _ _ c.refusal_words.ensures c.put_line.ensures.text)
+returns-in-Refused g c = rw c.in-Refused.is (HasPut-as (ap (λ (x : List ℕ). line x) c.refusal_words.ensures) c.put_line.ensures)
 
-pub returns-in-Place-clause-text : goal.returns-in-Place-clause-text
+pub returns-in-Place : goal.returns-in-Place
 unfolding reply_text
-returns-in-Place-clause-text g c = rw c.in-Place.is c.put_place.ensures.text
+returns-in-Place g c = rw c.in-Place.is c.put_place.ensures
 
-pub returns-in-Stopped-clause-text : goal.returns-in-Stopped-clause-text
+pub returns-in-Stopped : goal.returns-in-Stopped
 unfolding reply_text
-returns-in-Stopped-clause-text g c = rw c.in-Stopped.is c.put_stopped.ensures.text
+returns-in-Stopped g c = rw c.in-Stopped.is c.put_stopped.ensures
 
-pub returns-in-Added-clause-text : goal.returns-in-Added-clause-text
+pub returns-in-Added : goal.returns-in-Added
 unfolding reply_text
-returns-in-Added-clause-text g c =
-    rw c.in-Added.is (reported_as (λ (p : Program g.row.A.Denot). stop_line p c.in-Added.number c.in-Added.kind) _ _ _ _ _ c.code.ensures c.put_stop.ensures.text)
+returns-in-Added g c =
+    rw c.in-Added.is (HasPut-as (ap (λ (p : Program g.row.A.Denot). stop_line p c.in-Added.number c.in-Added.kind) c.code.ensures) c.put_stop.ensures)
 
-pub returns-in-Deleted-clause-text : goal.returns-in-Deleted-clause-text
+pub returns-in-Deleted : goal.returns-in-Deleted
 unfolding reply_text
-returns-in-Deleted-clause-text g c = rw c.in-Deleted.is c.put_deleted.ensures.text
+returns-in-Deleted g c = rw c.in-Deleted.is c.put_deleted.ensures
 
-pub returns-in-Stops-clause-text : goal.returns-in-Stops-clause-text
+pub returns-in-Stops : goal.returns-in-Stops
 unfolding reply_text
-returns-in-Stops-clause-text g c =
-    rw c.in-Stops.is (reported_as (λ (p : Program g.row.A.Denot). stops_shown p c.args.stops.now) _ _ _ _ _ c.code-in-Stops.ensures c.put_stops.ensures.text)
+returns-in-Stops g c =
+    rw c.in-Stops.is (HasPut-as (ap (λ (p : Program g.row.A.Denot). stops_shown p c.args.stops.now) c.code-in-Stops.ensures) c.put_stops.ensures)
 
-pub returns-in-Temporary-clause-text : goal.returns-in-Temporary-clause-text
+pub returns-in-Temporary : goal.returns-in-Temporary
 unfolding reply_text
-returns-in-Temporary-clause-text g c =
+returns-in-Temporary g c =
     rw c.in-Temporary.is
-    (reported_as (λ (x : Name). printed c.args.machine.now.program (state_of c.args.machine.now).frames x) _ _ _ _ _ c.bytes.ensures c.put_printed.ensures.text)
+    (HasPut-as (ap (λ (x : Name). printed c.args.machine.now.program (state_of c.args.machine.now).frames x) c.bytes.ensures) c.put_printed.ensures)
 
-pub returns-in-Temporaries-clause-text : goal.returns-in-Temporaries-clause-text
+pub returns-in-Temporaries : goal.returns-in-Temporaries
 unfolding reply_text
-returns-in-Temporaries-clause-text g c = rw c.in-Temporaries.is c.put_temps.ensures.text
+returns-in-Temporaries g c = rw c.in-Temporaries.is c.put_temps.ensures
 
-pub returns-in-Bytes-clause-text : goal.returns-in-Bytes-clause-text
+pub returns-in-Bytes : goal.returns-in-Bytes
 unfolding reply_text
-returns-in-Bytes-clause-text g c = rw c.in-Bytes.is c.put_memory.ensures.text
+returns-in-Bytes g c = rw c.in-Bytes.is c.put_memory.ensures
 
-pub returns-in-Frames-clause-text : goal.returns-in-Frames-clause-text
+pub returns-in-Frames : goal.returns-in-Frames
 unfolding reply_text
-returns-in-Frames-clause-text g c = rw c.in-Frames.is c.put_frames.ensures.text
+returns-in-Frames g c = rw c.in-Frames.is c.put_frames.ensures
 
-pub returns-in-Block-clause-text : goal.returns-in-Block-clause-text
+pub returns-in-Block : goal.returns-in-Block
 unfolding reply_text
-returns-in-Block-clause-text g c = rw c.in-Block.is c.put_block.ensures.text
+returns-in-Block g c = rw c.in-Block.is c.put_block.ensures
 
-pub returns-in-Output-clause-text : goal.returns-in-Output-clause-text
+pub returns-in-Output : goal.returns-in-Output
 unfolding reply_text
-returns-in-Output-clause-text g c = rw c.in-Output.is c.put_output.ensures.text
+returns-in-Output g c = rw c.in-Output.is c.put_output.ensures

@@ -1,5 +1,5 @@
 -- Answers to the goals of `put_listed`.
-use Rattle.std.proofs.Common.{◌∙◌, refl}
+use Rattle.std.proofs.Common.{◌∙◌, refl, rules}
 use Rattle.qil_streams.proofs.DeviceLemmas.{Appends-nil}
 use Rattle.qil_streams.proofs.PieceLemmas.{put_more, put_stop, put_all}
 use Rattle.qil_replies.specs.Texts.{listed_line}
@@ -15,11 +15,17 @@ loop-stop-preserved g c = record {
   device = c.put_stop.ensures.device ∙ c.loop-stop.invariant.device;
 }
 
-pub returns-in_err-put_stop-clause-text : goal.returns-in_err-put_stop-clause-text
-returns-in_err-put_stop-clause-text g c =
-    put_stop (listed_line c.args.code.now) c.args.stops.now c.loop-stop.stop-index _ _ _ _ c.loop-stop-test.true _ _ c.from_residual.ensures.1 c.in_err-put_stop.field-0.0
-    c.loop-stop.invariant.text c.in_err-put_stop.ensures.text
+pub returns-in_err-put_stop : goal.returns-in_err-put_stop
+returns-in_err-put_stop g c = record {
+  text = put_stop (listed_line c.args.code.now) c.args.stops.now c.loop-stop.stop-index _ _ _ _ c.loop-stop-test.true _ _ c.from_residual.ensures.1 c.in_err-put_stop.field-0.0
+      c.loop-stop.invariant.text c.in_err-put_stop.ensures.text;
+  counted = search rules;
+  device = search rules;
+}
 
-pub returns-clause-text : goal.returns-clause-text
-returns-clause-text g c =
-    put_all (listed_line c.args.code.now) c.args.stops.now c.loop-stop.stop-index _ _ c.loop-stop-test.false c.loop-stop.invariant.text
+pub returns : goal.returns
+returns g c = record {
+  text = put_all (listed_line c.args.code.now) c.args.stops.now c.loop-stop.stop-index _ _ c.loop-stop-test.false c.loop-stop.invariant.text;
+  counted = search rules;
+  device = search rules;
+}

@@ -4,11 +4,11 @@ use Rattle.qil_texts.specs.Canonical.{call_words, arguments_words, close_paren}
 use Rattle.qil_texts.proofs.CanonicalLemmas.{words_put, words_stop}
 use Rattle.qil_texts.proofs.canonical.put_call.Goals as goal
 
-pub returns-in_err-put_called-clause-text : goal.returns-in_err-put_called-clause-text
-returns-in_err-put_called-clause-text g c = words_stop (call_words c.args.target.now c.args.callee.now) _ _ _ c.from_residual.ensures.1 c.in_err-put_called.field-0.0 _ _ c.in_err-put_called.ensures.text
+pub returns-in_err-put_called : goal.returns-in_err-put_called
+returns-in_err-put_called g c = words_stop (call_words c.args.target.now c.args.callee.now) _ _ _ c.from_residual.ensures.1 _ _ _ c.in_err-put_called.ensures
 
-pub returns-in_err-put_arguments-clause-text : goal.returns-in_err-put_arguments-clause-text
-returns-in_err-put_arguments-clause-text g c = words_put (call_words c.args.target.now c.args.callee.now) _ _ _ _ _ c.in_ok-put_called.ensures.text (words_stop (arguments_words c.args.arguments.now) (close_paren ∷ []) _ _ c.from_residual-in_err-put_arguments.ensures.1 c.in_err-put_arguments.field-0.0 _ _ c.in_err-put_arguments.ensures.text)
+pub returns-in_err-put_arguments : goal.returns-in_err-put_arguments
+returns-in_err-put_arguments g c = words_put (call_words c.args.target.now c.args.callee.now) _ _ _ _ _ _ c.in_ok-put_called.ensures (words_stop (arguments_words c.args.arguments.now) (close_paren ∷ []) _ _ c.from_residual-in_err-put_arguments.ensures.1 _ _ _ c.in_err-put_arguments.ensures)
 
-pub returns-clause-text : goal.returns-clause-text
-returns-clause-text g c = words_put (call_words c.args.target.now c.args.callee.now) _ _ _ _ _ c.in_ok-put_called.ensures.text (words_put (arguments_words c.args.arguments.now) (close_paren ∷ []) _ _ _ _ c.in_ok-put_arguments.ensures.text c.put.ensures.text)
+pub returns : goal.returns
+returns g c = words_put (call_words c.args.target.now c.args.callee.now) _ _ _ _ _ _ c.in_ok-put_called.ensures (words_put (arguments_words c.args.arguments.now) (close_paren ∷ []) _ _ _ _ _ c.in_ok-put_arguments.ensures c.put.ensures)

@@ -1,5 +1,5 @@
 -- Answers to the goals of `put_more_arguments`.
-use Rattle.std.proofs.Common.{◌∙◌, refl}
+use Rattle.std.proofs.Common.{◌∙◌, refl, rules}
 use Rattle.qil_streams.proofs.DeviceLemmas.{Appends-nil}
 use Rattle.qil_streams.proofs.PieceLemmas.{put_all}
 use Rattle.qil_texts.specs.Pieces.{more_argument_text}
@@ -16,11 +16,17 @@ loop-argument-preserved g c = record {
   device = c.put_argument.ensures.device ∙ c.loop-argument.invariant.device;
 }
 
-pub returns-in_err-put_argument-clause-text : goal.returns-in_err-put_argument-clause-text
-returns-in_err-put_argument-clause-text g c =
-    item_stop more_argument_text c.args.arguments.now c.loop-argument.argument-index c.argument-item.result _ c.loop-argument-test.true c.argument-item.is refl _ _ _ _ _ c.from_residual.ensures.1 c.in_err-put_argument.field-0.0
-    c.loop-argument.invariant.text c.in_err-put_argument.ensures.text
+pub returns-in_err-put_argument : goal.returns-in_err-put_argument
+returns-in_err-put_argument g c = record {
+  text = item_stop more_argument_text c.args.arguments.now c.loop-argument.argument-index c.argument-item.result _ c.loop-argument-test.true c.argument-item.is refl _ _ _ _ _ c.from_residual.ensures.1 c.in_err-put_argument.field-0.0
+      c.loop-argument.invariant.text c.in_err-put_argument.ensures.text;
+  counted = search rules;
+  device = search rules;
+}
 
-pub returns-clause-text : goal.returns-clause-text
-returns-clause-text g c =
-    put_all more_argument_text c.args.arguments.now c.loop-argument.argument-index _ _ c.loop-argument-test.false c.loop-argument.invariant.text
+pub returns : goal.returns
+returns g c = record {
+  text = put_all more_argument_text c.args.arguments.now c.loop-argument.argument-index _ _ c.loop-argument-test.false c.loop-argument.invariant.text;
+  counted = search rules;
+  device = search rules;
+}

@@ -1,5 +1,5 @@
 -- Answers to the goals of `put_more_sources`.
-use Rattle.std.proofs.Common.{◌∙◌, refl}
+use Rattle.std.proofs.Common.{◌∙◌, refl, rules}
 use Rattle.qil_streams.proofs.DeviceLemmas.{Appends-nil}
 use Rattle.qil_streams.proofs.PieceLemmas.{put_all}
 use Rattle.qil_texts.specs.Pieces.{more_source_text}
@@ -16,11 +16,17 @@ loop-source-preserved g c = record {
   device = c.put_source.ensures.device ∙ c.loop-source.invariant.device;
 }
 
-pub returns-in_err-put_source-clause-text : goal.returns-in_err-put_source-clause-text
-returns-in_err-put_source-clause-text g c =
-    item_stop more_source_text c.args.sources.now c.loop-source.source-index c.source-item.result _ c.loop-source-test.true c.source-item.is refl _ _ _ _ _ c.from_residual.ensures.1 c.in_err-put_source.field-0.0
-    c.loop-source.invariant.text c.in_err-put_source.ensures.text
+pub returns-in_err-put_source : goal.returns-in_err-put_source
+returns-in_err-put_source g c = record {
+  text = item_stop more_source_text c.args.sources.now c.loop-source.source-index c.source-item.result _ c.loop-source-test.true c.source-item.is refl _ _ _ _ _ c.from_residual.ensures.1 c.in_err-put_source.field-0.0
+      c.loop-source.invariant.text c.in_err-put_source.ensures.text;
+  counted = search rules;
+  device = search rules;
+}
 
-pub returns-clause-text : goal.returns-clause-text
-returns-clause-text g c =
-    put_all more_source_text c.args.sources.now c.loop-source.source-index _ _ c.loop-source-test.false c.loop-source.invariant.text
+pub returns : goal.returns
+returns g c = record {
+  text = put_all more_source_text c.args.sources.now c.loop-source.source-index _ _ c.loop-source-test.false c.loop-source.invariant.text;
+  counted = search rules;
+  device = search rules;
+}

@@ -1,0 +1,3 @@
+-- What this crate proves besides the goals of its functions.
+pub mod Recording
+pub mod Moves
