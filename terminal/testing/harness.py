@@ -21,6 +21,8 @@ FOLDER = pathlib.Path(__file__).resolve().parent.parent
 TOP = FOLDER.parent
 PROMPT = "(qrev) "
 PLACE = re.compile(r"#\d+ (?:[$]\S+ @\S+ \d+|done.*|exit.*|fault.*)")
+# What a line showed before it was erased: how far a long search has come is shown, and then taken away again.
+ERASED = re.compile(r"[^\n]*\r\x1b\[K")
 
 
 class Silent(Exception):
@@ -45,7 +47,7 @@ class Terminal:
             os.execvpe(words[0], words, variables)
 
     def wait_for(self, text: str) -> str:
-        """What came up to the text, without the text itself."""
+        """What came up to the text, without the text itself and without what was erased."""
         end = time.monotonic() + self.seconds
         while text not in self.shown:
             if not select.select([self.device], [], [], max(0, end - time.monotonic()))[0]:
@@ -59,7 +61,7 @@ class Terminal:
             # The two bytes that end a line may come apart.
             self.shown = (self.shown + piece.decode(errors="replace")).replace("\r\n", "\n")
         before, _, self.shown = self.shown.partition(text)
-        return before
+        return ERASED.sub("", before)
 
     def settle(self, seconds: float) -> None:
         """Waits until nothing has come for so long, and forgets what came: Ctrl-C may make a second prompt."""
