@@ -9,6 +9,15 @@ their words as it can be and keeps a list of whole states, so it is slow.
     rules.py     the rules of a program, whether it is in SSA form, and where its names lie
     machine.py   states and steps
     session.py   commands, stops and answers
+
+And the debug adapter, written from docs/ADAPTER.md alone:
+
+    messages.py   messages in their frames
+    launching.py  what the arguments of a launch say
+    places.py     the line of a place, the place that a line means
+    debuggee.py   a session that moves by lines of commands, each of which is kept; runs over calls
+    shown.py      frames, scopes, variables
+    adapter.py    requests, and what is answered
 """
 from .session import Session, load, transcript
 from .tokens import Refused

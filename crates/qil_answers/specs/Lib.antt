@@ -1,4 +1,4 @@
--- What is shown of a run: the texts of pieces, places and values, and what each command that shows something tells.
+-- What is shown of a run: the texts of fragments, places and values, and what each command that shows something tells.
 pub mod Texts
 pub mod Shown
 pub mod Listing

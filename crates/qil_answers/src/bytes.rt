@@ -9,7 +9,7 @@ ghost use Rattle.qil_answers.specs.Texts.{hex_digit, byte_text, quoted_byte};
 ghost use Rattle.qil_answers.specs.Shown.{spaced_byte, memory_shown, output_shown};
 
 use qil_machine::Machine;
-use qil_pieces::{Piece, put_pieces};
+use qil_pieces::{Fragment, put_fragments};
 use qil_streams::{Put, PutError};
 use std::alloc::Allocator;
 
@@ -119,12 +119,12 @@ fn put_counted<P: Put>(out: &mut P, bytes: &[u8]) -> Result<(), PutError>
     requires { P.stops out.old < 2 ^ 64 - 1 }
     ensures { HasPut P.written P.stops P.device result out.old out.new (output_shown bytes.now) }
 {
-    put_pieces(
+    put_fragments(
         out,
         &[
-            Piece::Bytes(b"out "),
-            Piece::Number(bytes.len() as u64),
-            Piece::Bytes(b" \""),
+            Fragment::Bytes(b"out "),
+            Fragment::Number(bytes.len() as u64),
+            Fragment::Bytes(b" \""),
         ],
     )?;
     put_all_quoted(out, bytes)?;

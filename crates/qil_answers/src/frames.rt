@@ -11,7 +11,7 @@ use crate::names::{func_name, innermost, label_name};
 use qil_frames::Frame;
 use qil_machine::Machine;
 use qil_numbering::Code;
-use qil_pieces::{Piece, put_pieces};
+use qil_pieces::{Fragment, put_fragments};
 use qil_streams::{Put, PutError, put_line};
 use std::alloc::Allocator;
 
@@ -26,16 +26,16 @@ fn put_frame<'c, 'a, P: Put, A: Allocator + Copy>(
     ensures counted { Counts result (P.stops out.old) (P.stops out.new) }
     ensures device { P.device out.new ≡ P.device out.old }
 {
-    put_pieces(
+    put_fragments(
         out,
         &[
-            Piece::Bytes(b"$"),
-            Piece::Bytes(func_name(code, frame.func())),
-            Piece::Bytes(b" @"),
-            Piece::Bytes(label_name(code, frame.func(), frame.block())),
-            Piece::Bytes(b" "),
-            Piece::Number(u64::from(frame.index())),
-            Piece::Bytes(b"\n"),
+            Fragment::Bytes(b"$"),
+            Fragment::Bytes(func_name(code, frame.func())),
+            Fragment::Bytes(b" @"),
+            Fragment::Bytes(label_name(code, frame.func(), frame.block())),
+            Fragment::Bytes(b" "),
+            Fragment::Number(u64::from(frame.index())),
+            Fragment::Bytes(b"\n"),
         ],
     )
 }

@@ -12,7 +12,7 @@ use crate::names::{func_name, innermost, label_name};
 use qil_frames::Frame;
 use qil_machine::Machine;
 use qil_numbering::Code;
-use qil_pieces::{Piece, put_pieces};
+use qil_pieces::{Fragment, put_fragments};
 use qil_streams::{Put, PutError, put_line};
 use qil_texts::{inst_text, jump_text, phi_text};
 use qil_tree::{Inst, Jump, Phi};
@@ -38,9 +38,13 @@ fn put_prefix<P: Put>(out: &mut P, at: u32, index: u64) -> Result<(), PutError>
     } else {
         b"  ".as_slice()
     };
-    put_pieces(
+    put_fragments(
         out,
-        &[Piece::Bytes(mark), Piece::Number(index), Piece::Bytes(b" ")],
+        &[
+            Fragment::Bytes(mark),
+            Fragment::Number(index),
+            Fragment::Bytes(b" "),
+        ],
     )
 }
 
@@ -120,14 +124,14 @@ fn put_head<'c, 'a, P: Put, A: Allocator + Copy>(
     requires { P.stops out.old < 2 ^ 64 - 1 }
     ensures { HasPut P.written P.stops P.device result out.old out.new (block_head (func_name (func_at code.now frame.now.func)) (label_in (block_at code.now frame.now.func frame.now.block))) }
 {
-    put_pieces(
+    put_fragments(
         out,
         &[
-            Piece::Bytes(b"$"),
-            Piece::Bytes(func_name(code, frame.func())),
-            Piece::Bytes(b" @"),
-            Piece::Bytes(label_name(code, frame.func(), frame.block())),
-            Piece::Bytes(b"\n"),
+            Fragment::Bytes(b"$"),
+            Fragment::Bytes(func_name(code, frame.func())),
+            Fragment::Bytes(b" @"),
+            Fragment::Bytes(label_name(code, frame.func(), frame.block())),
+            Fragment::Bytes(b"\n"),
         ],
     )
 }

@@ -2,7 +2,7 @@
 
 ghost use Rattle.std.specs.Prelude.{◌≡◌, ℕ, List, ◌-◌, ◌^◌, ◌<◌};
 ghost use Rattle.qil_streams.specs.Device.{HasPut};
-ghost use Rattle.qil_pieces.specs.Texts.{piece_text};
+ghost use Rattle.qil_pieces.specs.Texts.{fragment_text};
 ghost use Rattle.qil_state.specs.State.{state_of, head_names};
 ghost use Rattle.qil_state.specs.Faults.{fault_of};
 ghost use Rattle.qil_answers.specs.Texts.{fault_words, fault_detail, standing_line, state_line};
@@ -10,7 +10,7 @@ ghost use Rattle.qil_answers.specs.Texts.{fault_words, fault_detail, standing_li
 use crate::names::{func_name, innermost, label_name, temp_name};
 use qil_machine::Machine;
 use qil_ops::DivFault;
-use qil_pieces::{Piece, put_pieces};
+use qil_pieces::{Fragment, put_fragments};
 use qil_state::{Fault, Status};
 use qil_streams::{Put, PutError};
 use std::alloc::Allocator;
@@ -38,16 +38,16 @@ fn fault_words(fault: Fault) -> &'static [u8]
 fn fault_detail<'c, 'a, A: Allocator + Copy>(
     machine: &Machine<'c, 'a, A>,
     fault: Fault,
-) -> Piece<'c>
-    ensures { piece_text result ≡ fault_detail (fault_of (head_names machine.now.program machine.now.frames) fault) }
+) -> Fragment<'c>
+    ensures { fragment_text result ≡ fault_detail (fault_of (head_names machine.now.program machine.now.frames) fault) }
 {
     match fault {
-        Fault::DeadAddress(address) | Fault::NoFunction(address) => Piece::Number(address),
+        Fault::DeadAddress(address) | Fault::NoFunction(address) => Fragment::Number(address),
         Fault::Unset(slot) => match innermost(machine) {
-            Some(frame) => Piece::Bytes(temp_name(machine.code(), frame.func(), slot)),
-            None => Piece::Bytes(b""),
+            Some(frame) => Fragment::Bytes(temp_name(machine.code(), frame.func(), slot)),
+            None => Fragment::Bytes(b""),
         },
-        _ => Piece::Bytes(b""),
+        _ => Fragment::Bytes(b""),
     }
 }
 
@@ -61,28 +61,28 @@ fn put_standing<P: Put, A: Allocator + Copy>(
     ensures { HasPut P.written P.stops P.device result out.old out.new (standing_line position (state_of machine.now).frames) }
 {
     let Some(frame) = innermost(machine) else {
-        return put_pieces(
+        return put_fragments(
             out,
             &[
-                Piece::Bytes(b"#"),
-                Piece::Number(position),
-                Piece::Bytes(b"\n"),
+                Fragment::Bytes(b"#"),
+                Fragment::Number(position),
+                Fragment::Bytes(b"\n"),
             ],
         );
     };
     let code = machine.code();
-    put_pieces(
+    put_fragments(
         out,
         &[
-            Piece::Bytes(b"#"),
-            Piece::Number(position),
-            Piece::Bytes(b" $"),
-            Piece::Bytes(func_name(code, frame.func())),
-            Piece::Bytes(b" @"),
-            Piece::Bytes(label_name(code, frame.func(), frame.block())),
-            Piece::Bytes(b" "),
-            Piece::Number(u64::from(frame.index())),
-            Piece::Bytes(b"\n"),
+            Fragment::Bytes(b"#"),
+            Fragment::Number(position),
+            Fragment::Bytes(b" $"),
+            Fragment::Bytes(func_name(code, frame.func())),
+            Fragment::Bytes(b" @"),
+            Fragment::Bytes(label_name(code, frame.func(), frame.block())),
+            Fragment::Bytes(b" "),
+            Fragment::Number(u64::from(frame.index())),
+            Fragment::Bytes(b"\n"),
         ],
     )
 }
@@ -100,39 +100,39 @@ pub fn put_place<P: Put, A: Allocator + Copy>(
     requires { P.stops out.old < 2 ^ 64 - 1 }
     ensures { HasPut P.written P.stops P.device result out.old out.new (state_line position (state_of machine.now).frames (state_of machine.now).status) }
 {
-    let prefix = Piece::Bytes(b"#");
-    let position_piece = Piece::Number(position);
-    let end = Piece::Bytes(b"\n");
+    let prefix = Fragment::Bytes(b"#");
+    let number = Fragment::Number(position);
+    let end = Fragment::Bytes(b"\n");
     match machine.status() {
         Status::Running => put_standing(out, position, machine),
-        Status::Done(None) => put_pieces(out, &[prefix, position_piece, Piece::Bytes(b" done\n")]),
-        Status::Done(Some(value)) => put_pieces(
+        Status::Done(None) => put_fragments(out, &[prefix, number, Fragment::Bytes(b" done\n")]),
+        Status::Done(Some(value)) => put_fragments(
             out,
             &[
                 prefix,
-                position_piece,
-                Piece::Bytes(b" done "),
-                Piece::Number(value),
+                number,
+                Fragment::Bytes(b" done "),
+                Fragment::Number(value),
                 end,
             ],
         ),
-        Status::Exited(word) => put_pieces(
+        Status::Exited(word) => put_fragments(
             out,
             &[
                 prefix,
-                position_piece,
-                Piece::Bytes(b" exit "),
-                Piece::Number(word),
+                number,
+                Fragment::Bytes(b" exit "),
+                Fragment::Number(word),
                 end,
             ],
         ),
-        Status::Faulted(fault) => put_pieces(
+        Status::Faulted(fault) => put_fragments(
             out,
             &[
                 prefix,
-                position_piece,
-                Piece::Bytes(b" fault "),
-                Piece::Bytes(fault_words(fault)),
+                number,
+                Fragment::Bytes(b" fault "),
+                Fragment::Bytes(fault_words(fault)),
                 fault_detail(machine, fault),
                 end,
             ],

@@ -12,7 +12,7 @@ use crate::names::{innermost, temp_name};
 use qil_frames::Frame;
 use qil_machine::Machine;
 use qil_numbering::{Code, Slot};
-use qil_pieces::{Piece, put_pieces};
+use qil_pieces::{Fragment, put_fragments};
 use qil_streams::{Put, PutError, put_line};
 use std::alloc::Allocator;
 
@@ -22,22 +22,22 @@ fn put_value<P: Put>(out: &mut P, name: &[u8], value: Option<u64>) -> Result<(),
     ensures { HasPut P.written P.stops P.device result out.old out.new (value_line name.now value) }
 {
     match value {
-        Some(value) => put_pieces(
+        Some(value) => put_fragments(
             out,
             &[
-                Piece::Bytes(b"%"),
-                Piece::Bytes(name),
-                Piece::Bytes(b" = "),
-                Piece::Number(value),
-                Piece::Bytes(b"\n"),
+                Fragment::Bytes(b"%"),
+                Fragment::Bytes(name),
+                Fragment::Bytes(b" = "),
+                Fragment::Number(value),
+                Fragment::Bytes(b"\n"),
             ],
         ),
-        None => put_pieces(
+        None => put_fragments(
             out,
             &[
-                Piece::Bytes(b"%"),
-                Piece::Bytes(name),
-                Piece::Bytes(b" unset\n"),
+                Fragment::Bytes(b"%"),
+                Fragment::Bytes(name),
+                Fragment::Bytes(b" unset\n"),
             ],
         ),
     }

@@ -2,10 +2,10 @@
 use Rattle.std.specs.Prelude.{◌≡◌, ◌≢◌, ◌↔◌, ℕ, zero, suc, List, [], ◌∷◌, ◌++◌, Option, Some, None, Bool, false, if◌then◌else◌, slice_get}
 use Rattle.std.specs.Str.{bytes_eq}
 use Rattle.std.specs.Option.{option_or}
-use Rattle.qil_checker.specs.declared.lookup.Kind.{Kind}
+use Rattle.qil_checker.specs.declared.lookup.TableKind.{TableKind}
 use Rattle.qil_rules.specs.declared.rule.Rule.{Rule}
 use Rattle.qil_rules.specs.declared.rule.Rule.TheVariants.{C8}
-use Rattle.qil_checker.specs.declared.lookup.Kind.TheVariants.{Defined, Named, Labels}
+use Rattle.qil_checker.specs.declared.lookup.TableKind.TheVariants.{Defined, Named, Labels}
 use Rattle.qil_tree.specs.declared.tree.PhiSource.{PhiSource}
 use Rattle.qil_rules.specs.declared.mention.MentionKind.{MentionKind}
 use Rattle.qil_rules.specs.declared.mention.MentionKind.TheVariants.{DataName, FunctionName, Label, Edge, PhiOf, Defines, Uses}
@@ -13,7 +13,7 @@ use Rattle.qil_rules.specs.declared.mention.Mention.{Mention}
 use Rattle.qil_rules.specs.Text.{IsAt, AreDistinct, IsAmong}
 
 -- the name that a mention brings to a table of this kind
-abbrev pub named : MentionKind → Kind → Option (List ℕ)
+abbrev pub named : MentionKind → TableKind → Option (List ℕ)
 named (Defines x c) Defined = Some x
 named (Defines x c) Named = Some x
 named (Uses x c) Named = Some x
@@ -24,7 +24,7 @@ abbrev pub is_name : List ℕ → Option (List ℕ) → Bool
 is_name x None = false
 is_name x (Some y) = bytes_eq y x
 
-abbrev pub is_named : Kind → List ℕ → Mention → Bool
+abbrev pub is_named : TableKind → List ℕ → Mention → Bool
 is_named kind x mention = is_name x (named mention.what kind)
 
 -- the first place where a test passes, counted from n

@@ -8,7 +8,7 @@ ghost use Rattle.qil_checker.specs.Check.{IsReported, IsRefusedBy};
 ghost use Rattle.qil_rules.specs.Forms.{HasForm};
 ghost use Rattle.qil_rules.specs.declared.rule.Rule.{Rule};
 
-use crate::program_index::{ProgramIndex, Refusal};
+use crate::program_index::{BrokenRule, ProgramIndex};
 use qil_rules::{Checked, Form, Rule};
 use qil_tree::Program;
 use std::alloc::{AllocError, Allocator};
@@ -48,7 +48,7 @@ fn examine<'a, A: Allocator + Copy>(
     let whole = ProgramIndex::new(alloc, keys, program)?;
     match whole.lowest(alloc)? {
         Some(refusal) => {
-            let Refusal { rule, line } = refusal;
+            let BrokenRule { rule, line } = refusal;
             Err(CheckError::Refused { rule, line })
         }
         None => Ok(whole.form()),

@@ -7,7 +7,7 @@ ghost use Rattle.qil_checker.specs.Tables.{first, is_named, predecessors_of, hea
 ghost use Rattle.qil_rules.specs.Text.{FirstClass, IsUndefined, IsAgain, LacksLabel, IsFirstLabel};
 ghost use Rattle.qil_rules.specs.Rules.{IsSecondLabel, IsLostLabel, IsJumpToFirst, IsOtherClass, IsUndefinedUse, IsNarrowUse, IsWrongPhi, IsUntypedReturn, IsNarrowResult, HasManyTemporaries, HasManyBlocks, is_label, is_function, begins_function};
 ghost use Rattle.qil_checker.specs.Scan.{IsSingle, IsAgainFirst};
-ghost use Rattle.qil_checker.specs.declared.lookup.Kind.TheVariants.{Defined, Named, Labels};
+ghost use Rattle.qil_checker.specs.declared.lookup.TableKind.TheVariants.{Defined, Named, Labels};
 
 use crate::lookup::{Tables, place_of};
 use crate::predecessors::are_predecessors;

@@ -3,7 +3,7 @@
 ghost use Rattle.std.specs.Prelude.{◌≡◌, List, ℕ, IfOk, option_copied};
 ghost use Rattle.qil_names.specs.Tables.{value_at, values_at};
 ghost use Rattle.qil_checker.specs.Tables.{first, named, is_named, predecessors_of};
-ghost use Rattle.qil_checker.specs.declared.lookup.Kind.TheVariants.{Defined, Named, Labels};
+ghost use Rattle.qil_checker.specs.declared.lookup.TableKind.TheVariants.{Defined, Named, Labels};
 
 use crate::predecessors::all_predecessors;
 use qil_names::{Firsts, Groups};
@@ -14,7 +14,7 @@ use std::hash::RandomState;
 
 /// Which mentions of a name a table lists.
 #[derive(Clone, Copy)]
-pub enum Kind {
+pub enum TableKind {
     /// Where a temporary is defined.
     Defined,
     /// Where a temporary is defined or used.
@@ -34,14 +34,14 @@ pub fn place_of<'a, A: Allocator + Copy>(
 }
 
 /// The name that a mention brings to a table of a kind.
-fn named<'m, 'a>(mention: &'m Mention<'_, 'a>, kind: Kind) -> Option<&'m Name<'a>>
+fn named<'m, 'a>(mention: &'m Mention<'_, 'a>, kind: TableKind) -> Option<&'m Name<'a>>
     ensures { option_copied result ≡ named mention.now.what kind }
 {
     match (&mention.what, kind) {
-        (MentionKind::Defines(name, _), Kind::Defined) => Some(name),
-        (MentionKind::Defines(name, _), Kind::Named) => Some(name),
-        (MentionKind::Uses(name, _), Kind::Named) => Some(name),
-        (MentionKind::Label(name), Kind::Labels) => Some(name),
+        (MentionKind::Defines(name, _), TableKind::Defined) => Some(name),
+        (MentionKind::Defines(name, _), TableKind::Named) => Some(name),
+        (MentionKind::Uses(name, _), TableKind::Named) => Some(name),
+        (MentionKind::Label(name), TableKind::Labels) => Some(name),
         _ => None,
     }
 }
@@ -51,7 +51,7 @@ fn first_places<'a, A: Allocator + Copy>(
     alloc: A,
     keys: RandomState,
     mentions: &[Mention<'_, 'a>],
-    kind: Kind,
+    kind: TableKind,
 ) -> Result<Firsts<'a, usize, A>, AllocError>
     ensures { IfOk result (λ t. (x : List ℕ) → value_at t.values x ≡ first (is_named kind x) 0 mentions.now) }
 {
@@ -90,9 +90,9 @@ impl<'a, A: Allocator + Copy> Tables<'a, A> {
         ensures predecessors { IfOk result (λ t. (x : List ℕ) → values_at t.predecessors.lists x ≡ predecessors_of x mentions.now) }
     {
         Ok(Tables {
-            defined: first_places(alloc, keys, mentions, Kind::Defined)?,
-            named: first_places(alloc, keys, mentions, Kind::Named)?,
-            labels: first_places(alloc, keys, mentions, Kind::Labels)?,
+            defined: first_places(alloc, keys, mentions, TableKind::Defined)?,
+            named: first_places(alloc, keys, mentions, TableKind::Named)?,
+            labels: first_places(alloc, keys, mentions, TableKind::Labels)?,
             predecessors: all_predecessors(alloc, keys, mentions)?,
         })
     }

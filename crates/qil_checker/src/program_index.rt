@@ -25,7 +25,7 @@ const MAX_FUNCTIONS: usize = 1000;
 
 /// A rule that is broken, and the line that is reported of it.
 #[derive(Clone, Copy)]
-pub struct Refusal {
+pub struct BrokenRule {
     pub rule: Rule,
     pub line: u32,
 }
@@ -342,13 +342,13 @@ impl<'p, 'a, A: Allocator + Copy> ProgramIndex<'p, 'a, A> {
     }
 
     /// The lowest rule that is broken anywhere, with the line of its first place.
-    pub fn lowest(&self, alloc: A) -> Result<Option<Refusal>, AllocError>
+    pub fn lowest(&self, alloc: A) -> Result<Option<BrokenRule>, AllocError>
         ensures { IfOk result (λ o. MatchOption o (AreWellFormed (mentions_of self.now.texts.items)) (λ r. AreBroken (mentions_of self.now.texts.items) r.rule r.line)) }
     {
         let mut rule = Rule::C1;
         'rules: loop {
             if let Some(line) = self.line_of(alloc, rule)? {
-                return Ok(Some(Refusal { rule, line }));
+                return Ok(Some(BrokenRule { rule, line }));
             }
             match rule.next() {
                 Some(next) => rule = next,

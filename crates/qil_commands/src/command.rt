@@ -7,11 +7,11 @@ use std::marker::Model;
 
 /// A name without its sigil: a part of the line.
 #[derive(Drop)]
-pub struct Name<'a> {
+pub struct LineName<'a> {
     bytes: &'a [u8],
 }
 
-impl<'a> Model for Name<'a> {
+impl<'a> Model for LineName<'a> {
     ghost use Rattle.std.specs.Prelude.{List, ℕ};
 
     ghost Value = { List ℕ };
@@ -19,12 +19,12 @@ impl<'a> Model for Name<'a> {
     ghost view = { λ n. n.bytes.now };
 }
 
-impl<'a> Name<'a> {
+impl<'a> LineName<'a> {
     /// The name that these bytes are.
-    pub fn new(bytes: &'a [u8]) -> Name<'a>
+    pub fn new(bytes: &'a [u8]) -> LineName<'a>
         ensures { result ≡ bytes.now }
     {
-        Name { bytes }
+        LineName { bytes }
     }
 
     /// The bytes, of which there is at least one in a name that was read.
@@ -62,7 +62,7 @@ pub enum Verb {
 pub enum WatchTarget<'a> {
     Bytes(Width),
     /// A temporary of the function of this name.
-    Temp(Name<'a>),
+    Temp(LineName<'a>),
 }
 
 /// An address in a command.
@@ -70,13 +70,13 @@ pub enum WatchTarget<'a> {
 pub enum Address<'a> {
     Number(u64),
     /// So many bytes after the address of a global, modulo 2^64.
-    Global(Name<'a>, u64),
+    Global(LineName<'a>, u64),
 }
 
 /// A place in a function: a block, and an index of its instructions. After the last one stands the jump.
 #[derive(Drop)]
 pub struct BreakPlace<'a> {
-    pub label: Name<'a>,
+    pub label: LineName<'a>,
     pub index: u64,
 }
 
@@ -92,21 +92,21 @@ pub enum Command<'a> {
     /// Move backward to the first place with a reason to stop.
     Reverse,
     /// Give a temporary of the innermost frame a value, as 64 bits in two's complement.
-    Set(Name<'a>, u64),
+    Set(LineName<'a>, u64),
     /// Write the low bytes of a value to memory.
     Poke(Width, Address<'a>, u64),
     /// Stop where a function is at a place; at its first instruction where none is said.
-    Break(Name<'a>, Option<BreakPlace<'a>>),
+    Break(LineName<'a>, Option<BreakPlace<'a>>),
     /// Stop where bytes of memory change.
     WatchBytes(Width, Address<'a>),
     /// Stop where a temporary of a function changes.
-    WatchTemp(Name<'a>, Name<'a>),
+    WatchTemp(LineName<'a>, LineName<'a>),
     /// Take the stop of this number away.
     Delete(u64),
     /// Show the stops.
     Stops,
     /// Show a temporary of the innermost frame.
-    Print(Name<'a>),
+    Print(LineName<'a>),
     /// Show all temporaries of the innermost frame.
     Temps,
     /// Show so many bytes of memory, 1 to 256.

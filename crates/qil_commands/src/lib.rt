@@ -8,5 +8,5 @@ mod numbers;
 mod read;
 mod words;
 
-pub use command::{Address, BreakPlace, Command, Name, Refused};
+pub use command::{Address, BreakPlace, Command, LineName, Refused};
 pub use read::read_command;

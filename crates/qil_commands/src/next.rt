@@ -5,7 +5,7 @@ ghost use Rattle.qil_commands.specs.Numbers.{number_of, count_of, byte_count_of,
 ghost use Rattle.qil_commands.specs.Words.{words_of};
 ghost use Rattle.qil_commands.specs.Command.{needed, perhaps, may, watch_target_of, with_rest};
 
-use crate::command::{Address, Name, Refused, WatchTarget};
+use crate::command::{Address, LineName, Refused, WatchTarget};
 use crate::numbers::{
     address_of, byte_count_of, count_of, global_of, label_of, number_of, temporary_of, value_of,
     watch_target_of, width_of,
@@ -49,7 +49,7 @@ pub fn value<'a>(words: &mut Words<'a>) -> Result<u64, Refused>
 }
 
 /// A temporary.
-pub fn temporary<'a>(words: &mut Words<'a>) -> Result<Name<'a>, Refused>
+pub fn temporary<'a>(words: &mut Words<'a>) -> Result<LineName<'a>, Refused>
     ensures { with_rest result (words_of words.new.rest.now) ≡ needed temporary_of (words_of words.old.rest.now) }
 {
     let word = needed_word(words)?;
@@ -57,7 +57,7 @@ pub fn temporary<'a>(words: &mut Words<'a>) -> Result<Name<'a>, Refused>
 }
 
 /// A global.
-pub fn global<'a>(words: &mut Words<'a>) -> Result<Name<'a>, Refused>
+pub fn global<'a>(words: &mut Words<'a>) -> Result<LineName<'a>, Refused>
     ensures { with_rest result (words_of words.new.rest.now) ≡ needed global_of (words_of words.old.rest.now) }
 {
     let word = needed_word(words)?;
@@ -109,7 +109,7 @@ pub fn index<'a>(words: &mut Words<'a>) -> Result<u64, Refused>
 }
 
 /// The label of a block, if a word comes.
-pub fn label<'a>(words: &mut Words<'a>) -> Result<Option<Name<'a>>, Refused>
+pub fn label<'a>(words: &mut Words<'a>) -> Result<Option<LineName<'a>>, Refused>
     ensures { with_rest result (words_of words.new.rest.now) ≡ may label_of (words_of words.old.rest.now) }
 {
     match words.next() {

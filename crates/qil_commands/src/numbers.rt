@@ -6,7 +6,7 @@ ghost use Rattle.std.specs.Char.{is_ascii_digit};
 ghost use Rattle.qil_commands.specs.Command.{watch_target_of};
 ghost use Rattle.qil_commands.specs.Numbers.{digits_value, is_digits, is_name_byte, is_name, number_of, count_of, byte_count_of, value_of, name_behind, temporary_of, global_of, label_of, width_of, is_no_plus, offset_of, address_of, global_address};
 
-use crate::command::{Address, Name, WatchTarget};
+use crate::command::{Address, LineName, WatchTarget};
 use qil_tree::Width;
 
 /// One more than the largest number.
@@ -123,18 +123,18 @@ pub fn value_of(word: &[u8]) -> Option<u64>
 }
 
 /// The name that a text is, if it is one.
-fn name_of<'a>(text: &'a [u8]) -> Option<Name<'a>>
+fn name_of<'a>(text: &'a [u8]) -> Option<LineName<'a>>
     ensures { result ≡ cond (is_name text.now) (Some text.now) None }
 {
     if is_name(text) {
-        Some(Name::new(text))
+        Some(LineName::new(text))
     } else {
         None
     }
 }
 
 /// The name that stands after a sigil.
-fn name_behind<'a>(sigil: u8, word: &'a [u8]) -> Option<Name<'a>>
+fn name_behind<'a>(sigil: u8, word: &'a [u8]) -> Option<LineName<'a>>
     ensures { result ≡ name_behind sigil word.now }
 {
     match word {
@@ -144,21 +144,21 @@ fn name_behind<'a>(sigil: u8, word: &'a [u8]) -> Option<Name<'a>>
 }
 
 /// The name of a temporary, which stands after a `%`.
-pub fn temporary_of<'a>(word: &'a [u8]) -> Option<Name<'a>>
+pub fn temporary_of<'a>(word: &'a [u8]) -> Option<LineName<'a>>
     ensures { result ≡ temporary_of word.now }
 {
     name_behind(b'%', word)
 }
 
 /// The name of a global, which stands after a `$`.
-pub fn global_of<'a>(word: &'a [u8]) -> Option<Name<'a>>
+pub fn global_of<'a>(word: &'a [u8]) -> Option<LineName<'a>>
     ensures { result ≡ global_of word.now }
 {
     name_behind(b'$', word)
 }
 
 /// The name of a block, which stands after an `@`.
-pub fn label_of<'a>(word: &'a [u8]) -> Option<Name<'a>>
+pub fn label_of<'a>(word: &'a [u8]) -> Option<LineName<'a>>
     ensures { result ≡ label_of word.now }
 {
     name_behind(b'@', word)

@@ -12,7 +12,7 @@ use crate::depth_end::DepthEnd;
 use qil_history::{BackError, History};
 use qil_machine::{Machine, MoveError};
 use qil_meaning::Reason;
-use qil_stops::{Stop, Stops, bottom_or_limit, end_or, is_over, readings, stopped_here};
+use qil_stops::{NumberedStop, Stops, bottom_or_limit, end_or, is_over, readings, stopped_here};
 use std::alloc::Allocator;
 
 /// How many calls are open.
@@ -66,7 +66,7 @@ pub fn run_to_depth<'c, A: Allocator + Copy + 'c, H: History<A, Machine<'c, 'c, 
 #[inline(never)]
 fn forward_to_depth<'c, A: Allocator + Copy + 'c, H: History<A, Machine<'c, 'c, A>>>(
     history: &mut H,
-    list: &[Stop],
+    list: &[NumberedStop],
     most: usize,
     limit: u64,
 ) -> (DepthEnd, u64)
@@ -111,7 +111,7 @@ pub fn run_back_to_depth<'c, A: Allocator + Copy + 'c, H: History<A, Machine<'c,
 #[inline(never)]
 fn back_to_depth<'c, A: Allocator + Copy + 'c, H: History<A, Machine<'c, 'c, A>>>(
     history: &mut H,
-    list: &[Stop],
+    list: &[NumberedStop],
     most: usize,
     limit: u64,
 ) -> (DepthEnd, u64)

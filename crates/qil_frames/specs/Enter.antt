@@ -4,8 +4,8 @@ use Rattle.std.specs.List.{All}
 use Rattle.qil_tree.specs.declared.ops.Class.{Class}
 use Rattle.qil_ops.specs.Values.{width, low_bits}
 use Rattle.qil_numbering.specs.declared.numbered.Slot.{Slot}
-use Rattle.qil_numbering.specs.declared.numbered.Source.{Source}
-use Rattle.qil_numbering.specs.declared.numbered.Source.TheVariants as sources
+use Rattle.qil_numbering.specs.declared.numbered.NumberedOperand.{NumberedOperand}
+use Rattle.qil_numbering.specs.declared.numbered.NumberedOperand.TheVariants as numbered_operands
 use Rattle.qil_numbering.specs.declared.numbered.PhiMove.{PhiMove}
 use Rattle.qil_numbering.specs.Ranges.{MoveInRange}
 use Rattle.qil_frames.specs.declared.saved.SavedSlot.{SavedSlot}
@@ -20,9 +20,9 @@ known c s (Some v) = Ok (low_bits (width c) v)
 known c s None = Err s
 
 -- an operand in a class: the low bits of the constant or of what the slot holds; or the slot, where it is unset
-abbrev pub value_in : List (Option ℕ) → Class → Source → Result ℕ Slot
-value_in vs c (sources.Constant n) = Ok (low_bits (width c) n)
-value_in vs c (sources.Slot s) = known c s (get_or vs s.index None)
+abbrev pub value_in : List (Option ℕ) → Class → NumberedOperand → Result ℕ Slot
+value_in vs c (numbered_operands.Constant n) = Ok (low_bits (width c) n)
+value_in vs c (numbered_operands.Slot s) = known c s (get_or vs s.index None)
 
 abbrev pub write_to : Slot → ℕ → SavedSlot
 write_to s v = record { slot = s; value = Some v }

@@ -244,7 +244,7 @@ impl<A: Allocator> Frame<A> {
         old
     }
 
-    /// Sets a slot, is at an index, and gives what stood in the slot.
+    /// Sets a slot and the index, and gives what stood in the slot.
     #[inline(always)]
     pub fn assign(&mut self, slot: Slot, value: Option<u64>, index: u32) -> Option<u64>
         requires { slot.index < length self.old.slots }

@@ -121,8 +121,8 @@ impl<A: Allocator> Frames<A> {
         frame.set(slot, value)
     }
 
-    /// Sets a slot, is at an index, and gives what stood in the slot. As `set` and `set_index`, with the frame looked up
-    /// once.
+    /// Sets a slot and the index of the innermost frame, and gives what stood in the slot. As `set` and `set_index`, with
+    /// the frame looked up once.
     #[inline(always)]
     pub fn assign(&mut self, slot: Slot, value: Option<u64>, index: u32) -> Option<u64>
         requires { HasSlot self.old slot }

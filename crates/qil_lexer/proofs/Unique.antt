@@ -9,7 +9,7 @@ use Rattle.qil_lexer.specs.declared.token.Token.{Token}
 use Rattle.qil_lexer.specs.declared.error.LexCode.{LexCode}
 use Rattle.qil_lexer.specs.declared.error.LexCode.TheVariants.{L1, L2, L3, L4, L5, L6}
 use Rattle.qil_lexer.specs.Shape.{begins, is_name_byte, Items, IsUnended, IsBadEscape, IsInRange, item_len, first_kind, HasTail, HasShape}
-use Rattle.qil_lexer.specs.Cut.{IsLongestGap, IsLongest, IsGapBetween, IsTokenOf, end_of, CutsBetween, Fails, IsSigil, line_of, piece_of}
+use Rattle.qil_lexer.specs.Cut.{IsLongestGap, IsLongest, IsGapBetween, IsTokenOf, end_of, CutsBetween, Fails, IsSigil, line_of, content_of}
 use Rattle.qil_lexer.proofs.Items.{items_unique, items_longer, item_quote, unended_none, bad_none}
 
 gap_unique : (m n : ℕ) (text : List ℕ) → IsLongestGap m text → IsLongestGap n text → m ≡ n
@@ -240,14 +240,14 @@ gap_between_unique text from a b p q = omega (arith, gap_unique (a - from) (b - 
 stop_token : (text : List ℕ) (at : ℕ) (t : Token) → IsTokenOf text t → at ≡ t.start → IsStop (drop at text) → ⊥
 stop_token text at t token e stop = subst (λ n. IsStop (drop n text)) e stop t.kind (length t.text.now) token.longest (λ number. subst IsInRange token.slice (token.in_range number))
 
-token_unique : (text : List ℕ) (t u : Token) → IsTokenOf text t → IsTokenOf text u → t.start ≡ u.start → (piece_of t ≡ piece_of u) × (end_of t ≡ end_of u)
+token_unique : (text : List ℕ) (t u : Token) → IsTokenOf text t → IsTokenOf text u → t.start ≡ u.start → (content_of t ≡ content_of u) × (end_of t ≡ end_of u)
 token_unique text t u p q e =
     let same = longest_unique t.kind u.kind (length t.text.now) (length u.text.now) (drop u.start text) (subst (λ n. IsLongest t.kind (length t.text.now) (drop n text)) e p.longest) q.longest in
     let bytes : t.text.now ≡ u.text.now = p.slice ∙ (λ i. take (same.1 i) (drop (e i) text)) ∙ sym q.slice in
     let line : t.line ≡ u.line = p.line ∙ ap (λ n. line_of text n) e ∙ sym q.line in
     ((λ i. record { kind = same.0 i; bytes = bytes i; start = e i; line = line i }), (λ i. e i + same.1 i))
 
-pub walk_unique : (text : List ℕ) (from a b : ℕ) (ts us : List Token) → CutsBetween text from ts a → CutsBetween text from us b → IsStop (drop a text) → IsStop (drop b text) → (map piece_of ts ≡ map piece_of us) × (a ≡ b)
+pub walk_unique : (text : List ℕ) (from a b : ℕ) (ts us : List Token) → CutsBetween text from ts a → CutsBetween text from us b → IsStop (drop a text) → IsStop (drop b text) → (map content_of ts ≡ map content_of us) × (a ≡ b)
 walk_unique text from a b [] [] p q stop-a stop-b = (refl, gap_between_unique text from a b p q)
 walk_unique text from a b [] (u ∷ us) p q stop-a stop-b = absurd (stop_token text a u q.1 (gap_between_unique text from a u.start p q.0) stop-a)
 walk_unique text from a b (t ∷ ts) [] p q stop-a stop-b = absurd (stop_token text b t p.1 (gap_between_unique text from b t.start q p.0) stop-b)

@@ -54,18 +54,18 @@ abbrev pub Cuts : List ℕ → List Token → Type 0
 Cuts text ts = CutsBetween text 0 ts (length text)
 
 -- what a token says, apart from where its text lies in memory
-pub record Piece : Type 0 where
+pub record TokenContent : Type 0 where
   pub kind : TokenKind
   pub bytes : List ℕ
   pub start : ℕ
   pub line : ℕ
 
-abbrev pub piece_of : Token → Piece
-piece_of t = record { kind = t.kind; bytes = t.text.now; start = t.start; line = t.line }
+abbrev pub content_of : Token → TokenContent
+content_of t = record { kind = t.kind; bytes = t.text.now; start = t.start; line = t.line }
 
 -- the tokens say the same
 abbrev pub SameTokens : List Token → List Token → Type 0
-SameTokens ts us = map piece_of ts ≡ map piece_of us
+SameTokens ts us = map content_of ts ≡ map content_of us
 
 -- ---- where no token begins
 

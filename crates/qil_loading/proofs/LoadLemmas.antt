@@ -7,7 +7,7 @@ use Rattle.qil_lexer.specs.declared.error.LexCode.{LexCode}
 use Rattle.qil_lexer.specs.declared.error.LexCode.TheVariants.{L6}
 use Rattle.qil_lexer.specs.declared.error.LexError.{LexError}
 use Rattle.qil_lexer.specs.declared.error.LexError.TheVariants as lex
-use Rattle.qil_lexer.specs.Cut.{Cuts, TextFault, SameTokens, Piece, piece_of}
+use Rattle.qil_lexer.specs.Cut.{Cuts, TextFault, SameTokens, TokenContent, content_of}
 use Rattle.qil_lexer.specs.Walk.{IfRefused}
 use Rattle.qil_parser.specs.declared.error.ParseCode.{ParseCode}
 use Rattle.qil_parser.specs.declared.error.ParseError.{ParseError}
@@ -33,16 +33,16 @@ use Rattle.qil_loading.specs.LoadError.{of_lex, of_parse, of_check}
 
 -- ---- tokens that say the same are the same to the parser
 
-tok_of : Piece → Tok
-tok_of piece = record { kind = piece.kind; text = piece.bytes; line = piece.line }
+tok_of : TokenContent → Tok
+tok_of content = record { kind = content.kind; text = content.bytes; line = content.line }
 
-seen-pieces : (ts : List Token) → seen ts ≡ map tok_of (map piece_of ts)
+seen-contents : (ts : List Token) → seen ts ≡ map tok_of (map content_of ts)
 unfolding tok_of
-seen-pieces [] = refl
-seen-pieces (t ∷ ts) = ap (λ (rest : List Tok). tok t ∷ rest) (seen-pieces ts)
+seen-contents [] = refl
+seen-contents (t ∷ ts) = ap (λ (rest : List Tok). tok t ∷ rest) (seen-contents ts)
 
 pub same_seen : (ts us : List Token) → SameTokens ts us → seen us ≡ seen ts
-same_seen ts us same = seen-pieces us ∙ ap (λ (pieces : List Piece). map tok_of pieces) (sym same) ∙ sym (seen-pieces ts)
+same_seen ts us same = seen-contents us ∙ ap (λ (contents : List TokenContent). map tok_of contents) (sym same) ∙ sym (seen-contents ts)
 
 -- ---- what the lexer refuses
 

@@ -5,7 +5,7 @@ ghost use Rattle.qil_streams.specs.Device.{HasPut};
 ghost use Rattle.qil_loading.specs.Lines.{IsLoaded, loaded_line};
 
 use qil_layout::Image;
-use qil_pieces::{Piece, put_pieces};
+use qil_pieces::{Fragment, put_fragments};
 use qil_rules::{Checked, Form};
 use qil_streams::{Put, PutError};
 use std::alloc::Allocator;
@@ -44,28 +44,28 @@ pub fn put_loaded_line<P: Put>(out: &mut P, loaded: &Loaded<'_>) -> Result<(), P
     ensures { HasPut P.written P.stops P.device result out.old out.new (loaded_line loaded.now.funcs loaded.now.bytes loaded.now.form.now) }
 {
     match loaded.form {
-        Form::Single => put_pieces(
+        Form::Single => put_fragments(
             out,
             &[
-                Piece::Bytes(b"loaded "),
-                Piece::Number(loaded.funcs as u64),
-                Piece::Bytes(b" functions "),
-                Piece::Number(loaded.bytes as u64),
-                Piece::Bytes(b" data bytes ssa yes\n"),
+                Fragment::Bytes(b"loaded "),
+                Fragment::Number(loaded.funcs as u64),
+                Fragment::Bytes(b" functions "),
+                Fragment::Number(loaded.bytes as u64),
+                Fragment::Bytes(b" data bytes ssa yes\n"),
             ],
         ),
-        Form::Multiple { func, temp } => put_pieces(
+        Form::Multiple { func, temp } => put_fragments(
             out,
             &[
-                Piece::Bytes(b"loaded "),
-                Piece::Number(loaded.funcs as u64),
-                Piece::Bytes(b" functions "),
-                Piece::Number(loaded.bytes as u64),
-                Piece::Bytes(b" data bytes ssa no $"),
-                Piece::Bytes(func.bytes()),
-                Piece::Bytes(b" %"),
-                Piece::Bytes(temp.bytes()),
-                Piece::Bytes(b"\n"),
+                Fragment::Bytes(b"loaded "),
+                Fragment::Number(loaded.funcs as u64),
+                Fragment::Bytes(b" functions "),
+                Fragment::Number(loaded.bytes as u64),
+                Fragment::Bytes(b" data bytes ssa no $"),
+                Fragment::Bytes(func.bytes()),
+                Fragment::Bytes(b" %"),
+                Fragment::Bytes(temp.bytes()),
+                Fragment::Bytes(b"\n"),
             ],
         ),
     }

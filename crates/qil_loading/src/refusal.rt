@@ -8,7 +8,7 @@ use qil_layout::LayoutCode;
 use qil_lexer::LexCode;
 use qil_meaning::StartFault;
 use qil_parser::ParseCode;
-use qil_pieces::{Piece, put_pieces};
+use qil_pieces::{Fragment, put_fragments};
 use qil_rules::Rule;
 use qil_streams::{Put, PutError};
 
@@ -31,14 +31,14 @@ fn put_refused_at<P: Put>(out: &mut P, code: &[u8], line: u32) -> Result<(), Put
     requires { P.stops out.old < 2 ^ 64 - 1 }
     ensures { HasPut P.written P.stops P.device result out.old out.new (refused_at code.now line) }
 {
-    put_pieces(
+    put_fragments(
         out,
         &[
-            Piece::Bytes(b"refused: "),
-            Piece::Bytes(code),
-            Piece::Bytes(b" line "),
-            Piece::Number(u64::from(line)),
-            Piece::Bytes(b"\n"),
+            Fragment::Bytes(b"refused: "),
+            Fragment::Bytes(code),
+            Fragment::Bytes(b" line "),
+            Fragment::Number(u64::from(line)),
+            Fragment::Bytes(b"\n"),
         ],
     )
 }
@@ -53,12 +53,12 @@ pub fn put_refusal_line<P: Put>(out: &mut P, refusal: Refusal) -> Result<(), Put
         Refusal::Tokens { code, line } => put_refused_at(out, code.as_str().as_bytes(), line),
         Refusal::Rule { rule, line } => put_refused_at(out, rule.as_str().as_bytes(), line),
         Refusal::Layout { code, line } => put_refused_at(out, code.as_str().as_bytes(), line),
-        Refusal::Start(fault) => put_pieces(
+        Refusal::Start(fault) => put_fragments(
             out,
             &[
-                Piece::Bytes(b"refused: "),
-                Piece::Bytes(fault.as_str().as_bytes()),
-                Piece::Bytes(b"\n"),
+                Fragment::Bytes(b"refused: "),
+                Fragment::Bytes(fault.as_str().as_bytes()),
+                Fragment::Bytes(b"\n"),
             ],
         ),
     }

@@ -21,10 +21,10 @@ use Rattle.qil_meaning.specs.Slots.{temps_of}
 use Rattle.qil_meaning.specs.Values.{Outcome, ◌>>=◌, val, vals}
 use Rattle.qil_meaning.specs.Step.{act}
 use Rattle.qil_numbering.specs.declared.numbered.Receiver.{Receiver}
-use Rattle.qil_numbering.specs.declared.numbered.Source.{Source}
+use Rattle.qil_numbering.specs.declared.numbered.NumberedOperand.{NumberedOperand}
 use Rattle.qil_numbering.specs.declared.numbered.NumberedArgument.{NumberedArgument}
 use Rattle.qil_numbering.specs.declared.numbered.NumberedInst.TheVariants as numbered
-use Rattle.qil_numbering.specs.Named.{named_source, named_receiver, named_argument}
+use Rattle.qil_numbering.specs.Named.{named_operand, named_receiver, named_argument}
 use Rattle.qil_numbering.specs.Numbered.{names_of}
 use Rattle.qil_frames.specs.Frames.{SlotFrame}
 use Rattle.qil_state.specs.declared.status.Fault.{Fault}
@@ -101,12 +101,12 @@ nothing_found m now to args a same e has =
 
 -- ---- the operands
 
-pub call_receiver : {A : Type 0} (p : Program A) (fs : List SlotFrame) (to : Option Receiver) (callee : Source) (args : List NumberedArgument) → HasInst p fs (numbered.Call to callee args) → ReceiverFits fs to
+pub call_receiver : {A : Type 0} (p : Program A) (fs : List SlotFrame) (to : Option Receiver) (callee : NumberedOperand) (args : List NumberedArgument) → HasInst p fs (numbered.Call to callee args) → ReceiverFits fs to
 call_receiver p [] to callee args h = absurd h
 call_receiver p (f ∷ fs) None callee args h = tt
 call_receiver p (f ∷ fs) (Some to) callee args h = h.0
 
-pub call_arguments : {A : Type 0} (p : Program A) (fs : List SlotFrame) (to : Option Receiver) (callee : Source) (args : List NumberedArgument) → HasInst p fs (numbered.Call to callee args) → HasArguments fs args
+pub call_arguments : {A : Type 0} (p : Program A) (fs : List SlotFrame) (to : Option Receiver) (callee : NumberedOperand) (args : List NumberedArgument) → HasInst p fs (numbered.Call to callee args) → HasArguments fs args
 call_arguments p [] to callee args h = absurd h
 call_arguments p (f ∷ fs) to callee args h = h.2
 
@@ -123,22 +123,22 @@ reads_on : {A : Type 0} (p : Program A) (s : State) (f : meaning.Frame) (fs : Li
     → performed p s (f ∷ fs) (insts.Call to callee args) ≡ ((o >>= λ v. q >>= λ vs. Ok (v ∷ vs)) >>= act p s f fs (insts.Call to callee args))
 reads_on p s f fs to callee args o q eo eq = λ i. (eo i >>= λ v. eq i >>= λ vs. Ok (v ∷ vs)) >>= act p s f fs (insts.Call to callee args)
 
-callee_unset_at : {A : Type 0} (p : Program A) (fs : List SlotFrame) (m : Buffers) (out : List ℕ) (st : Status) (to : Option Receiver) (callee : Source) (args : List NumberedArgument) (vs : List (Option ℕ)) (why : Fault) → FramesFit p fs → AreOf fs vs
+callee_unset_at : {A : Type 0} (p : Program A) (fs : List SlotFrame) (m : Buffers) (out : List ℕ) (st : Status) (to : Option Receiver) (callee : NumberedOperand) (args : List NumberedArgument) (vs : List (Option ℕ)) (why : Fault) → FramesFit p fs → AreOf fs vs
     → ReadIn A vs classes.L callee (Err why) → performed_whole (whole p fs m out st) (numbered.Call to callee args) ≡ Err (fault_of (head_names p fs) why)
 callee_unset_at p [] m out st to callee args vs why fits of ra = absurd of
 callee_unset_at {A} p (f ∷ fs) m out st to callee args vs why fits of ra =
     let ns : List Name = names_of p f.func in
     let here : ReadIn A f.slots classes.L callee (Err why) = subst (λ us. ReadIn A us classes.L callee (Err why)) of ra in
-    reads_on p (state_of (whole p (f ∷ fs) m out st)) (frame_state p fs f) (frames_state p fs) (option_map (named_receiver ns) to) (named_source ns callee) (map (named_argument ns) args) (Err (fault_of ns why))
+    reads_on p (state_of (whole p (f ∷ fs) m out st)) (frame_state p fs f) (frames_state p fs) (option_map (named_receiver ns) to) (named_operand ns callee) (map (named_argument ns) args) (Err (fault_of ns why))
     (vals p (temps_of ns f.slots) (map argument_read (map (named_argument ns) args))) (sym (here p ns (are_slots p f fits.0))) refl
 
-pub callee_unset : {A : Type 0} (m now : Whole A) (to : Option Receiver) (callee : Source) (args : List NumberedArgument) (vs : List (Option ℕ)) (why : Fault) → m ≡ now → IsMachine m → AreOf m.frames vs → ReadIn A vs classes.L callee (Err why)
+pub callee_unset : {A : Type 0} (m now : Whole A) (to : Option Receiver) (callee : NumberedOperand) (args : List NumberedArgument) (vs : List (Option ℕ)) (why : Fault) → m ≡ now → IsMachine m → AreOf m.frames vs → ReadIn A vs classes.L callee (Err why)
     → performed_whole now (numbered.Call to callee args) ≡ Err (fault_of (head_names now.program now.frames) why)
 callee_unset {A} m now to callee args vs why same ok of ra =
     subst (λ (x : Whole A). performed_whole x (numbered.Call to callee args) ≡ Err (fault_of (head_names x.program x.frames) why)) same
     (callee_unset_at m.program m.frames m.memory m.output m.status to callee args vs why ok.frames of ra)
 
-argument_unset_at : {A : Type 0} (p : Program A) (fs : List SlotFrame) (m : Buffers) (out : List ℕ) (st : Status) (to : Option Receiver) (callee : Source) (args : List NumberedArgument) (vs : List (Option ℕ)) (a : ℕ) (why : Fault) → FramesFit p fs → AreOf fs vs
+argument_unset_at : {A : Type 0} (p : Program A) (fs : List SlotFrame) (m : Buffers) (out : List ℕ) (st : Status) (to : Option Receiver) (callee : NumberedOperand) (args : List NumberedArgument) (vs : List (Option ℕ)) (a : ℕ) (why : Fault) → FramesFit p fs → AreOf fs vs
     → ReadIn A vs classes.L callee (Ok a) → UnsetIn A vs args why → performed_whole (whole p fs m out st) (numbered.Call to callee args) ≡ Err (fault_of (head_names p fs) why)
 argument_unset_at p [] m out st to callee args vs a why fits of ra rs = absurd of
 argument_unset_at {A} p (f ∷ fs) m out st to callee args vs a why fits of ra rs =
@@ -146,16 +146,16 @@ argument_unset_at {A} p (f ∷ fs) m out st to callee args vs a why fits of ra r
     let are : AreSlots ns f.slots = are_slots p f fits.0 in
     let here : ReadIn A f.slots classes.L callee (Ok a) = subst (λ us. ReadIn A us classes.L callee (Ok a)) of ra in
     let those : UnsetIn A f.slots args why = subst (λ us. UnsetIn A us args why) of rs in
-    reads_on p (state_of (whole p (f ∷ fs) m out st)) (frame_state p fs f) (frames_state p fs) (option_map (named_receiver ns) to) (named_source ns callee) (map (named_argument ns) args) (Ok a) (Err (fault_of ns why))
+    reads_on p (state_of (whole p (f ∷ fs) m out st)) (frame_state p fs f) (frames_state p fs) (option_map (named_receiver ns) to) (named_operand ns callee) (map (named_argument ns) args) (Ok a) (Err (fault_of ns why))
     (sym (here p ns are)) (sym (those p ns are))
 
-pub argument_unset : {A : Type 0} (m now : Whole A) (to : Option Receiver) (callee : Source) (args : List NumberedArgument) (vs : List (Option ℕ)) (a : ℕ) (why : Fault) → m ≡ now → IsMachine m → AreOf m.frames vs → ReadIn A vs classes.L callee (Ok a)
+pub argument_unset : {A : Type 0} (m now : Whole A) (to : Option Receiver) (callee : NumberedOperand) (args : List NumberedArgument) (vs : List (Option ℕ)) (a : ℕ) (why : Fault) → m ≡ now → IsMachine m → AreOf m.frames vs → ReadIn A vs classes.L callee (Ok a)
     → UnsetIn A vs args why → performed_whole now (numbered.Call to callee args) ≡ Err (fault_of (head_names now.program now.frames) why)
 argument_unset {A} m now to callee args vs a why same ok of ra rs =
     subst (λ (x : Whole A). performed_whole x (numbered.Call to callee args) ≡ Err (fault_of (head_names x.program x.frames) why)) same
     (argument_unset_at m.program m.frames m.memory m.output m.status to callee args vs a why ok.frames of ra rs)
 
-call_is_at : {A X : Type 0} (p : Program A) (fs : List SlotFrame) (m : Buffers) (out : List ℕ) (st : Status) (to : Option Receiver) (callee : Source) (args : List NumberedArgument) (vs : List (Option ℕ)) (a : ℕ) (x : X) → FramesFit p fs → AreOf fs vs
+call_is_at : {A X : Type 0} (p : Program A) (fs : List SlotFrame) (m : Buffers) (out : List ℕ) (st : Status) (to : Option Receiver) (callee : NumberedOperand) (args : List NumberedArgument) (vs : List (Option ℕ)) (a : ℕ) (x : X) → FramesFit p fs → AreOf fs vs
     → ReadIn A vs classes.L callee (Ok a) → PassedIn A vs args (Ok x) → performed_whole (whole p fs m out st) (numbered.Call to callee args) ≡ called_whole (whole p fs m out st) to args a (callee_at p a)
 call_is_at p [] m out st to callee args vs a x fits of ra rs = absurd of
 call_is_at {A} p (f ∷ fs) m out st to callee args vs a x fits of ra rs =
@@ -163,16 +163,16 @@ call_is_at {A} p (f ∷ fs) m out st to callee args vs a x fits of ra rs =
     let are : AreSlots ns f.slots = are_slots p f fits.0 in
     let here : ReadIn A f.slots classes.L callee (Ok a) = subst (λ us. ReadIn A us classes.L callee (Ok a)) of ra in
     let those : PassedIn A f.slots args (Ok x) = subst (λ us. PassedIn A us args (Ok x)) of rs in
-    reads_on p (state_of (whole p (f ∷ fs) m out st)) (frame_state p fs f) (frames_state p fs) (option_map (named_receiver ns) to) (named_source ns callee) (map (named_argument ns) args) (Ok a) (Ok (argument_values f.slots args))
+    reads_on p (state_of (whole p (f ∷ fs) m out st)) (frame_state p fs f) (frames_state p fs) (option_map (named_receiver ns) to) (named_operand ns callee) (map (named_argument ns) args) (Ok a) (Ok (argument_values f.slots args))
     (sym (here p ns are)) (sym (those p ns are))
 
-pub call_is : {A X : Type 0} (m now : Whole A) (to : Option Receiver) (callee : Source) (args : List NumberedArgument) (vs : List (Option ℕ)) (a : ℕ) (x : X) → m ≡ now → IsMachine m → AreOf m.frames vs → ReadIn A vs classes.L callee (Ok a)
+pub call_is : {A X : Type 0} (m now : Whole A) (to : Option Receiver) (callee : NumberedOperand) (args : List NumberedArgument) (vs : List (Option ℕ)) (a : ℕ) (x : X) → m ≡ now → IsMachine m → AreOf m.frames vs → ReadIn A vs classes.L callee (Ok a)
     → PassedIn A vs args (Ok x) → performed_whole now (numbered.Call to callee args) ≡ called_whole now to args a (callee_at now.program a)
 call_is {A} m now to callee args vs a x same ok of ra rs =
     subst (λ (w : Whole A). performed_whole w (numbered.Call to callee args) ≡ called_whole w to args a (callee_at w.program a)) same
     (call_is_at m.program m.frames m.memory m.output m.status to callee args vs a x ok.frames of ra rs)
 
-pub call_explains : {A X : Type 0} (m now : Whole A) (to : Option Receiver) (callee : Source) (args : List NumberedArgument) (vs : List (Option ℕ)) (a : ℕ) (x : X) (e : StepError) → m ≡ now → IsMachine m → AreOf m.frames vs → ReadIn A vs classes.L callee (Ok a)
+pub call_explains : {A X : Type 0} (m now : Whole A) (to : Option Receiver) (callee : NumberedOperand) (args : List NumberedArgument) (vs : List (Option ℕ)) (a : ℕ) (x : X) (e : StepError) → m ≡ now → IsMachine m → AreOf m.frames vs → ReadIn A vs classes.L callee (Ok a)
     → PassedIn A vs args (Ok x) → Explains (head_names now.program now.frames) (called_whole now to args a (callee_at now.program a)) e
     → Explains (head_names now.program now.frames) (performed_whole now (numbered.Call to callee args)) e
 call_explains m now to callee args vs a x e same ok of ra rs h =

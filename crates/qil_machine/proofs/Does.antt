@@ -24,10 +24,10 @@ use Rattle.qil_meaning.specs.Slots.{temps_of}
 use Rattle.qil_meaning.specs.Values.{Outcome, ◌>>=◌, val, vals, result_of}
 use Rattle.qil_meaning.specs.Calls.{next}
 use Rattle.qil_meaning.specs.Step.{sets, alignment, copied}
-use Rattle.qil_numbering.specs.declared.numbered.Source.{Source}
+use Rattle.qil_numbering.specs.declared.numbered.NumberedOperand.{NumberedOperand}
 use Rattle.qil_numbering.specs.declared.numbered.NumberedInst.{NumberedInst}
 use Rattle.qil_numbering.specs.declared.numbered.NumberedInst.TheVariants as numbered
-use Rattle.qil_numbering.specs.Named.{named_source, named_inst}
+use Rattle.qil_numbering.specs.Named.{named_operand, named_inst}
 use Rattle.qil_numbering.specs.Numbered.{names_of}
 use Rattle.qil_frames.specs.Frames.{SlotFrame}
 use Rattle.qil_state.specs.declared.status.Status.{Status}
@@ -129,41 +129,41 @@ blit_is p s f fs a b n from to ea eb = rw (ea, eb) refl
 -- ---- operands that are unset
 
 -- the instruction reads this operand first, or these two and no other
-abbrev pub ReadsFirst : {A : Type 0} → NumberedInst A → Class → Source → Type 0
+abbrev pub ReadsFirst : {A : Type 0} → NumberedInst A → Class → NumberedOperand → Type 0
 ReadsFirst (numbered.Store size a b) c x = (stored_class size ≡ c) × (a ≡ x)
 ReadsFirst (numbered.Blit a b n) c x = (classes.L ≡ c) × (a ≡ x)
 ReadsFirst (numbered.Alloc d s op a) c x = (classes.L ≡ c) × (a ≡ x)
 ReadsFirst inst c x = ⊥
 
-abbrev pub ReadsBoth : {A : Type 0} → NumberedInst A → Class → Source → Class → Source → Type 0
+abbrev pub ReadsBoth : {A : Type 0} → NumberedInst A → Class → NumberedOperand → Class → NumberedOperand → Type 0
 ReadsBoth (numbered.Store size a b) c x d y = (stored_class size ≡ c) × (a ≡ x) × (classes.L ≡ d) × (b ≡ y)
 ReadsBoth (numbered.Blit a b n) c x d y = (classes.L ≡ c) × (a ≡ x) × (classes.L ≡ d) × (b ≡ y)
 ReadsBoth inst c x d y = ⊥
 
-pub first_unset : {A : Type 0} (p : Program A) (s : State) (f : meaning.Frame) (fs : List meaning.Frame) (inst : NumberedInst A) (ns : List Name) (c : Class) (x : Source) (why : Fault) → ReadsFirst inst c x
-    → val p f.temps c (named_source ns x) ≡ Err why → performed p s (f ∷ fs) (named_inst ns inst) ≡ Err why
+pub first_unset : {A : Type 0} (p : Program A) (s : State) (f : meaning.Frame) (fs : List meaning.Frame) (inst : NumberedInst A) (ns : List Name) (c : Class) (x : NumberedOperand) (why : Fault) → ReadsFirst inst c x
+    → val p f.temps c (named_operand ns x) ≡ Err why → performed p s (f ∷ fs) (named_inst ns inst) ≡ Err why
 first_unset p s f fs (numbered.Assign d t e) ns c x why is e2 = absurd is
 first_unset p s f fs (numbered.Alloc d t op a) ns c x why is e =
-    let f1 : val p f.temps classes.L (named_source ns a) ≡ Err why = rw (is.0, is.1) e in
+    let f1 : val p f.temps classes.L (named_operand ns a) ≡ Err why = rw (is.0, is.1) e in
     rw f1 refl
 first_unset p s f fs (numbered.Store size a b) ns c x why is e =
-    let f1 : val p f.temps (stored_class size) (named_source ns a) ≡ Err why = rw (is.0, is.1) e in
+    let f1 : val p f.temps (stored_class size) (named_operand ns a) ≡ Err why = rw (is.0, is.1) e in
     rw f1 refl
 first_unset p s f fs (numbered.Blit a b n) ns c x why is e =
-    let f1 : val p f.temps classes.L (named_source ns a) ≡ Err why = rw (is.0, is.1) e in
+    let f1 : val p f.temps classes.L (named_operand ns a) ≡ Err why = rw (is.0, is.1) e in
     rw f1 refl
 first_unset p s f fs (numbered.Call to callee args) ns c x why is e = absurd is
 
-pub second_unset : {A : Type 0} (p : Program A) (s : State) (f : meaning.Frame) (fs : List meaning.Frame) (inst : NumberedInst A) (ns : List Name) (c d : Class) (x y : Source) (v : ℕ) (why : Fault) → ReadsBoth inst c x d y
-    → val p f.temps c (named_source ns x) ≡ Ok v → val p f.temps d (named_source ns y) ≡ Err why → performed p s (f ∷ fs) (named_inst ns inst) ≡ Err why
+pub second_unset : {A : Type 0} (p : Program A) (s : State) (f : meaning.Frame) (fs : List meaning.Frame) (inst : NumberedInst A) (ns : List Name) (c d : Class) (x y : NumberedOperand) (v : ℕ) (why : Fault) → ReadsBoth inst c x d y
+    → val p f.temps c (named_operand ns x) ≡ Ok v → val p f.temps d (named_operand ns y) ≡ Err why → performed p s (f ∷ fs) (named_inst ns inst) ≡ Err why
 second_unset p s f fs (numbered.Assign k t e) ns c d x y v why is e1 e2 = absurd is
 second_unset p s f fs (numbered.Alloc k t op a) ns c d x y v why is e1 e2 = absurd is
 second_unset p s f fs (numbered.Store size a b) ns c d x y v why is e1 e2 =
-    let f1 : val p f.temps (stored_class size) (named_source ns a) ≡ Ok v = rw (is.0, is.1) e1 in
-    let f2 : val p f.temps classes.L (named_source ns b) ≡ Err why = rw (is.2, is.3) e2 in
+    let f1 : val p f.temps (stored_class size) (named_operand ns a) ≡ Ok v = rw (is.0, is.1) e1 in
+    let f2 : val p f.temps classes.L (named_operand ns b) ≡ Err why = rw (is.2, is.3) e2 in
     rw (f1, f2) refl
 second_unset p s f fs (numbered.Blit a b n) ns c d x y v why is e1 e2 =
-    let f1 : val p f.temps classes.L (named_source ns a) ≡ Ok v = rw (is.0, is.1) e1 in
-    let f2 : val p f.temps classes.L (named_source ns b) ≡ Err why = rw (is.2, is.3) e2 in
+    let f1 : val p f.temps classes.L (named_operand ns a) ≡ Ok v = rw (is.0, is.1) e1 in
+    let f2 : val p f.temps classes.L (named_operand ns b) ≡ Err why = rw (is.2, is.3) e2 in
     rw (f1, f2) refl
 second_unset p s f fs (numbered.Call to callee args) ns c d x y v why is e1 e2 = absurd is

@@ -20,7 +20,7 @@ use Rattle.qil_meaning.specs.Calls.{taken}
 use Rattle.qil_meaning.specs.Step as step
 use Rattle.qil_numbering.specs.declared.numbered.Slot.{Slot}
 use Rattle.qil_numbering.specs.declared.numbered.Receiver.{Receiver}
-use Rattle.qil_numbering.specs.declared.numbered.Source.{Source}
+use Rattle.qil_numbering.specs.declared.numbered.NumberedOperand.{NumberedOperand}
 use Rattle.qil_numbering.specs.declared.numbered.Edge.{Edge}
 use Rattle.qil_numbering.specs.declared.numbered.NumberedBlock.{NumberedBlock}
 use Rattle.qil_numbering.specs.declared.numbered.NumberedJump.{NumberedJump}
@@ -187,17 +187,17 @@ pub first_frame : {A : Type 0} (m now : Whole A) → m ≡ now → IsMachine m �
 first_frame {A} m now same ok run = first_of m.frames (some_frame m.status m.frames (ap (λ (x : Whole A). x.status) same ∙ run) ok.some)
 
 -- a value is returned that was read, or the operand is unset
-reads_by : {A : Type 0} (p : Program A) (f : SlotFrame) (vs : List (Option ℕ)) (c : Class) (a : Source) (r : Result ℕ Fault) → vs ≡ f.slots → ReadIn A vs c a r → IsRead p f c a r
+reads_by : {A : Type 0} (p : Program A) (f : SlotFrame) (vs : List (Option ℕ)) (c : Class) (a : NumberedOperand) (r : Result ℕ Fault) → vs ≡ f.slots → ReadIn A vs c a r → IsRead p f c a r
 reads_by {A} p f vs c a r of read ns are = (subst (λ us. ReadIn A us c a r) of read) p ns are
 
-pub return_steps : {A : Type 0} (m now new : Whole A) (fr : SlotFrame) (vs : List (Option ℕ)) (a : Source) (c : Class) (v w : ℕ) → m ≡ now → IsMachine m → slice_get m.frames 0 ≡ Some fr → vs ≡ fr.slots → c ≡ returned_class (returns_at m.program fr.func)
+pub return_steps : {A : Type 0} (m now new : Whole A) (fr : SlotFrame) (vs : List (Option ℕ)) (a : NumberedOperand) (c : Class) (v w : ℕ) → m ≡ now → IsMachine m → slice_get m.frames 0 ≡ Some fr → vs ≡ fr.slots → c ≡ returned_class (returns_at m.program fr.func)
     → ReadIn A vs c a (Ok v) → w ≡ fit (unwrap_or (returns_at m.program fr.func) types.W) v → returned_whole now (Some w) ≡ Ok (state_of new) → left_whole now (jumps.Ret (Some a)) ≡ Ok (state_of new)
 return_steps {A} m now new fr vs a c v w same ok at of ec read ew did =
     subst (λ (x : Whole A). returned_whole x (Some w) ≡ Ok (state_of new) → left_whole x (jumps.Ret (Some a)) ≡ Ok (state_of new)) same
     (λ did. ret_left m m.program m.frames m.memory m.output m.status fr a (Ok v) refl ok.frames at (reads_by m.program fr vs (returned_class (returns_at m.program fr.func)) a (Ok v) of (subst (λ d. ReadIn A vs d a (Ok v)) ec read))
     ∙ ap (λ u. returned_whole m (Some u)) (sym ew) ∙ did) did
 
-pub return_fails : {A : Type 0} (m now : Whole A) (fr : SlotFrame) (vs : List (Option ℕ)) (a : Source) (c : Class) (why : Fault) → m ≡ now → IsMachine m → slice_get m.frames 0 ≡ Some fr → vs ≡ fr.slots → c ≡ returned_class (returns_at m.program fr.func)
+pub return_fails : {A : Type 0} (m now : Whole A) (fr : SlotFrame) (vs : List (Option ℕ)) (a : NumberedOperand) (c : Class) (why : Fault) → m ≡ now → IsMachine m → slice_get m.frames 0 ≡ Some fr → vs ≡ fr.slots → c ≡ returned_class (returns_at m.program fr.func)
     → ReadIn A vs c a (Err why) → left_whole now (jumps.Ret (Some a)) ≡ Err (fault_of (head_names now.program now.frames) why)
 return_fails {A} m now fr vs a c why same ok at of ec read =
     subst (λ (x : Whole A). left_whole x (jumps.Ret (Some a)) ≡ Err (fault_of (head_names x.program x.frames) why)) same
@@ -208,23 +208,23 @@ return_fails {A} m now fr vs a c why same ok at of ec read =
 positive_test : (v : ℕ) → 0 < v → (v == 0) ≡ false
 positive_test v h = grind (arith, nat_tests)
 
-pub branch_fails : {A : Type 0} (m now : Whole A) (fr : SlotFrame) (vs : List (Option ℕ)) (a : Source) (e g : Edge A) (why : Fault) → m ≡ now → IsMachine m → slice_get m.frames 0 ≡ Some fr → vs ≡ fr.slots → ReadIn A vs classes.W a (Err why)
+pub branch_fails : {A : Type 0} (m now : Whole A) (fr : SlotFrame) (vs : List (Option ℕ)) (a : NumberedOperand) (e g : Edge A) (why : Fault) → m ≡ now → IsMachine m → slice_get m.frames 0 ≡ Some fr → vs ≡ fr.slots → ReadIn A vs classes.W a (Err why)
     → left_whole now (jumps.Jnz a e g) ≡ Err (fault_of (head_names now.program now.frames) why)
 branch_fails {A} m now fr vs a e g why same ok at of read =
     subst (λ (x : Whole A). left_whole x (jumps.Jnz a e g) ≡ Err (fault_of (head_names x.program x.frames) why)) same
     (jnz_left m m.program m.frames m.memory m.output m.status fr a e g (Err why) refl ok.frames at (reads_by m.program fr vs classes.W a (Err why) of read))
 
-branched : {A : Type 0} (m now : Whole A) (fr : SlotFrame) (vs : List (Option ℕ)) (a : Source) (e g : Edge A) (v : ℕ) → m ≡ now → IsMachine m → slice_get m.frames 0 ≡ Some fr → vs ≡ fr.slots → ReadIn A vs classes.W a (Ok v)
+branched : {A : Type 0} (m now : Whole A) (fr : SlotFrame) (vs : List (Option ℕ)) (a : NumberedOperand) (e g : Edge A) (v : ℕ) → m ≡ now → IsMachine m → slice_get m.frames 0 ≡ Some fr → vs ≡ fr.slots → ReadIn A vs classes.W a (Ok v)
     → left_whole now (jumps.Jnz a e g) ≡ went_whole now (if v == 0 then g else e)
 branched {A} m now fr vs a e g v same ok at of read =
     subst (λ (x : Whole A). left_whole x (jumps.Jnz a e g) ≡ went_whole x (if v == 0 then g else e)) same
     (jnz_left m m.program m.frames m.memory m.output m.status fr a e g (Ok v) refl ok.frames at (reads_by m.program fr vs classes.W a (Ok v) of read))
 
-pub branched_zero : {A : Type 0} (m now : Whole A) (fr : SlotFrame) (vs : List (Option ℕ)) (a : Source) (e g : Edge A) (v : ℕ) → m ≡ now → IsMachine m → slice_get m.frames 0 ≡ Some fr → vs ≡ fr.slots → ReadIn A vs classes.W a (Ok v) → v ≡ 0
+pub branched_zero : {A : Type 0} (m now : Whole A) (fr : SlotFrame) (vs : List (Option ℕ)) (a : NumberedOperand) (e g : Edge A) (v : ℕ) → m ≡ now → IsMachine m → slice_get m.frames 0 ≡ Some fr → vs ≡ fr.slots → ReadIn A vs classes.W a (Ok v) → v ≡ 0
     → left_whole now (jumps.Jnz a e g) ≡ went_whole now g
 branched_zero {A} m now fr vs a e g v same ok at of read is = branched m now fr vs a e g v same ok at of read ∙ ap (λ u. went_whole now (if u == 0 then g else e)) is
 
-pub branched_set : {A : Type 0} (m now : Whole A) (fr : SlotFrame) (vs : List (Option ℕ)) (a : Source) (e g : Edge A) (v : ℕ) → m ≡ now → IsMachine m → slice_get m.frames 0 ≡ Some fr → vs ≡ fr.slots → ReadIn A vs classes.W a (Ok v) → 0 < v
+pub branched_set : {A : Type 0} (m now : Whole A) (fr : SlotFrame) (vs : List (Option ℕ)) (a : NumberedOperand) (e g : Edge A) (v : ℕ) → m ≡ now → IsMachine m → slice_get m.frames 0 ≡ Some fr → vs ≡ fr.slots → ReadIn A vs classes.W a (Ok v) → 0 < v
     → left_whole now (jumps.Jnz a e g) ≡ went_whole now e
 branched_set {A} m now fr vs a e g v same ok at of read is = branched m now fr vs a e g v same ok at of read ∙ rw (positive_test v is) refl
 
@@ -232,22 +232,22 @@ branched_set {A} m now fr vs a e g v same ok at of read is = branched m now fr v
 several : (n : ℕ) (P : Type 0) → (n ≤ 1 → P → ⊥) → P → 1 < n
 several n P few p = ⊎_elim (λ lt. lt) (λ ge. absurd (few ge p)) (cases_lt 1 n)
 
-takes_at : {A : Type 0} (p : Program A) (fs : List SlotFrame) (fr : SlotFrame) (a : Source) (e g : Edge A) (v : ℕ) → FramesFit p fs → slice_get fs 0 ≡ Some fr → IsRead p fr classes.W a (Ok v) → EdgeTakes (if v == 0 then g else e) → BranchTakes p fs a e g
+takes_at : {A : Type 0} (p : Program A) (fs : List SlotFrame) (fr : SlotFrame) (a : NumberedOperand) (e g : Edge A) (v : ℕ) → FramesFit p fs → slice_get fs 0 ≡ Some fr → IsRead p fr classes.W a (Ok v) → EdgeTakes (if v == 0 then g else e) → BranchTakes p fs a e g
 takes_at p [] fr a e g v fits at read takes = none_some at
 takes_at {A} p (f ∷ fs) fr a e g v fits at read takes =
     let of_f : IsRead p f classes.W a (Ok v) = subst (λ (h : SlotFrame). IsRead p h classes.W a (Ok v)) (sym (some_same f fr at)) read in
     subst (λ o. ReadTakes o e g) (of_f (names_of p f.func) (are_slots p f fits.0)) takes
 
-takes : {A : Type 0} (m now : Whole A) (fr : SlotFrame) (vs : List (Option ℕ)) (a : Source) (e g : Edge A) (v : ℕ) → m ≡ now → IsMachine m → slice_get m.frames 0 ≡ Some fr → vs ≡ fr.slots → ReadIn A vs classes.W a (Ok v)
+takes : {A : Type 0} (m now : Whole A) (fr : SlotFrame) (vs : List (Option ℕ)) (a : NumberedOperand) (e g : Edge A) (v : ℕ) → m ≡ now → IsMachine m → slice_get m.frames 0 ≡ Some fr → vs ≡ fr.slots → ReadIn A vs classes.W a (Ok v)
     → EdgeTakes (if v == 0 then g else e) → BranchTakes now.program now.frames a e g
 takes {A} m now fr vs a e g v same ok at of read much =
     subst (λ (x : Whole A). BranchTakes x.program x.frames a e g) same (takes_at m.program m.frames fr a e g v ok.frames at (reads_by m.program fr vs classes.W a (Ok v) of read) much)
 
-pub takes_zero : {A : Type 0} (m now : Whole A) (fr : SlotFrame) (vs : List (Option ℕ)) (a : Source) (e g : Edge A) (v : ℕ) (P : Type 0) → m ≡ now → IsMachine m → slice_get m.frames 0 ≡ Some fr → vs ≡ fr.slots → ReadIn A vs classes.W a (Ok v) → v ≡ 0
+pub takes_zero : {A : Type 0} (m now : Whole A) (fr : SlotFrame) (vs : List (Option ℕ)) (a : NumberedOperand) (e g : Edge A) (v : ℕ) (P : Type 0) → m ≡ now → IsMachine m → slice_get m.frames 0 ≡ Some fr → vs ≡ fr.slots → ReadIn A vs classes.W a (Ok v) → v ≡ 0
     → (length g.moves ≤ 1 → P → ⊥) → P → BranchTakes now.program now.frames a e g
 takes_zero m now fr vs a e g v P same ok at of read is few p = takes m now fr vs a e g v same ok at of read (rw is (several (length g.moves) P few p))
 
-pub takes_set : {A : Type 0} (m now : Whole A) (fr : SlotFrame) (vs : List (Option ℕ)) (a : Source) (e g : Edge A) (v : ℕ) (P : Type 0) → m ≡ now → IsMachine m → slice_get m.frames 0 ≡ Some fr → vs ≡ fr.slots → ReadIn A vs classes.W a (Ok v) → 0 < v
+pub takes_set : {A : Type 0} (m now : Whole A) (fr : SlotFrame) (vs : List (Option ℕ)) (a : NumberedOperand) (e g : Edge A) (v : ℕ) (P : Type 0) → m ≡ now → IsMachine m → slice_get m.frames 0 ≡ Some fr → vs ≡ fr.slots → ReadIn A vs classes.W a (Ok v) → 0 < v
     → (length e.moves ≤ 1 → P → ⊥) → P → BranchTakes now.program now.frames a e g
 takes_set m now fr vs a e g v P same ok at of read is few p = takes m now fr vs a e g v same ok at of read (rw (positive_test v is) (several (length e.moves) P few p))
 
@@ -255,14 +255,14 @@ pub jmp_is : {A : Type 0} (m now : Whole A) (fr : SlotFrame) (e : Edge A) → m 
 jmp_is {A} m now fr e same ok at = subst (λ (x : Whole A). left_whole x (jumps.Jmp e) ≡ went_whole x e) same (jmp_left m m.program m.frames m.memory m.output m.status fr e refl ok.frames at)
 
 -- the operand of a return has its slot
-source_at : {A : Type 0} (p : Program A) (f : SlotFrame) (fs : List SlotFrame) (block : NumberedBlock A) (k : ℕ) (o : Option Source) → FrameFits p f → IsAtPlace p f block k → block.jump ≡ jumps.Ret o → HasReturned (f ∷ fs) o
-source_at {A} p f fs block k None fits stands is = tt
-source_at {A} p f fs block k (Some a) fits stands is =
+operand_at : {A : Type 0} (p : Program A) (f : SlotFrame) (fs : List SlotFrame) (block : NumberedBlock A) (k : ℕ) (o : Option NumberedOperand) → FrameFits p f → IsAtPlace p f block k → block.jump ≡ jumps.Ret o → HasReturned (f ∷ fs) o
+operand_at {A} p f fs block k None fits stands is = tt
+operand_at {A} p f fs block k (Some a) fits stands is =
     subst (λ n. InRange n a) fits.slots (subst (λ (j : NumberedJump A). JumpInRange (length (names_of p f.func)) (length (labels_at p f.func)) j) is stands.range.jump)
 
-source_in : {A : Type 0} (p : Program A) (fs : List SlotFrame) (block : NumberedBlock A) (k : ℕ) (o : Option Source) → FramesFit p fs → IsHere p fs block k → block.jump ≡ jumps.Ret o → HasReturned fs o
-source_in p [] block k o fits here is = absurd here
-source_in p (f ∷ fs) block k o fits here is = source_at p f fs block k o fits.0 here is
+operand_in : {A : Type 0} (p : Program A) (fs : List SlotFrame) (block : NumberedBlock A) (k : ℕ) (o : Option NumberedOperand) → FramesFit p fs → IsHere p fs block k → block.jump ≡ jumps.Ret o → HasReturned fs o
+operand_in p [] block k o fits here is = absurd here
+operand_in p (f ∷ fs) block k o fits here is = operand_at p f fs block k o fits.0 here is
 
-pub may_return : {A : Type 0} (m now : Whole A) (block : NumberedBlock A) (k : ℕ) (o : Option Source) → m ≡ now → IsMachine m → IsHere now.program now.frames block k → block.jump ≡ jumps.Ret o → HasReturned now.frames o
-may_return {A} m now block k o same ok here is = source_in now.program now.frames block k o (frames_in m now same ok) here is
+pub may_return : {A : Type 0} (m now : Whole A) (block : NumberedBlock A) (k : ℕ) (o : Option NumberedOperand) → m ≡ now → IsMachine m → IsHere now.program now.frames block k → block.jump ≡ jumps.Ret o → HasReturned now.frames o
+may_return {A} m now block k o same ok here is = operand_in now.program now.frames block k o (frames_in m now same ok) here is

@@ -2,7 +2,7 @@
 use Rattle.std.proofs.Common.{◌≡◌, ◌∙◌, sym, ap, subst, Bool}
 use Rattle.std.specs.Prelude.{◌↔◌, IsTrue}
 use Rattle.qil_state.specs.State.{Whole}
-use Rattle.qil_machine.specs.declared.delta.Kind.{Kind}
+use Rattle.qil_machine.specs.declared.delta.DeltaKind.{DeltaKind}
 use Rattle.qil_machine.specs.Moves.{Move, undone, Fits}
 use Rattle.qil_machine.specs.declared.delta.Grown.{Grown}
 use Rattle.qil_machine.specs.declared.delta.Copied.{Copied}
@@ -12,16 +12,16 @@ use Rattle.std.specs.declared.vec.Vec.{Vec}
 use Rattle.arrayvec.specs.ArrayVec.{ArrayVec}
 
 -- a kind that is another has its move
-same_move : {A : Type 0} (k v : Kind A) (d e : Move) → move_of k ≡ d → k ≡ v → e ≡ move_of v → e ≡ d
+same_move : {A : Type 0} (k v : DeltaKind A) (d e : Move) → move_of k ≡ d → k ≡ v → e ≡ move_of v → e ≡ d
 same_move k v d e view is made = made ∙ ap move_of (sym is) ∙ view
 
-pub kind_fits : {A : Type 0} (k v : Kind A) (d e : Move) (m : Whole A) (b : Bool) → move_of k ≡ d → k ≡ v → e ≡ move_of v → (IsTrue b ↔ Fits e m) → (IsTrue b ↔ Fits d m)
+pub kind_fits : {A : Type 0} (k v : DeltaKind A) (d e : Move) (m : Whole A) (b : Bool) → move_of k ≡ d → k ≡ v → e ≡ move_of v → (IsTrue b ↔ Fits e m) → (IsTrue b ↔ Fits d m)
 kind_fits k v d e m b view is made h = subst (λ x. IsTrue b ↔ Fits x m) (same_move k v d e view is made) h
 
-pub fits_kind : {A : Type 0} (k v : Kind A) (d e : Move) (m : Whole A) → move_of k ≡ d → k ≡ v → e ≡ move_of v → Fits d m → Fits e m
+pub fits_kind : {A : Type 0} (k v : DeltaKind A) (d e : Move) (m : Whole A) → move_of k ≡ d → k ≡ v → e ≡ move_of v → Fits d m → Fits e m
 fits_kind k v d e m view is made h = subst (λ x. Fits x m) (sym (same_move k v d e view is made)) h
 
-pub kind_undone : {A : Type 0} (k v : Kind A) (d e : Move) (m w : Whole A) → move_of k ≡ d → k ≡ v → e ≡ move_of v → w ≡ undone e m → w ≡ undone d m
+pub kind_undone : {A : Type 0} (k v : DeltaKind A) (d e : Move) (m w : Whole A) → move_of k ≡ d → k ≡ v → e ≡ move_of v → w ≡ undone e m → w ≡ undone d m
 kind_undone k v d e m w view is made h = h ∙ ap (λ x. undone x m) (same_move k v d e view is made)
 
 -- ---- what a box lends

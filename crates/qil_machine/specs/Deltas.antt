@@ -1,12 +1,12 @@
 -- What a delta keeps, by its kind, as a move.
 use Rattle.std.specs.Prelude.{◌<◌, ◌≤◌, ◌^◌, [], ◌∷◌, length, Some}
 use Rattle.qil_layout.specs.Layout.{low_bytes}
-use Rattle.qil_machine.specs.declared.delta.Kind.{Kind}
-use Rattle.qil_machine.specs.declared.delta.Kind.TheVariants as kinds
+use Rattle.qil_machine.specs.declared.delta.DeltaKind.{DeltaKind}
+use Rattle.qil_machine.specs.declared.delta.DeltaKind.TheVariants as kinds
 use Rattle.qil_machine.specs.Moves.{Move, at, end_of}
 use Rattle.qil_machine.specs.Kinds.{one, value_of, slots_move, bytes_move, called_move, returned_move, grown_move, copied_move, wrote_move, ended_move, poked_slot_move, poked_bytes_move}
 
-abbrev pub move_of : {A : Type 0} → Kind A → Move
+abbrev pub move_of : {A : Type 0} → DeltaKind A → Move
 move_of (kinds.Assigned slot index value) = slots_move (at index) (one slot value)
 move_of (kinds.Stored count index address number) = bytes_move index address (low_bytes count number)
 move_of (kinds.Left block) = slots_move (end_of block) []
@@ -25,7 +25,7 @@ move_of (kinds.PokedSlot set slot value) = poked_slot_move slot (value_of set va
 move_of (kinds.PokedBytes count address number) = poked_bytes_move address (low_bytes count number)
 
 -- what the type keeps of a kind
-abbrev pub IsKind : {A : Type 0} → Kind A → Type 0
+abbrev pub IsKind : {A : Type 0} → DeltaKind A → Type 0
 IsKind (kinds.Stored count index address number) = count ≤ 8
 IsKind (kinds.PokedBytes count address number) = count ≤ 8
 IsKind (kinds.LeftShort block kept) = length kept.value.items < 2 ^ 32

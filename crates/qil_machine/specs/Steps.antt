@@ -10,9 +10,9 @@ use Rattle.qil_numbering.specs.declared.numbered.NumberedJump.{NumberedJump}
 use Rattle.qil_numbering.specs.declared.numbered.NumberedJump.TheVariants as jumps
 use Rattle.qil_numbering.specs.declared.numbered.NumberedBlock.{NumberedBlock}
 use Rattle.qil_numbering.specs.declared.numbered.Edge.{Edge}
-use Rattle.qil_numbering.specs.declared.numbered.Source.{Source}
+use Rattle.qil_numbering.specs.declared.numbered.NumberedOperand.{NumberedOperand}
 use Rattle.qil_numbering.specs.Ranges.{InRange, InstInRange, BlockInRange}
-use Rattle.qil_numbering.specs.Named.{named_source}
+use Rattle.qil_numbering.specs.Named.{named_operand}
 use Rattle.qil_numbering.specs.Numbered.{names_of}
 use Rattle.qil_numbering.specs.Reading.{block_code_at, labels_at}
 use Rattle.qil_numbering.specs.Facts.{Finds, KnowsLabels}
@@ -36,13 +36,13 @@ IsHere p [] block k = ⊥
 IsHere p (f ∷ fs) block k = IsAtPlace p f block k
 
 -- the innermost frame has the slot of an operand
-abbrev pub HasSource : List SlotFrame → Source → Type 0
-HasSource [] source = ⊥
-HasSource (f ∷ fs) source = InRange (length f.slots) source
+abbrev pub HasOperand : List SlotFrame → NumberedOperand → Type 0
+HasOperand [] source = ⊥
+HasOperand (f ∷ fs) source = InRange (length f.slots) source
 
-abbrev pub HasReturned : List SlotFrame → Option Source → Type 0
+abbrev pub HasReturned : List SlotFrame → Option NumberedOperand → Type 0
 HasReturned fs None = Unit {0}
-HasReturned fs (Some source) = HasSource fs source
+HasReturned fs (Some source) = HasOperand fs source
 
 -- ---- which steps may take memory
 
@@ -61,10 +61,10 @@ ReadTakes (Ok v) e g = EdgeTakes (if v == 0 then g else e)
 ReadTakes (Err fault) e g = ⊥
 
 -- what an operand of class `w` is in a frame
-abbrev pub word_in : {A : Type 0} → Program A → SlotFrame → Source → Outcome ℕ
-word_in p f a = val p (temps_of (names_of p f.func) f.slots) classes.W (named_source (names_of p f.func) a)
+abbrev pub word_in : {A : Type 0} → Program A → SlotFrame → NumberedOperand → Outcome ℕ
+word_in p f a = val p (temps_of (names_of p f.func) f.slots) classes.W (named_operand (names_of p f.func) a)
 
-abbrev pub BranchTakes : {A : Type 0} → Program A → List SlotFrame → Source → Edge A → Edge A → Type 0
+abbrev pub BranchTakes : {A : Type 0} → Program A → List SlotFrame → NumberedOperand → Edge A → Edge A → Type 0
 BranchTakes p [] a e g = ⊥
 BranchTakes p (f ∷ fs) a e g = ReadTakes (word_in p f a) e g
 

@@ -31,7 +31,7 @@ pub struct Copied<A: Allocator> {
 
 /// The kinds of moves. A flag says whether a slot was set; then the number is what it held.
 #[derive(Drop)]
-pub enum Kind<A: Allocator> {
+pub enum DeltaKind<A: Allocator> {
     /// Slot, index, what the slot held.
     Assigned(Slot, u32, Option<u64>),
     /// How many bytes, index, address, and the number that they spelled.
@@ -66,7 +66,7 @@ pub enum Kind<A: Allocator> {
 /// What a move of a machine keeps. `Machine::undo` puts it back. Specifications see one record for all kinds.
 #[derive(Drop)]
 pub struct Delta<A: Allocator> {
-    pub(crate) kind: Kind<A>,
+    pub(crate) kind: DeltaKind<A>,
 }
 
 impl<A: Allocator> Model for Delta<A> {
@@ -87,7 +87,7 @@ impl<A: Allocator> Delta<A> {
         ensures { result ≡ slots_move (at index) (one slot old) }
     {
         Delta {
-            kind: Kind::Assigned(slot, index, old),
+            kind: DeltaKind::Assigned(slot, index, old),
         }
     }
 
@@ -97,7 +97,7 @@ impl<A: Allocator> Delta<A> {
         ensures { result ≡ bytes_move index address (low_bytes count number) }
     {
         Delta {
-            kind: Kind::Stored(count, index, address, number),
+            kind: DeltaKind::Stored(count, index, address, number),
         }
     }
 
@@ -109,19 +109,19 @@ impl<A: Allocator> Delta<A> {
         let block = block.index;
         match slots {
             KeptSlots::None => Delta {
-                kind: Kind::Left(block),
+                kind: DeltaKind::Left(block),
             },
             KeptSlots::One(slot, value) => Delta {
-                kind: Kind::LeftOne(block, slot, value),
+                kind: DeltaKind::LeftOne(block, slot, value),
             },
             KeptSlots::Two(a, b, x, y) => Delta {
-                kind: Kind::LeftTwo(block, a, b, x, y),
+                kind: DeltaKind::LeftTwo(block, a, b, x, y),
             },
             KeptSlots::Short(kept) => Delta {
-                kind: Kind::LeftShort(block, kept),
+                kind: DeltaKind::LeftShort(block, kept),
             },
             KeptSlots::Many(kept) => Delta {
-                kind: Kind::LeftMany(block, kept),
+                kind: DeltaKind::LeftMany(block, kept),
             },
         }
     }
@@ -131,7 +131,7 @@ impl<A: Allocator> Delta<A> {
         ensures { result ≡ called_move index }
     {
         Delta {
-            kind: Kind::Called(index),
+            kind: DeltaKind::Called(index),
         }
     }
 
@@ -142,10 +142,10 @@ impl<A: Allocator> Delta<A> {
         let _ = frame.slots();
         match old {
             Some(old) => Delta {
-                kind: Kind::Returned(true, top, old, frame),
+                kind: DeltaKind::Returned(true, top, old, frame),
             },
             None => Delta {
-                kind: Kind::Returned(false, top, 0, frame),
+                kind: DeltaKind::Returned(false, top, 0, frame),
             },
         }
     }
@@ -155,7 +155,7 @@ impl<A: Allocator> Delta<A> {
         ensures { result ≡ grown_move grown.value.index grown.value.slot grown.value.value grown.value.saved }
     {
         Delta {
-            kind: Kind::Grew(grown),
+            kind: DeltaKind::Grew(grown),
         }
     }
 
@@ -164,7 +164,7 @@ impl<A: Allocator> Delta<A> {
         ensures { result ≡ copied_move copied.value.index copied.value.saved }
     {
         Delta {
-            kind: Kind::Copied(copied),
+            kind: DeltaKind::Copied(copied),
         }
     }
 
@@ -172,7 +172,7 @@ impl<A: Allocator> Delta<A> {
         ensures { result ≡ wrote_move index count [] }
     {
         Delta {
-            kind: Kind::Wrote(index, count),
+            kind: DeltaKind::Wrote(index, count),
         }
     }
 
@@ -181,10 +181,10 @@ impl<A: Allocator> Delta<A> {
     {
         match old {
             Some(old) => Delta {
-                kind: Kind::WroteTo(true, slot, index, count, old),
+                kind: DeltaKind::WroteTo(true, slot, index, count, old),
             },
             None => Delta {
-                kind: Kind::WroteTo(false, slot, index, count, 0),
+                kind: DeltaKind::WroteTo(false, slot, index, count, 0),
             },
         }
     }
@@ -193,7 +193,9 @@ impl<A: Allocator> Delta<A> {
     pub(crate) fn ended() -> Delta<A>
         ensures { result ≡ ended_move }
     {
-        Delta { kind: Kind::Ended }
+        Delta {
+            kind: DeltaKind::Ended,
+        }
     }
 
     pub(crate) fn poked_slot(slot: Slot, old: Option<u64>) -> Delta<A>
@@ -201,10 +203,10 @@ impl<A: Allocator> Delta<A> {
     {
         match old {
             Some(old) => Delta {
-                kind: Kind::PokedSlot(true, slot, old),
+                kind: DeltaKind::PokedSlot(true, slot, old),
             },
             None => Delta {
-                kind: Kind::PokedSlot(false, slot, 0),
+                kind: DeltaKind::PokedSlot(false, slot, 0),
             },
         }
     }
@@ -214,14 +216,14 @@ impl<A: Allocator> Delta<A> {
         ensures { result ≡ poked_bytes_move address (low_bytes count number) }
     {
         Delta {
-            kind: Kind::PokedBytes(count, address, number),
+            kind: DeltaKind::PokedBytes(count, address, number),
         }
     }
 }
 
 impl<A: Allocator> Delta<A> {
     /// The kind of the move with what it keeps, which is all that is kept.
-    pub fn into_kind(self) -> Kind<A>
+    pub fn into_kind(self) -> DeltaKind<A>
         ensures { move_of result ≡ self }
     {
         let Delta { kind } = self;
@@ -233,25 +235,25 @@ impl<A: Allocator> Delta<A> {
         ensures { result ≡ weight self.now }
     {
         match &self.kind {
-            Kind::Assigned(_, _, _) => 6,
-            Kind::Stored(count, _, _, _) => 4 + u64::from(*count),
-            Kind::Left(_) => 4,
-            Kind::LeftOne(_, _, _) => 6,
-            Kind::LeftTwo(_, _, _, _, _) => 8,
-            Kind::LeftShort(_, kept) => 4 + 2 * (kept.len() as u64),
-            Kind::LeftMany(_, kept) => 4 + 2 * (kept.len() as u64),
-            Kind::Called(_) => 4,
-            Kind::Returned(_, _, _, frame) => {
+            DeltaKind::Assigned(_, _, _) => 6,
+            DeltaKind::Stored(count, _, _, _) => 4 + u64::from(*count),
+            DeltaKind::Left(_) => 4,
+            DeltaKind::LeftOne(_, _, _) => 6,
+            DeltaKind::LeftTwo(_, _, _, _, _) => 8,
+            DeltaKind::LeftShort(_, kept) => 4 + 2 * (kept.len() as u64),
+            DeltaKind::LeftMany(_, kept) => 4 + 2 * (kept.len() as u64),
+            DeltaKind::Called(_) => 4,
+            DeltaKind::Returned(_, _, _, frame) => {
                 let received = if frame.result().is_some() { 2 } else { 0 };
                 4 + received + frame.slots().len() as u64
             }
-            Kind::Grew(grown) => 6 + grown.saved.byte_count() as u64,
-            Kind::Copied(copied) => 4 + copied.saved.byte_count() as u64,
-            Kind::Wrote(_, _) => 4,
-            Kind::WroteTo(_, _, _, _, _) => 6,
-            Kind::Ended => 4,
-            Kind::PokedSlot(_, _, _) => 6,
-            Kind::PokedBytes(count, _, _) => 4 + u64::from(*count),
+            DeltaKind::Grew(grown) => 6 + grown.saved.byte_count() as u64,
+            DeltaKind::Copied(copied) => 4 + copied.saved.byte_count() as u64,
+            DeltaKind::Wrote(_, _) => 4,
+            DeltaKind::WroteTo(_, _, _, _, _) => 6,
+            DeltaKind::Ended => 4,
+            DeltaKind::PokedSlot(_, _, _) => 6,
+            DeltaKind::PokedBytes(count, _, _) => 4 + u64::from(*count),
         }
     }
 }

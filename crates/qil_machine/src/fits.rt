@@ -11,7 +11,7 @@ ghost use Rattle.qil_machine.specs.Moves.{at, end_of, without, Fits};
 ghost use Rattle.qil_machine.specs.Kinds.{slots_move, one, bytes_move, called_move, returned_move, grown_move, copied_move, wrote_move, ended_move, poked_slot_move, poked_bytes_move};
 ghost use Rattle.qil_machine.specs.Fitting.{HasIndex, HasBlock, HasSlots, HasFloor, FloorFits, MayReturn};
 
-use crate::delta::{Delta, Grown, Kind};
+use crate::delta::{Delta, DeltaKind, Grown};
 use crate::machine::Machine;
 use crate::undo::value_of;
 use qil_frames::{Frame, Frames, SavedSlot};
@@ -26,30 +26,30 @@ impl<A: Allocator + Copy> Delta<A> {
         ensures { IsTrue result ↔ Fits self.now machine.now }
     {
         match &self.kind {
-            Kind::Assigned(slot, index, value) => machine.fits_assigned(*slot, *value, *index),
-            Kind::Stored(count, index, address, number) => {
+            DeltaKind::Assigned(slot, index, value) => machine.fits_assigned(*slot, *value, *index),
+            DeltaKind::Stored(count, index, address, number) => {
                 machine.fits_stored(*count, *index, *address, *number)
             }
-            Kind::Left(block) => machine.fits_left(*block, &[]),
-            Kind::LeftOne(block, slot, value) => machine.fits_left_one(*block, *slot, *value),
-            Kind::LeftTwo(block, a, b, x, y) => machine.fits_left_two(*block, *a, *b, *x, *y),
-            Kind::LeftShort(block, kept) => machine.fits_left(*block, kept.as_slice()),
-            Kind::LeftMany(block, kept) => machine.fits_left(*block, kept.as_slice()),
-            Kind::Called(index) => machine.fits_called(*index),
-            Kind::Returned(set, top, value, frame) => {
+            DeltaKind::Left(block) => machine.fits_left(*block, &[]),
+            DeltaKind::LeftOne(block, slot, value) => machine.fits_left_one(*block, *slot, *value),
+            DeltaKind::LeftTwo(block, a, b, x, y) => machine.fits_left_two(*block, *a, *b, *x, *y),
+            DeltaKind::LeftShort(block, kept) => machine.fits_left(*block, kept.as_slice()),
+            DeltaKind::LeftMany(block, kept) => machine.fits_left(*block, kept.as_slice()),
+            DeltaKind::Called(index) => machine.fits_called(*index),
+            DeltaKind::Returned(set, top, value, frame) => {
                 machine.fits_returned(frame, *top, value_of(*set, *value))
             }
-            Kind::Grew(grown) => machine.fits_grew(grown),
-            Kind::Copied(copied) => machine.fits_copied(copied.index, &copied.saved),
-            Kind::Wrote(index, count) => machine.fits_wrote(*index, *count),
-            Kind::WroteTo(set, slot, index, count, value) => {
+            DeltaKind::Grew(grown) => machine.fits_grew(grown),
+            DeltaKind::Copied(copied) => machine.fits_copied(copied.index, &copied.saved),
+            DeltaKind::Wrote(index, count) => machine.fits_wrote(*index, *count),
+            DeltaKind::WroteTo(set, slot, index, count, value) => {
                 machine.fits_wrote_to(*slot, value_of(*set, *value), *index, *count)
             }
-            Kind::Ended => machine.fits_ended(),
-            Kind::PokedSlot(set, slot, value) => {
+            DeltaKind::Ended => machine.fits_ended(),
+            DeltaKind::PokedSlot(set, slot, value) => {
                 machine.fits_poked_slot(*slot, value_of(*set, *value))
             }
-            Kind::PokedBytes(count, address, number) => {
+            DeltaKind::PokedBytes(count, address, number) => {
                 machine.fits_poked_bytes(*count, *address, *number)
             }
         }

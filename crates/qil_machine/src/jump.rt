@@ -10,12 +10,12 @@ ghost use Rattle.qil_machine.specs.Moves.{weight};
 ghost use Rattle.qil_machine.specs.Costs.{entered_weight, returned_weight, jump_weight};
 ghost use Rattle.qil_machine.specs.Places.{IsRunning, Made};
 ghost use Rattle.qil_machine.specs.Results.{Explains};
-ghost use Rattle.qil_machine.specs.Steps.{IsHere, HasSource, HasReturned, BranchTakes, JumpTakes};
+ghost use Rattle.qil_machine.specs.Steps.{IsHere, HasOperand, HasReturned, BranchTakes, JumpTakes};
 
 use crate::delta::Delta;
 use crate::error::StepError;
 use crate::machine::Machine;
-use qil_numbering::{Edge, NumberedBlock, NumberedJump, Source};
+use qil_numbering::{Edge, NumberedBlock, NumberedJump, NumberedOperand};
 use qil_state::{Fault, fitted, value};
 use qil_tree::{AbiType, Class};
 use std::alloc::Allocator;
@@ -55,7 +55,7 @@ impl<'c, 'a, A: Allocator + Copy> Machine<'c, 'a, A> {
     pub(crate) fn branch(
         &mut self,
         block: &NumberedBlock<A>,
-        source: Source,
+        source: NumberedOperand,
         if_set: &Edge<A>,
         if_zero: &Edge<A>,
         index: u32,
@@ -83,9 +83,9 @@ impl<'c, 'a, A: Allocator + Copy> Machine<'c, 'a, A> {
 
     /// Returns the value of an operand.
     #[inline(always)]
-    pub(crate) fn return_value(&mut self, source: Source) -> Result<Delta<A>, StepError>
+    pub(crate) fn return_value(&mut self, source: NumberedOperand) -> Result<Delta<A>, StepError>
         requires running { IsRunning self.old }
-        requires source { HasSource self.old.frames source }
+        requires source { HasOperand self.old.frames source }
         ensures does { OnOk result (left_whole self.old (NumberedJump.Ret (Some source)) ≡ Ok (state_of self.new)) }
         ensures made { IfOk result (λ d. Made d self.old self.new) }
         ensures weighs { IfOk result (λ d. weight d ≡ returned_weight self.old.frames) }
@@ -105,7 +105,10 @@ impl<'c, 'a, A: Allocator + Copy> Machine<'c, 'a, A> {
 
     /// Returns, with the value of an operand or without one.
     #[inline(always)]
-    pub(crate) fn give_back(&mut self, source: Option<Source>) -> Result<Delta<A>, StepError>
+    pub(crate) fn give_back(
+        &mut self,
+        source: Option<NumberedOperand>,
+    ) -> Result<Delta<A>, StepError>
         requires running { IsRunning self.old }
         requires source { HasReturned self.old.frames source }
         ensures does { OnOk result (left_whole self.old (NumberedJump.Ret source) ≡ Ok (state_of self.new)) }

@@ -19,7 +19,7 @@ mod step;
 mod undo;
 mod watched;
 
-pub use delta::{Copied, Delta, Grown, Kind};
+pub use delta::{Copied, Delta, DeltaKind, Grown};
 pub use error::{MoveError, PokeError, StartError};
 pub use log::{DeltaSink, OneDelta};
 pub use machine::Machine;

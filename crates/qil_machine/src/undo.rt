@@ -10,7 +10,7 @@ ghost use Rattle.qil_state.specs.State.{ReceiverFits};
 ghost use Rattle.qil_machine.specs.Moves.{at, end_of, inst_count, undone, Fits};
 ghost use Rattle.qil_machine.specs.Kinds.{slots_move, one, bytes_move, called_move, returned_move, grown_move, copied_move, wrote_move, ended_move, poked_slot_move, poked_bytes_move, with_received, value_of};
 
-use crate::delta::{Copied, Delta, Grown, Kind};
+use crate::delta::{Copied, Delta, DeltaKind, Grown};
 use crate::machine::Machine;
 use qil_frames::{Frame, Frames, KeptSlots, PhiSaved};
 use qil_layout::FuncId;
@@ -27,30 +27,34 @@ impl<'c, 'a, A: Allocator + Copy> Machine<'c, 'a, A> {
     {
         let Delta { kind } = delta;
         match kind {
-            Kind::Assigned(slot, index, value) => self.undo_assigned(slot, value, index),
-            Kind::Stored(count, index, address, number) => {
+            DeltaKind::Assigned(slot, index, value) => self.undo_assigned(slot, value, index),
+            DeltaKind::Stored(count, index, address, number) => {
                 self.undo_stored(count, index, address, number);
             }
-            Kind::Left(block) => self.undo_left(block, KeptSlots::None),
-            Kind::LeftOne(block, slot, value) => {
+            DeltaKind::Left(block) => self.undo_left(block, KeptSlots::None),
+            DeltaKind::LeftOne(block, slot, value) => {
                 self.undo_left(block, KeptSlots::One(slot, value));
             }
-            Kind::LeftTwo(block, a, b, x, y) => self.undo_left(block, KeptSlots::Two(a, b, x, y)),
-            Kind::LeftShort(block, kept) => self.undo_left(block, KeptSlots::Short(kept)),
-            Kind::LeftMany(block, kept) => self.undo_left(block, KeptSlots::Many(kept)),
-            Kind::Called(index) => self.undo_called(index),
-            Kind::Returned(set, top, value, frame) => {
+            DeltaKind::LeftTwo(block, a, b, x, y) => {
+                self.undo_left(block, KeptSlots::Two(a, b, x, y));
+            }
+            DeltaKind::LeftShort(block, kept) => self.undo_left(block, KeptSlots::Short(kept)),
+            DeltaKind::LeftMany(block, kept) => self.undo_left(block, KeptSlots::Many(kept)),
+            DeltaKind::Called(index) => self.undo_called(index),
+            DeltaKind::Returned(set, top, value, frame) => {
                 self.undo_returned(frame, top, value_of(set, value));
             }
-            Kind::Grew(grown) => self.undo_boxed_grew(grown),
-            Kind::Copied(copied) => self.undo_boxed_copied(copied),
-            Kind::Wrote(index, count) => self.undo_wrote(index, count),
-            Kind::WroteTo(set, slot, index, count, value) => {
+            DeltaKind::Grew(grown) => self.undo_boxed_grew(grown),
+            DeltaKind::Copied(copied) => self.undo_boxed_copied(copied),
+            DeltaKind::Wrote(index, count) => self.undo_wrote(index, count),
+            DeltaKind::WroteTo(set, slot, index, count, value) => {
                 self.undo_wrote_to(slot, value_of(set, value), index, count);
             }
-            Kind::Ended => self.undo_ended(),
-            Kind::PokedSlot(set, slot, value) => self.undo_poked_slot(slot, value_of(set, value)),
-            Kind::PokedBytes(count, address, number) => {
+            DeltaKind::Ended => self.undo_ended(),
+            DeltaKind::PokedSlot(set, slot, value) => {
+                self.undo_poked_slot(slot, value_of(set, value));
+            }
+            DeltaKind::PokedBytes(count, address, number) => {
                 self.undo_poked_bytes(count, address, number);
             }
         }

@@ -28,7 +28,7 @@ use Rattle.qil_numbering.specs.declared.numbered.NumberedArgument.{NumberedArgum
 use Rattle.qil_numbering.specs.Facts.{jump_labels}
 use Rattle.qil_numbering.specs.Gather.{labels_in, arguments_names, param_names}
 use Rattle.qil_numbering.specs.Slots.{number_in}
-use Rattle.qil_numbering.specs.Numbered.{source_of, expr_of, receiver_of, argument_of, kind_of, inst_of, move_of, moves_into, edge_of, jump_of, block_of, param_of}
+use Rattle.qil_numbering.specs.Numbered.{operand_of, expr_of, receiver_of, argument_of, kind_of, inst_of, move_of, moves_into, edge_of, jump_of, block_of, param_of}
 use Rattle.qil_numbering.specs.Ranges.{InRange, ExprInRange, ReceiverInRange, InstInRange, MoveInRange, IsShort, EdgeInRange, JumpInRange, BlockInRange, JumpIsShort, BlockIsShort}
 use Rattle.qil_numbering.proofs.Edges.{label-found}
 use Rattle.qil_numbering.proofs.Has.{Has, HasAll, HasAll-left, HasAll-right, HasAll-part, name-at}
@@ -40,16 +40,16 @@ use Rattle.qil_numbering.proofs.PhiMoves.{HasMove, moves-have, moves-of-tree}
 pub number-below : (ns : List Name) (x : Name) → Has ns x → number_in ns x < length ns
 number-below ns x h = subst (λ n. n < length ns) (sym (ap (λ o. unwrap_or o 0) h.1)) (slice_get_within ns h.0 x (name-at ns x h.0 h.1))
 
-pub source-range : {A : Type 0} (p : Program A) (ns : List Name) (a : Operand) → HasAll ns (operand_names a) → InRange (length ns) (source_of p ns a)
-source-range p ns (operands.Number n) h = tt
-source-range p ns (operands.Global g) h = tt
-source-range p ns (operands.Temp x) h = number-below ns x h.0
+pub operand-range : {A : Type 0} (p : Program A) (ns : List Name) (a : Operand) → HasAll ns (operand_names a) → InRange (length ns) (operand_of p ns a)
+operand-range p ns (operands.Number n) h = tt
+operand-range p ns (operands.Global g) h = tt
+operand-range p ns (operands.Temp x) h = number-below ns x h.0
 
 -- the first of some operands, and the one after it
-first_range : {A : Type 0} (p : Program A) (ns : List Name) (a : Operand) (more : List Name) → HasAll ns (operand_names a ++ more) → InRange (length ns) (source_of p ns a)
-first_range p ns a more h = source-range p ns a (HasAll-left ns (operand_names a) more h)
+first_range : {A : Type 0} (p : Program A) (ns : List Name) (a : Operand) (more : List Name) → HasAll ns (operand_names a ++ more) → InRange (length ns) (operand_of p ns a)
+first_range p ns a more h = operand-range p ns a (HasAll-left ns (operand_names a) more h)
 
-second_range : {A : Type 0} (p : Program A) (ns : List Name) (a b : Operand) → HasAll ns (operand_names a ++ (operand_names b ++ [])) → InRange (length ns) (source_of p ns b)
+second_range : {A : Type 0} (p : Program A) (ns : List Name) (a b : Operand) → HasAll ns (operand_names a ++ (operand_names b ++ [])) → InRange (length ns) (operand_of p ns b)
 second_range p ns a b h = first_range p ns b [] (HasAll-right ns (operand_names a) (operand_names b ++ []) h)
 
 -- ---- instructions
@@ -94,7 +94,7 @@ insts_range p ns (inst ∷ is) h =
 -- ---- moves and edges
 
 move_range : {A : Type 0} (p : Program A) (ns : List Name) (m : step.PhiMove) → HasMove ns m → MoveInRange (length ns) (move_of p ns m)
-move_range p ns m h = record { target = number-below ns m.target.name h.0; source = source-range p ns m.value h.1 }
+move_range p ns m h = record { target = number-below ns m.target.name h.0; source = operand-range p ns m.value h.1 }
 
 moves_range : {A : Type 0} (p : Program A) (ns : List Name) (ms : List step.PhiMove) → All (HasMove ns) ms → All (MoveInRange (length ns)) (map (move_of p ns) ms)
 moves_range p ns ms h = All-map (MoveInRange (length ns)) (move_of p ns) ms (λ i d lt. move_range p ns _ (h i d lt))
@@ -114,9 +114,9 @@ pub jump-range : {A : Type 0} (p : Program A) (blocks : List (Block A)) (ns : Li
     → HasAll ns (jump_names j) → HasAll (labels_in blocks) (jump_labels j) → JumpIsShort (jump_of p blocks ns left j) → JumpInRange (length ns) (length (labels_in blocks)) (jump_of p blocks ns left j)
 jump-range p blocks ns left (jumps.Jmp l) all h k short = edge-range p blocks ns left l all k.0 short
 jump-range p blocks ns left (jumps.Jnz a l m) all h k short =
-    (source-range p ns a h, edge-range p blocks ns left l all k.0 short.0, edge-range p blocks ns left m all k.1.0 short.1)
+    (operand-range p ns a h, edge-range p blocks ns left l all k.0 short.0, edge-range p blocks ns left m all k.1.0 short.1)
 jump-range p blocks ns left (jumps.Ret None) all h k short = tt
-jump-range p blocks ns left (jumps.Ret (Some a)) all h k short = source-range p ns a h
+jump-range p blocks ns left (jumps.Ret (Some a)) all h k short = operand-range p ns a h
 jump-range p blocks ns left jumps.Hlt all h k short = tt
 
 pub block-range : {A : Type 0} (p : Program A) (blocks : List (Block A)) (ns : List Name) (b : Block A) → HasAll ns (flat_map block_names blocks)

@@ -17,8 +17,8 @@ use Rattle.qil_layout.specs.Layout.{address_of}
 use Rattle.qil_meaning.specs.State.{Name}
 use Rattle.qil_meaning.specs.Step as step
 use Rattle.qil_numbering.specs.declared.numbered.Slot.{Slot}
-use Rattle.qil_numbering.specs.declared.numbered.Source.{Source}
-use Rattle.qil_numbering.specs.declared.numbered.Source.TheVariants as sources
+use Rattle.qil_numbering.specs.declared.numbered.NumberedOperand.{NumberedOperand}
+use Rattle.qil_numbering.specs.declared.numbered.NumberedOperand.TheVariants as numbered_operands
 use Rattle.qil_numbering.specs.declared.numbered.NumberedExpr.{NumberedExpr}
 use Rattle.qil_numbering.specs.declared.numbered.NumberedExpr.TheVariants as numbered_exprs
 use Rattle.qil_numbering.specs.declared.numbered.Receiver.{Receiver}
@@ -32,42 +32,42 @@ use Rattle.qil_numbering.specs.Slots.{name_at}
 
 -- ---- numbered parts, with these names of the slots
 
-abbrev pub named_source : List Name → Source → Operand
-named_source ns (sources.Constant n) = operands.Number n
-named_source ns (sources.Slot s) = operands.Temp (name_at ns s.index)
+abbrev pub named_operand : List Name → NumberedOperand → Operand
+named_operand ns (numbered_operands.Constant n) = operands.Number n
+named_operand ns (numbered_operands.Slot s) = operands.Temp (name_at ns s.index)
 
 abbrev pub named_target : List Name → Slot → Class → Target
 named_target ns s c = record { name = name_at ns s.index; class = c }
 
 abbrev pub named_expr : List Name → NumberedExpr → Expr
-named_expr ns (numbered_exprs.Unary op a) = exprs.Unary op (named_source ns a)
-named_expr ns (numbered_exprs.Binary op a b) = exprs.Binary op (named_source ns a) (named_source ns b)
-named_expr ns (numbered_exprs.Compare op c a b) = exprs.Compare op c (named_source ns a) (named_source ns b)
-named_expr ns (numbered_exprs.Extend op a) = exprs.Extend op (named_source ns a)
-named_expr ns (numbered_exprs.Load op a) = exprs.Load op (named_source ns a)
+named_expr ns (numbered_exprs.Unary op a) = exprs.Unary op (named_operand ns a)
+named_expr ns (numbered_exprs.Binary op a b) = exprs.Binary op (named_operand ns a) (named_operand ns b)
+named_expr ns (numbered_exprs.Compare op c a b) = exprs.Compare op c (named_operand ns a) (named_operand ns b)
+named_expr ns (numbered_exprs.Extend op a) = exprs.Extend op (named_operand ns a)
+named_expr ns (numbered_exprs.Load op a) = exprs.Load op (named_operand ns a)
 
 abbrev pub named_receiver : List Name → Receiver → CallResult
 named_receiver ns r = record { name = name_at ns r.slot.index; abi_type = r.abi_type }
 
 abbrev pub named_argument : List Name → NumberedArgument → Argument
-named_argument ns a = record { abi_type = a.abi_type; value = named_source ns a.source }
+named_argument ns a = record { abi_type = a.abi_type; value = named_operand ns a.source }
 
 abbrev pub named_inst : {A : Type 0} → List Name → NumberedInst A → InstKind A
 named_inst ns (numbered_insts.Assign c s e) = insts.Assign (named_target ns s c) (named_expr ns e)
-named_inst ns (numbered_insts.Alloc c s op n) = insts.Alloc (named_target ns s c) op (named_source ns n)
-named_inst ns (numbered_insts.Store width a b) = insts.Store width (named_source ns a) (named_source ns b)
-named_inst ns (numbered_insts.Blit a b n) = insts.Blit (named_source ns a) (named_source ns b) n
+named_inst ns (numbered_insts.Alloc c s op n) = insts.Alloc (named_target ns s c) op (named_operand ns n)
+named_inst ns (numbered_insts.Store width a b) = insts.Store width (named_operand ns a) (named_operand ns b)
+named_inst ns (numbered_insts.Blit a b n) = insts.Blit (named_operand ns a) (named_operand ns b) n
 named_inst ns (numbered_insts.Call to callee args) =
-    insts.Call (option_map (named_receiver ns) to) (named_source ns callee) (map (named_argument ns) args)
+    insts.Call (option_map (named_receiver ns) to) (named_operand ns callee) (map (named_argument ns) args)
 
 abbrev pub named_move : List Name → PhiMove → step.PhiMove
-named_move ns m = record { target = named_target ns m.target m.class; value = named_source ns m.source }
+named_move ns m = record { target = named_target ns m.target m.class; value = named_operand ns m.source }
 
 -- of a jump: with these names of the slots, and these labels of the blocks
 abbrev pub named_jump : {A : Type 0} → List Name → List Name → NumberedJump A → JumpKind
 named_jump ns ls (numbered_jumps.Jmp e) = jumps.Jmp (name_at ls e.to.index)
-named_jump ns ls (numbered_jumps.Jnz a e f) = jumps.Jnz (named_source ns a) (name_at ls e.to.index) (name_at ls f.to.index)
-named_jump ns ls (numbered_jumps.Ret a) = jumps.Ret (option_map (named_source ns) a)
+named_jump ns ls (numbered_jumps.Jnz a e f) = jumps.Jnz (named_operand ns a) (name_at ls e.to.index) (name_at ls f.to.index)
+named_jump ns ls (numbered_jumps.Ret a) = jumps.Ret (option_map (named_operand ns) a)
 named_jump ns ls numbered_jumps.Hlt = jumps.Hlt
 
 -- ---- the tree, with globals as their addresses

@@ -28,8 +28,8 @@ use Rattle.qil_meaning.specs.Poke.{class_in}
 use Rattle.qil_meaning.specs.Step.{phi_moves, block_labelled}
 use Rattle.qil_meaning.specs.Step as step
 use Rattle.qil_numbering.specs.declared.numbered.Slot.{Slot}
-use Rattle.qil_numbering.specs.declared.numbered.Source.{Source}
-use Rattle.qil_numbering.specs.declared.numbered.Source.TheVariants as sources
+use Rattle.qil_numbering.specs.declared.numbered.NumberedOperand.{NumberedOperand}
+use Rattle.qil_numbering.specs.declared.numbered.NumberedOperand.TheVariants as numbered_operands
 use Rattle.qil_numbering.specs.declared.numbered.NumberedExpr.{NumberedExpr}
 use Rattle.qil_numbering.specs.declared.numbered.NumberedExpr.TheVariants as numbered_exprs
 use Rattle.qil_numbering.specs.declared.numbered.Receiver.{Receiver}
@@ -51,31 +51,31 @@ use Rattle.qil_numbering.specs.Gather.{labels_in}
 abbrev pub slot_in : List Name → Name → Slot
 slot_in ns x = record { index = number_in ns x }
 
-abbrev pub source_of : {A : Type 0} → Program A → List Name → Operand → Source
-source_of p ns (operands.Number n) = sources.Constant n
-source_of p ns (operands.Global g) = sources.Constant (unwrap_or (address_of p g) 0)
-source_of p ns (operands.Temp x) = sources.Slot (slot_in ns x)
+abbrev pub operand_of : {A : Type 0} → Program A → List Name → Operand → NumberedOperand
+operand_of p ns (operands.Number n) = numbered_operands.Constant n
+operand_of p ns (operands.Global g) = numbered_operands.Constant (unwrap_or (address_of p g) 0)
+operand_of p ns (operands.Temp x) = numbered_operands.Slot (slot_in ns x)
 
 abbrev pub expr_of : {A : Type 0} → Program A → List Name → Expr → NumberedExpr
-expr_of p ns (exprs.Unary op a) = numbered_exprs.Unary op (source_of p ns a)
-expr_of p ns (exprs.Binary op a b) = numbered_exprs.Binary op (source_of p ns a) (source_of p ns b)
-expr_of p ns (exprs.Compare op c a b) = numbered_exprs.Compare op c (source_of p ns a) (source_of p ns b)
-expr_of p ns (exprs.Extend op a) = numbered_exprs.Extend op (source_of p ns a)
-expr_of p ns (exprs.Load op a) = numbered_exprs.Load op (source_of p ns a)
+expr_of p ns (exprs.Unary op a) = numbered_exprs.Unary op (operand_of p ns a)
+expr_of p ns (exprs.Binary op a b) = numbered_exprs.Binary op (operand_of p ns a) (operand_of p ns b)
+expr_of p ns (exprs.Compare op c a b) = numbered_exprs.Compare op c (operand_of p ns a) (operand_of p ns b)
+expr_of p ns (exprs.Extend op a) = numbered_exprs.Extend op (operand_of p ns a)
+expr_of p ns (exprs.Load op a) = numbered_exprs.Load op (operand_of p ns a)
 
 abbrev pub receiver_of : List Name → CallResult → Receiver
 receiver_of ns r = record { slot = slot_in ns r.name; abi_type = r.abi_type }
 
 abbrev pub argument_of : {A : Type 0} → Program A → List Name → Argument → NumberedArgument
-argument_of p ns a = record { abi_type = a.abi_type; source = source_of p ns a.value }
+argument_of p ns a = record { abi_type = a.abi_type; source = operand_of p ns a.value }
 
 abbrev pub kind_of : {A : Type 0} → Program A → List Name → InstKind A → NumberedInst A
 kind_of p ns (insts.Assign to e) = numbered_insts.Assign to.class (slot_in ns to.name) (expr_of p ns e)
-kind_of p ns (insts.Alloc to op n) = numbered_insts.Alloc to.class (slot_in ns to.name) op (source_of p ns n)
-kind_of p ns (insts.Store width a b) = numbered_insts.Store width (source_of p ns a) (source_of p ns b)
-kind_of p ns (insts.Blit a b n) = numbered_insts.Blit (source_of p ns a) (source_of p ns b) n
+kind_of p ns (insts.Alloc to op n) = numbered_insts.Alloc to.class (slot_in ns to.name) op (operand_of p ns n)
+kind_of p ns (insts.Store width a b) = numbered_insts.Store width (operand_of p ns a) (operand_of p ns b)
+kind_of p ns (insts.Blit a b n) = numbered_insts.Blit (operand_of p ns a) (operand_of p ns b) n
 kind_of p ns (insts.Call to callee args) =
-    numbered_insts.Call (option_map (receiver_of ns) to) (source_of p ns callee) (map (argument_of p ns) args)
+    numbered_insts.Call (option_map (receiver_of ns) to) (operand_of p ns callee) (map (argument_of p ns) args)
 
 abbrev pub inst_of : {A : Type 0} → Program A → List Name → Inst A → NumberedInst A
 inst_of p ns inst = kind_of p ns inst.kind
@@ -83,7 +83,7 @@ inst_of p ns inst = kind_of p ns inst.kind
 -- ---- jumps, with what the phis do where they go
 
 abbrev pub move_with : {A : Type 0} → Program A → List Name → Target → Operand → PhiMove
-move_with p ns to value = record { class = to.class; target = slot_in ns to.name; source = source_of p ns value }
+move_with p ns to value = record { class = to.class; target = slot_in ns to.name; source = operand_of p ns value }
 
 abbrev pub move_of : {A : Type 0} → Program A → List Name → step.PhiMove → PhiMove
 move_of p ns m = move_with p ns m.target m.value
@@ -109,8 +109,8 @@ edge_of p blocks ns left l = record {
 abbrev pub jump_of : {A : Type 0} → Program A → List (Block A) → List Name → Name → JumpKind → NumberedJump A
 jump_of p blocks ns left (jumps.Jmp l) = numbered_jumps.Jmp (edge_of p blocks ns left l)
 jump_of p blocks ns left (jumps.Jnz a l m) =
-    numbered_jumps.Jnz (source_of p ns a) (edge_of p blocks ns left l) (edge_of p blocks ns left m)
-jump_of p blocks ns left (jumps.Ret a) = numbered_jumps.Ret (option_map (source_of p ns) a)
+    numbered_jumps.Jnz (operand_of p ns a) (edge_of p blocks ns left l) (edge_of p blocks ns left m)
+jump_of p blocks ns left (jumps.Ret a) = numbered_jumps.Ret (option_map (operand_of p ns) a)
 jump_of p blocks ns left jumps.Hlt = numbered_jumps.Hlt
 
 abbrev pub block_of : {A : Type 0} → Program A → List (Block A) → List Name → Block A → NumberedBlock A

@@ -1,8 +1,8 @@
 -- Numbered parts whose slots and blocks are there: n is the number of the function's slots, b that of its blocks.
 use Rattle.std.specs.Prelude.{ℕ, ◌<◌, ◌^◌, List, length, Option, Some, None}
 use Rattle.std.specs.List.{All}
-use Rattle.qil_numbering.specs.declared.numbered.Source.{Source}
-use Rattle.qil_numbering.specs.declared.numbered.Source.TheVariants as sources
+use Rattle.qil_numbering.specs.declared.numbered.NumberedOperand.{NumberedOperand}
+use Rattle.qil_numbering.specs.declared.numbered.NumberedOperand.TheVariants as numbered_operands
 use Rattle.qil_numbering.specs.declared.numbered.NumberedExpr.{NumberedExpr}
 use Rattle.qil_numbering.specs.declared.numbered.NumberedExpr.TheVariants as numbered_exprs
 use Rattle.qil_numbering.specs.declared.numbered.Receiver.{Receiver}
@@ -15,9 +15,9 @@ use Rattle.qil_numbering.specs.declared.numbered.NumberedJump.TheVariants as num
 use Rattle.qil_numbering.specs.declared.numbered.NumberedBlock.{NumberedBlock}
 use Rattle.qil_numbering.specs.declared.numbered.FuncCode.{FuncCode}
 
-abbrev pub InRange : ℕ → Source → Type 0
-InRange n (sources.Constant v) = Unit {0}
-InRange n (sources.Slot s) = s.index < n
+abbrev pub InRange : ℕ → NumberedOperand → Type 0
+InRange n (numbered_operands.Constant v) = Unit {0}
+InRange n (numbered_operands.Slot s) = s.index < n
 
 abbrev pub ExprInRange : ℕ → NumberedExpr → Type 0
 ExprInRange n (numbered_exprs.Unary op a) = InRange n a
@@ -50,7 +50,7 @@ pub record EdgeInRange {A : Type 0} (n b : ℕ) (e : Edge A) : Type 0 where
   pub moves : All (MoveInRange n) e.moves
   pub short : IsShort e.moves
 
-abbrev pub ReturnedInRange : ℕ → Option Source → Type 0
+abbrev pub ReturnedInRange : ℕ → Option NumberedOperand → Type 0
 ReturnedInRange n None = Unit {0}
 ReturnedInRange n (Some a) = InRange n a
 

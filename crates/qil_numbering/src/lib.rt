@@ -15,5 +15,5 @@ mod shape;
 pub use code::{Code, number};
 pub use numbered::{
     BlockId, Edge, FuncCode, NumberedArgument, NumberedBlock, NumberedExpr, NumberedFunc,
-    NumberedInst, NumberedJump, PhiMove, Receiver, Slot, Source,
+    NumberedInst, NumberedJump, NumberedOperand, PhiMove, Receiver, Slot,
 };

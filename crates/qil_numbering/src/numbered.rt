@@ -22,7 +22,7 @@ pub struct Slot {
 
 /// What an instruction, a phi or a jump reads.
 #[derive(Clone, Copy, Debug, PartialEq, Eq)]
-pub enum Source {
+pub enum NumberedOperand {
     /// A constant, or the address of a global, as 64 bits.
     Constant(u64),
     Slot(Slot),
@@ -31,12 +31,12 @@ pub enum Source {
 /// What a slot is set to.
 #[derive(Clone, Copy, Debug, PartialEq, Eq)]
 pub enum NumberedExpr {
-    Unary(UnaryOp, Source),
-    Binary(BinaryOp, Source, Source),
+    Unary(UnaryOp, NumberedOperand),
+    Binary(BinaryOp, NumberedOperand, NumberedOperand),
     /// Two operands of the class that the operation's name ends with.
-    Compare(CompareOp, Class, Source, Source),
-    Extend(Extension, Source),
-    Load(LoadOp, Source),
+    Compare(CompareOp, Class, NumberedOperand, NumberedOperand),
+    Extend(Extension, NumberedOperand),
+    Load(LoadOp, NumberedOperand),
 }
 
 /// The slot that takes what a call gives, with the type that is written at the call.
@@ -50,7 +50,7 @@ pub struct Receiver {
 #[derive(Clone, Copy, Debug, PartialEq, Eq)]
 pub struct NumberedArgument {
     pub abi_type: AbiType,
-    pub source: Source,
+    pub source: NumberedOperand,
 }
 
 /// An instruction.
@@ -58,12 +58,12 @@ pub struct NumberedArgument {
 pub enum NumberedInst<A: Allocator> {
     Assign(Class, Slot, NumberedExpr),
     /// The slot is set to the address of that many new bytes of the stack.
-    Alloc(Class, Slot, AllocOp, Source),
+    Alloc(Class, Slot, AllocOp, NumberedOperand),
     /// The low bytes of the first operand go to the address that is the second.
-    Store(Width, Source, Source),
+    Store(Width, NumberedOperand, NumberedOperand),
     /// That many bytes from the first address to the second.
-    Blit(Source, Source, u64),
-    Call(Option<Receiver>, Source, Items<NumberedArgument, A>),
+    Blit(NumberedOperand, NumberedOperand, u64),
+    Call(Option<Receiver>, NumberedOperand, Items<NumberedArgument, A>),
 }
 
 /// What a phi gives its target where one certain block is left.
@@ -71,7 +71,7 @@ pub enum NumberedInst<A: Allocator> {
 pub struct PhiMove {
     pub class: Class,
     pub target: Slot,
-    pub source: Source,
+    pub source: NumberedOperand,
 }
 
 /// Where a jump goes, and what the phis of that block do for the block that is left, in the order of the text.
@@ -86,8 +86,8 @@ pub struct Edge<A: Allocator> {
 pub enum NumberedJump<A: Allocator> {
     Jmp(Edge<A>),
     /// Along the first edge unless the low 32 bits of the operand are zero, else along the second.
-    Jnz(Source, Edge<A>, Edge<A>),
-    Ret(Option<Source>),
+    Jnz(NumberedOperand, Edge<A>, Edge<A>),
+    Ret(Option<NumberedOperand>),
     Hlt,
 }
 

@@ -2,10 +2,10 @@
 
 ghost use Rattle.std.specs.Prelude.{◌≡◌, ◌≤◌, IfOk, map, length};
 ghost use Rattle.qil_tree.specs.declared.tree.Operand.TheVariants as operands;
-ghost use Rattle.qil_numbering.specs.Numbered.{slot_in, source_of, expr_of, receiver_of, argument_of, inst_of, param_of, move_with};
+ghost use Rattle.qil_numbering.specs.Numbered.{slot_in, operand_of, expr_of, receiver_of, argument_of, inst_of, param_of, move_with};
 
 use crate::numbered::{
-    NumberedArgument, NumberedExpr, NumberedInst, PhiMove, Receiver, Slot, Source,
+    NumberedArgument, NumberedExpr, NumberedInst, NumberedOperand, PhiMove, Receiver, Slot,
 };
 use qil_layout::Image;
 use qil_names::Numbers;
@@ -36,22 +36,22 @@ impl<'r, 'c, 'a, A: Allocator + Copy> Resolver<'r, 'c, 'a, A> {
         }
     }
 
-    fn address(&self, name: &Name<'a>) -> Source
-        ensures { result ≡ source_of self.now.image.now self.now.temps.now (operands.Global name.now) }
+    fn address(&self, name: &Name<'a>) -> NumberedOperand
+        ensures { result ≡ operand_of self.now.image.now self.now.temps.now (operands.Global name.now) }
     {
         match self.image.address(name.bytes()) {
-            Some(address) => Source::Constant(address),
-            None => Source::Constant(0),
+            Some(address) => NumberedOperand::Constant(address),
+            None => NumberedOperand::Constant(0),
         }
     }
 
-    pub fn source(&self, operand: &Operand<'a>) -> Source
-        ensures { result ≡ source_of self.now.image.now self.now.temps.now operand.now }
+    pub fn operand(&self, operand: &Operand<'a>) -> NumberedOperand
+        ensures { result ≡ operand_of self.now.image.now self.now.temps.now operand.now }
     {
         match operand {
-            Operand::Number(number) => Source::Constant(*number),
+            Operand::Number(number) => NumberedOperand::Constant(*number),
             Operand::Global(name) => self.address(name),
-            Operand::Temp(name) => Source::Slot(self.slot(name)),
+            Operand::Temp(name) => NumberedOperand::Slot(self.slot(name)),
         }
     }
 
@@ -59,15 +59,15 @@ impl<'r, 'c, 'a, A: Allocator + Copy> Resolver<'r, 'c, 'a, A> {
         ensures { result ≡ expr_of self.now.image.now self.now.temps.now expr.now }
     {
         match expr {
-            Expr::Unary(op, value) => NumberedExpr::Unary(*op, self.source(value)),
+            Expr::Unary(op, value) => NumberedExpr::Unary(*op, self.operand(value)),
             Expr::Binary(op, left, right) => {
-                NumberedExpr::Binary(*op, self.source(left), self.source(right))
+                NumberedExpr::Binary(*op, self.operand(left), self.operand(right))
             }
             Expr::Compare(op, class, left, right) => {
-                NumberedExpr::Compare(*op, *class, self.source(left), self.source(right))
+                NumberedExpr::Compare(*op, *class, self.operand(left), self.operand(right))
             }
-            Expr::Extend(op, value) => NumberedExpr::Extend(*op, self.source(value)),
-            Expr::Load(op, address) => NumberedExpr::Load(*op, self.source(address)),
+            Expr::Extend(op, value) => NumberedExpr::Extend(*op, self.operand(value)),
+            Expr::Load(op, address) => NumberedExpr::Load(*op, self.operand(address)),
         }
     }
 
@@ -91,7 +91,7 @@ impl<'r, 'c, 'a, A: Allocator + Copy> Resolver<'r, 'c, 'a, A> {
         for argument in arguments {
             out.push(NumberedArgument {
                 abi_type: argument.abi_type,
-                source: self.source(&argument.value),
+                source: self.operand(&argument.value),
             })?;
         }
         Ok(out)
@@ -105,13 +105,13 @@ impl<'r, 'c, 'a, A: Allocator + Copy> Resolver<'r, 'c, 'a, A> {
                 NumberedInst::Assign(to.class, self.slot(&to.name), self.expr(expr))
             }
             InstKind::Alloc(to, op, count) => {
-                NumberedInst::Alloc(to.class, self.slot(&to.name), *op, self.source(count))
+                NumberedInst::Alloc(to.class, self.slot(&to.name), *op, self.operand(count))
             }
             InstKind::Store(width, value, to) => {
-                NumberedInst::Store(*width, self.source(value), self.source(to))
+                NumberedInst::Store(*width, self.operand(value), self.operand(to))
             }
             InstKind::Blit(from, to, count) => {
-                NumberedInst::Blit(self.source(from), self.source(to), *count)
+                NumberedInst::Blit(self.operand(from), self.operand(to), *count)
             }
             InstKind::Call(to, callee, arguments) => {
                 let passed = self.arguments(alloc, arguments.as_slice())?;
@@ -119,7 +119,7 @@ impl<'r, 'c, 'a, A: Allocator + Copy> Resolver<'r, 'c, 'a, A> {
                     None => None,
                     Some(taken) => Some(self.receiver(taken)),
                 };
-                NumberedInst::Call(receiver, self.source(callee), Items::new(passed))
+                NumberedInst::Call(receiver, self.operand(callee), Items::new(passed))
             }
         })
     }
@@ -130,7 +130,7 @@ impl<'r, 'c, 'a, A: Allocator + Copy> Resolver<'r, 'c, 'a, A> {
         PhiMove {
             class: target.class,
             target: self.slot(&target.name),
-            source: self.source(value),
+            source: self.operand(value),
         }
     }
 

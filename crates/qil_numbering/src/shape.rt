@@ -115,10 +115,10 @@ impl<'r, 'c, 'a, A: Allocator + Copy> Shape<'r, 'c, 'a, A> {
             JumpKind::Jnz(value, if_set, if_zero) => {
                 let set = self.edge(alloc, left, if_set)?;
                 let zero = self.edge(alloc, left, if_zero)?;
-                Ok(NumberedJump::Jnz(self.resolver.source(value), set, zero))
+                Ok(NumberedJump::Jnz(self.resolver.operand(value), set, zero))
             }
             JumpKind::Ret(None) => Ok(NumberedJump::Ret(None)),
-            JumpKind::Ret(Some(value)) => Ok(NumberedJump::Ret(Some(self.resolver.source(value)))),
+            JumpKind::Ret(Some(value)) => Ok(NumberedJump::Ret(Some(self.resolver.operand(value)))),
             JumpKind::Hlt => Ok(NumberedJump::Hlt),
         }
     }

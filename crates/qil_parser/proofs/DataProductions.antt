@@ -51,7 +51,7 @@ empty_means : text_at empty_string.kind empty_string.text ≡ Some []
 unfolding at DataParsing.values_from item_len
 empty_means = refl
 
-text_reads : (n : ℕ) → Reads n true index DataGrammar.Text DataParsing.text (the terminals.Quoted) false []
+text_reads : (n : ℕ) → Reads n true index DataGrammar.StringLiteral DataParsing.text (the terminals.Quoted) false []
 unfolding at
 text_reads n = said_reads text_there text_back (one_reads index (λ t. text_at t.kind t.text) (the terminals.Quoted) (λ t a h. text_fits t.kind t.text a h) empty_string [] empty_means n)
 

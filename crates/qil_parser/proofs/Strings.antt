@@ -14,7 +14,7 @@ use Rattle.qil_lexer.proofs.Items.{item_ways, item_quote}
 use Rattle.qil_lexer.proofs.Values.{some_bytes, values_items}
 use Rattle.qil_language.specs.Language.{One}
 use Rattle.qil_parser.specs.Token.{Tok, HasStrings}
-use Rattle.qil_parser.specs.DataGrammar.{Text}
+use Rattle.qil_parser.specs.DataGrammar.{StringLiteral}
 use Rattle.qil_parser.specs.DataParsing.{with_item, values_from, text_at}
 
 -- ---- the bytes that a string represents, as a function
@@ -65,7 +65,7 @@ to_values (suc n) (v ∷ values) bytes lt h =
 pub string_is : (text values : List ℕ) → StringBytes text values → text_at kinds.Quoted text ≡ Some values
 string_is text values h = to_values (suc (length text)) values (drop 1 text) (omega (arith, length-drop 1 text)) h
 
-pub text_there : (ts : List Tok) (values : List ℕ) → One (λ t. text_at t.kind t.text) ts values → Text ts values
+pub text_there : (ts : List Tok) (values : List ℕ) → One (λ t. text_at t.kind t.text) ts values → StringLiteral ts values
 text_there ts values s =
     let k = parted s.token.kind s.token.text values s.means in
     record { token = s.token; alone = s.alone; quoted = k.0; means = k.1 }
@@ -74,7 +74,7 @@ text_there ts values s =
     parted kinds.Quoted text vs e = (refl, from_values (suc (length text)) (drop 1 text) vs e)
     parted _ text vs e = absurd cc
 
-pub text_back : (ts : List Tok) (values : List ℕ) → Text ts values → One (λ t. text_at t.kind t.text) ts values
+pub text_back : (ts : List Tok) (values : List ℕ) → StringLiteral ts values → One (λ t. text_at t.kind t.text) ts values
 text_back ts values s = record { token = s.token; alone = s.alone; means = ap (λ (k : TokenKind). text_at k s.token.text) s.quoted ∙ string_is s.token.text values s.means }
 
 -- ---- what is kept

@@ -28,7 +28,7 @@ abbrev pub Constant : List Tok → ℕ → Type 0
 Constant = One (λ t. constant_at t.kind t.text)
 
 -- STRING, as the bytes that it represents
-pub record Text (ts : List Tok) (bytes : List ℕ) : Type 0 where
+pub record StringLiteral (ts : List Tok) (bytes : List ℕ) : Type 0 where
   pub token : Tok
   pub alone : ts ≡ token ∷ []
   pub quoted : token.kind ≡ kinds.Quoted
@@ -60,7 +60,7 @@ NumberItem = Image items.Number (Loose Constant)
 
 -- STRING
 abbrev pub TextItem : {A : Type 0} → List Tok → Item A → Type 0
-TextItem = Image items.Text (Loose Text)
+TextItem = Image items.Text (Loose StringLiteral)
 
 -- ( "+" N )?
 abbrev pub Offset : List Tok → ℕ → Type 0

@@ -1,12 +1,12 @@
--- The texts of pieces.
+-- The texts of fragments.
 use Rattle.std.specs.Prelude.{ℕ, List, decimal}
 use Rattle.std.specs.List.{flat_map}
-use Rattle.qil_pieces.specs.declared.pieces.Piece.{Piece}
-use Rattle.qil_pieces.specs.declared.pieces.Piece.TheVariants as pieces
+use Rattle.qil_pieces.specs.declared.fragment.Fragment.{Fragment}
+use Rattle.qil_pieces.specs.declared.fragment.Fragment.TheVariants as fragments
 
-abbrev pub piece_text : Piece → List ℕ
-piece_text (pieces.Bytes bytes) = bytes.now
-piece_text (pieces.Number n) = decimal n
+abbrev pub fragment_text : Fragment → List ℕ
+fragment_text (fragments.Bytes bytes) = bytes.now
+fragment_text (fragments.Number n) = decimal n
 
 -- texts one after the other
 abbrev pub text_of : List (List ℕ) → List ℕ

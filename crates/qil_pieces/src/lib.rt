@@ -1,6 +1,6 @@
-//! Lines of text as lists of pieces.
+//! Lines of text as lists of fragments.
 #![tactic(auto)]
 
-mod pieces;
+mod fragment;
 
-pub use pieces::{Piece, put_pieces};
+pub use fragment::{Fragment, put_fragments};

@@ -3,7 +3,7 @@ use Rattle.std.specs.Prelude.{ℕ, List, [], ◌++◌}
 use Rattle.qil_tree.specs.declared.tree.Program.{Program}
 use Rattle.qil_streams.specs.Text.{line}
 use Rattle.qil_meaning.specs.State.{State}
-use Rattle.qil_stops.specs.declared.stop.Stop.{Stop}
+use Rattle.qil_stops.specs.declared.stop.NumberedStop.{NumberedStop}
 use Rattle.qil_answers.specs.Texts.{state_line}
 use Rattle.qil_answers.specs.Shown.{printed, temps_shown, frames_shown, memory_shown, output_shown}
 use Rattle.qil_answers.specs.Listing.{block_shown}
@@ -12,7 +12,7 @@ use Rattle.qil_replies.specs.declared.reply.Reply.TheVariants as replies
 use Rattle.qil_replies.specs.Texts.{refusal_text, reason_line, stop_line, deleted_line, stops_shown}
 
 -- The text of a reply in a program's state s after n moves, with these stops.
-unfoldable pub reply_text : {A : Type 0} → Program A → ℕ → State → List Stop → Reply → List ℕ
+unfoldable pub reply_text : {A : Type 0} → Program A → ℕ → State → List NumberedStop → Reply → List ℕ
 reply_text p n s stops replies.Nothing = []
 reply_text p n s stops (replies.Refused refusal) = line (refusal_text refusal)
 reply_text p n s stops replies.Place = state_line n s.frames s.status

@@ -11,11 +11,11 @@ use Rattle.qil_state.specs.State.{func_name, label_in}
 use Rattle.qil_stops.specs.declared.stop.Watched.TheVariants as watches
 use Rattle.qil_stops.specs.declared.stop.StopKind.{StopKind}
 use Rattle.qil_stops.specs.declared.stop.StopKind.TheVariants as kinds
-use Rattle.qil_stops.specs.declared.stop.Stop.{Stop}
+use Rattle.qil_stops.specs.declared.stop.NumberedStop.{NumberedStop}
 use Rattle.qil_pieces.specs.Texts.{text_of}
 use Rattle.qil_answers.specs.Shown.{or_none}
-use Rattle.qil_replies.specs.declared.reply.Refusal.{Refusal}
-use Rattle.qil_replies.specs.declared.reply.Refusal.TheVariants as refusals
+use Rattle.qil_replies.specs.declared.reply.CommandRefusal.{CommandRefusal}
+use Rattle.qil_replies.specs.declared.reply.CommandRefusal.TheVariants as refusals
 
 -- ---- refusals
 
@@ -27,7 +27,7 @@ line_refusal_text MissingWord = codes "no: missing word"
 line_refusal_text BadWord = codes "no: bad word"
 line_refusal_text ExtraWord = codes "no: extra word"
 
-abbrev pub refusal_text : Refusal → List ℕ
+abbrev pub refusal_text : CommandRefusal → List ℕ
 refusal_text refusals.AtEnd = codes "no: at end"
 refusal_text refusals.AtStart = codes "no: at start"
 refusal_text refusals.HistoryEnds = codes "no: history ends"
@@ -65,12 +65,12 @@ stop_line p n (kinds.Watch (watches.Bytes a width)) = text_of (codes "watch " �
 stop_line p n (kinds.Watch (watches.Temp func slot)) =
     text_of (codes "watch " ∷ decimal n ∷ codes " $" ∷ func_name (func_at p func.index) ∷ codes " %" ∷ name_at (names_of p func.index) slot.index ∷ codes "\n" ∷ [])
 
-abbrev pub listed_line : {A : Type 0} → Program A → Stop → List ℕ
+abbrev pub listed_line : {A : Type 0} → Program A → NumberedStop → List ℕ
 listed_line p stop = stop_line p stop.number stop.kind
 
 abbrev pub deleted_line : ℕ → List ℕ
 deleted_line n = text_of (codes "deleted " ∷ decimal n ∷ codes "\n" ∷ [])
 
 -- the line of each stop, by number
-abbrev pub stops_shown : {A : Type 0} → Program A → List Stop → List ℕ
+abbrev pub stops_shown : {A : Type 0} → Program A → List NumberedStop → List ℕ
 stops_shown p stops = or_none (map (listed_line p) stops)

@@ -10,4 +10,4 @@ mod stops;
 mod texts;
 
 pub use put::put_reply;
-pub use reply::{Refusal, Reply};
+pub use reply::{CommandRefusal, Reply};

@@ -15,7 +15,7 @@ use qil_answers::{
 };
 use qil_machine::Machine;
 use qil_meaning::Reason;
-use qil_stops::Stop;
+use qil_stops::NumberedStop;
 use qil_streams::{Put, PutError, put_line};
 use std::alloc::Allocator;
 
@@ -42,7 +42,7 @@ pub fn put_reply<P: Put, A: Allocator + Copy>(
     out: &mut P,
     position: u64,
     machine: &Machine<'_, '_, A>,
-    stops: &[Stop],
+    stops: &[NumberedStop],
     reply: Reply<'_>,
 ) -> Result<(), PutError>
     requires { P.stops out.old < 2 ^ 64 - 1 }

@@ -1,12 +1,12 @@
 //! The replies to commands.
 
-use qil_commands::{Name, Refused};
+use qil_commands::{LineName, Refused};
 use qil_meaning::Reason;
 use qil_stops::StopKind;
 
 /// Why a line changed nothing and shows nothing.
 #[derive(Clone, Copy)]
-pub enum Refusal {
+pub enum CommandRefusal {
     /// The run is over, so that there is no way forward.
     AtEnd,
     /// No move was made, so that there is none to take back.
@@ -35,7 +35,7 @@ pub enum Reply<'t> {
     /// The line asked nothing.
     Nothing,
     /// The session is as it was.
-    Refused(Refusal),
+    Refused(CommandRefusal),
     /// The session moved or a value was replaced: the place now.
     Place,
     /// The session moved until there was this reason to stop: the reason, and the place now.
@@ -47,7 +47,7 @@ pub enum Reply<'t> {
     /// The stops are shown, by number.
     Stops,
     /// The temporary of the innermost frame is shown that has this name; or that there is none.
-    Temporary(Name<'t>),
+    Temporary(LineName<'t>),
     /// All temporaries of the innermost frame are shown.
     Temporaries,
     /// So many bytes of memory are shown, from an address on.

@@ -7,7 +7,7 @@ ghost use Rattle.qil_replies.specs.Texts.{listed_line, stops_shown};
 
 use crate::texts::put_stop;
 use qil_numbering::Code;
-use qil_stops::Stop;
+use qil_stops::NumberedStop;
 use qil_streams::{Put, PutError, put_line};
 use std::alloc::Allocator;
 
@@ -15,7 +15,7 @@ use std::alloc::Allocator;
 fn put_listed<'c, 'a, P: Put, A: Allocator + Copy>(
     out: &mut P,
     code: &'c Code<'c, 'a, A>,
-    stops: &[Stop],
+    stops: &[NumberedStop],
 ) -> Result<(), PutError>
     requires { P.stops out.old < 2 ^ 64 - 1 }
     ensures { HasPut P.written P.stops P.device result out.old out.new (flat_map (listed_line code.now) stops.now) }
@@ -30,7 +30,7 @@ fn put_listed<'c, 'a, P: Put, A: Allocator + Copy>(
 pub fn put_stops<'c, 'a, P: Put, A: Allocator + Copy>(
     out: &mut P,
     code: &'c Code<'c, 'a, A>,
-    stops: &[Stop],
+    stops: &[NumberedStop],
 ) -> Result<(), PutError>
     requires { P.stops out.old < 2 ^ 64 - 1 }
     ensures { HasPut P.written P.stops P.device result out.old out.new (stops_shown code.now stops.now) }

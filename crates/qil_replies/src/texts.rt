@@ -4,12 +4,12 @@ ghost use Rattle.std.specs.Prelude.{◌≡◌, ◌-◌, ◌^◌, ◌<◌};
 ghost use Rattle.qil_streams.specs.Device.{HasPut};
 ghost use Rattle.qil_replies.specs.Texts.{line_refusal_text, refusal_text, reason_line, width_letter, stop_line, deleted_line};
 
-use crate::reply::Refusal;
+use crate::reply::CommandRefusal;
 use qil_answers::{func_name, label_name, temp_name};
 use qil_commands::Refused;
 use qil_meaning::Reason;
 use qil_numbering::Code;
-use qil_pieces::{Piece, put_pieces};
+use qil_pieces::{Fragment, put_fragments};
 use qil_stops::{StopKind, Watched};
 use qil_streams::{Put, PutError};
 use std::alloc::Allocator;
@@ -23,20 +23,20 @@ pub fn put_reason<P: Put>(out: &mut P, reason: Reason) -> Result<(), PutError>
         Reason::End => out.put(b"stop: end\n"),
         Reason::Start => out.put(b"stop: start\n"),
         Reason::Oldest => out.put(b"stop: oldest\n"),
-        Reason::Watch(number) => put_pieces(
+        Reason::Watch(number) => put_fragments(
             out,
             &[
-                Piece::Bytes(b"stop: watch "),
-                Piece::Number(number),
-                Piece::Bytes(b"\n"),
+                Fragment::Bytes(b"stop: watch "),
+                Fragment::Number(number),
+                Fragment::Bytes(b"\n"),
             ],
         ),
-        Reason::Break(number) => put_pieces(
+        Reason::Break(number) => put_fragments(
             out,
             &[
-                Piece::Bytes(b"stop: break "),
-                Piece::Number(number),
-                Piece::Bytes(b"\n"),
+                Fragment::Bytes(b"stop: break "),
+                Fragment::Number(number),
+                Fragment::Bytes(b"\n"),
             ],
         ),
         Reason::Limit => out.put(b"stop: limit\n"),
@@ -58,20 +58,20 @@ fn line_refusal_words(refused: Refused) -> &'static [u8]
 }
 
 /// What a refusal is called.
-pub fn refusal_words(refusal: Refusal) -> &'static [u8]
+pub fn refusal_words(refusal: CommandRefusal) -> &'static [u8]
     ensures { result.now ≡ refusal_text refusal }
 {
     match refusal {
-        Refusal::AtEnd => b"no: at end",
-        Refusal::AtStart => b"no: at start",
-        Refusal::HistoryEnds => b"no: history ends",
-        Refusal::NoFrame => b"no: no frame",
-        Refusal::UnknownTemporary => b"no: unknown temporary",
-        Refusal::DeadAddress => b"no: dead address",
-        Refusal::UnknownPlace => b"no: unknown place",
-        Refusal::TooManyStops => b"no: too many stops",
-        Refusal::NoSuchStop => b"no: no such stop",
-        Refusal::Line(refused) => line_refusal_words(refused),
+        CommandRefusal::AtEnd => b"no: at end",
+        CommandRefusal::AtStart => b"no: at start",
+        CommandRefusal::HistoryEnds => b"no: history ends",
+        CommandRefusal::NoFrame => b"no: no frame",
+        CommandRefusal::UnknownTemporary => b"no: unknown temporary",
+        CommandRefusal::DeadAddress => b"no: dead address",
+        CommandRefusal::UnknownPlace => b"no: unknown place",
+        CommandRefusal::TooManyStops => b"no: too many stops",
+        CommandRefusal::NoSuchStop => b"no: no such stop",
+        CommandRefusal::Line(refused) => line_refusal_words(refused),
     }
 }
 
@@ -101,42 +101,42 @@ pub fn put_stop<'c, 'a, P: Put, A: Allocator + Copy>(
     ensures { HasPut P.written P.stops P.device result out.old out.new (stop_line code.now number kind) }
 {
     match kind {
-        StopKind::Break(place) => put_pieces(
+        StopKind::Break(place) => put_fragments(
             out,
             &[
-                Piece::Bytes(b"break "),
-                Piece::Number(number),
-                Piece::Bytes(b" $"),
-                Piece::Bytes(func_name(code, place.func)),
-                Piece::Bytes(b" @"),
-                Piece::Bytes(label_name(code, place.func, place.block)),
-                Piece::Bytes(b" "),
-                Piece::Number(place.index),
-                Piece::Bytes(b"\n"),
+                Fragment::Bytes(b"break "),
+                Fragment::Number(number),
+                Fragment::Bytes(b" $"),
+                Fragment::Bytes(func_name(code, place.func)),
+                Fragment::Bytes(b" @"),
+                Fragment::Bytes(label_name(code, place.func, place.block)),
+                Fragment::Bytes(b" "),
+                Fragment::Number(place.index),
+                Fragment::Bytes(b"\n"),
             ],
         ),
-        StopKind::Watch(Watched::Bytes { address, width }) => put_pieces(
+        StopKind::Watch(Watched::Bytes { address, width }) => put_fragments(
             out,
             &[
-                Piece::Bytes(b"watch "),
-                Piece::Number(number),
-                Piece::Bytes(b" "),
-                Piece::Bytes(width_letter(width)),
-                Piece::Bytes(b" "),
-                Piece::Number(address),
-                Piece::Bytes(b"\n"),
+                Fragment::Bytes(b"watch "),
+                Fragment::Number(number),
+                Fragment::Bytes(b" "),
+                Fragment::Bytes(width_letter(width)),
+                Fragment::Bytes(b" "),
+                Fragment::Number(address),
+                Fragment::Bytes(b"\n"),
             ],
         ),
-        StopKind::Watch(Watched::Temp { func, slot }) => put_pieces(
+        StopKind::Watch(Watched::Temp { func, slot }) => put_fragments(
             out,
             &[
-                Piece::Bytes(b"watch "),
-                Piece::Number(number),
-                Piece::Bytes(b" $"),
-                Piece::Bytes(func_name(code, func)),
-                Piece::Bytes(b" %"),
-                Piece::Bytes(temp_name(code, func, slot)),
-                Piece::Bytes(b"\n"),
+                Fragment::Bytes(b"watch "),
+                Fragment::Number(number),
+                Fragment::Bytes(b" $"),
+                Fragment::Bytes(func_name(code, func)),
+                Fragment::Bytes(b" %"),
+                Fragment::Bytes(temp_name(code, func, slot)),
+                Fragment::Bytes(b"\n"),
             ],
         ),
     }
@@ -147,12 +147,12 @@ pub fn put_deleted<P: Put>(out: &mut P, number: u64) -> Result<(), PutError>
     requires { P.stops out.old < 2 ^ 64 - 1 }
     ensures { HasPut P.written P.stops P.device result out.old out.new (deleted_line number) }
 {
-    put_pieces(
+    put_fragments(
         out,
         &[
-            Piece::Bytes(b"deleted "),
-            Piece::Number(number),
-            Piece::Bytes(b"\n"),
+            Fragment::Bytes(b"deleted "),
+            Fragment::Number(number),
+            Fragment::Bytes(b"\n"),
         ],
     )
 }

@@ -12,8 +12,8 @@ use Rattle.qil_meaning.specs.declared.reason.Reason.TheVariants.{End, Start, Old
 use Rattle.qil_stops.specs.Listed.{Listed}
 use Rattle.qil_stops.specs.Named.{named_stops}
 use Rattle.qil_stops.proofs.OnWay.{least-within}
-use Rattle.qil_replies.specs.declared.reply.Refusal.{Refusal}
-use Rattle.qil_replies.specs.declared.reply.Refusal.TheVariants.{AtEnd, AtStart, HistoryEnds}
+use Rattle.qil_replies.specs.declared.reply.CommandRefusal.{CommandRefusal}
+use Rattle.qil_replies.specs.declared.reply.CommandRefusal.TheVariants.{AtEnd, AtStart, HistoryEnds}
 use Rattle.qil_replies.specs.declared.reply.Reply.{Reply}
 use Rattle.qil_replies.specs.declared.reply.Reply.TheVariants.{Refused, Place, Stopped}
 use Rattle.qil_session.specs.SessionState.{SessionState, session_at}
@@ -46,24 +46,24 @@ none_kept t = elim (cases_lt 0 (length t.past)) [
 ]
 
 -- why there is none, as `if_back` says it
-abbrev pub no_way : Timeline → Option Refusal
+abbrev pub no_way : Timeline → Option CommandRefusal
 no_way t = cond (position t == 0) (Some AtStart) (cond (length t.past == 0) (Some HistoryEnds) None)
 
 no_way_is : (t : Timeline) (at old : ℕ) → at ≡ position t → old ≡ oldest t → back_refusal at old ≡ no_way t
 no_way_is t at old e f = rw (e, f, none_kept t) refl
 
 -- what `no_way_back` gave says whether there is a way
-pub back_reported : (t : Timeline) (at old : ℕ) (o reported : Option Refusal) → at ≡ position t → old ≡ oldest t → o ≡ back_refusal at old → o ≡ reported → no_way t ≡ reported
+pub back_reported : (t : Timeline) (at old : ℕ) (o reported : Option CommandRefusal) → at ≡ position t → old ≡ oldest t → o ≡ back_refusal at old → o ≡ reported → no_way t ≡ reported
 back_reported t at old o reported e f is h = sym (no_way_is t at old e f) ∙ sym is ∙ h
 
-refused_by : {A : Type 0} (s : SessionState A) (one : Answer A) (why : Refusal) (start none : Bool) →
+refused_by : {A : Type 0} (s : SessionState A) (one : Answer A) (why : CommandRefusal) (start none : Bool) →
     cond start (Some AtStart) (cond none (Some HistoryEnds) None) ≡ Some why →
     cond start (refuses s AtStart) (cond none (refuses s HistoryEnds) one) ≡ refuses s why
-refused_by s one why true none e = let same : AtStart ≡ why = cc in ap (λ (x : Refusal). refuses s x) same
-refused_by s one why false true e = let same : HistoryEnds ≡ why = cc in ap (λ (x : Refusal). refuses s x) same
+refused_by s one why true none e = let same : AtStart ≡ why = cc in ap (λ (x : CommandRefusal). refuses s x) same
+refused_by s one why false true e = let same : HistoryEnds ≡ why = cc in ap (λ (x : CommandRefusal). refuses s x) same
 refused_by s one why false false e = absurd cc
 
-refused_back : {A : Type 0} (s : SessionState A) (one : Answer A) (why : Refusal) → no_way s.timeline ≡ Some why → if_back s one ≡ refuses s why
+refused_back : {A : Type 0} (s : SessionState A) (one : Answer A) (why : CommandRefusal) → no_way s.timeline ≡ Some why → if_back s one ≡ refuses s why
 refused_back s one why e = refused_by s one why (position s.timeline == 0) (length s.timeline.past == 0) e
 
 goes_by : {A : Type 0} (s : SessionState A) (one : Answer A) (start none : Bool) →
@@ -89,7 +89,7 @@ said_instead {A} after one other reported e h = record {
 
 -- ---- `back N`
 
-pub replies_no_back : {A : Type 0} (p : Program A) (t : Timeline) (stops : Listed) (limit n : ℕ) (why : Refusal) →
+pub replies_no_back : {A : Type 0} (p : Program A) (t : Timeline) (stops : Listed) (limit n : ℕ) (why : CommandRefusal) →
     no_way t ≡ Some why → Replies (session_at p t stops limit) (session_at p t stops limit) (Ok (Some (Back n))) (Refused why)
 unfolding answer IsValid
 replies_no_back p t stops limit n why ends =
@@ -173,7 +173,7 @@ replies_run p t u stops limit k why goes run = elim (known why) [
 
 -- ---- `reverse`
 
-pub replies_no_reverse : {A : Type 0} (p : Program A) (t : Timeline) (stops : Listed) (limit : ℕ) (why : Refusal) →
+pub replies_no_reverse : {A : Type 0} (p : Program A) (t : Timeline) (stops : Listed) (limit : ℕ) (why : CommandRefusal) →
     no_way t ≡ Some why → Replies (session_at p t stops limit) (session_at p t stops limit) (Ok (Some Reverse)) (Refused why)
 unfolding answer IsValid
 replies_no_reverse p t stops limit why ends =

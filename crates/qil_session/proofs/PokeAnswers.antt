@@ -19,8 +19,8 @@ use Rattle.qil_memory.specs.declared.fault.Dead.{Dead}
 use Rattle.qil_memory.specs.Live.{Live}
 use Rattle.qil_memory.specs.Calls.{stored}
 use Rattle.qil_stops.specs.Listed.{Listed}
-use Rattle.qil_replies.specs.declared.reply.Refusal.{Refusal}
-use Rattle.qil_replies.specs.declared.reply.Refusal.TheVariants.{UnknownPlace}
+use Rattle.qil_replies.specs.declared.reply.CommandRefusal.{CommandRefusal}
+use Rattle.qil_replies.specs.declared.reply.CommandRefusal.TheVariants.{UnknownPlace}
 use Rattle.qil_replies.specs.declared.reply.Reply.{Reply}
 use Rattle.qil_replies.specs.declared.reply.Reply.TheVariants.{Refused, Place, Stopped}
 use Rattle.qil_session.specs.SessionState.{session_at, resolved_address}

@@ -6,7 +6,7 @@ use Rattle.qil_commands.specs.declared.command.Command.TheVariants as commands
 use Rattle.qil_commands.specs.declared.command.Refused.{Refused}
 use Rattle.qil_streams.specs.Device.{Puts}
 use Rattle.qil_meaning.specs.State.{Name}
-use Rattle.qil_replies.specs.declared.reply.Refusal.TheVariants.{Line}
+use Rattle.qil_replies.specs.declared.reply.CommandRefusal.TheVariants.{Line}
 use Rattle.qil_replies.specs.declared.reply.Reply.{Reply}
 use Rattle.qil_replies.specs.declared.reply.Reply.TheVariants as replies
 use Rattle.qil_session.specs.SessionState.{SessionState, resolved_address, text_in}

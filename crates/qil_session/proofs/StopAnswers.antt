@@ -18,7 +18,7 @@ use Rattle.qil_stops.specs.declared.stop.StopKind.TheVariants as kinds
 use Rattle.qil_stops.specs.declared.stops.StopError.{StopError}
 use Rattle.qil_stops.specs.declared.stops.StopError.TheVariants.{UnknownPlace, TooMany, NoSuchStop}
 use Rattle.qil_stops.specs.Listed.{Listed, IsFull, added, is_listed, without}
-use Rattle.qil_replies.specs.declared.reply.Refusal.TheVariants as refusals
+use Rattle.qil_replies.specs.declared.reply.CommandRefusal.TheVariants as refusals
 use Rattle.qil_replies.specs.declared.reply.Reply.{Reply}
 use Rattle.qil_replies.specs.declared.reply.Reply.TheVariants.{Refused, Added, Deleted}
 use Rattle.qil_session.specs.SessionState.{session_at, resolved_address, resolved_place, resolved_temp, has_kind, is_full}

@@ -23,8 +23,8 @@ use Rattle.qil_stops.specs.declared.stops.StopError.{StopError}
 use Rattle.qil_stops.specs.declared.stops.StopError.TheVariants as stop_errors
 use Rattle.qil_stops.specs.Listed.{added, is_listed, without}
 use Rattle.qil_stops.specs.Named.{named_stops}
-use Rattle.qil_replies.specs.declared.reply.Refusal.{Refusal}
-use Rattle.qil_replies.specs.declared.reply.Refusal.TheVariants as refusals
+use Rattle.qil_replies.specs.declared.reply.CommandRefusal.{CommandRefusal}
+use Rattle.qil_replies.specs.declared.reply.CommandRefusal.TheVariants as refusals
 use Rattle.qil_replies.specs.declared.reply.Reply.{Reply}
 use Rattle.qil_replies.specs.declared.reply.Reply.TheVariants as replies
 use Rattle.qil_session.specs.declared.session.Next.{Next}
@@ -45,7 +45,7 @@ answer_text one = text_in one.left one.reply
 abbrev pub says : {A : Type 0} → SessionState A → Reply → Answer A
 says s reply = record { reply = reply; left = s; goes = true }
 
-abbrev pub refuses : {A : Type 0} → SessionState A → Refusal → Answer A
+abbrev pub refuses : {A : Type 0} → SessionState A → CommandRefusal → Answer A
 refuses s refusal = says s (replies.Refused refusal)
 
 -- the session goes to that timeline
@@ -68,7 +68,7 @@ if_back s answer =
     (cond (length s.timeline.past == 0) (refuses s refusals.HistoryEnds) answer)
 
 -- why there is none, at a position, where the oldest state that is kept is at another
-abbrev pub back_refusal : ℕ → ℕ → Option Refusal
+abbrev pub back_refusal : ℕ → ℕ → Option CommandRefusal
 back_refusal at oldest = cond (at == 0) (Some refusals.AtStart) (cond (at == oldest) (Some refusals.HistoryEnds) None)
 
 -- why a run stops after so many moves, the limit with the others
@@ -98,7 +98,7 @@ reverse_answer s = if_back s (reversed s (target (stop_back (named_stops s.progr
 
 -- ---- pokes
 
-abbrev pub poke_refusal : PokeFault → Refusal
+abbrev pub poke_refusal : PokeFault → CommandRefusal
 poke_refusal no_frame = refusals.NoFrame
 poke_refusal dead_bytes = refusals.DeadAddress
 poke_refusal unknown_temporary = refusals.UnknownTemporary

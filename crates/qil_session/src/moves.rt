@@ -13,7 +13,7 @@ use crate::walk::{back_by, step_by};
 use qil_history::History;
 use qil_machine::Machine;
 use qil_meaning::Reason;
-use qil_replies::{Refusal, Reply};
+use qil_replies::{CommandRefusal, Reply};
 use qil_stops::{Stops, run, run_back};
 use std::alloc::Allocator;
 
@@ -36,7 +36,7 @@ pub fn step<'c, 'r, A: Allocator + Copy + 'c, H: History<A, Machine<'c, 'c, A>>>
         (Ok (Some (commands.Step count))) result }
 {
     if is_over(history.machine()) {
-        return Reply::Refused(Refusal::AtEnd);
+        return Reply::Refused(CommandRefusal::AtEnd);
     }
     match step_by(history, count) {
         Ok(()) => Reply::Place,
@@ -45,14 +45,14 @@ pub fn step<'c, 'r, A: Allocator + Copy + 'c, H: History<A, Machine<'c, 'c, A>>>
 }
 
 /// Why there is no way back: from the start, or from the oldest state that is kept.
-fn no_way_back(position: u64, oldest: u64) -> Option<Refusal>
+fn no_way_back(position: u64, oldest: u64) -> Option<CommandRefusal>
     ensures { result ≡ back_refusal position oldest }
 {
     if position == 0 {
-        return Some(Refusal::AtStart);
+        return Some(CommandRefusal::AtStart);
     }
     if position == oldest {
-        return Some(Refusal::HistoryEnds);
+        return Some(CommandRefusal::HistoryEnds);
     }
     None
 }
@@ -88,7 +88,7 @@ pub fn answer_continue<'c, 'r, A: Allocator + Copy + 'c, H: History<A, Machine<'
         (Ok (Some commands.Continue)) result }
 {
     if is_over(history.machine()) {
-        return Reply::Refused(Refusal::AtEnd);
+        return Reply::Refused(CommandRefusal::AtEnd);
     }
     let (reason, _made) = run(history, stops, limit);
     Reply::Stopped(reason)

@@ -12,7 +12,7 @@ use qil_commands::Address;
 use qil_history::History;
 use qil_machine::{Machine, PokeError};
 use qil_meaning::Reason;
-use qil_replies::{Refusal, Reply};
+use qil_replies::{CommandRefusal, Reply};
 use qil_tree::Width;
 use std::alloc::Allocator;
 
@@ -30,8 +30,8 @@ pub fn set<'c, 'r, A: Allocator + Copy + 'c, H: History<A, Machine<'c, 'c, A>>>(
 {
     match history.poke_named(name, value) {
         Ok(()) => Reply::Place,
-        Err(PokeError::NoFrame) => Reply::Refused(Refusal::NoFrame),
-        Err(PokeError::UnknownTemporary) => Reply::Refused(Refusal::UnknownTemporary),
+        Err(PokeError::NoFrame) => Reply::Refused(CommandRefusal::NoFrame),
+        Err(PokeError::UnknownTemporary) => Reply::Refused(CommandRefusal::UnknownTemporary),
         Err(PokeError::OutOfMemory) => Reply::Stopped(Reason::Memory),
         Err(PokeError::DeadAddress) => unreachable!(),
     }
@@ -51,11 +51,11 @@ pub fn poke<'c, 'r, A: Allocator + Copy + 'c, H: History<A, Machine<'c, 'c, A>>>
         (Ok (Some (commands.Poke width address.entry value))) result }
 {
     let Some(start) = resolved_address(history.machine().code(), &address) else {
-        return Reply::Refused(Refusal::UnknownPlace);
+        return Reply::Refused(CommandRefusal::UnknownPlace);
     };
     match history.poke_memory(start, width_bytes(width), value) {
         Ok(()) => Reply::Place,
-        Err(PokeError::DeadAddress) => Reply::Refused(Refusal::DeadAddress),
+        Err(PokeError::DeadAddress) => Reply::Refused(CommandRefusal::DeadAddress),
         Err(PokeError::OutOfMemory) => Reply::Stopped(Reason::Memory),
         Err(PokeError::NoFrame | PokeError::UnknownTemporary) => unreachable!(),
     }

@@ -19,7 +19,7 @@ use qil_commands::{Command, Refused};
 use qil_depths::{DepthEnd, run_back_to_depth, run_to_depth};
 use qil_history::History;
 use qil_machine::Machine;
-use qil_replies::{Refusal, Reply, put_reply};
+use qil_replies::{CommandRefusal, Reply, put_reply};
 use qil_stops::Stops;
 use qil_streams::{Put, PutError};
 use std::alloc::{AllocError, Allocator};
@@ -151,7 +151,7 @@ impl<'c, A: Allocator + Copy + 'c, H: History<A, Machine<'c, 'c, A>>> Session<A,
         match said {
             Ok(Some(command)) => self.reply_command(command),
             Ok(None) => Reply::Nothing,
-            Err(refused) => Reply::Refused(Refusal::Line(refused)),
+            Err(refused) => Reply::Refused(CommandRefusal::Line(refused)),
         }
     }
 

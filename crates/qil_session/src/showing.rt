@@ -7,7 +7,7 @@ ghost use Rattle.qil_session.specs.Answers.{memory_reply};
 use crate::words::resolved_address;
 use qil_commands::Address;
 use qil_numbering::Code;
-use qil_replies::{Refusal, Reply};
+use qil_replies::{CommandRefusal, Reply};
 use std::alloc::Allocator;
 
 /// Replies to `mem ADDR N`.
@@ -20,6 +20,6 @@ pub fn show_bytes<'r, A: Allocator + Copy>(
 {
     match resolved_address(code, address) {
         Some(start) => Reply::Bytes(start, count),
-        None => Reply::Refused(Refusal::UnknownPlace),
+        None => Reply::Refused(CommandRefusal::UnknownPlace),
     }
 }

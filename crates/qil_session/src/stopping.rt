@@ -10,7 +10,7 @@ ghost use Rattle.qil_session.specs.Answers.{Replies, made_reply};
 use crate::words::{resolved_address, resolved_place, resolved_temp, width_bytes};
 use qil_commands::{Address, BreakPlace};
 use qil_numbering::Code;
-use qil_replies::{Refusal, Reply};
+use qil_replies::{CommandRefusal, Reply};
 use qil_stops::{StopError, StopKind, Stops, Watched};
 use qil_tree::Width;
 use std::alloc::Allocator;
@@ -21,9 +21,9 @@ fn made_reply<'r>(made: Result<u64, StopError>, kind: StopKind) -> Reply<'r>
 {
     match made {
         Ok(number) => Reply::Added(number, kind),
-        Err(StopError::UnknownPlace) => Reply::Refused(Refusal::UnknownPlace),
-        Err(StopError::TooMany) => Reply::Refused(Refusal::TooManyStops),
-        Err(StopError::NoSuchStop) => Reply::Refused(Refusal::NoSuchStop),
+        Err(StopError::UnknownPlace) => Reply::Refused(CommandRefusal::UnknownPlace),
+        Err(StopError::TooMany) => Reply::Refused(CommandRefusal::TooManyStops),
+        Err(StopError::NoSuchStop) => Reply::Refused(CommandRefusal::NoSuchStop),
     }
 }
 
@@ -38,7 +38,7 @@ pub fn add_break<'c, 'a, 'r, A: Allocator + Copy>(
         (Ok (Some (commands.Break func.now at.entry))) result }
 {
     let Some(place) = resolved_place(code, func, &at) else {
-        return Reply::Refused(Refusal::UnknownPlace);
+        return Reply::Refused(CommandRefusal::UnknownPlace);
     };
     let made = stops.add_break(code, place.func, place.block, place.index);
     made_reply(made, StopKind::Break(place))
@@ -55,7 +55,7 @@ pub fn watch_bytes<'c, 'a, 'r, A: Allocator + Copy>(
         (Ok (Some (commands.WatchBytes width address.entry))) result }
 {
     let Some(address) = resolved_address(code, &address) else {
-        return Reply::Refused(Refusal::UnknownPlace);
+        return Reply::Refused(CommandRefusal::UnknownPlace);
     };
     let width = width_bytes(width);
     let watched = Watched::Bytes { address, width };
@@ -74,7 +74,7 @@ pub fn watch_temp<'c, 'a, 'r, A: Allocator + Copy>(
         (Ok (Some (commands.WatchTemp func.now name.now))) result }
 {
     let Some(watched) = resolved_temp(code, func, name) else {
-        return Reply::Refused(Refusal::UnknownPlace);
+        return Reply::Refused(CommandRefusal::UnknownPlace);
     };
     let made = stops.add_watch(code, watched);
     made_reply(made, StopKind::Watch(watched))
@@ -87,6 +87,6 @@ pub fn delete<'r, A: Allocator + Copy>(stops: &mut Stops<A>, number: u64) -> Rep
 {
     match stops.delete(number) {
         Ok(()) => Reply::Deleted(number),
-        Err(_) => Reply::Refused(Refusal::NoSuchStop),
+        Err(_) => Reply::Refused(CommandRefusal::NoSuchStop),
     }
 }

@@ -17,11 +17,11 @@ use Rattle.qil_meaning.specs.Values.{Outcome, ◌>>=◌, val, vals}
 use Rattle.qil_meaning.specs.Step as step
 use Rattle.qil_meaning.specs.Step.{move_read, merges}
 use Rattle.qil_numbering.specs.declared.numbered.Slot.{Slot}
-use Rattle.qil_numbering.specs.declared.numbered.Source.{Source}
-use Rattle.qil_numbering.specs.declared.numbered.Source.TheVariants as sources
+use Rattle.qil_numbering.specs.declared.numbered.NumberedOperand.{NumberedOperand}
+use Rattle.qil_numbering.specs.declared.numbered.NumberedOperand.TheVariants as numbered_operands
 use Rattle.qil_numbering.specs.declared.numbered.PhiMove.{PhiMove}
 use Rattle.qil_numbering.specs.Slots.{name_at}
-use Rattle.qil_numbering.specs.Named.{named_source, named_move, resolved_move}
+use Rattle.qil_numbering.specs.Named.{named_operand, named_move, resolved_move}
 use Rattle.qil_numbering.specs.Ranges.{InRange, MoveInRange}
 use Rattle.qil_frames.specs.declared.saved.SavedSlot.{SavedSlot}
 use Rattle.qil_frames.specs.Enter.{value_in, known, write_to, onto, gathered, written}
@@ -46,10 +46,10 @@ known_reported : (ns : List Name) (c : Class) (s : Slot) (o : Option ℕ) → va
 known_reported ns c s None = refl
 known_reported ns c s (Some v) = refl
 
-value_is_reported : {A : Type 0} (p : Program A) (ns : List Name) (vs : List (Option ℕ)) (c : Class) (a : Source) → AreSlots ns vs → InRange (length vs) a
-    → value_reported ns (value_in vs c a) ≡ val p (temps_of ns vs) c (named_source ns a)
-value_is_reported p ns vs c (sources.Constant n) are is = refl
-value_is_reported p ns vs c (sources.Slot s) are is = known_reported ns c s (get_or vs s.index None) ∙ ap (values.known c (name_at ns s.index)) (slot_read ns vs s.index are is)
+value_is_reported : {A : Type 0} (p : Program A) (ns : List Name) (vs : List (Option ℕ)) (c : Class) (a : NumberedOperand) → AreSlots ns vs → InRange (length vs) a
+    → value_reported ns (value_in vs c a) ≡ val p (temps_of ns vs) c (named_operand ns a)
+value_is_reported p ns vs c (numbered_operands.Constant n) are is = refl
+value_is_reported p ns vs c (numbered_operands.Slot s) are is = known_reported ns c s (get_or vs s.index None) ∙ ap (values.known c (name_at ns s.index)) (slot_read ns vs s.index are is)
 
 onto_reported : (ns : List Name) (s : Slot) (r : Result ℕ Slot) (others : Result (List SavedSlot) Slot)
     → gathered_reported ns (onto s r others) ≡ (value_reported ns r >>= λ v. gathered_reported ns others >>= λ vs. Ok (v ∷ vs))

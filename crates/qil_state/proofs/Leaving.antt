@@ -16,14 +16,14 @@ use Rattle.qil_meaning.specs.Slots.{temps_of}
 use Rattle.qil_meaning.specs.Values.{◌>>=◌, val, fit}
 use Rattle.qil_meaning.specs.Step.{goes}
 use Rattle.qil_numbering.specs.declared.numbered.Slot.{Slot}
-use Rattle.qil_numbering.specs.declared.numbered.Source.{Source}
+use Rattle.qil_numbering.specs.declared.numbered.NumberedOperand.{NumberedOperand}
 use Rattle.qil_numbering.specs.declared.numbered.Edge.{Edge}
 use Rattle.qil_numbering.specs.declared.numbered.NumberedBlock.{NumberedBlock}
 use Rattle.qil_numbering.specs.declared.numbered.NumberedJump.{NumberedJump}
 use Rattle.qil_numbering.specs.declared.numbered.NumberedJump.TheVariants as numbered_jumps
 use Rattle.qil_numbering.specs.Slots.{name_at}
 use Rattle.qil_numbering.specs.Numbered.{func_at, block_in, block_at, names_of}
-use Rattle.qil_numbering.specs.Named.{named_source}
+use Rattle.qil_numbering.specs.Named.{named_operand}
 use Rattle.qil_numbering.specs.Ranges.{MoveInRange, EdgeInRange, JumpInRange, BlockInRange}
 use Rattle.qil_numbering.specs.Reading.{labels_at, returns_at, block_code_at}
 use Rattle.qil_numbering.specs.Facts.{KnowsLabels}
@@ -75,14 +75,14 @@ bare_ret_left {A} x p (f ∷ fs) m out st fr is fits at =
     (left_ret_none p (state_of (whole p (f ∷ fs) m out st)) (frame_state p fs f) (frames_state p fs) f.func here.func here.func_is)
 
 -- what was read of an operand of a frame, by slots and by names
-abbrev pub IsRead : {A : Type 0} → Program A → SlotFrame → Class → Source → Result ℕ Fault → Type 0
-IsRead p f c a r = (ns : List Name) → AreSlots ns f.slots → reported ns r ≡ val p (temps_of ns f.slots) c (named_source ns a)
+abbrev pub IsRead : {A : Type 0} → Program A → SlotFrame → Class → NumberedOperand → Result ℕ Fault → Type 0
+IsRead p f c a r = (ns : List Name) → AreSlots ns f.slots → reported ns r ≡ val p (temps_of ns f.slots) c (named_operand ns a)
 
-abbrev GivesBack : {A : Type 0} → Program A → SlotFrame → Source → Result ℕ Fault → Whole A → Type 0
+abbrev GivesBack : {A : Type 0} → Program A → SlotFrame → NumberedOperand → Result ℕ Fault → Whole A → Type 0
 GivesBack p fr a r x =
     left_whole x (numbered_jumps.Ret (Some a)) ≡ (reported (head_names x.program x.frames) r >>= λ v. returned_whole x (Some (fit (unwrap_or (returns_at p fr.func) types.W) v)))
 
-pub ret_left : {A : Type 0} (x : Whole A) (p : Program A) (fs : List SlotFrame) (m : Buffers) (out : List ℕ) (st : Status) (fr : SlotFrame) (a : Source) (r : Result ℕ Fault)
+pub ret_left : {A : Type 0} (x : Whole A) (p : Program A) (fs : List SlotFrame) (m : Buffers) (out : List ℕ) (st : Status) (fr : SlotFrame) (a : NumberedOperand) (r : Result ℕ Fault)
     → whole p fs m out st ≡ x → FramesFit p fs → slice_get fs 0 ≡ Some fr → IsRead p fr (returned_class (returns_at p fr.func)) a r → GivesBack p fr a r x
 ret_left x p [] m out st fr a r is fits at read = none_some at
 ret_left {A} x p (f ∷ fs) m out st fr a r is fits at read =
@@ -92,7 +92,7 @@ ret_left {A} x p (f ∷ fs) m out st fr a r is fits at read =
     let F : meaning.Frame = frame_state p fs f in
     let ns : List Name = names_of p f.func in
     let of_f : Goal f = λ read.
-    left_ret p S F (frames_state p fs) f.func here.func (named_source ns a) here.func_is
+    left_ret p S F (frames_state p fs) f.func here.func (named_operand ns a) here.func_is
     ∙ ap (λ o. o >>= λ v. returned_whole (whole p (f ∷ fs) m out st) (Some (fit (unwrap_or (returns_at p f.func) types.W) v))) (sym (read ns (are_slots p f fits.0))) in
     subst (GivesBack p fr a r) is (subst Goal (some_same f fr at) of_f read)
 
@@ -118,10 +118,10 @@ chosen : {A : Type 0} (p : Program A) (f : SlotFrame) (fs : List SlotFrame) (m :
 chosen p f fs m out st func e g ef true = along p f fs m out st func g ef
 chosen p f fs m out st func e g ef false = along p f fs m out st func e ef
 
-abbrev Chooses : {A : Type 0} → Source → Edge A → Edge A → Result ℕ Fault → Whole A → Type 0
+abbrev Chooses : {A : Type 0} → NumberedOperand → Edge A → Edge A → Result ℕ Fault → Whole A → Type 0
 Chooses a e g r x = left_whole x (numbered_jumps.Jnz a e g) ≡ (reported (head_names x.program x.frames) r >>= λ v. went_whole x (if v == 0 then g else e))
 
-pub jnz_left : {A : Type 0} (x : Whole A) (p : Program A) (fs : List SlotFrame) (m : Buffers) (out : List ℕ) (st : Status) (fr : SlotFrame) (a : Source) (e g : Edge A) (r : Result ℕ Fault)
+pub jnz_left : {A : Type 0} (x : Whole A) (p : Program A) (fs : List SlotFrame) (m : Buffers) (out : List ℕ) (st : Status) (fr : SlotFrame) (a : NumberedOperand) (e g : Edge A) (r : Result ℕ Fault)
     → whole p fs m out st ≡ x → FramesFit p fs → slice_get fs 0 ≡ Some fr → IsRead p fr classes.W a r → Chooses a e g r x
 jnz_left x p [] m out st fr a e g r is fits at read = none_some at
 jnz_left {A} x p (f ∷ fs) m out st fr a e g r is fits at read =
@@ -132,7 +132,7 @@ jnz_left {A} x p (f ∷ fs) m out st fr a e g r is fits at read =
     let n : Name = name_at (labels_at p f.func) g.to.index in
     let of_f : IsRead p f classes.W a r = subst (λ (h : SlotFrame). IsRead p h classes.W a r) (sym (some_same f fr at)) read in
     subst (Chooses a e g r) is
-    (left_jnz p S (frame_state p fs f) (frames_state p fs) f.func here.func (named_source ns a) l n here.func_is
+    (left_jnz p S (frame_state p fs f) (frames_state p fs) f.func here.func (named_operand ns a) l n here.func_is
     ∙ (λ i. sym (of_f ns (are_slots p f fits.0)) i >>= λ v. chosen p f fs m out st here.func e g here.func_is (v == 0) i))
 
 -- ---- an edge

@@ -16,8 +16,8 @@ use Rattle.qil_meaning.specs.Slots.{temps_of}
 use Rattle.qil_meaning.specs.Values.{Outcome, ◌>>=◌, known, vals}
 use Rattle.qil_meaning.specs.Calls.{agree, agree_all, gives, is_in_shape}
 use Rattle.qil_numbering.specs.declared.numbered.Slot.{Slot}
-use Rattle.qil_numbering.specs.declared.numbered.Source.{Source}
-use Rattle.qil_numbering.specs.declared.numbered.Source.TheVariants as sources
+use Rattle.qil_numbering.specs.declared.numbered.NumberedOperand.{NumberedOperand}
+use Rattle.qil_numbering.specs.declared.numbered.NumberedOperand.TheVariants as numbered_operands
 use Rattle.qil_numbering.specs.declared.numbered.Receiver.{Receiver}
 use Rattle.qil_numbering.specs.declared.numbered.NumberedArgument.{NumberedArgument}
 use Rattle.qil_numbering.specs.Slots.{name_at}
@@ -40,9 +40,9 @@ known_unless : (ns : List Name) (c : Class) (s : Slot) (o : Option ℕ) → valu
 known_unless ns c s None = refl
 known_unless ns c s (Some v) = refl
 
-slot_val_unless : (ns : List Name) (vs : List (Option ℕ)) (c : Class) (a : Source) → values_unless ns (low_bits (width c) (held_or_zero vs a)) (unset_in vs a) ≡ slot_val ns vs c a
-slot_val_unless ns vs c (sources.Constant n) = refl
-slot_val_unless ns vs c (sources.Slot s) = known_unless ns c s (get_or vs s.index None)
+slot_val_unless : (ns : List Name) (vs : List (Option ℕ)) (c : Class) (a : NumberedOperand) → values_unless ns (low_bits (width c) (held_or_zero vs a)) (unset_in vs a) ≡ slot_val ns vs c a
+slot_val_unless ns vs c (numbered_operands.Constant n) = refl
+slot_val_unless ns vs c (numbered_operands.Slot s) = known_unless ns c s (get_or vs s.index None)
 
 both_unless : (ns : List Name) (v : ℕ) (vs : List ℕ) (o q : Option Slot) → values_unless ns (v ∷ vs) (option_or o q) ≡ (values_unless ns v o >>= λ w. values_unless ns vs q >>= λ ws. Ok (w ∷ ws))
 both_unless ns v vs (Some s) q = refl

@@ -10,10 +10,10 @@ use Rattle.qil_meaning.specs.Temps.{with_temp}
 use Rattle.qil_meaning.specs.Slots.{temps_of}
 use Rattle.qil_meaning.specs.Values.{Outcome, known, val}
 use Rattle.qil_meaning.proofs.SlotLemmas.{temps-at, temps-set}
-use Rattle.qil_numbering.specs.declared.numbered.Source.{Source}
-use Rattle.qil_numbering.specs.declared.numbered.Source.TheVariants as sources
+use Rattle.qil_numbering.specs.declared.numbered.NumberedOperand.{NumberedOperand}
+use Rattle.qil_numbering.specs.declared.numbered.NumberedOperand.TheVariants as numbered_operands
 use Rattle.qil_numbering.specs.Slots.{name_at}
-use Rattle.qil_numbering.specs.Named.{named_source}
+use Rattle.qil_numbering.specs.Named.{named_operand}
 use Rattle.qil_numbering.specs.Ranges.{InRange, MoveInRange}
 use Rattle.qil_numbering.specs.declared.numbered.PhiMove.{PhiMove}
 use Rattle.qil_frames.specs.Enter.{HasMoves}
@@ -50,11 +50,11 @@ pub slot_written : (ns : List Name) (vs : List (Option ℕ)) (i : ℕ) (v : Opti
 slot_written ns vs i v are h = λ j y. temps-set ns vs (name_at ns i) i v y are.long (are.distinct i (omega (arith, are.long))) j
 
 -- an operand by its slot
-abbrev pub slot_val : List Name → List (Option ℕ) → Class → Source → Outcome ℕ
-slot_val ns vs c (sources.Constant n) = Ok (low_bits (width c) n)
-slot_val ns vs c (sources.Slot s) = known c (name_at ns s.index) (get_or vs s.index None)
+abbrev pub slot_val : List Name → List (Option ℕ) → Class → NumberedOperand → Outcome ℕ
+slot_val ns vs c (numbered_operands.Constant n) = Ok (low_bits (width c) n)
+slot_val ns vs c (numbered_operands.Slot s) = known c (name_at ns s.index) (get_or vs s.index None)
 
-pub slot_val_is : {A : Type 0} (p : Program A) (ns : List Name) (vs : List (Option ℕ)) (c : Class) (a : Source)
-    → AreSlots ns vs → InRange (length vs) a → slot_val ns vs c a ≡ val p (temps_of ns vs) c (named_source ns a)
-slot_val_is p ns vs c (sources.Constant n) are is = refl
-slot_val_is p ns vs c (sources.Slot s) are is = ap (known c (name_at ns s.index)) (slot_read ns vs s.index are is)
+pub slot_val_is : {A : Type 0} (p : Program A) (ns : List Name) (vs : List (Option ℕ)) (c : Class) (a : NumberedOperand)
+    → AreSlots ns vs → InRange (length vs) a → slot_val ns vs c a ≡ val p (temps_of ns vs) c (named_operand ns a)
+slot_val_is p ns vs c (numbered_operands.Constant n) are is = refl
+slot_val_is p ns vs c (numbered_operands.Slot s) are is = ap (known c (name_at ns s.index)) (slot_read ns vs s.index are is)

@@ -13,8 +13,8 @@ use Rattle.qil_meaning.specs.Slots.{slot_of}
 use Rattle.qil_meaning.specs.Values.{Outcome, ◌>>=◌, vals, result_of}
 use Rattle.qil_meaning.specs.Calls.{Shape}
 use Rattle.qil_numbering.specs.declared.numbered.Slot.{Slot}
-use Rattle.qil_numbering.specs.declared.numbered.Source.{Source}
-use Rattle.qil_numbering.specs.declared.numbered.Source.TheVariants as sources
+use Rattle.qil_numbering.specs.declared.numbered.NumberedOperand.{NumberedOperand}
+use Rattle.qil_numbering.specs.declared.numbered.NumberedOperand.TheVariants as numbered_operands
 use Rattle.qil_numbering.specs.declared.numbered.NumberedArgument.{NumberedArgument}
 use Rattle.qil_numbering.specs.Slots.{name_at}
 use Rattle.qil_state.specs.declared.status.Fault.{Fault}
@@ -34,14 +34,14 @@ abbrev pub unless_set : Slot → Option ℕ → Option Slot
 unless_set s (Some v) = None
 unless_set s None = Some s
 
-abbrev pub unset_in : List (Option ℕ) → Source → Option Slot
-unset_in vs (sources.Constant n) = None
-unset_in vs (sources.Slot s) = unless_set s (get_or vs s.index None)
+abbrev pub unset_in : List (Option ℕ) → NumberedOperand → Option Slot
+unset_in vs (numbered_operands.Constant n) = None
+unset_in vs (numbered_operands.Slot s) = unless_set s (get_or vs s.index None)
 
 -- what an operand holds; of an unset slot 0
-abbrev pub held_or_zero : List (Option ℕ) → Source → ℕ
-held_or_zero vs (sources.Constant n) = n
-held_or_zero vs (sources.Slot s) = unwrap_or (get_or vs s.index None) 0
+abbrev pub held_or_zero : List (Option ℕ) → NumberedOperand → ℕ
+held_or_zero vs (numbered_operands.Constant n) = n
+held_or_zero vs (numbered_operands.Slot s) = unwrap_or (get_or vs s.index None) 0
 
 -- an argument in the class of the type that is written at it
 abbrev pub argument_value : List (Option ℕ) → NumberedArgument → ℕ

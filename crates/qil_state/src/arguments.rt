@@ -14,20 +14,20 @@ ghost use Rattle.qil_numbering.specs.Ranges.{InRange};
 ghost use Rattle.qil_state.specs.Values.{AreSlots, unset_in, held_or_zero, argument_value, argument_values, reported_with, shape_by};
 
 use crate::status::Fault;
-use qil_numbering::{NumberedArgument, Receiver, Slot, Source};
+use qil_numbering::{NumberedArgument, NumberedOperand, Receiver, Slot};
 use qil_ops::unary;
 use qil_tree::{AbiType, UnaryOp};
 use std::alloc::Allocator;
 
 /// What an operand holds; of an unset slot 0.
 #[inline(always)]
-fn held(slots: &[Option<u64>], source: Source) -> u64
+fn held(slots: &[Option<u64>], source: NumberedOperand) -> u64
     requires { InRange (length slots.now) source }
     ensures { result ≡ held_or_zero slots.now source }
 {
     match source {
-        Source::Constant(v) => v,
-        Source::Slot(slot) => slots[usize::from(slot.index)].unwrap_or(0),
+        NumberedOperand::Constant(v) => v,
+        NumberedOperand::Slot(slot) => slots[usize::from(slot.index)].unwrap_or(0),
     }
 }
 
@@ -46,13 +46,13 @@ pub fn argument(slots: &[Option<u64>], written: &NumberedArgument) -> u64
 
 /// The slot of an operand, if it is unset.
 #[inline(always)]
-fn unset_slot(slots: &[Option<u64>], source: Source) -> Option<Slot>
+fn unset_slot(slots: &[Option<u64>], source: NumberedOperand) -> Option<Slot>
     requires { InRange (length slots.now) source }
     ensures { result ≡ unset_in slots.now source }
 {
     match source {
-        Source::Constant(_) => None,
-        Source::Slot(slot) => match slots[usize::from(slot.index)] {
+        NumberedOperand::Constant(_) => None,
+        NumberedOperand::Slot(slot) => match slots[usize::from(slot.index)] {
             Some(_) => None,
             None => Some(slot),
         },

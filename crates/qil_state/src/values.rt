@@ -11,14 +11,14 @@ ghost use Rattle.qil_meaning.specs.State.{Name};
 ghost use Rattle.qil_meaning.specs.Slots.{temps_of};
 ghost use Rattle.qil_meaning.specs.Values.{val, load_of, fit};
 ghost use Rattle.qil_meaning.specs.Calls.{taken};
-ghost use Rattle.qil_numbering.specs.Named.{named_source, named_expr};
+ghost use Rattle.qil_numbering.specs.Named.{named_operand, named_expr};
 ghost use Rattle.qil_numbering.specs.Ranges.{InRange, ExprInRange};
 ghost use Rattle.qil_state.specs.Faults.{reported};
 ghost use Rattle.qil_state.specs.Values.{AreSlots, evaluated};
 
 use crate::status::Fault;
 use qil_memory::Memory;
-use qil_numbering::{NumberedExpr, Source};
+use qil_numbering::{NumberedExpr, NumberedOperand};
 use qil_ops::{binary, compare, extend, unary};
 use qil_tree::{AbiType, BinaryOp, Class, Extension, LoadOp, UnaryOp};
 use std::alloc::Allocator;
@@ -32,14 +32,14 @@ use std::alloc::Allocator;
 pub fn value<A: Allocator>(
     slots: &[Option<u64>],
     class: Class,
-    source: Source,
+    source: NumberedOperand,
 ) -> Result<u64, Fault>
     requires { InRange (length slots.now) source }
-    ensures { (p : Program A) (ns : List Name) → AreSlots ns slots.now → reported ns result ≡ val p (temps_of ns slots.now) class (named_source ns source) }
+    ensures { (p : Program A) (ns : List Name) → AreSlots ns slots.now → reported ns result ≡ val p (temps_of ns slots.now) class (named_operand ns source) }
 {
     match source {
-        Source::Constant(v) => Ok(unary(UnaryOp::Copy, class, v)),
-        Source::Slot(slot) => match slots[usize::from(slot.index)] {
+        NumberedOperand::Constant(v) => Ok(unary(UnaryOp::Copy, class, v)),
+        NumberedOperand::Slot(slot) => match slots[usize::from(slot.index)] {
             Some(v) => Ok(unary(UnaryOp::Copy, class, v)),
             None => Err(Fault::Unset(slot)),
         },

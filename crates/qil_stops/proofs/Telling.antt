@@ -26,7 +26,7 @@ use Rattle.qil_state.specs.Faults.{status_of}
 use Rattle.qil_stops.specs.declared.stop.StopKind.{StopKind}
 use Rattle.qil_stops.specs.declared.stop.StopKind.TheVariants.{Break, Watch}
 use Rattle.qil_stops.specs.declared.stop.Watched.TheVariants.{Bytes, Temp}
-use Rattle.qil_stops.specs.declared.stop.Stop.{Stop}
+use Rattle.qil_stops.specs.declared.stop.NumberedStop.{NumberedStop}
 use Rattle.qil_stops.specs.Named.{break_in, watch_in, named_kind, named_stops, passes}
 use Rattle.qil_stops.specs.Readings.{TellsBytes, TellsTemp, Tells, AllTell}
 use Rattle.qil_stops.proofs.Naming.{by_name, first_by, first_watch-by, first_break-by}
@@ -104,7 +104,7 @@ kind_test p old new (Watch (Bytes a n)) u v s t = ap not (bytes_test n (read old
 kind_test p old new (Watch (Temp func slot)) u v s t = temp_test p func.index slot.index old new u v (func_at p func.index) (slice_get (names_of p func.index) slot.index) refl refl s t
 
 -- the test that is made in a loop
-pub watch-test : {A : Type 0} (p : Program A) (old new : State) (stops : List Stop) (before : List (Option ℕ)) (i : ℕ) (d : Stop) (e : Option ℕ) (test : Bool) (v : Option ℕ) → AllTell p old stops before → i < length stops → length before ≡ length stops
+pub watch-test : {A : Type 0} (p : Program A) (old new : State) (stops : List NumberedStop) (before : List (Option ℕ)) (i : ℕ) (d : NumberedStop) (e : Option ℕ) (test : Bool) (v : Option ℕ) → AllTell p old stops before → i < length stops → length before ≡ length stops
     → Tells p new (get_or stops i d).kind v → test ≡ not (option_eq nat_eq v (get_or before i e)) → by_name p (differs old new) (get_or stops i d) ≡ test
 watch-test p old new stops before i d e test v reported lt count here is =
     let same : get_or before i None ≡ get_or before i e = get_or_default before i None e (omega (arith, lt, count)) in
@@ -145,11 +145,11 @@ kind_same p old new (Watch (Bytes a n)) u s none =
     subst (λ bs. TellsBytes bs n u) (bytes_back (read old.memory a n) (read new.memory a n) (same-tells _ _ (not_false _ none))) s
 kind_same p old new (Watch (Temp func slot)) u s none = temp_same p func.index slot.index old new u s none
 
-none_cases : (b : Bool) (s : Stop) (o : Option Stop) → cond b (Some s) o ≡ None → (b ≡ false) × (o ≡ None)
+none_cases : (b : Bool) (s : NumberedStop) (o : Option NumberedStop) → cond b (Some s) o ≡ None → (b ≡ false) × (o ≡ None)
 none_cases true s o e = absurd cc
 none_cases false s o e = (refl, e)
 
-none_found : (t : Stop → Bool) (stops : List Stop) (i : ℕ) (d : Stop) → find t stops ≡ None → i < length stops → t (get_or stops i d) ≡ false
+none_found : (t : NumberedStop → Bool) (stops : List NumberedStop) (i : ℕ) (d : NumberedStop) → find t stops ≡ None → i < length stops → t (get_or stops i d) ≡ false
 none_found t [] i d e lt = absurd (omega (arith, lt))
 none_found t (s ∷ stops) zero d e lt = (none_cases (t s) s (find t stops) e).0
 none_found t (s ∷ stops) (suc i) d e lt = none_found t stops i d (none_cases (t s) s (find t stops) e).1 (omega (arith, lt))
@@ -158,15 +158,15 @@ no_watch : (w k : Option ℕ) → None ≡ option_or (option_map reasons.Watch w
 no_watch None k e = refl
 no_watch (Some n) k e = absurd cc
 
-no_number : (o : Option Stop) → option_map (λ stop. stop.number) o ≡ None → o ≡ None
+no_number : (o : Option NumberedStop) → option_map (λ stop. stop.number) o ≡ None → o ≡ None
 no_number None e = refl
 no_number (Some s) e = absurd cc
 
-stays : {A : Type 0} (p : Program A) (old new : State) (stops : List Stop) (before : List (Option ℕ)) → AllTell p old stops before → first_by p (differs old new) stops ≡ None → AllTell p new stops before
+stays : {A : Type 0} (p : Program A) (old new : State) (stops : List NumberedStop) (before : List (Option ℕ)) → AllTell p old stops before → first_by p (differs old new) stops ≡ None → AllTell p new stops before
 stays p old new stops before reported none = λ i d lt.
     kind_same p old new (get_or stops i d).kind (get_or before i None) (reported i d lt) (none_found (by_name p (differs old new)) stops i d (no_number (find (by_name p (differs old new)) stops) none) lt)
 
-pub reported-still : {A : Type 0} (p : Program A) (old new : State) (stops : List Stop) (before : List (Option ℕ)) → AllTell p old stops before → None ≡ stopped (named_stops p stops) old new → AllTell p new stops before
+pub reported-still : {A : Type 0} (p : Program A) (old new : State) (stops : List NumberedStop) (before : List (Option ℕ)) → AllTell p old stops before → None ≡ stopped (named_stops p stops) old new → AllTell p new stops before
 unfolding stopped
 reported-still p old new stops before reported none =
     stays p old new stops before reported
@@ -188,30 +188,30 @@ by-none stops a b w k = ap (option_map reasons.Break) k ∙ ap (λ found. option
 
 -- ---- one stop alone
 
-only-hit : {A : Type 0} (p : Program A) (q : meaning.Stop → Bool) (stop : Stop) → by_name p q stop ≡ true → first_by p q (stop ∷ []) ≡ Some stop.number
-only-hit p q stop e = ap (λ b. option_map (λ (s : Stop). s.number) (cond b (Some stop) None)) e
+only-hit : {A : Type 0} (p : Program A) (q : meaning.Stop → Bool) (stop : NumberedStop) → by_name p q stop ≡ true → first_by p q (stop ∷ []) ≡ Some stop.number
+only-hit p q stop e = ap (λ b. option_map (λ (s : NumberedStop). s.number) (cond b (Some stop) None)) e
 
-only-miss : {A : Type 0} (p : Program A) (q : meaning.Stop → Bool) (stop : Stop) → by_name p q stop ≡ false → first_by p q (stop ∷ []) ≡ None
-only-miss p q stop e = ap (λ b. option_map (λ (s : Stop). s.number) (cond b (Some stop) None)) e
+only-miss : {A : Type 0} (p : Program A) (q : meaning.Stop → Bool) (stop : NumberedStop) → by_name p q stop ≡ false → first_by p q (stop ∷ []) ≡ None
+only-miss p q stop e = ap (λ b. option_map (λ (s : NumberedStop). s.number) (cond b (Some stop) None)) e
 
-pub only-watch : {A : Type 0} (p : Program A) (old new : State) (stop : Stop) (u v : Option ℕ) (test : Bool) → Tells p old stop.kind u → Tells p new stop.kind v → test ≡ not (option_eq nat_eq v u) → test ≡ true
+pub only-watch : {A : Type 0} (p : Program A) (old new : State) (stop : NumberedStop) (u v : Option ℕ) (test : Bool) → Tells p old stop.kind u → Tells p new stop.kind v → test ≡ not (option_eq nat_eq v u) → test ≡ true
     → Some (reasons.Watch stop.number) ≡ stopped (named_stops p (stop ∷ [])) old new
 only-watch p old new stop u v test s t is hit =
     let found = only-hit p (differs old new) stop (kind_test p old new stop.kind u v s t ∙ sym is ∙ hit) in
     by-watch (named_stops p (stop ∷ [])) old new stop.number (sym (first_watch-by p old new (stop ∷ []) ∙ found))
 
-only-unwatched : {A : Type 0} (p : Program A) (old new : State) (stop : Stop) (u v : Option ℕ) (test : Bool) → Tells p old stop.kind u → Tells p new stop.kind v → test ≡ not (option_eq nat_eq v u) → test ≡ false
+only-unwatched : {A : Type 0} (p : Program A) (old new : State) (stop : NumberedStop) (u v : Option ℕ) (test : Bool) → Tells p old stop.kind u → Tells p new stop.kind v → test ≡ not (option_eq nat_eq v u) → test ≡ false
     → None ≡ first_watch old new (named_stops p (stop ∷ []))
 only-unwatched p old new stop u v test s t is miss =
     sym (first_watch-by p old new (stop ∷ []) ∙ only-miss p (differs old new) stop (kind_test p old new stop.kind u v s t ∙ sym is ∙ miss))
 
-pub only-break : {A : Type 0} (p : Program A) (old new : State) (stop : Stop) (u v : Option ℕ) (test held : Bool) → Tells p old stop.kind u → Tells p new stop.kind v → test ≡ not (option_eq nat_eq v u) → test ≡ false
+pub only-break : {A : Type 0} (p : Program A) (old new : State) (stop : NumberedStop) (u v : Option ℕ) (test held : Bool) → Tells p old stop.kind u → Tells p new stop.kind v → test ≡ not (option_eq nat_eq v u) → test ≡ false
     → held ≡ by_name p (is_held new) stop → held ≡ true → Some (reasons.Break stop.number) ≡ stopped (named_stops p (stop ∷ [])) old new
 only-break p old new stop u v test held s t is miss at hit =
     by-break (named_stops p (stop ∷ [])) old new stop.number (only-unwatched p old new stop u v test s t is miss)
     (sym (first_break-by p new (stop ∷ []) ∙ only-hit p (is_held new) stop (sym at ∙ hit)))
 
-pub only-none : {A : Type 0} (p : Program A) (old new : State) (stop : Stop) (u v : Option ℕ) (test held : Bool) → Tells p old stop.kind u → Tells p new stop.kind v → test ≡ not (option_eq nat_eq v u) → test ≡ false
+pub only-none : {A : Type 0} (p : Program A) (old new : State) (stop : NumberedStop) (u v : Option ℕ) (test held : Bool) → Tells p old stop.kind u → Tells p new stop.kind v → test ≡ not (option_eq nat_eq v u) → test ≡ false
     → held ≡ by_name p (is_held new) stop → held ≡ false → None ≡ stopped (named_stops p (stop ∷ [])) old new
 only-none p old new stop u v test held s t is miss at none =
     by-none (named_stops p (stop ∷ [])) old new (only-unwatched p old new stop u v test s t is miss)
@@ -219,32 +219,32 @@ only-none p old new stop u v test held s t is miss at none =
 
 -- ---- one more reading
 
-reported-next : {A : Type 0} (p : Program A) (s : State) (stops : List Stop) (values : List (Option ℕ)) (i : ℕ) (d : Stop) (v : Option ℕ) → length values ≡ i → Tells p s (get_or stops i d).kind v
+reported-next : {A : Type 0} (p : Program A) (s : State) (stops : List NumberedStop) (values : List (Option ℕ)) (i : ℕ) (d : NumberedStop) (v : Option ℕ) → length values ≡ i → Tells p s (get_or stops i d).kind v
     → i < length stops
-    → ((j : ℕ) (e : Stop) → j < i → Tells p s (get_or stops j e).kind (get_or values j None))
-    → (j : ℕ) (e : Stop) → j < i + 1 → Tells p s (get_or stops j e).kind (get_or (values ++ v ∷ []) j None)
+    → ((j : ℕ) (e : NumberedStop) → j < i → Tells p s (get_or stops j e).kind (get_or values j None))
+    → (j : ℕ) (e : NumberedStop) → j < i + 1 → Tells p s (get_or stops j e).kind (get_or (values ++ v ∷ []) j None)
 reported-next p s stops values i d v count here inside reported j e lt = elim (cases_lt j i) [
   | inl l ↦ subst (λ o. Tells p s (get_or stops j e).kind o) (sym (get_or_append_left values (v ∷ []) None j (omega (arith, l, count)))) (reported j e l)
   | inr g ↦ (let same : j ≡ i = omega (arith, g, lt) in
       let value : get_or (values ++ v ∷ []) j None ≡ v = ap (λ n. get_or (values ++ v ∷ []) n None) (same ∙ sym count) ∙ get_or-append_seam values v [] None in
       let stop : get_or stops i d ≡ get_or stops j e = get_or_default stops i d e inside ∙ ap (λ n. get_or stops n e) (sym same) in
-      subst (λ o. Tells p s (get_or stops j e).kind o) (sym value) (subst (λ (x : Stop). Tells p s x.kind v) stop here))
+      subst (λ o. Tells p s (get_or stops j e).kind o) (sym value) (subst (λ (x : NumberedStop). Tells p s x.kind v) stop here))
 ]
 
 -- the values once that of the next stop is pushed
-pub reported-more : {A : Type 0} (p : Program A) (s : State) (stops : List Stop) (values more : List (Option ℕ)) (i : ℕ) (d : Stop) (v : Option ℕ) → length values ≡ i → more ≡ values ++ v ∷ []
+pub reported-more : {A : Type 0} (p : Program A) (s : State) (stops : List NumberedStop) (values more : List (Option ℕ)) (i : ℕ) (d : NumberedStop) (v : Option ℕ) → length values ≡ i → more ≡ values ++ v ∷ []
     → Tells p s (get_or stops i d).kind v → i < length stops
-    → ((j : ℕ) (e : Stop) → j < i → Tells p s (get_or stops j e).kind (get_or values j None))
-    → (j : ℕ) (e : Stop) → j < i + 1 → Tells p s (get_or stops j e).kind (get_or more j None)
+    → ((j : ℕ) (e : NumberedStop) → j < i → Tells p s (get_or stops j e).kind (get_or values j None))
+    → (j : ℕ) (e : NumberedStop) → j < i + 1 → Tells p s (get_or stops j e).kind (get_or more j None)
 reported-more p s stops values more i d v count pushed here inside reported j e lt =
     subst (λ (xs : List (Option ℕ)). Tells p s (get_or stops j e).kind (get_or xs j None)) (sym pushed) (reported-next p s stops values i d v count here inside reported j e lt)
 
 -- ---- what a machine says, of the states that it represents
 
-pub reported-at : {A : Type 0} (q p : Program A) (s t : State) (stops : List Stop) (values : List (Option ℕ)) → q ≡ p → s ≡ t → AllTell q s stops values → AllTell p t stops values
+pub reported-at : {A : Type 0} (q p : Program A) (s t : State) (stops : List NumberedStop) (values : List (Option ℕ)) → q ≡ p → s ≡ t → AllTell q s stops values → AllTell p t stops values
 reported-at {A} q p s t stops values e f reported = subst (λ (r : Program A). AllTell r t stops values) e (subst (λ (u : State). AllTell q u stops values) f reported)
 
-pub found-at : {A : Type 0} (q p : Program A) (s old new : State) (stops : List Stop) (before values : List (Option ℕ)) (r : Option Reason) → q ≡ p → s ≡ new → before ≡ values
+pub found-at : {A : Type 0} (q p : Program A) (s old new : State) (stops : List NumberedStop) (before values : List (Option ℕ)) (r : Option Reason) → q ≡ p → s ≡ new → before ≡ values
     → ((old : State) → AllTell q old stops before → r ≡ stopped (named_stops q stops) old s) → AllTell p old stops values → r ≡ stopped (named_stops p stops) old new
 found-at {A} q p s old new stops before values r e f same says reported =
     let there : AllTell q old stops before = subst (λ (l : List (Option ℕ)). AllTell q old stops l) (sym same) (reported-at p q old old stops values (sym e) refl reported) in

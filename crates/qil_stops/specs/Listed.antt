@@ -6,15 +6,15 @@ use Rattle.qil_stops.specs.declared.stop.Watched.{Watched}
 use Rattle.qil_stops.specs.declared.stop.Watched.TheVariants.{Bytes, Temp}
 use Rattle.qil_stops.specs.declared.stop.StopKind.{StopKind}
 use Rattle.qil_stops.specs.declared.stop.StopKind.TheVariants.{Break, Watch}
-use Rattle.qil_stops.specs.declared.stop.Stop.{Stop}
+use Rattle.qil_stops.specs.declared.stop.NumberedStop.{NumberedStop}
 
 -- how many numbers were given so far, and the stops by number
 pub record Listed : Type 0 where
   pub given : ℕ
-  pub kept : List Stop
+  pub kept : List NumberedStop
 
 -- each number is above the one before, and none is above the last one given
-abbrev pub IsRising : ℕ → List Stop → ℕ → Type 0
+abbrev pub IsRising : ℕ → List NumberedStop → ℕ → Type 0
 IsRising low [] given = low ≤ given
 IsRising low (stop ∷ stops) given = (low < stop.number) × IsRising stop.number stops given
 
@@ -27,7 +27,7 @@ abbrev pub IsReadable : StopKind → Type 0
 IsReadable (Break place) = Unit {0}
 IsReadable (Watch watched) = HasWidth watched
 
-abbrev pub AreReadable : List Stop → Type 0
+abbrev pub AreReadable : List NumberedStop → Type 0
 AreReadable [] = Unit {0}
 AreReadable (stop ∷ stops) = IsReadable stop.kind × AreReadable stops
 
@@ -39,12 +39,12 @@ IsFull stops = (length stops.kept ≡ 64) ⊎ (stops.given ≡ 2 ^ 62)
 abbrev pub added : StopKind → Listed → Listed
 added kind stops = record { given = stops.given + 1; kept = stops.kept ++ record { number = stops.given + 1; kind = kind } ∷ [] }
 
-abbrev pub has_number : ℕ → Stop → Bool
+abbrev pub has_number : ℕ → NumberedStop → Bool
 has_number n stop = stop.number == n
 
-abbrev pub is_listed : ℕ → List Stop → Bool
+abbrev pub is_listed : ℕ → List NumberedStop → Bool
 is_listed n stops = list_any (has_number n) stops
 
 -- the stops but the one of that number
-abbrev pub without : ℕ → List Stop → List Stop
+abbrev pub without : ℕ → List NumberedStop → List NumberedStop
 without n stops = filter (λ stop. not (has_number n stop)) stops

@@ -13,7 +13,7 @@ use Rattle.qil_stops.specs.declared.stop.Watched.{Watched}
 use Rattle.qil_stops.specs.declared.stop.Watched.TheVariants.{Bytes, Temp}
 use Rattle.qil_stops.specs.declared.stop.StopKind.{StopKind}
 use Rattle.qil_stops.specs.declared.stop.StopKind.TheVariants.{Break, Watch}
-use Rattle.qil_stops.specs.declared.stop.Stop.{Stop}
+use Rattle.qil_stops.specs.declared.stop.NumberedStop.{NumberedStop}
 
 -- ---- what a program has
 
@@ -50,11 +50,11 @@ abbrev pub named_kind : {A : Type 0} → Program A → StopKind → Option meani
 named_kind p (Break place) = break_in (func_at p place.func.index) (block_at p place.func.index place.block.index) place.index
 named_kind p (Watch watched) = named_watch p watched
 
-abbrev pub named : {A : Type 0} → Program A → Stop → Option Numbered
+abbrev pub named : {A : Type 0} → Program A → NumberedStop → Option Numbered
 named p stop = option_map (λ meant. record { number = stop.number; stop = meant }) (named_kind p stop.kind)
 
 -- the stops of the meaning that these represent in a program
-unfoldable pub named_stops : {A : Type 0} → Program A → List Stop → List Numbered
+unfoldable pub named_stops : {A : Type 0} → Program A → List NumberedStop → List Numbered
 named_stops p stops = filter_map (named p) stops
 
 -- a test of what a stop represents, which fails of nothing

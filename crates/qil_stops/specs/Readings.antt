@@ -12,7 +12,7 @@ use Rattle.qil_stops.specs.declared.stop.Watched.{Watched}
 use Rattle.qil_stops.specs.declared.stop.Watched.TheVariants.{Bytes, Temp}
 use Rattle.qil_stops.specs.declared.stop.StopKind.{StopKind}
 use Rattle.qil_stops.specs.declared.stop.StopKind.TheVariants.{Break, Watch}
-use Rattle.qil_stops.specs.declared.stop.Stop.{Stop}
+use Rattle.qil_stops.specs.declared.stop.NumberedStop.{NumberedStop}
 
 -- the number of n bytes, whose low bytes they are; or none, where they aren't all live
 pub record TellsBytes (there : Option (List ℕ)) (n : ℕ) (v : Option ℕ) : Type 0 where
@@ -34,5 +34,5 @@ Tells p s (Break place) v = v ≡ None
 Tells p s (Watch watched) v = TellsWatched p s watched v
 
 -- each value is what is kept of the reading of the stop that is at its place
-abbrev pub AllTell : {A : Type 0} → Program A → State → List Stop → List (Option ℕ) → Type 0
-AllTell p s stops values = (i : ℕ) (d : Stop) → i < length stops → Tells p s (get_or stops i d).kind (get_or values i None)
+abbrev pub AllTell : {A : Type 0} → Program A → State → List NumberedStop → List (Option ℕ) → Type 0
+AllTell p s stops values = (i : ℕ) (d : NumberedStop) → i < length stops → Tells p s (get_or stops i d).kind (get_or values i None)

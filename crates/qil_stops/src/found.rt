@@ -8,7 +8,7 @@ ghost use Rattle.qil_stops.specs.Listed.{IsReadable, AreReadable};
 ghost use Rattle.qil_stops.specs.Named.{named_stops};
 ghost use Rattle.qil_stops.specs.Readings.{Tells, AllTell};
 
-use crate::stop::Stop;
+use crate::stop::NumberedStop;
 use arrayvec::ArrayVec;
 use qil_machine::Machine;
 use qil_meaning::Reason;
@@ -24,7 +24,7 @@ pub fn is_over<'c, 'a, A: Allocator + Copy>(machine: &Machine<'c, 'a, A>) -> boo
 
 /// What each stop reads now.
 pub fn readings<'c, 'a, A: Allocator + Copy>(
-    stops: &[Stop],
+    stops: &[NumberedStop],
     machine: &Machine<'c, 'a, A>,
 ) -> ArrayVec<Option<u64>, 64>
     requires few { length stops.now ≤ 64 }
@@ -42,7 +42,7 @@ pub fn readings<'c, 'a, A: Allocator + Copy>(
 /// The number of the first watch that reads otherwise than before.
 #[inline(always)]
 fn first_watch<'c, 'a, A: Allocator + Copy>(
-    stops: &[Stop],
+    stops: &[NumberedStop],
     before: &[Option<u64>],
     machine: &Machine<'c, 'a, A>,
 ) -> Option<u64>
@@ -61,7 +61,7 @@ fn first_watch<'c, 'a, A: Allocator + Copy>(
 /// The number of the first breakpoint that holds.
 #[inline(always)]
 fn first_break<'c, 'a, A: Allocator + Copy>(
-    stops: &[Stop],
+    stops: &[NumberedStop],
     machine: &Machine<'c, 'a, A>,
 ) -> Option<u64>
     ensures { result ≡ first_break (state_of machine.now) (named_stops machine.now.program stops.now) }
@@ -77,7 +77,7 @@ fn first_break<'c, 'a, A: Allocator + Copy>(
 /// The same of one stop alone, without a loop: most runs have one.
 #[inline(always)]
 fn only_stopped<'c, 'a, A: Allocator + Copy>(
-    stop: &Stop,
+    stop: &NumberedStop,
     before: Option<u64>,
     machine: &Machine<'c, 'a, A>,
 ) -> Option<Reason>
@@ -97,7 +97,7 @@ fn only_stopped<'c, 'a, A: Allocator + Copy>(
 /// each kind the one with the lowest number.
 #[inline(always)]
 pub fn stopped<'c, 'a, A: Allocator + Copy>(
-    stops: &[Stop],
+    stops: &[NumberedStop],
     before: &[Option<u64>],
     machine: &Machine<'c, 'a, A>,
 ) -> Option<Reason>

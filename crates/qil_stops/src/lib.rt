@@ -10,5 +10,5 @@ mod stops;
 
 pub use found::{is_over, readings};
 pub use running::{bottom_or_limit, end_or, run, run_back, stopped_here};
-pub use stop::{Place, Stop, StopKind, Watched};
+pub use stop::{NumberedStop, Place, StopKind, Watched};
 pub use stops::{StopError, Stops};

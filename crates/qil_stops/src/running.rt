@@ -10,7 +10,7 @@ ghost use Rattle.qil_stops.specs.Named.{named_stops};
 ghost use Rattle.qil_stops.specs.Readings.{AllTell};
 
 use crate::found::{is_over, readings, stopped};
-use crate::stop::Stop;
+use crate::stop::NumberedStop;
 use crate::stops::Stops;
 use qil_history::{BackError, History};
 use qil_machine::{Machine, MoveError};
@@ -64,7 +64,7 @@ fn run_freely<'c, A: Allocator + Copy + 'c, H: History<A, Machine<'c, 'c, A>>>(
 #[inline(never)]
 fn run_watching<'c, A: Allocator + Copy + 'c, H: History<A, Machine<'c, 'c, A>>>(
     history: &mut H,
-    list: &[Stop],
+    list: &[NumberedStop],
     limit: u64,
 ) -> (Reason, u64)
     requires near { position (H.timeline history.old) + limit ≤ 2 ^ 62 }
@@ -91,7 +91,7 @@ fn run_watching<'c, A: Allocator + Copy + 'c, H: History<A, Machine<'c, 'c, A>>>
 #[inline(always)]
 pub fn stopped_here<'c, A: Allocator + Copy + 'c, H: History<A, Machine<'c, 'c, A>>>(
     history: &H,
-    list: &[Stop],
+    list: &[NumberedStop],
     before: &[Option<u64>],
 ) -> Option<Reason>
     requires count { length before.now ≡ length list.now }
@@ -161,7 +161,7 @@ fn back_freely<'c, A: Allocator + Copy + 'c, H: History<A, Machine<'c, 'c, A>>>(
 #[inline(never)]
 fn back_watching<'c, A: Allocator + Copy + 'c, H: History<A, Machine<'c, 'c, A>>>(
     history: &mut H,
-    list: &[Stop],
+    list: &[NumberedStop],
     limit: u64,
 ) -> (Reason, u64)
     requires few { length list.now ≤ 64 }

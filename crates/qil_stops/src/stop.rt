@@ -36,7 +36,7 @@ pub enum Watched {
 /// What a stop looks for.
 #[derive(Clone, Copy, Debug, PartialEq, Eq)]
 pub enum StopKind {
-    /// The run comes to are at a place.
+    /// The run comes to a place.
     Break(Place),
     /// What is watched reads otherwise than before the move.
     Watch(Watched),
@@ -44,7 +44,7 @@ pub enum StopKind {
 
 /// A stop, and the number by which it is reported and deleted.
 #[derive(Clone, Copy, Debug, PartialEq, Eq)]
-pub struct Stop {
+pub struct NumberedStop {
     pub number: u64,
     pub kind: StopKind,
 }

@@ -6,7 +6,7 @@ ghost use Rattle.qil_meaning.specs.Stops.{AreListed};
 ghost use Rattle.qil_stops.specs.Listed.{Listed, HasWidth, IsReadable, AreReadable, IsFull, IsRising, added, is_listed, without};
 ghost use Rattle.qil_stops.specs.Named.{has_place, has_watched, named_stops};
 
-use crate::stop::{Place, Stop, StopKind, Watched};
+use crate::stop::{NumberedStop, Place, StopKind, Watched};
 use qil_layout::FuncId;
 use qil_numbering::{BlockId, Code};
 use std::alloc::{AllocError, Allocator};
@@ -33,7 +33,7 @@ pub enum StopError {
 #[derive(Drop)]
 pub struct Stops<A: Allocator> {
     given: u64,
-    kept: Vec<Stop, A>,
+    kept: Vec<NumberedStop, A>,
 }
 
 impl<A: Allocator> Model for Stops<A> {
@@ -49,7 +49,7 @@ impl<A: Allocator> Model for Stops<A> {
 }
 
 /// Where the stop of a number stands.
-fn index_of(stops: &[Stop], number: u64) -> Option<usize>
+fn index_of(stops: &[NumberedStop], number: u64) -> Option<usize>
     ensures some { IfSome result (λ index. option_map (λ stop. stop.number) (slice_get stops.now index) ≡ Some number) }
     ensures within { IfSome result (λ index. index < length stops.now) }
     ensures listed { is_listed number stops.now ≡ is_some result }
@@ -94,7 +94,7 @@ impl<A: Allocator> Stops<A> {
     }
 
     /// All stops, by number.
-    pub fn list(&self) -> &[Stop]
+    pub fn list(&self) -> &[NumberedStop]
         ensures stops { result.now ≡ self.now.kept }
         ensures few { length self.now.kept ≤ 64 }
         ensures rising { IsRising 0 self.now.kept self.now.given }
@@ -116,7 +116,7 @@ impl<A: Allocator> Stops<A> {
             return Err(StopError::TooMany);
         }
         let number = self.given + 1;
-        match self.kept.push(Stop { number, kind }) {
+        match self.kept.push(NumberedStop { number, kind }) {
             Ok(()) => {}
             Err(_) => unreachable!(),
         }

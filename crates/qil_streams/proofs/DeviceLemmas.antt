@@ -24,7 +24,7 @@ Consumes-append (Some xs) None c x y p q = absurd p
 Consumes-append (Some xs) (Some ys) None x y p q = absurd q
 Consumes-append (Some xs) (Some ys) (Some zs) x y p q = p ∙ ap (λ v. x ++ v) q ∙ sym (append_assoc x y zs)
 
--- one more write of a text that is written piece by piece
+-- one more write of a text that is written fragment by fragment
 pub wrote_more : (bytes rest : List ℕ) (n : ℕ) (old mid new : Option (List ℕ))
     → ((prefix : List ℕ) × (bytes ≡ prefix ++ rest) × Appends old mid prefix) → Appends mid new (take n rest)
     → (prefix : List ℕ) × (bytes ≡ prefix ++ take (length rest - n) (drop n rest)) × Appends old new prefix

@@ -3,4 +3,4 @@ pub mod DeviceLemmas
 pub mod ReaderLemmas
 pub mod ScriptLemmas
 pub mod TextLemmas
-pub mod PieceLemmas
+pub mod FragmentLemmas

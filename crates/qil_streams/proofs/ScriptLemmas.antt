@@ -25,24 +25,24 @@ whole_lines_of-part [] h = refl
 whole_lines_of-part (b ∷ bs) h = rw (ne_false b h.0, whole_lines_of-part bs h.1) refl
 
 -- the bytes so far are these whole lines, whatever comes next
-pub record Cut (done : List ℕ) (before : List (List ℕ)) : Type 0 where
+pub record WholeLines (done : List ℕ) (before : List (List ℕ)) : Type 0 where
   pub lines : (more : List ℕ) → lines_of (done ++ more) ≡ before ++ lines_of more
   pub whole : (more : List ℕ) → whole_lines_of (done ++ more) ≡ before ++ whole_lines_of more
 
-pub Cut-nil : Cut [] []
-Cut-nil = record { lines = λ more. refl; whole = λ more. refl }
+pub WholeLines-nil : WholeLines [] []
+WholeLines-nil = record { lines = λ more. refl; whole = λ more. refl }
 
-pub Cut-line : (done : List ℕ) (before : List (List ℕ)) (line : List ℕ) → Cut done before → IsLine line → Cut (done ++ (line ++ 10 ∷ [])) (before ++ line ∷ [])
-Cut-line done before line cut is_line = record {
-  lines = λ more. simp append_assoc (cut.lines (line ++ 10 ∷ more) ∙ ap (λ v. before ++ v) (lines_of-line line more is_line));
-  whole = λ more. simp append_assoc (cut.whole (line ++ 10 ∷ more) ∙ ap (λ v. before ++ v) (whole_lines_of-line line more is_line));
+pub WholeLines-line : (done : List ℕ) (before : List (List ℕ)) (line : List ℕ) → WholeLines done before → IsLine line → WholeLines (done ++ (line ++ 10 ∷ [])) (before ++ line ∷ [])
+WholeLines-line done before line whole_lines is_line = record {
+  lines = λ more. simp append_assoc (whole_lines.lines (line ++ 10 ∷ more) ∙ ap (λ v. before ++ v) (lines_of-line line more is_line));
+  whole = λ more. simp append_assoc (whole_lines.whole (line ++ 10 ∷ more) ∙ ap (λ v. before ++ v) (whole_lines_of-line line more is_line));
 }
 
-pub Cut-whole_part : (done : List ℕ) (before : List (List ℕ)) (line : List ℕ) → Cut done before → IsLine line → whole_lines_of (done ++ line) ≡ before
-Cut-whole_part done before line cut is_line = cut.whole line ∙ ap (λ v. before ++ v) (whole_lines_of-part line is_line) ∙ append-nil before
+pub WholeLines-whole_part : (done : List ℕ) (before : List (List ℕ)) (line : List ℕ) → WholeLines done before → IsLine line → whole_lines_of (done ++ line) ≡ before
+WholeLines-whole_part done before line whole_lines is_line = whole_lines.whole line ∙ ap (λ v. before ++ v) (whole_lines_of-part line is_line) ∙ append-nil before
 
-pub Cut-end : (done : List ℕ) (before : List (List ℕ)) → Cut done before → lines_of done ≡ before
-Cut-end done before cut = ap (λ v. lines_of v) (sym (append-nil done)) ∙ cut.lines [] ∙ append-nil before
+pub WholeLines-end : (done : List ℕ) (before : List (List ℕ)) → WholeLines done before → lines_of done ≡ before
+WholeLines-end done before whole_lines = ap (λ v. lines_of v) (sym (append-nil done)) ∙ whole_lines.lines [] ∙ append-nil before
 
-pub Cut-last : (done : List ℕ) (before : List (List ℕ)) (line : List ℕ) → Cut done before → IsLine line → 0 < length line → lines_of (done ++ line) ≡ before ++ line ∷ []
-Cut-last done before line cut is_line some = cut.lines line ∙ ap (λ v. before ++ v) (lines_of-last line is_line some)
+pub WholeLines-last : (done : List ℕ) (before : List (List ℕ)) (line : List ℕ) → WholeLines done before → IsLine line → 0 < length line → lines_of (done ++ line) ≡ before ++ line ∷ []
+WholeLines-last done before line whole_lines is_line some = whole_lines.lines line ∙ ap (λ v. before ++ v) (lines_of-last line is_line some)

@@ -1,4 +1,4 @@
--- Texts that are put piece by piece: every chain of puts is proved by `HasPut-append` and `HasPut-stop`.
+-- Texts that are put fragment by fragment: every chain of puts is proved by `HasPut-append` and `HasPut-stop`.
 use Rattle.std.proofs.Common.{◌≡◌, ℕ, ◌+◌, List, ◌++◌, Option, sym, subst, ◌∙◌, ap, append_assoc}
 use Rattle.std.specs.Prelude.{Result, Ok, Err, IsErrAnd}
 use Rattle.std.specs.Io.KnownBytes.{Appends}

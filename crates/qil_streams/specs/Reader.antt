@@ -3,8 +3,8 @@ use Rattle.std.specs.Prelude.{◌≡◌, ◌≢◌, ℕ, ◌+◌, ◌≤◌, ◌
 use Rattle.std.specs.Io.KnownBytes.{Consumes, IsAtEnd, prepend_known}
 use Rattle.std.specs.List.{AllByRecursion}
 use Rattle.qil_streams.specs.Reading.{Reading, read_count}
-use Rattle.qil_streams.specs.declared.reader.Piece.{Piece}
-use Rattle.qil_streams.specs.declared.reader.Piece.TheVariants.{Byte, End, TooLong}
+use Rattle.qil_streams.specs.declared.reader.NextByte.{NextByte}
+use Rattle.qil_streams.specs.declared.reader.NextByte.TheVariants.{Byte, End, TooLong}
 use Rattle.qil_streams.specs.declared.reader.LineEnd.{LineEnd}
 use Rattle.qil_streams.specs.declared.reader.LineEnd.TheVariants as at
 
@@ -21,12 +21,12 @@ abbrev pub HasMore : Option (List ℕ) → Type 0
 HasMore None = ⊤
 HasMore (Some bytes) = 0 < length bytes
 
--- The next piece of a script, by what was left of it before and after. Nothing more is taken past 2^24 bytes.
-abbrev pub TakesPiece : {E : Type 0} → Result Piece E → Reading → Reading → Option (List ℕ) → Option (List ℕ) → Type 0
-TakesPiece (Ok (Byte b)) old new before after = Consumes before after (b ∷ []) × (new.given ≡ old.given + 1) × (new.given ≤ 2 ^ 24)
-TakesPiece (Ok End) old new before after = Consumes before after [] × IsAtEnd after × (new.given ≡ old.given) × (new.given ≤ 2 ^ 24)
-TakesPiece (Ok TooLong) old new before after = Consumes before after [] × HasMore after × (old.given ≡ 2 ^ 24)
-TakesPiece (Err e) old new before after = Consumes before after [] × (new.pending ≡ [])
+-- The next byte of a script, by what was left of it before and after. Nothing more is taken past 2^24 bytes.
+abbrev pub TakesNextByte : {E : Type 0} → Result NextByte E → Reading → Reading → Option (List ℕ) → Option (List ℕ) → Type 0
+TakesNextByte (Ok (Byte b)) old new before after = Consumes before after (b ∷ []) × (new.given ≡ old.given + 1) × (new.given ≤ 2 ^ 24)
+TakesNextByte (Ok End) old new before after = Consumes before after [] × IsAtEnd after × (new.given ≡ old.given) × (new.given ≤ 2 ^ 24)
+TakesNextByte (Ok TooLong) old new before after = Consumes before after [] × HasMore after × (old.given ≡ 2 ^ 24)
+TakesNextByte (Err e) old new before after = Consumes before after [] × (new.pending ≡ [])
 
 -- a line has no byte 10
 abbrev pub IsLine : List ℕ → Type 0

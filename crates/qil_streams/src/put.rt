@@ -1,4 +1,4 @@
-//! Texts that are put piece by piece, and a sink that takes each piece whole.
+//! Texts that are put fragment by fragment, and a sink that takes each fragment whole.
 
 ghost use Rattle.std.specs.Prelude.{◌≡◌, ℕ, ◌-◌, ◌^◌, ◌<◌, List, Option, decimal};
 ghost use Rattle.qil_streams.specs.Device.{Counts, HasPut, Puts};
@@ -11,7 +11,7 @@ use itoa::Buffer;
 #[derive(Clone, Copy, Debug, PartialEq, Eq)]
 pub struct PutError;
 
-/// What a text is put into, piece by piece.
+/// What a text is put into, fragment by fragment.
 pub trait Put {
     /// The bytes that were put, or `None` where nothing is known of them.
     ghost written: { Self → Option (List ℕ) };

@@ -3,7 +3,7 @@
 ghost use Rattle.std.specs.Prelude.{◌≡◌, ℕ, ◌+◌, ◌-◌, ◌^◌, ◌<◌, ◌≤◌, List, [], ◌∷◌, ◌++◌, take, drop, length, OnOk, OnErr};
 ghost use Rattle.std.specs.Io.KnownBytes.{Consumes, IsAtEnd};
 ghost use Rattle.qil_streams.specs.Device.{Counts};
-ghost use Rattle.qil_streams.specs.Reader.{rest_of, TakesPiece, TakesLine, IsLine, Reads};
+ghost use Rattle.qil_streams.specs.Reader.{rest_of, TakesNextByte, TakesLine, IsLine, Reads};
 ghost use Rattle.qil_streams.specs.Reading.{read_count};
 
 use crate::device::{DeviceFault, Source};
@@ -20,7 +20,7 @@ const CHUNK: usize = 4096;
 
 /// What comes next in a script.
 #[derive(Clone, Copy, Debug, PartialEq, Eq)]
-pub enum Piece {
+pub enum NextByte {
     /// A byte, which was taken.
     Byte(u8),
     /// Nothing: the script has ended.
@@ -111,10 +111,10 @@ impl ScriptBytes {
         self.given
     }
 
-    /// The next piece of the script.
-    fn next<S: Source>(&mut self, source: &mut S) -> Result<Piece, DeviceFault>
+    /// Takes the next byte of the script, if one is left within the limit.
+    fn next<S: Source>(&mut self, source: &mut S) -> Result<NextByte, DeviceFault>
         requires { S.failures source.old < 2 ^ 64 - 1 }
-        ensures piece { TakesPiece result self.old self.new
+        ensures next_byte { TakesNextByte result self.old self.new
             (rest_of self.old (S.remaining source.old)) (rest_of self.new (S.remaining source.new)) }
         ensures reads { Reads self.old self.new (S.remaining source.old) (S.remaining source.new) }
         ensures within { read_count self.new ≤ 2 ^ 24 + 1 }
@@ -123,13 +123,13 @@ impl ScriptBytes {
         if self.pending() == 0 {
             self.refill(source)?;
             if self.pending() == 0 {
-                return Ok(Piece::End);
+                return Ok(NextByte::End);
             }
         }
         if self.given() >= SCRIPT_LIMIT {
-            return Ok(Piece::TooLong);
+            return Ok(NextByte::TooLong);
         }
-        Ok(Piece::Byte(self.take()))
+        Ok(NextByte::Byte(self.take()))
     }
 }
 
@@ -238,11 +238,11 @@ impl LineReader {
         self.kept.clear();
         loop {
             match self.bytes.next(source)? {
-                Piece::Byte(b'\n') => return Ok(LineEnd::Newline),
-                Piece::Byte(byte) => self.kept.push(byte),
-                Piece::End if self.kept.as_slice().is_empty() => return Ok(LineEnd::End),
-                Piece::End => return Ok(LineEnd::Last),
-                Piece::TooLong => return Ok(LineEnd::TooLong),
+                NextByte::Byte(b'\n') => return Ok(LineEnd::Newline),
+                NextByte::Byte(byte) => self.kept.push(byte),
+                NextByte::End if self.kept.as_slice().is_empty() => return Ok(LineEnd::End),
+                NextByte::End => return Ok(LineEnd::Last),
+                NextByte::TooLong => return Ok(LineEnd::TooLong),
             }
         }
     }

@@ -1,4 +1,4 @@
--- Canonical texts that are put piece by piece.
+-- Canonical texts that are put fragment by fragment.
 use Rattle.std.proofs.Common.{◌≡◌, ℕ, ◌+◌, ◌-◌, ◌<◌, ◌≤◌, List, [], ◌∷◌, ◌++◌, length, take, drop, get_or, slice_index_or, arith, Option, Result, Ok, Err, refl, sym, ap, subst, ◌∙◌}
 use Rattle.std.specs.Prelude.{IsErrAnd}
 use Rattle.std.specs.List.{flat_map}
@@ -6,7 +6,7 @@ use Rattle.std.specs.Io.KnownBytes.{Appends}
 use Rattle.std.proofs.lemmas.List.{take_all}
 use Rattle.std.proofs.lemmas.Grind.{flat_map-append}
 use Rattle.qil_streams.specs.Device.{HasPut, Puts}
-use Rattle.qil_streams.proofs.PieceLemmas.{put_more, put_stop}
+use Rattle.qil_streams.proofs.FragmentLemmas.{put_more, put_stop}
 use Rattle.qil_streams.proofs.TextLemmas.{HasPut-as, HasPut-append, HasPut-stop}
 use Rattle.qil_texts.specs.Canonical.{Written, written, text_of}
 

@@ -2,7 +2,7 @@
 use Rattle.std.proofs.Common.{◌≡◌, ℕ, suc, List, [], ◌∷◌, map, arith, refl, sym, ap, subst, ◌∙◌}
 use Rattle.std.specs.List.{All}
 use Rattle.qil_lexer.specs.declared.token.Token.{Token}
-use Rattle.qil_lexer.specs.Cut.{IsShaped, Cuts, Piece, piece_of}
+use Rattle.qil_lexer.specs.Cut.{IsShaped, Cuts, TokenContent, content_of}
 use Rattle.qil_lexer.proofs.Law.{one_cut}
 use Rattle.qil_tree.specs.declared.tree.Inst.{Inst}
 use Rattle.qil_tree.specs.declared.tree.Phi.{Phi}
@@ -17,23 +17,23 @@ use Rattle.qil_texts.proofs.Writable.{GoodKind, GoodPhi, GoodJump}
 use Rattle.qil_texts.proofs.WritesInsts.{writes_inst}
 use Rattle.qil_texts.proofs.WritesJumps.{writes_phi, writes_jump}
 use Rattle.qil_texts.proofs.WordsFit.{fits_kind, fits_phi, fits_going}
-use Rattle.qil_texts.proofs.Spelled.{IsPiece, yields_inst, yields_phi, yields_jump}
+use Rattle.qil_texts.proofs.Spelled.{IsShapedTok, yields_inst, yields_phi, yields_jump}
 
-pub pieces : (ts : List Token) → All IsShaped ts → AllOf IsPiece (seen ts)
-pieces [] h = tt
-pieces (t ∷ ts) h = let k = h 0 t (omega arith) in (record { shape = k.shape; in_range = k.in_range }, pieces ts (λ n d lt. h (suc n) d (omega arith)))
+pub shaped_toks : (ts : List Token) → All IsShaped ts → AllOf IsShapedTok (seen ts)
+shaped_toks [] h = tt
+shaped_toks (t ∷ ts) h = let k = h 0 t (omega arith) in (record { shape = k.shape; in_range = k.in_range }, shaped_toks ts (λ n d lt. h (suc n) d (omega arith)))
 
 -- ---- a text has one cut
 
-abbrev tok_of_piece : Piece → Tok
-tok_of_piece p = record { kind = p.kind; text = p.bytes; line = p.line }
+abbrev tok_of_content : TokenContent → Tok
+tok_of_content p = record { kind = p.kind; text = p.bytes; line = p.line }
 
-seen_pieces : (ts : List Token) → seen ts ≡ map tok_of_piece (map piece_of ts)
-seen_pieces [] = refl
-seen_pieces (t ∷ ts) = ap (λ (l : List Tok). tok t ∷ l) (seen_pieces ts)
+seen_contents : (ts : List Token) → seen ts ≡ map tok_of_content (map content_of ts)
+seen_contents [] = refl
+seen_contents (t ∷ ts) = ap (λ (l : List Tok). tok t ∷ l) (seen_contents ts)
 
 same_seen : (text : List ℕ) (ts us : List Token) → Cuts text ts → Cuts text us → seen ts ≡ seen us
-same_seen text ts us c d = seen_pieces ts ∙ ap (map tok_of_piece) (one_cut text ts us c d) ∙ sym (seen_pieces us)
+same_seen text ts us c d = seen_contents ts ∙ ap (map tok_of_content) (one_cut text ts us c d) ∙ sym (seen_contents us)
 
 -- what one cut spells each cut does
 each_cut : {A : Type 0} (S : List Tok → A → Type 0) (a : A) (text : List ℕ) (ts : List Token) → Cuts text ts → S (seen ts) a → (us : List Token) → Cuts text us → S (seen us) a
@@ -58,10 +58,10 @@ jump_again j good =
     record { tokens = tokens_at (jump_text j) 0 (jump_words j); cut = cut; again = reported.value; spelled = each_cut JumpOf reported.value (jump_text j) (tokens_at (jump_text j) 0 (jump_words j)) cut reported.spelled; same = reported.holds }
 
 pub inst_respelled : {A : Type 0} (ts : List Token) (i : Inst A) → All IsShaped ts → InstOf (seen ts) i → InstRespelled i
-inst_respelled ts i shaped spelled = inst_again i (yields_inst (seen ts) i (pieces ts shaped) spelled)
+inst_respelled ts i shaped spelled = inst_again i (yields_inst (seen ts) i (shaped_toks ts shaped) spelled)
 
 pub phi_respelled : {A : Type 0} (ts : List Token) (p : Phi A) → All IsShaped ts → PhiOf (seen ts) p → PhiRespelled p
-phi_respelled ts p shaped spelled = phi_again p (yields_phi (seen ts) p (pieces ts shaped) spelled)
+phi_respelled ts p shaped spelled = phi_again p (yields_phi (seen ts) p (shaped_toks ts shaped) spelled)
 
 pub jump_respelled : (ts : List Token) (j : Jump) → All IsShaped ts → JumpOf (seen ts) j → JumpRespelled j
-jump_respelled ts j shaped spelled = jump_again j (yields_jump (seen ts) j (pieces ts shaped) spelled)
+jump_respelled ts j shaped spelled = jump_again j (yields_jump (seen ts) j (shaped_toks ts shaped) spelled)

@@ -19,24 +19,24 @@ use Rattle.qil_texts.proofs.Writable.{GoodOperand, GoodTwo, GoodTarget, GoodExpr
 
 -- ---- tokens of a text
 
-pub record IsPiece (t : Tok) : Type 0 where
+pub record IsShapedTok (t : Tok) : Type 0 where
   pub shape : HasShape t.kind t.text
   pub in_range : t.kind ≡ kinds.Number → IsInRange t.text
 
-left_pieces : (p q : List Tok) → AllOf IsPiece (p ++ q) → AllOf IsPiece p
-left_pieces [] q h = tt
-left_pieces (t ∷ p) q h = (h.0, left_pieces p q h.1)
+left_shaped : (p q : List Tok) → AllOf IsShapedTok (p ++ q) → AllOf IsShapedTok p
+left_shaped [] q h = tt
+left_shaped (t ∷ p) q h = (h.0, left_shaped p q h.1)
 
-right_pieces : (p q : List Tok) → AllOf IsPiece (p ++ q) → AllOf IsPiece q
-right_pieces [] q h = h
-right_pieces (t ∷ p) q h = right_pieces p q h.1
+right_shaped : (p q : List Tok) → AllOf IsShapedTok (p ++ q) → AllOf IsShapedTok q
+right_shaped [] q h = h
+right_shaped (t ∷ p) q h = right_shaped p q h.1
 
--- what pieces of a text represent in a language has a property
+-- what shaped tokens of a text represent in a language has a property
 abbrev pub Yields : {A : Type 0} → (List Tok → A → Type 0) → (A → Type 0) → Type 0
-Yields S P = (ts : List Tok) (v : _) → AllOf IsPiece ts → S ts v → P v
+Yields S P = (ts : List Tok) (v : _) → AllOf IsShapedTok ts → S ts v → P v
 
-moved : (ts us : List Tok) → ts ≡ us → AllOf IsPiece ts → AllOf IsPiece us
-moved ts us e h = subst (AllOf IsPiece) e h
+moved : (ts us : List Tok) → ts ≡ us → AllOf IsShapedTok ts → AllOf IsShapedTok us
+moved ts us e h = subst (AllOf IsShapedTok) e h
 
 abbrev pub Any : {A : Type 0} → A → Type 0
 Any v = Unit {0}
@@ -44,13 +44,13 @@ Any v = Unit {0}
 pub yields_any : {A : Type 0} (S : List Tok → A → Type 0) → Yields S Any
 yields_any S ts v h s = tt
 
-yields_one : {A : Type 0} (f : Tok → Option A) (P : A → Type 0) → ((t : Tok) (a : A) → IsPiece t → f t ≡ Some a → P a) → Yields (One f) P
+yields_one : {A : Type 0} (f : Tok → Option A) (P : A → Type 0) → ((t : Tok) (a : A) → IsShapedTok t → f t ≡ Some a → P a) → Yields (One f) P
 yields_one f P g ts v h s = g s.token v (moved ts (s.token ∷ []) s.alone h).0 s.means
 
 pub yields_seq : {A B : Type 0} {S : List Tok → A → Type 0} {U : List Tok → B → Type 0} {P : A → Type 0} {Q : B → Type 0} → Yields S P → Yields U Q → Yields (Seq S U) (λ v. P v.0 × Q v.1)
 yields_seq f g ts v h s =
     let k = moved ts (s.left ++ s.right) s.parts h in
-    (f s.left v.0 (left_pieces s.left s.right k) s.first, g s.right v.1 (right_pieces s.left s.right k) s.second)
+    (f s.left v.0 (left_shaped s.left s.right k) s.first, g s.right v.1 (right_shaped s.left s.right k) s.second)
 
 pub yields_image : {A B : Type 0} {S : List Tok → A → Type 0} {P : A → Type 0} (f : A → B) (Q : B → Type 0) → Yields S P → ((a : A) → P a → Q (f a)) → Yields (Image f S) Q
 yields_image f Q g h ts v k s = subst Q s.made (h s.value (g ts s.value k s.spelled))
@@ -66,13 +66,13 @@ pub yields_many : {A : Type 0} (S : List Tok → A → Type 0) (P : A → Type 0
 yields_many S P f ts [] h s = tt
 yields_many S P f ts (a ∷ others) h s =
     let k = moved ts (s.0 ++ s.1) s.2 h in
-    (f s.0 a (left_pieces s.0 s.1 k) s.3, yields_many S P f s.1 others (right_pieces s.0 s.1 k) s.4)
+    (f s.0 a (left_shaped s.0 s.1 k) s.3, yields_many S P f s.1 others (right_shaped s.0 s.1 k) s.4)
 
 yields_tail : {A : Type 0} (C : List Tok → Unit {0} → Type 0) (S : List Tok → A → Type 0) (P : A → Type 0) → Yields S P → Yields (Tail C S) (AllOf P)
 yields_tail C S P f ts [] h s = tt
 yields_tail C S P f ts (a ∷ others) h s =
-    let k = right_pieces s.0 (s.1 ++ s.2) (moved ts (s.0 ++ (s.1 ++ s.2)) s.3 h) in
-    (f s.1 a (left_pieces s.1 s.2 k) s.5, yields_tail C S P f s.2 others (right_pieces s.1 s.2 k) s.6)
+    let k = right_shaped s.0 (s.1 ++ s.2) (moved ts (s.0 ++ (s.1 ++ s.2)) s.3 h) in
+    (f s.1 a (left_shaped s.1 s.2 k) s.5, yields_tail C S P f s.2 others (right_shaped s.1 s.2 k) s.6)
 
 pub yields_before : {A : Type 0} {S : List Tok → A → Type 0} (m : Terminal) (P : A → Type 0) → Yields S P → Yields (Before S m) P
 yields_before m P f = yields_image (λ v. v.0) P (yields_seq f (yields_any (Word m))) (λ a q. q.0)

@@ -23,7 +23,7 @@ use Rattle.qil_texts.specs.Respelled.{BlockRespelled, ProgramRespelled}
 use Rattle.qil_texts.proofs.Writes.{AllOf}
 use Rattle.qil_texts.proofs.Writable.{GoodKind, GoodPhi, GoodJump}
 use Rattle.qil_texts.proofs.Spelled.{Yields, Any, yields_any, yields_seq, yields_image, yields_either, yields_nothing, yields_many, yields_before, yields_after, yields_label, yields_inst, yields_phi, yields_jump}
-use Rattle.qil_texts.proofs.Respells.{pieces, inst_again, phi_again, jump_again}
+use Rattle.qil_texts.proofs.Respells.{shaped_toks, inst_again, phi_again, jump_again}
 
 abbrev GoodInst : {A : Type 0} → Inst A → Type 0
 GoodInst i = GoodKind i.kind
@@ -129,4 +129,4 @@ block_again b h = record {
 
 pub program_respelled : {A : Type 0} (text : List ℕ) (ts : List Token) (p : Program A) → Cuts text ts → Spells (seen ts) p → ProgramRespelled p
 program_respelled text ts p cut spelled =
-    all_of GoodFunc _ p.funcs (λ f h. all_of GoodBlock BlockRespelled f.blocks block_again h) (yields_program (seen ts) p (pieces ts (cut_shapes text ts cut)) spelled)
+    all_of GoodFunc _ p.funcs (λ f h. all_of GoodBlock BlockRespelled f.blocks block_again h) (yields_program (seen ts) p (shaped_toks ts (cut_shapes text ts cut)) spelled)

@@ -1,4 +1,4 @@
 -- The definitions of this crate.
 pub mod Canonical
-pub mod Pieces
+pub mod Fragments
 pub mod Respelled

@@ -3,7 +3,7 @@
 ghost use Rattle.std.specs.Prelude.{◌≡◌, List, ℕ, All, ◌-◌, ◌^◌, ◌<◌, ◌++◌, ◌∷◌, []};
 ghost use Rattle.std.specs.List.{flat_map};
 ghost use Rattle.qil_streams.specs.Device.{HasPut};
-ghost use Rattle.qil_texts.specs.Pieces.{piece_bytes, more_argument_text, more_source_text};
+ghost use Rattle.qil_texts.specs.Fragments.{fragment_bytes, more_argument_text, more_source_text};
 ghost use Rattle.qil_texts.specs.Canonical.{class_name, type_name, unary_name, binary_name, compare_name, extension_name, load_name, alloc_name, store_name, operand_bytes, text_of, target_words, one_value, two_values, expr_words, close_paren, phi_start, call_words, argument_words, arguments_words, source_words, sources_words, inst_text, phi_text, jump_text};
 ghost use Rattle.qil_lexer.specs.declared.token.Token.{Token};
 ghost use Rattle.qil_lexer.specs.Cut.{IsShaped, Cuts};
@@ -148,9 +148,9 @@ fn store_name(width: Width) -> &'static [u8]
     }
 }
 
-/// A piece of a text.
+/// A fragment of a text.
 #[derive(Clone, Copy)]
-pub enum Piece<'p, 'a> {
+pub enum Fragment<'p, 'a> {
     Bytes(&'p [u8]),
     /// In decimal digits.
     Number(u64),
@@ -178,24 +178,24 @@ fn put_operand<P: Put>(out: &mut P, operand: &Operand) -> Result<(), PutError>
     }
 }
 
-fn put_piece<P: Put>(out: &mut P, piece: &Piece) -> Result<(), PutError>
+fn put_fragment<P: Put>(out: &mut P, fragment: &Fragment) -> Result<(), PutError>
     requires { P.stops out.old < 2 ^ 64 - 1 }
-    ensures { HasPut P.written P.stops P.device result out.old out.new (piece_bytes piece.now) }
+    ensures { HasPut P.written P.stops P.device result out.old out.new (fragment_bytes fragment.now) }
 {
-    match piece {
-        Piece::Bytes(bytes) => out.put(bytes),
-        Piece::Number(number) => put_number(out, *number),
-        Piece::Value(operand) => put_operand(out, operand),
+    match fragment {
+        Fragment::Bytes(bytes) => out.put(bytes),
+        Fragment::Number(number) => put_number(out, *number),
+        Fragment::Value(operand) => put_operand(out, operand),
     }
 }
 
-/// Puts pieces of a text one after the other.
-fn put_pieces<P: Put>(out: &mut P, pieces: &[Piece]) -> Result<(), PutError>
+/// Puts fragments of a text one after the other.
+fn put_fragments<P: Put>(out: &mut P, fragments: &[Fragment]) -> Result<(), PutError>
     requires { P.stops out.old < 2 ^ 64 - 1 }
-    ensures { HasPut P.written P.stops P.device result out.old out.new (flat_map piece_bytes pieces.now) }
+    ensures { HasPut P.written P.stops P.device result out.old out.new (flat_map fragment_bytes fragments.now) }
 {
-    for piece in pieces {
-        put_piece(out, piece)?;
+    for fragment in fragments {
+        put_fragment(out, fragment)?;
     }
     Ok(())
 }
@@ -210,17 +210,17 @@ fn put_one<'p, 'a, P: Put>(
     requires { P.stops out.old < 2 ^ 64 - 1 }
     ensures { HasPut P.written P.stops P.device result out.old out.new (text_of (target_words target.now.name (class_name target.now.class) ++ one_value op.now value.now)) }
 {
-    put_pieces(
+    put_fragments(
         out,
         &[
-            Piece::Bytes(b"%"),
-            Piece::Bytes(target.name.bytes()),
-            Piece::Bytes(b" ="),
-            Piece::Bytes(class_name(target.class)),
-            Piece::Bytes(b" "),
-            Piece::Bytes(op),
-            Piece::Bytes(b" "),
-            Piece::Value(value),
+            Fragment::Bytes(b"%"),
+            Fragment::Bytes(target.name.bytes()),
+            Fragment::Bytes(b" ="),
+            Fragment::Bytes(class_name(target.class)),
+            Fragment::Bytes(b" "),
+            Fragment::Bytes(op),
+            Fragment::Bytes(b" "),
+            Fragment::Value(value),
         ],
     )
 }
@@ -237,20 +237,20 @@ fn put_two<'p, 'a, P: Put>(
     requires { P.stops out.old < 2 ^ 64 - 1 }
     ensures { HasPut P.written P.stops P.device result out.old out.new (text_of (target_words target.now.name (class_name target.now.class) ++ two_values (op.now ++ class.now) left.now right.now)) }
 {
-    put_pieces(
+    put_fragments(
         out,
         &[
-            Piece::Bytes(b"%"),
-            Piece::Bytes(target.name.bytes()),
-            Piece::Bytes(b" ="),
-            Piece::Bytes(class_name(target.class)),
-            Piece::Bytes(b" "),
-            Piece::Bytes(op),
-            Piece::Bytes(class),
-            Piece::Bytes(b" "),
-            Piece::Value(left),
-            Piece::Bytes(b", "),
-            Piece::Value(right),
+            Fragment::Bytes(b"%"),
+            Fragment::Bytes(target.name.bytes()),
+            Fragment::Bytes(b" ="),
+            Fragment::Bytes(class_name(target.class)),
+            Fragment::Bytes(b" "),
+            Fragment::Bytes(op),
+            Fragment::Bytes(class),
+            Fragment::Bytes(b" "),
+            Fragment::Value(left),
+            Fragment::Bytes(b", "),
+            Fragment::Value(right),
         ],
     )
 }
@@ -289,24 +289,24 @@ fn put_called<'p, 'a, P: Put>(
     ensures { HasPut P.written P.stops P.device result out.old out.new (text_of (call_words target.now callee.now)) }
 {
     match target {
-        None => put_pieces(
+        None => put_fragments(
             out,
             &[
-                Piece::Bytes(b"call "),
-                Piece::Value(callee),
-                Piece::Bytes(b"("),
+                Fragment::Bytes(b"call "),
+                Fragment::Value(callee),
+                Fragment::Bytes(b"("),
             ],
         ),
-        Some(to) => put_pieces(
+        Some(to) => put_fragments(
             out,
             &[
-                Piece::Bytes(b"%"),
-                Piece::Bytes(to.name.bytes()),
-                Piece::Bytes(b" ="),
-                Piece::Bytes(type_name(to.abi_type)),
-                Piece::Bytes(b" call "),
-                Piece::Value(callee),
-                Piece::Bytes(b"("),
+                Fragment::Bytes(b"%"),
+                Fragment::Bytes(to.name.bytes()),
+                Fragment::Bytes(b" ="),
+                Fragment::Bytes(type_name(to.abi_type)),
+                Fragment::Bytes(b" call "),
+                Fragment::Value(callee),
+                Fragment::Bytes(b"("),
             ],
         ),
     }
@@ -317,13 +317,13 @@ fn put_argument<P: Put>(out: &mut P, argument: &Argument) -> Result<(), PutError
     requires { P.stops out.old < 2 ^ 64 - 1 }
     ensures { HasPut P.written P.stops P.device result out.old out.new (more_argument_text argument.now) }
 {
-    put_pieces(
+    put_fragments(
         out,
         &[
-            Piece::Bytes(b", "),
-            Piece::Bytes(type_name(argument.abi_type)),
-            Piece::Bytes(b" "),
-            Piece::Value(&argument.value),
+            Fragment::Bytes(b", "),
+            Fragment::Bytes(type_name(argument.abi_type)),
+            Fragment::Bytes(b" "),
+            Fragment::Value(&argument.value),
         ],
     )
 }
@@ -344,12 +344,12 @@ fn put_first_argument<P: Put>(out: &mut P, argument: &Argument) -> Result<(), Pu
     requires { P.stops out.old < 2 ^ 64 - 1 }
     ensures { HasPut P.written P.stops P.device result out.old out.new (text_of (argument_words argument.now)) }
 {
-    put_pieces(
+    put_fragments(
         out,
         &[
-            Piece::Bytes(type_name(argument.abi_type)),
-            Piece::Bytes(b" "),
-            Piece::Value(&argument.value),
+            Fragment::Bytes(type_name(argument.abi_type)),
+            Fragment::Bytes(b" "),
+            Fragment::Value(&argument.value),
         ],
     )
 }
@@ -394,25 +394,25 @@ pub fn inst_text<P: Put, A: Allocator>(inst: &Inst<'_, A>, out: &mut P) -> Resul
     match &inst.kind {
         InstKind::Assign(target, value) => put_assign(out, target, value),
         InstKind::Alloc(target, op, size) => put_one(out, target, alloc_name(*op), size),
-        InstKind::Store(width, value, to) => put_pieces(
+        InstKind::Store(width, value, to) => put_fragments(
             out,
             &[
-                Piece::Bytes(store_name(*width)),
-                Piece::Bytes(b" "),
-                Piece::Value(value),
-                Piece::Bytes(b", "),
-                Piece::Value(to),
+                Fragment::Bytes(store_name(*width)),
+                Fragment::Bytes(b" "),
+                Fragment::Value(value),
+                Fragment::Bytes(b", "),
+                Fragment::Value(to),
             ],
         ),
-        InstKind::Blit(from, to, count) => put_pieces(
+        InstKind::Blit(from, to, count) => put_fragments(
             out,
             &[
-                Piece::Bytes(b"blit "),
-                Piece::Value(from),
-                Piece::Bytes(b", "),
-                Piece::Value(to),
-                Piece::Bytes(b", "),
-                Piece::Number(*count),
+                Fragment::Bytes(b"blit "),
+                Fragment::Value(from),
+                Fragment::Bytes(b", "),
+                Fragment::Value(to),
+                Fragment::Bytes(b", "),
+                Fragment::Number(*count),
             ],
         ),
         InstKind::Call(target, callee, arguments) => put_call(
@@ -429,13 +429,13 @@ fn put_source<P: Put>(out: &mut P, source: &PhiSource) -> Result<(), PutError>
     requires { P.stops out.old < 2 ^ 64 - 1 }
     ensures { HasPut P.written P.stops P.device result out.old out.new (more_source_text source.now) }
 {
-    put_pieces(
+    put_fragments(
         out,
         &[
-            Piece::Bytes(b", @"),
-            Piece::Bytes(source.label.bytes()),
-            Piece::Bytes(b" "),
-            Piece::Value(&source.value),
+            Fragment::Bytes(b", @"),
+            Fragment::Bytes(source.label.bytes()),
+            Fragment::Bytes(b" "),
+            Fragment::Value(&source.value),
         ],
     )
 }
@@ -456,13 +456,13 @@ fn put_first_source<P: Put>(out: &mut P, source: &PhiSource) -> Result<(), PutEr
     requires { P.stops out.old < 2 ^ 64 - 1 }
     ensures { HasPut P.written P.stops P.device result out.old out.new (text_of (source_words source.now)) }
 {
-    put_pieces(
+    put_fragments(
         out,
         &[
-            Piece::Bytes(b" @"),
-            Piece::Bytes(source.label.bytes()),
-            Piece::Bytes(b" "),
-            Piece::Value(&source.value),
+            Fragment::Bytes(b" @"),
+            Fragment::Bytes(source.label.bytes()),
+            Fragment::Bytes(b" "),
+            Fragment::Value(&source.value),
         ],
     )
 }
@@ -485,14 +485,14 @@ fn put_phi<P: Put>(out: &mut P, target: &Target) -> Result<(), PutError>
     requires { P.stops out.old < 2 ^ 64 - 1 }
     ensures { HasPut P.written P.stops P.device result out.old out.new (text_of (phi_start target.now)) }
 {
-    put_pieces(
+    put_fragments(
         out,
         &[
-            Piece::Bytes(b"%"),
-            Piece::Bytes(target.name.bytes()),
-            Piece::Bytes(b" ="),
-            Piece::Bytes(class_name(target.class)),
-            Piece::Bytes(b" phi"),
+            Fragment::Bytes(b"%"),
+            Fragment::Bytes(target.name.bytes()),
+            Fragment::Bytes(b" ="),
+            Fragment::Bytes(class_name(target.class)),
+            Fragment::Bytes(b" phi"),
         ],
     )
 }
@@ -520,22 +520,25 @@ pub fn jump_text<P: Put>(jump: &Jump, out: &mut P) -> Result<(), PutError>
     ensures { HasPut P.written P.stops P.device result out.old out.new (jump_text jump.now) }
 {
     match &jump.kind {
-        JumpKind::Jmp(to) => put_pieces(out, &[Piece::Bytes(b"jmp @"), Piece::Bytes(to.bytes())]),
-        JumpKind::Jnz(value, if_set, if_zero) => put_pieces(
+        JumpKind::Jmp(to) => put_fragments(
+            out,
+            &[Fragment::Bytes(b"jmp @"), Fragment::Bytes(to.bytes())],
+        ),
+        JumpKind::Jnz(value, if_set, if_zero) => put_fragments(
             out,
             &[
-                Piece::Bytes(b"jnz "),
-                Piece::Value(value),
-                Piece::Bytes(b", @"),
-                Piece::Bytes(if_set.bytes()),
-                Piece::Bytes(b", @"),
-                Piece::Bytes(if_zero.bytes()),
+                Fragment::Bytes(b"jnz "),
+                Fragment::Value(value),
+                Fragment::Bytes(b", @"),
+                Fragment::Bytes(if_set.bytes()),
+                Fragment::Bytes(b", @"),
+                Fragment::Bytes(if_zero.bytes()),
             ],
         ),
         JumpKind::Ret(None) => out.put(b"ret"),
-        JumpKind::Ret(Some(value)) => put_pieces(
+        JumpKind::Ret(Some(value)) => put_fragments(
             out,
-            &[Piece::Bytes(b"ret "), Piece::Value(value)],
+            &[Fragment::Bytes(b"ret "), Fragment::Value(value)],
         ),
         JumpKind::Hlt => out.put(b"hlt"),
     }

@@ -19,11 +19,10 @@ use Rattle.qil_machine.specs.declared.error.StartError.{StartError}
 use Rattle.qil_machine.specs.declared.error.StartError.TheVariants as start
 use Rattle.qil_meaning.specs.State.{State}
 use Rattle.qil_meaning.specs.Start.{start_of}
-use Rattle.qil_meaning.specs.Timeline.{Timeline, begun}
+use Rattle.qil_meaning.specs.Timeline.{begun}
 use Rattle.qil_meaning.specs.declared.start.StartFault.{StartFault}
 use Rattle.qil_session.specs.SessionState.{SessionState}
 use Rattle.qil_session.specs.Answers.{IsAnswered, answers}
-use Rattle.qil_session.specs.Kept.{Kept, session_state}
 use Rattle.qil_transcript.specs.declared.serving.IoFault.TheVariants.{Read, Write, TooLong}
 use Rattle.qil_transcript.specs.declared.outcome.Outcome.{Outcome}
 use Rattle.qil_transcript.specs.declared.outcome.Outcome.TheVariants as outcomes
@@ -34,20 +33,15 @@ use Rattle.qil_loading.specs.declared.refusal.Refusal.TheVariants as refusals
 use Rattle.qil_loading.specs.Load.{Accepts, Checks, Refuses, RefusesCheck, IsCheckFault}
 use Rattle.qil_loading.specs.LoadError.{of_layout}
 use Rattle.qil_loading.specs.Lines.{refused_line}
-use Rattle.qil_transcript.specs.Debug.{Setup, Begins, IsSession, IsNoSession, Written, load_lines, opened}
+use Rattle.qil_script.specs.Transcript.{Setup, Begins, IsSession, load_lines, opened}
+use Rattle.qil_transcript.specs.Debug.{IsNoSession, Written}
 use Rattle.qil_transcript.specs.Handed.{IsRefused, of_start}
-use Rattle.qil_transcript.proofs.ServeLemmas.{Promise, ample}
+use Rattle.qil_script.proofs.ReachedLemmas.{ample}
+use Rattle.qil_transcript.proofs.ServeLemmas.{Promise}
 
 -- the load lines of a program
 abbrev pub heading : {A : Type 0} → Setup → Verdict A → State → List ℕ
 heading s verdict start = load_lines verdict.program verdict.form (begun s.keeps start)
-
--- a session over a history that has made no move is at the start of its program
-pub begun_session : {A H : Type 0} (program : H → Program A) (timeline : H → Timeline) (k : Kept H) (h : H) (s : Setup) (p : Program A) (start : State) (limit : ℕ)
-    → k ≡ record { history = h; stops = record { given = 0; kept = [] }; limit = limit } → s.limit ≡ limit → program h ≡ p → timeline h ≡ begun s.keeps start
-    → session_state program timeline k ≡ opened s p start
-begun_session {A} {H} program timeline k h s p start limit e l ep et =
-    ap (λ (x : Kept H). session_state program timeline x) e ∙ (λ i. record { program = ep i; timeline = et i; stops = record { given = 0; kept = [] }; limit = sym l i })
 
 -- what a session began with, and what was written of it before the answers
 pub record Opened {A : Type 0} (s : Setup) (verdict : Verdict A) (start : State) (first : SessionState A) (w0 w1 : Option (List ℕ)) : Type 0 where

@@ -1,25 +1,18 @@
 -- How far `serve` has come.
-use Rattle.std.proofs.Common.{◌≡◌, inl, inr, ◌⊎◌, ℕ, ◌+◌, ◌-◌, ◌≤◌, ◌<◌, ◌^◌, List, [], ◌∷◌, ◌++◌, take, length, arith, sym, ◌∙◌, ap, refl, Bool, true, false, cond, append_assoc, length-append}
-use Rattle.std.specs.Prelude.{Option, Some, None, Result, Ok, Err, ◌==◌}
+use Rattle.std.proofs.Common.{◌≡◌, inl, inr, ◌⊎◌, ℕ, ◌+◌, ◌-◌, ◌≤◌, ◌<◌, ◌^◌, List, [], ◌∷◌, ◌++◌, take, length, arith, sym, ◌∙◌, ap, refl, true, false, cond, append_assoc, length-append}
+use Rattle.std.specs.Prelude.{Option, Some, None, Result, Ok, Err}
 use Rattle.std.proofs.lemmas.List.{append-nil}
-use Rattle.std.specs.Bool.{MatchBool}
 use Rattle.std.proofs.lemmas.Bool.{true≢false, false≢true}
 use Rattle.std.proofs.lemmas.List.Folds.{list_any-append}
-use Rattle.qil_tree.specs.declared.ops.Width.{Width}
 use Rattle.qil_commands.specs.declared.command.Command.{Command}
 use Rattle.qil_commands.specs.declared.command.Command.TheVariants as commands
 use Rattle.qil_commands.specs.declared.command.Refused.{Refused}
 use Rattle.qil_commands.specs.Command.{command_of}
 use Rattle.qil_streams.specs.Reader.{IsLine}
 use Rattle.qil_streams.specs.Script.{lines_of, whole_lines_of}
-use Rattle.qil_meaning.specs.State.{State}
-use Rattle.qil_meaning.specs.Poke.{PokeFault}
-use Rattle.qil_meaning.specs.Timeline.{position, at_end}
-use Rattle.qil_stops.specs.Listed.{is_listed}
-use Rattle.qil_stops.specs.declared.stop.StopKind.{StopKind}
 use Rattle.qil_replies.specs.Reply.{reply_text}
-use Rattle.qil_session.specs.SessionState.{SessionState, has_kind, is_full}
-use Rattle.qil_session.specs.Answers.{Answer, AnswersLine, answer, answer_text, answers, left_by, AreValid, IsValid, IsAnswered, IsAnsweredTo, is_quit, quits, if_back, poke_answer, poke_at, stop_answer}
+use Rattle.qil_session.specs.SessionState.{SessionState}
+use Rattle.qil_session.specs.Answers.{AnswersLine, answer, answer_text, answers, AreValid, IsValid, IsAnswered, IsAnsweredTo, is_quit, quits}
 use Rattle.std.specs.Prelude.{IfSome, IsErrAnd, OnOk}
 use Rattle.std.specs.Io.KnownBytes.{Consumes, Appends, IsAtEnd, prepend_known}
 use Rattle.qil_transcript.specs.declared.serving.IoFault.{IoFault}
@@ -31,105 +24,10 @@ use Rattle.std.proofs.Common.{subst}
 use Rattle.std.proofs.Math.Seq.{take-append_seam, take-append-add}
 use Rattle.qil_session.specs.declared.session.Next.{Next}
 use Rattle.qil_transcript.specs.Serve.{AreServed, IsServed, IsCutShort, IsTooLong}
-use Rattle.qil_streams.proofs.ScriptLemmas.{Cut, Cut-nil, Cut-line, Cut-whole_part, Cut-end, Cut-last}
+use Rattle.qil_streams.proofs.ScriptLemmas.{WholeLines-line, WholeLines-whole_part, WholeLines-end, WholeLines-last}
 use Rattle.qil_transcript.proofs.KeptLemmas.{command_of-kept}
-
--- After these lines, with these wants, `reported` was answered and the session is `now`, whatever comes next.
-pub record Reported {A : Type 0} (first : SessionState A) (before : List (List ℕ)) (shortages : List (Option ℕ)) (reported : List ℕ) (now : SessionState A) : Type 0 where
-  pub goes : quits before ≡ false
-  pub valid : (rest : List (List ℕ)) (more : List (Option ℕ)) → AreValid now rest more → AreValid first (before ++ rest) (shortages ++ more)
-  pub text : (rest : List (List ℕ)) (more : List (Option ℕ)) → answers first (before ++ rest) (shortages ++ more) ≡ reported ++ answers now rest more
-  pub left : (rest : List (List ℕ)) (more : List (Option ℕ)) → left_by first (before ++ rest) (shortages ++ more) ≡ left_by now rest more
-
-pub Reported-nil : {A : Type 0} (first : SessionState A) → Reported first [] [] [] first
-Reported-nil first = record { goes = refl; valid = λ rest more h. h; text = λ rest more. refl; left = λ rest more. refl }
-
-cond_goes : {A : Type 0} (b : Bool) (x y : Answer A) → x.goes ≡ true → y.goes ≡ true → (cond b x y).goes ≡ true
-cond_goes true x y p q = p
-cond_goes false x y p q = q
-
-if_back-goes : {A : Type 0} (s : SessionState A) (x : Answer A) → x.goes ≡ true → (if_back s x).goes ≡ true
-if_back-goes s x p = cond_goes (position s.timeline == 0) _ _ refl (cond_goes (length s.timeline.past == 0) _ x refl p)
-
-poke_answer-goes : {A : Type 0} (s : SessionState A) (r : Result State PokeFault) → (poke_answer s r).goes ≡ true
-poke_answer-goes s (Ok state) = refl
-poke_answer-goes s (Err why) = refl
-
-poke_at-goes : {A : Type 0} (s : SessionState A) (w : Width) (v : ℕ) (a : Option ℕ) → (poke_at s w v a).goes ≡ true
-poke_at-goes s w v None = refl
-poke_at-goes s w v (Some a) = poke_answer-goes s _
-
-stop_answer-goes : {A : Type 0} (s : SessionState A) (kind : Option StopKind) → (stop_answer s kind).goes ≡ true
-stop_answer-goes s None = refl
-stop_answer-goes s (Some kind) = cond_goes (has_kind s.program kind) _ _ (cond_goes (is_full s.stops) _ _ refl refl) refl
-
--- only `quit` ends a session
-pub answer_goes : {A : Type 0} (s : SessionState A) (said : Result (Option Command) Refused) (shortage : Option ℕ) → is_quit said ≡ false → (answer s said shortage).goes ≡ true
-unfolding answer
-answer_goes s (Ok (Some (commands.Step n))) None h = cond_goes (at_end s.timeline) _ _ refl refl
-answer_goes s (Ok (Some (commands.Step n))) (Some k) h = refl
-answer_goes s (Ok (Some (commands.Back n))) shortage h = if_back-goes s _ refl
-answer_goes s (Ok (Some commands.Continue)) None h = cond_goes (at_end s.timeline) _ _ refl refl
-answer_goes s (Ok (Some commands.Continue)) (Some k) h = refl
-answer_goes s (Ok (Some commands.Reverse)) shortage h = if_back-goes s _ refl
-answer_goes s (Ok (Some (commands.Set x v))) None h = poke_answer-goes s _
-answer_goes s (Ok (Some (commands.Set x v))) (Some k) h = refl
-answer_goes s (Ok (Some (commands.Poke w at v))) None h = poke_at-goes s w v _
-answer_goes s (Ok (Some (commands.Poke w at v))) (Some k) h = refl
-answer_goes s (Ok (Some (commands.Break func at))) shortage h = stop_answer-goes s _
-answer_goes s (Ok (Some (commands.WatchBytes w at))) shortage h = stop_answer-goes s _
-answer_goes s (Ok (Some (commands.WatchTemp func x))) shortage h = stop_answer-goes s _
-answer_goes s (Ok (Some (commands.Delete n))) shortage h = cond_goes (is_listed n s.stops.kept) _ _ refl refl
-answer_goes s (Ok (Some commands.Stops)) shortage h = refl
-answer_goes s (Ok (Some (commands.Print x))) shortage h = refl
-answer_goes s (Ok (Some commands.Temps)) shortage h = refl
-answer_goes s (Ok (Some (commands.Mem at n))) shortage h = refl
-answer_goes s (Ok (Some commands.Where)) shortage h = refl
-answer_goes s (Ok (Some commands.List)) shortage h = refl
-answer_goes s (Ok (Some commands.Out)) shortage h = refl
-answer_goes s (Ok (Some commands.Quit)) shortage h = absurd (true≢false h)
-answer_goes s (Ok None) shortage h = refl
-answer_goes s (Err refusal) shortage h = refl
-
--- one more line
-pub Reported-line : {A : Type 0} (first : SessionState A) (before : List (List ℕ)) (shortages : List (Option ℕ)) (reported : List ℕ) (now : SessionState A) (line : List ℕ) (shortage : Option ℕ) (text : List ℕ) (next : SessionState A)
-    → Reported first before shortages reported now → is_quit (command_of line) ≡ false → IsValid now (command_of line) shortage
-    → text ≡ answer_text (answer now (command_of line) shortage) → next ≡ (answer now (command_of line) shortage).left
-    → Reported first (before ++ line ∷ []) (shortages ++ shortage ∷ []) (reported ++ text) next
-Reported-line first before shortages reported now line shortage text next r no_quit valid is_text is_next =
-    let goes = answer_goes now (command_of line) shortage no_quit in
-    record {
-      goes = list_any-append _ before (line ∷ []) ∙ rw (r.goes, no_quit) refl;
-      valid = λ rest more h. simp append_assoc (r.valid (line ∷ rest) (shortage ∷ more) (valid, rw goes (rw (← is_next) h)));
-      text = λ rest more. simp append_assoc (r.text (line ∷ rest) (shortage ∷ more) ∙ rw (goes, is_text, is_next) refl);
-      left = λ rest more. simp append_assoc (r.left (line ∷ rest) (shortage ∷ more) ∙ rw (goes, is_next) refl);
-    }
-
--- no want is valid
-pub none_valid : {A : Type 0} (s : SessionState A) (said : Result (Option Command) Refused) → IsValid s said None
-unfolding IsValid
-none_valid s said = tt
-
-either : (b : Bool) (A : List (Option ℕ) → Type 0) → ((shortages : List (Option ℕ)) × A shortages) → (shortages : List (Option ℕ)) × MatchBool b (A shortages) (shortages ≡ [])
-either true A h = h
-either false A h = ([], refl)
-
--- where memory never runs out, that is valid
-pub ample : {A : Type 0} (s : SessionState A) (lines : List (List ℕ)) → (shortages : List (Option ℕ)) × AreValid s lines shortages
-ample s [] = ([], refl)
-ample s (line ∷ lines) =
-    let one = answer s (command_of line) None in
-    let rest = either one.goes (λ shortages. AreValid one.left lines shortages) (ample one.left lines) in
-    (None ∷ rest.0, (none_valid s (command_of line), rest.1))
-
--- what was reported answers the lines so far
-pub Reported-answered : {A : Type 0} (first : SessionState A) (before : List (List ℕ)) (shortages : List (Option ℕ)) (reported : List ℕ) (now : SessionState A) → Reported first before shortages reported now → IsAnsweredTo first before reported now
-Reported-answered first before shortages reported now r = (
-  shortages ++ [],
-  rw (append-nil before) at (r.valid [] [] refl),
-  sym (rw (append-nil before, append-nil reported) at (r.text [] [])),
-  sym (rw (append-nil before) at (r.left [] [])),
-)
+use Rattle.qil_script.specs.Reached.{Reported, Reached}
+use Rattle.qil_script.proofs.ReachedLemmas.{Reported-line, Reported-answered, none_valid, ample, either, Reached-nil, Reached-line}
 
 -- a line that ends the session says `quit`
 quit_is : (said : Result (Option Command) Refused) → is_quit said ≡ true → said ≡ Ok (Some commands.Quit)
@@ -212,27 +110,6 @@ Reported-cut first before shortages reported now line rest shortage prefix next 
   now_is = is_next;
 }
 
--- After the bytes `done`, which are whole lines, `reported` was answered and the session is `now`.
-pub record Reached {A : Type 0} (first : SessionState A) (done reported : List ℕ) (now : SessionState A) : Type 0 where
-  pub before : List (List ℕ)
-  pub shortages : List (Option ℕ)
-  pub cut : Cut done before
-  pub so_far : Reported first before shortages reported now
-
-pub Reached-nil : {A : Type 0} (first : SessionState A) → Reached first [] [] first
-Reached-nil first = record { before = []; shortages = []; cut = Cut-nil; so_far = Reported-nil first }
-
-pub Reached-line : {A : Type 0} (first : SessionState A) (done reported : List ℕ) (now : SessionState A) (line : List ℕ) (shortage : Option ℕ) (text : List ℕ) (next : SessionState A)
-    → Reached first done reported now → IsLine line → is_quit (command_of line) ≡ false → IsValid now (command_of line) shortage
-    → text ≡ answer_text (answer now (command_of line) shortage) → next ≡ (answer now (command_of line) shortage).left
-    → Reached first (done ++ (line ++ 10 ∷ [])) (reported ++ text) next
-Reached-line first done reported now line shortage text next r is_line no_quit valid is_text is_next = record {
-  before = r.before ++ line ∷ [];
-  shortages = r.shortages ++ shortage ∷ [];
-  cut = Cut-line done r.before line r.cut is_line;
-  so_far = Reported-line first r.before r.shortages reported now line shortage text next r.so_far no_quit valid is_text is_next;
-}
-
 -- Where a loop over the lines stands: what it took of the script, and what it wrote.
 pub record Standing {A : Type 0} (first : SessionState A) (known rest : Option (List ℕ)) (w0 w1 : Option (List ℕ)) (now : SessionState A) (given : ℕ) : Type 0 where
   pub done : List ℕ
@@ -292,7 +169,7 @@ Promise-end v first (Some script) rest rest' left w0 w1 now given given' s taken
       s.reported,
       s.wrote,
       (
-        rw is (rw (Cut-end s.done s.reached.before s.reached.cut) (Reported-answered first s.reached.before s.reached.shortages s.reported now s.reached.so_far)),
+        rw is (rw (WholeLines-end s.done s.reached.before s.reached.whole_lines) (Reported-answered first s.reached.before s.reached.shortages s.reported now s.reached.so_far)),
         short_enough script size,
       ),
     )
@@ -312,7 +189,7 @@ Promise-last v first (Some script) rest rest' left w0 w1 w2 now next given given
       s.reported ++ text,
       Appends-append w0 w1 w2 s.reported text s.wrote wrote,
       (
-        rw is (rw (Cut-last s.done r.before line r.cut is_line some)
+        rw is (rw (WholeLines-last s.done r.before line r.whole_lines is_line some)
             (Reported-answered first (r.before ++ line ∷ []) (r.shortages ++ shortage ∷ []) (s.reported ++ text) next
             (Reported-line first r.before r.shortages s.reported now line shortage text next r.so_far no_quit valid refl is_next))),
         short_enough script size,
@@ -332,7 +209,7 @@ Promise-last_quit v first (Some script) rest rest' left w0 w1 now given given' l
       s.reported,
       s.wrote,
       (
-        rw is (rw (Cut-last s.done r.before line r.cut is_line some) (Reported-quit first r.before r.shortages s.reported now line [] r.so_far quit)),
+        rw is (rw (WholeLines-last s.done r.before line r.whole_lines is_line some) (Reported-quit first r.before r.shortages s.reported now line [] r.so_far quit)),
         short_enough script size,
       ),
     )
@@ -354,8 +231,8 @@ Promise-read T first (Some script) rest left w0 w1 pending now given line s is_l
       (
         s.done ++ line,
         all,
-        rw (Cut-whole_part s.done r.before line r.cut is_line) (Reported-answered first r.before r.shortages s.reported now r.so_far),
-        ap (λ lines. quits lines) (Cut-whole_part s.done r.before line r.cut is_line) ∙ r.so_far.goes,
+        rw (WholeLines-whole_part s.done r.before line r.whole_lines is_line) (Reported-answered first r.before r.shortages s.reported now r.so_far),
+        ap (λ lines. quits lines) (WholeLines-whole_part s.done r.before line r.whole_lines is_line) ∙ r.so_far.goes,
       ),
     )
 
@@ -385,7 +262,7 @@ Promise-too_long T first (Some script) rest after left w0 w1 now given line s is
     let (ys, is, some) = consumed_part script (s.done ++ line) after (Consumes-append (Some script) rest after s.done line s.taken taken) more in
     let size : length (s.done ++ line) ≡ 2 ^ 24 = length-append s.done line ∙ ap (λ v. v + length line) (sym s.given_is) ∙ full in
     let prefix : take (2 ^ 24) script ≡ s.done ++ line = ap (λ v. take (2 ^ 24) v) is ∙ take_seam (2 ^ 24) (s.done ++ line) ys size in
-    let whole : whole_lines_of (take (2 ^ 24) script) ≡ r.before = ap (λ v. whole_lines_of v) prefix ∙ Cut-whole_part s.done r.before line r.cut is_line in
+    let whole : whole_lines_of (take (2 ^ 24) script) ≡ r.before = ap (λ v. whole_lines_of v) prefix ∙ WholeLines-whole_part s.done r.before line r.whole_lines is_line in
     let long : 2 ^ 24 < length script = omega (arith, ap length is, length-append (s.done ++ line) ys, size, some) in (
       s.reported,
       s.wrote,
@@ -407,13 +284,13 @@ Promise-quit v first None rest rest' left w0 w1 now given given' line s is_line 
 Promise-quit v first (Some script) rest rest' left w0 w1 now given given' line s is_line taken given_is le quit =
     let r = s.reached in
     let bytes = s.done ++ (line ++ 10 ∷ []) in
-    let cut = Cut-line s.done r.before line r.cut is_line in
+    let whole_lines = WholeLines-line s.done r.before line r.whole_lines is_line in
     let (ys, is) = consumed_some script bytes rest' (Consumes-append (Some script) rest rest' s.done (line ++ 10 ∷ []) s.taken taken) in
     let size : length bytes ≤ 2 ^ 24 = omega (arith, s.given_is, given_is, length-append s.done (line ++ 10 ∷ []), length-append line (10 ∷ [])) in
-    let all : lines_of script ≡ r.before ++ line ∷ lines_of ys = ap (λ v. lines_of v) is ∙ cut.lines ys ∙ append_assoc r.before (line ∷ []) (lines_of ys) in
+    let all : lines_of script ≡ r.before ++ line ∷ lines_of ys = ap (λ v. lines_of v) is ∙ whole_lines.lines ys ∙ append_assoc r.before (line ∷ []) (lines_of ys) in
     let prefix : take (2 ^ 24) script ≡ bytes ++ take (2 ^ 24 - length bytes) ys = ap (λ v. take (2 ^ 24) v) is ∙ take_over (2 ^ 24) bytes ys size in
     let whole : whole_lines_of (take (2 ^ 24) script) ≡ r.before ++ line ∷ whole_lines_of (take (2 ^ 24 - length bytes) ys) =
-    ap (λ v. whole_lines_of v) prefix ∙ cut.whole (take (2 ^ 24 - length bytes) ys) ∙ append_assoc r.before (line ∷ []) (whole_lines_of (take (2 ^ 24 - length bytes) ys)) in
+    ap (λ v. whole_lines_of v) prefix ∙ whole_lines.whole (take (2 ^ 24 - length bytes) ys) ∙ append_assoc r.before (line ∷ []) (whole_lines_of (take (2 ^ 24 - length bytes) ys)) in
     let ends : quits (whole_lines_of (take (2 ^ 24) script)) ≡ true = ap (λ lines. quits lines) whole ∙ quits_there r.before line (whole_lines_of (take (2 ^ 24 - length bytes) ys)) r.so_far.goes quit in (
       s.reported,
       s.wrote,
@@ -433,9 +310,9 @@ Promise-write T first None rest rest' left w0 w1 w2 now next given line shortage
 Promise-write T first (Some script) rest rest' left w0 w1 w2 now next given line shortage s is_line taken valid wrote is_next =
     let r = s.reached in
     let bytes = s.done ++ (line ++ 10 ∷ []) in
-    let cut = Cut-line s.done r.before line r.cut is_line in
+    let whole_lines = WholeLines-line s.done r.before line r.whole_lines is_line in
     let (ys, is) = consumed_some script bytes rest' (Consumes-append (Some script) rest rest' s.done (line ++ 10 ∷ []) s.taken taken) in
-    let all : lines_of script ≡ r.before ++ line ∷ lines_of ys = ap (λ v. lines_of v) is ∙ cut.lines ys ∙ append_assoc r.before (line ∷ []) (lines_of ys) in
+    let all : lines_of script ≡ r.before ++ line ∷ lines_of ys = ap (λ v. lines_of v) is ∙ whole_lines.lines ys ∙ append_assoc r.before (line ∷ []) (lines_of ys) in
     let reported = Reported-prefix first r.before r.shortages s.reported now line (lines_of ys) shortage wrote.0 r.so_far valid wrote.1 in (
       s.reported ++ wrote.0,
       Appends-append w0 w1 w2 s.reported wrote.0 s.wrote wrote.2,
@@ -452,7 +329,7 @@ Promise-write_last T first None rest rest' left w0 w1 w2 now next given line sho
 Promise-write_last T first (Some script) rest rest' left w0 w1 w2 now next given line shortage s is_line some taken end valid wrote is_next =
     let r = s.reached in
     let is : script ≡ s.done ++ line = consumed_all script (s.done ++ line) rest' (Consumes-append (Some script) rest rest' s.done line s.taken taken) end in
-    let all : lines_of script ≡ r.before ++ line ∷ [] = ap (λ v. lines_of v) is ∙ Cut-last s.done r.before line r.cut is_line some in
+    let all : lines_of script ≡ r.before ++ line ∷ [] = ap (λ v. lines_of v) is ∙ WholeLines-last s.done r.before line r.whole_lines is_line some in
     let reported = Reported-prefix first r.before r.shortages s.reported now line [] shortage wrote.0 r.so_far valid wrote.1 in (
       s.reported ++ wrote.0,
       Appends-append w0 w1 w2 s.reported wrote.0 s.wrote wrote.2,

@@ -15,7 +15,8 @@ ghost use Rattle.qil_loading.specs.Load.{Accepts, Checks, Refuses};
 ghost use Rattle.qil_loading.specs.Lines.{IsLoaded};
 ghost use Rattle.qil_loading.specs.declared.refusal.Refusal.{Refusal};
 ghost use Rattle.qil_transcript.specs.Serve.{TakesFew};
-ghost use Rattle.qil_transcript.specs.Debug.{Begins, CountsDebug, IsNoSession, IsUntouched, Setup, Written, load_lines, opened};
+ghost use Rattle.qil_script.specs.Transcript.{Begins, Setup, load_lines, opened};
+ghost use Rattle.qil_transcript.specs.Debug.{CountsDebug, IsNoSession, IsUntouched, Written};
 ghost use Rattle.qil_transcript.specs.Handed.{IsRefused, of_start, setup_of};
 
 use crate::outcome::Outcome;

@@ -7,7 +7,7 @@ use std::process::ExitCode;
 #[derive(Clone, Copy)]
 pub enum Answer {
     Refused,
-    /// All that was to be reported is reported.
+    /// The lines that were written tell everything.
     Reported,
     /// The code is the tree's in every part.
     Same,
@@ -15,7 +15,7 @@ pub enum Answer {
     DiffersAtLine(u32),
     /// The histories differ, first at a position.
     DiffersAt(u64),
-    /// Something went on that was refused memory, or wanted memory that was there.
+    /// Something succeeded although an allocation was refused, or failed although none was.
     WrongWant,
 }
 

@@ -6,7 +6,7 @@ use qil_deltas::Deltas;
 use qil_frames::Frame;
 use qil_machine::{Delta, Machine};
 use qil_memory::{DATA_BASE, Saved};
-use qil_numbering::{Code, NumberedInst, Slot, Source};
+use qil_numbering::{Code, NumberedInst, NumberedOperand, Slot};
 use qil_snapshots::Snapshots;
 use refusing::{Refusing, refuse_each};
 use std::alloc::{AllocError, Allocator, Global};
@@ -103,7 +103,7 @@ fn tell_sizes<R: Print>(rt: &R) -> anyhow::Result<()> {
     let record = size_of::<Delta<Global>>();
     let kept = size_of::<Saved<Global>>();
     let frame = size_of::<Frame<Global>>();
-    let operand = size_of::<Source>();
+    let operand = size_of::<NumberedOperand>();
     let inst = size_of::<NumberedInst<Global>>();
     println!(rt;
         "bytes: record {record}, kept bytes {kept}, frame {frame}, operand {operand}, instruction {inst}"

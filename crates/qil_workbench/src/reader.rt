@@ -2,8 +2,8 @@
 
 use qil_layout::FuncId;
 use qil_numbering::{
-    BlockId, Code, NumberedArgument, NumberedExpr, NumberedInst, NumberedJump, PhiMove, Receiver,
-    Slot, Source,
+    BlockId, Code, NumberedArgument, NumberedExpr, NumberedInst, NumberedJump, NumberedOperand,
+    PhiMove, Receiver, Slot,
 };
 use qil_tree::{
     Argument, Block, CallResult, Class, Expr, Func, InstKind, JumpKind, Name, Operand, Param, Phi,
@@ -49,13 +49,13 @@ impl<'r, 'c, 'a, 't, A: Allocator + Copy> Reader<'r, 'c, 'a, 't, A> {
         }
     }
 
-    fn is_operand(&self, source: Source, operand: &Operand<'_>) -> bool {
+    fn is_operand(&self, source: NumberedOperand, operand: &Operand<'_>) -> bool {
         match (source, operand) {
-            (Source::Constant(value), Operand::Number(number)) => value == *number,
-            (Source::Constant(value), Operand::Global(name)) => {
+            (NumberedOperand::Constant(value), Operand::Number(number)) => value == *number,
+            (NumberedOperand::Constant(value), Operand::Global(name)) => {
                 self.code.image().address(name.bytes()) == Some(value)
             }
-            (Source::Slot(slot), Operand::Temp(name)) => self.is_temp(slot, name),
+            (NumberedOperand::Slot(slot), Operand::Temp(name)) => self.is_temp(slot, name),
             _ => false,
         }
     }
@@ -175,7 +175,7 @@ impl<'r, 'c, 'a, 't, A: Allocator + Copy> Reader<'r, 'c, 'a, 't, A> {
         moves.len() == block.phis.as_slice().len()
     }
 
-    fn is_value(&self, found: Option<Source>, value: &Option<Operand<'_>>) -> bool {
+    fn is_value(&self, found: Option<NumberedOperand>, value: &Option<Operand<'_>>) -> bool {
         match (found, value) {
             (Some(source), Some(operand)) => self.is_operand(source, operand),
             (None, None) => true,

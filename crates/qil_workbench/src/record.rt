@@ -2,7 +2,7 @@
 
 use arrayvec::ArrayVec;
 use qil_frames::{Frame, KeptSlots, SavedSlot};
-use qil_machine::{Copied, Grown, Kind};
+use qil_machine::{Copied, DeltaKind, Grown};
 use qil_memory::{KeptBytes, Saved};
 use qil_numbering::Slot;
 use std::alloc::Allocator;
@@ -56,33 +56,33 @@ fn name_bytes<A: Allocator>(saved: Saved<A>) {
 
 /// The kind of a move, by what its record keeps, each part with its type. Another part of a kind, or another kind, doesn't
 /// pass the compiler.
-pub fn kind_of<A: Allocator>(kind: Kind<A>) -> &'static str {
+pub fn kind_of<A: Allocator>(kind: DeltaKind<A>) -> &'static str {
     match kind {
-        Kind::Assigned(slot, index, value) => {
+        DeltaKind::Assigned(slot, index, value) => {
             let _: (Slot, u32, Option<u64>) = (slot, index, value);
             "result"
         }
-        Kind::Stored(count, index, address, number) => {
+        DeltaKind::Stored(count, index, address, number) => {
             let _: (u8, u32, u32, u64) = (count, index, address, number);
             "bytes"
         }
-        Kind::Left(block) => left::<A>(block, KeptSlots::None),
-        Kind::LeftOne(block, slot, value) => left::<A>(block, KeptSlots::One(slot, value)),
-        Kind::LeftTwo(block, first, second, one, other) => {
+        DeltaKind::Left(block) => left::<A>(block, KeptSlots::None),
+        DeltaKind::LeftOne(block, slot, value) => left::<A>(block, KeptSlots::One(slot, value)),
+        DeltaKind::LeftTwo(block, first, second, one, other) => {
             left::<A>(block, KeptSlots::Two(first, second, one, other))
         }
-        Kind::LeftShort(block, kept) => left(block, KeptSlots::Short(kept)),
-        Kind::LeftMany(block, kept) => left(block, KeptSlots::Many(kept)),
-        Kind::Called(index) => {
+        DeltaKind::LeftShort(block, kept) => left(block, KeptSlots::Short(kept)),
+        DeltaKind::LeftMany(block, kept) => left(block, KeptSlots::Many(kept)),
+        DeltaKind::Called(index) => {
             let _: u32 = index;
             "call"
         }
-        Kind::Returned(set, top, value, frame) => {
+        DeltaKind::Returned(set, top, value, frame) => {
             let _: (bool, u32, u64) = (set, top, value);
             let _: Frame<A> = frame;
             "return"
         }
-        Kind::Grew(grown) => {
+        DeltaKind::Grew(grown) => {
             let Grown {
                 index,
                 slot,
@@ -93,26 +93,26 @@ pub fn kind_of<A: Allocator>(kind: Kind<A>) -> &'static str {
             name_bytes(saved);
             "bytes of the stack"
         }
-        Kind::Copied(copied) => {
+        DeltaKind::Copied(copied) => {
             let Copied { index, saved } = Box::into_inner(copied);
             let _: u32 = index;
             name_bytes(saved);
             "copied bytes"
         }
-        Kind::Wrote(index, count) => {
+        DeltaKind::Wrote(index, count) => {
             let _: (u32, u32) = (index, count);
             "output"
         }
-        Kind::WroteTo(set, slot, index, count, value) => {
+        DeltaKind::WroteTo(set, slot, index, count, value) => {
             let _: (bool, Slot, u32, u32, u64) = (set, slot, index, count, value);
             "output and a result"
         }
-        Kind::Ended => "end",
-        Kind::PokedSlot(set, slot, value) => {
+        DeltaKind::Ended => "end",
+        DeltaKind::PokedSlot(set, slot, value) => {
             let _: (bool, Slot, u64) = (set, slot, value);
             "poke of a temporary"
         }
-        Kind::PokedBytes(count, address, number) => {
+        DeltaKind::PokedBytes(count, address, number) => {
             let _: (u8, u32, u64) = (count, address, number);
             "poke of bytes"
         }

@@ -16,3 +16,7 @@ pub record IsRequest (message : Json) (request : Request) : Type 0 where
   pub kind : text_in (codes "type") message ≡ Some (codes "request")
   pub seq : (text : List ℕ) × (number_in (codes "seq") message ≡ Some text) × ParsesUnsigned {E = ℕ} 64 10 text (Ok request.seq)
   pub command : text_in (codes "command") message ≡ Some request.command.now
+
+-- it is none
+abbrev pub IsNoRequest : Json → Type 0
+IsNoRequest message = (request : Request) → IsRequest message request → ⊥

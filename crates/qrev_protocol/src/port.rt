@@ -1,6 +1,7 @@
 //! Messages that go out: numbered from 1, each in a frame, which is written by one call.
 
-ghost use Rattle.std.specs.Prelude.{◌≡◌, ℕ, ◌+◌, ◌-◌, ◌^◌, ◌<◌, List, [], ◌∷◌, ◌++◌, IfOk, OnOk, OnErr};
+ghost use Rattle.std.specs.Prelude.{◌≡◌, ℕ, ◌+◌, ◌-◌, ◌^◌, ◌<◌, List, [], ◌∷◌, ◌++◌, IfOk, OnOk, OnErr, Err};
+ghost use Rattle.qrev_protocol.specs.declared.port.SendError.TheVariants.{Device, OutOfMemory};
 ghost use Rattle.std.specs.Io.KnownBytes.{Appends};
 ghost use Rattle.qrev_protocol.specs.Frame.{framed};
 ghost use Rattle.qrev_protocol.specs.Outgoing.{response_head, event_head, message_head, sent_text};
@@ -126,6 +127,8 @@ impl<A: Allocator + Copy, W: Sink> Port<A, W> {
             × Appends (W.contents self.old.sink) (W.contents self.new.sink) (sent_text self.new.sent message.out.tokens)
             × (W.failures self.new.sink ≡ W.failures self.old.sink)) }
         ensures err { OnErr result (self.new.sent ≡ self.old.sent) }
+        ensures memory { result ≡ Err OutOfMemory → self.new.sink ≡ self.old.sink }
+        ensures device { result ≡ Err Device → W.failures self.new.sink ≡ W.failures self.old.sink + 1 }
     {
         let number = self.sent + 1;
         let body = message.into_text(number)?;

@@ -1,12 +1,12 @@
 //! What is read of a message that came in. A number stays text in the kit's JSON, so that none loses bits; one with a point or an
 //! exponent is no number here.
 
-ghost use Rattle.std.specs.Prelude.{◌≡◌, Some, None, option_map, option_and_then, ok_or, MatchOption, IfSome};
+ghost use Rattle.std.specs.Prelude.{◌≡◌, Some, None, option_map, option_and_then, ok_or, MatchOption, IfSome, IfNone};
 ghost use Rattle.std.specs.Int.{w64};
 ghost use Rattle.std.specs.Str.Parse.{ParsesSigned, ParsesUnsigned};
 ghost use Rattle.json.specs.Find.{get, as_bool};
 ghost use Rattle.json.specs.Value.{value_view};
-ghost use Rattle.qrev_protocol.specs.Requests.{text_in, number_in, IsRequest};
+ghost use Rattle.qrev_protocol.specs.Requests.{text_in, number_in, IsRequest, IsNoRequest};
 
 use json::Value;
 use std::alloc::Allocator;
@@ -70,7 +70,8 @@ impl<'a> Request<'a> {
 
 /// The request that a message is, if it is one.
 pub fn request_of<'a, A: Allocator>(message: &Value<'a, A>) -> Option<Request<'a>>
-    ensures { IfSome result (λ request. IsRequest (value_view message.now) request) }
+    ensures some { IfSome result (λ request. IsRequest (value_view message.now) request) }
+    ensures none { IfNone result (IsNoRequest (value_view message.now)) }
 {
     if text_of(message, "type")? != "request" {
         return None;

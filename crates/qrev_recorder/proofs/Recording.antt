@@ -9,7 +9,7 @@ use Rattle.qil_commands.specs.declared.command.Refused.{Refused}
 use Rattle.qil_replies.specs.declared.reply.Reply.TheVariants as replies
 use Rattle.qil_streams.specs.Reader.{IsLine}
 use Rattle.qil_streams.specs.Script.{lines_of}
-use Rattle.qil_streams.proofs.ScriptLemmas.{Cut-end}
+use Rattle.qil_streams.proofs.ScriptLemmas.{WholeLines-end}
 use Rattle.qil_commands.specs.Command.{command_of}
 use Rattle.qil_rules.specs.Verdict.{Verdict}
 use Rattle.qil_meaning.specs.State.{State}
@@ -18,8 +18,9 @@ use Rattle.qil_loading.specs.declared.loaded.Loaded.{Loaded}
 use Rattle.qil_replies.specs.declared.reply.Reply.{Reply}
 use Rattle.qil_session.specs.SessionState.{SessionState, text_in}
 use Rattle.qil_session.specs.Answers.{Replies, answer, answer_text, is_quit}
-use Rattle.qil_transcript.specs.Debug.{Setup, IsSession, opened, load_lines}
-use Rattle.qil_transcript.proofs.ServeLemmas.{Reached, Reached-nil, Reached-line, Reported-answered}
+use Rattle.qil_script.specs.Transcript.{Setup, IsSession, opened, load_lines}
+use Rattle.qil_script.specs.Reached.{Reached}
+use Rattle.qil_script.proofs.ReachedLemmas.{Reached-nil, Reached-line, Reported-answered}
 use Rattle.qrev_recorder.specs.Record.{IsBeginning, IsRecording, KeepsMoves}
 
 reply_text_is : {A : Type 0} (old new : SessionState A) (line : List ℕ) (reply : Reply) (r : Replies old new (command_of line) reply)
@@ -61,7 +62,7 @@ recording_begun {A} s loaded now b transcript e = record {
 pub recorded_session : {A : Type 0} (s : Setup) (now : SessionState A) (script transcript : List ℕ) → IsRecording s now script transcript → IsSession A s (lines_of script) transcript
 recorded_session s now script transcript r =
     let so_far = Reported-answered _ r.reached.before r.reached.shortages r.answered now r.reached.so_far in
-    let lines : lines_of script ≡ r.reached.before = Cut-end script r.reached.before r.reached.cut in
+    let lines : lines_of script ≡ r.reached.before = WholeLines-end script r.reached.before r.reached.whole_lines in
     record {
       verdict = r.verdict;
       start = r.start;

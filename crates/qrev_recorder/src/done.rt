@@ -1,7 +1,7 @@
 //! What a line did, and why one isn't answered.
 
 use qil_meaning::Reason;
-use qil_replies::{Refusal, Reply};
+use qil_replies::{CommandRefusal, Reply};
 use std::alloc::AllocError;
 
 /// What a line did.
@@ -10,7 +10,7 @@ pub enum Done {
     /// It showed something, or it asked nothing.
     Told,
     /// The session is as it was.
-    Refused(Refusal),
+    Refused(CommandRefusal),
     /// A stop was added, of this number.
     Added(u64),
     /// The session moved, or a value was replaced.

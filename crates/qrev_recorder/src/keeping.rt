@@ -9,13 +9,13 @@ ghost use Rattle.qil_loading.specs.Lines.{IsLoaded};
 ghost use Rattle.qil_replies.specs.declared.reply.Reply.TheVariants as replies;
 ghost use Rattle.qil_session.specs.SessionState.{text_in};
 ghost use Rattle.qil_session.specs.Answers as answers;
-ghost use Rattle.qil_transcript.specs.Debug.{load_lines};
+ghost use Rattle.qil_script.specs.Transcript.{load_lines};
 ghost use Rattle.qrev_recorder.specs.Record.{KeepsMoves};
 
 use crate::debugged::Debugged;
 use qil_commands::{Command, Refused, read_command};
 use qil_loading::{Loaded, put_loaded_line};
-use qil_pieces::{Piece, put_pieces};
+use qil_pieces::{Fragment, put_fragments};
 use qil_replies::Reply;
 use qil_streams::{Buffer, Put, PutError};
 use std::alloc::{AllocError, Allocator};
@@ -135,7 +135,10 @@ pub fn keep_steps<A: Allocator + Copy, L: Debugged<A>>(
     ensures { OnOk result (KeepsMoves (Ok (Some (commands.Step moves))) (L.state live.now) script.old.items script.new.items transcript.old.items transcript.new.items) }
 {
     let mut line = Buffer::new(alloc);
-    match put_pieces(&mut line, &[Piece::Bytes(b"step "), Piece::Number(moves)]) {
+    match put_fragments(
+        &mut line,
+        &[Fragment::Bytes(b"step "), Fragment::Number(moves)],
+    ) {
         Ok(()) => {}
         Err(PutError) => return Err(AllocError),
     }
@@ -156,7 +159,10 @@ pub fn keep_backs<A: Allocator + Copy, L: Debugged<A>>(
     ensures { OnOk result (KeepsMoves (Ok (Some (commands.Back moves))) (L.state live.now) script.old.items script.new.items transcript.old.items transcript.new.items) }
 {
     let mut line = Buffer::new(alloc);
-    match put_pieces(&mut line, &[Piece::Bytes(b"back "), Piece::Number(moves)]) {
+    match put_fragments(
+        &mut line,
+        &[Fragment::Bytes(b"back "), Fragment::Number(moves)],
+    ) {
         Ok(()) => {}
         Err(PutError) => return Err(AllocError),
     }

@@ -3,7 +3,7 @@
 ghost use Rattle.std.specs.Prelude.{◌≡◌, ◌<◌, ◌≤◌, ◌^◌, true, IfOk, IfSome, IfNone};
 ghost use Rattle.qil_meaning.specs.Timeline.{position};
 ghost use Rattle.qil_streams.specs.Script.{lines_of};
-ghost use Rattle.qil_transcript.specs.Debug.{IsSession};
+ghost use Rattle.qil_script.specs.Transcript.{IsSession};
 ghost use Rattle.qrev_recorder.specs.Record.{setup_of, IsBeginning, IsRecording};
 
 use crate::debugged::Debugged;

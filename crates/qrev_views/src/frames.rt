@@ -1,12 +1,21 @@
 //! The frames of a run, as an editor's stack: the innermost is number 1.
 
+ghost use Rattle.std.specs.Prelude.{◌≡◌, ◌⊎◌, ◌+◌, ◌-◌, ◌<◌, ◌++◌, ℕ, List, length, slice_get, string_bytes, IfOk, MatchOption, Some};
+ghost use Rattle.json.specs.Token.{Token};
+ghost use Rattle.qil_frames.specs.Frames.{SlotFrame};
+ghost use Rattle.qil_state.specs.State.{frame_state, frames_state, state_of};
+ghost use Rattle.qrev_protocol.specs.Outgoing.{Adds};
+ghost use Rattle.qrev_views.specs.Frames.{IsPlace, ShowsFrame, ShowsFrames, ShowsStack, end_item, shown_name, source_tokens};
+ghost use Rattle.qrev_views.specs.Pages.{page_of};
+
+use crate::source_map::SourceMap;
 use crate::texts::{joined, place_text};
 use crate::variable::Page;
 use qil_answers::{func_name, label_name};
 use qil_frames::Frame;
 use qil_lines::{Place, line_of};
 use qil_machine::Machine;
-use qil_pieces::Piece;
+use qil_pieces::Fragment;
 use qil_tree::Program;
 use qrev_protocol::{Array, Object};
 use std::alloc::{AllocError, Allocator};
@@ -24,12 +33,17 @@ impl Numbering {
         u64::from(line.saturating_sub(1)).saturating_add(u64::from(self.first_line))
     }
 
-    /// A line of the editor, as the text counts.
-    pub fn text_line(self, line: u64) -> u32 {
+    /// A line of the editor, counted from 1, if it is below 2^32.
+    pub fn file_line(self, line: u64) -> Option<u32> {
         let line = line
             .saturating_sub(u64::from(self.first_line))
             .saturating_add(1);
-        u32::try_from(line).unwrap_or(u32::MAX)
+        u32::try_from(line).ok()
+    }
+
+    /// A line of the editor, as the text counts.
+    pub fn text_line(self, line: u64) -> u32 {
+        self.file_line(line).unwrap_or(u32::MAX)
     }
 }
 
@@ -44,18 +58,25 @@ pub struct Shown<'p> {
 pub fn put_source<A: Allocator, U: Drop>(
     body: Object<A, U>,
     path: &str,
-) -> Result<Object<A, U>, AllocError> {
-    body.object("source")?
-        .text("name", path.rsplit('/').next().unwrap_or(path))?
+) -> Result<Object<A, U>, AllocError>
+    ensures { IfOk result (λ o. (name : List ℕ) × Adds body.out o.out (source_tokens name path.now)) }
+{
+    let name = path.rsplit('/').next().unwrap_or(path);
+    let body = body
+        .object("source")?
+        .text("name", name)?
         .text("path", path)?
-        .end()
+        .end()?;
+    Ok(body)
 }
 
 /// The frame of a number.
 pub fn frame_of<'m, A: Allocator + Copy>(
     machine: &'m Machine<'_, '_, A>,
     number: u64,
-) -> Option<&'m Frame<A>> {
+) -> Option<&'m Frame<A>>
+    ensures { MatchOption result ((number ≡ 0) ⊎ (length machine.now.frames < number)) (λ frame. slice_get machine.now.frames (number - 1) ≡ Some frame.now) }
+{
     let frames = machine.frames();
     let count = frames.len() as u64;
     if number == 0 || number > count {
@@ -89,6 +110,64 @@ fn line_of_frame<A: Allocator>(program: &Program<'_, A>, frame: &Frame<A>, numbe
     }
 }
 
+/// The name of a frame: its function, its block, and the index where it stands.
+fn frame_name<A: Allocator + Copy>(
+    alloc: A,
+    machine: &Machine<'_, '_, A>,
+    frame: &Frame<A>,
+) -> Result<String<A>, AllocError>
+    ensures { (callers : List SlotFrame) → IfOk result (λ name. string_bytes name ≡ shown_name (frame_state machine.now.program callers frame.now)) }
+{
+    let code = machine.code();
+    joined(
+        alloc,
+        &[
+            Fragment::Bytes(b"$"),
+            Fragment::Bytes(func_name(code, frame.func())),
+            Fragment::Bytes(b" @"),
+            Fragment::Bytes(label_name(code, frame.func(), frame.block())),
+            Fragment::Bytes(b" "),
+            Fragment::Number(u64::from(frame.index())),
+        ],
+    )
+}
+
+/// Adds a line of a source.
+fn put_source_line<A: Allocator, U: Drop>(
+    item: Object<A, U>,
+    path: &str,
+    line: u64,
+) -> Result<Object<A, U>, AllocError>
+    ensures { IfOk result (λ o. (place : List Token) × IsPlace place × Adds item.out o.out place) }
+{
+    let item = put_source(item, path)?.number("line", line)?;
+    Ok(item)
+}
+
+/// Adds where a line of the text is shown: in the source that it came from, if it came from one.
+fn put_line<A: Allocator + Copy, U: Drop>(
+    alloc: A,
+    item: Object<A, U>,
+    shown: Shown<'_>,
+    source_map: Option<&SourceMap<A>>,
+    line: u32,
+) -> Result<Object<A, U>, AllocError>
+    ensures { IfOk result (λ o. (place : List Token) × IsPlace place × Adds item.out o.out place) }
+{
+    let source = match source_map {
+        Some(source_map) => source_map.line_of(alloc, line)?,
+        None => None,
+    };
+    match source {
+        Some(source) => put_source_line(
+            item,
+            source.path.as_str(),
+            shown.numbering.line(source.line),
+        ),
+        None => put_source_line(item, shown.path, shown.numbering.line(line)),
+    }
+}
+
 /// Adds a frame.
 fn put_frame<A: Allocator + Copy, U: Drop>(
     alloc: A,
@@ -96,30 +175,24 @@ fn put_frame<A: Allocator + Copy, U: Drop>(
     machine: &Machine<'_, '_, A>,
     program: &Program<'_, A>,
     shown: Shown<'_>,
+    source_map: Option<&SourceMap<A>>,
     frame: &Frame<A>,
     number: u64,
-) -> Result<Array<A, U>, AllocError> {
-    let code = machine.code();
-    let name = joined(
-        alloc,
-        &[
-            Piece::Bytes(b"$"),
-            Piece::Bytes(func_name(code, frame.func())),
-            Piece::Bytes(b" @"),
-            Piece::Bytes(label_name(code, frame.func(), frame.block())),
-            Piece::Bytes(b" "),
-            Piece::Number(u64::from(frame.index())),
-        ],
-    )?;
+) -> Result<Array<A, U>, AllocError>
+    ensures { (callers : List SlotFrame) → IfOk result (λ l. (item : List Token) × ShowsFrame number (frame_state machine.now.program callers frame.now) item
+        × Adds list.out l.out item) }
+{
+    let name = frame_name(alloc, machine, frame)?;
     let line = line_of_frame(program, frame, number);
     let item = list
         .object()?
         .number("id", number)?
         .text("name", name.as_str())?;
-    put_source(item, shown.path)?
-        .number("line", shown.numbering.line(line))?
+    let item = put_line(alloc, item, shown, source_map, line)?;
+    let list = item
         .number("column", u64::from(shown.numbering.first_column))?
-        .end_item()
+        .end_item()?;
+    Ok(list)
 }
 
 /// Adds, where no call is open, one item in place of frames: how the run ended.
@@ -128,15 +201,28 @@ fn put_end<A: Allocator + Copy, U: Drop>(
     list: Array<A, U>,
     position: u64,
     machine: &Machine<'_, '_, A>,
-) -> Result<Array<A, U>, AllocError> {
+) -> Result<Array<A, U>, AllocError>
+    ensures { IfOk result (λ l. Adds list.out l.out (end_item position (state_of machine.now))) }
+{
     let place = place_text(alloc, position, machine)?;
-    list.object()?
+    let list = list
+        .object()?
         .number("id", 1)?
         .text("name", place.as_str())?
         .number("line", 0)?
         .number("column", 0)?
         .text("presentationHint", "label")?
-        .end_item()
+        .end_item()?;
+    Ok(list)
+}
+
+/// A frame, counted from the innermost one.
+fn frame_at<'m, A: Allocator + Copy>(machine: &'m Machine<'_, '_, A>, inner: usize) -> &'m Frame<A>
+    requires { inner < length machine.now.frames }
+    ensures { slice_get machine.now.frames inner ≡ Some result.now }
+{
+    let frames = machine.frames();
+    &frames[frames.len() - 1 - inner]
 }
 
 /// Adds the frames of a page, the innermost first.
@@ -146,19 +232,23 @@ fn put_page<A: Allocator + Copy, U: Drop>(
     machine: &Machine<'_, '_, A>,
     program: &Program<'_, A>,
     shown: Shown<'_>,
+    source_map: Option<&SourceMap<A>>,
     page: Page,
-) -> Result<Array<A, U>, AllocError> {
-    let frames = machine.frames();
-    let (first, after) = page.of(frames.len());
+) -> Result<Array<A, U>, AllocError>
+    ensures { IfOk result (λ l. (items : List Token) × ShowsFrames (page.start + 1) (page_of page (frames_state machine.now.program machine.now.frames)) items
+        × Adds list.out l.out items) }
+{
+    let (first, after) = page.of(machine.frames().len());
     let mut list = list;
     for inner in first..after {
-        let frame = &frames[frames.len() - 1 - inner];
+        let frame = frame_at(machine, inner);
         list = put_frame(
             alloc,
             list,
             machine,
             program,
             shown,
+            source_map,
             frame,
             inner as u64 + 1,
         )?;
@@ -166,8 +256,8 @@ fn put_page<A: Allocator + Copy, U: Drop>(
     Ok(list)
 }
 
-/// Adds the frames of a page, and how many there are in all. Where no call is open there is one item, which tells how the run
-/// ended after so many moves.
+/// Adds the frames of a page, and how many there are in all, each at the line of the source that its line came from, if it came
+/// from one. Where no call is open there is one item, which tells how the run ended after so many moves.
 pub fn put_frames<A: Allocator + Copy, U: Drop>(
     alloc: A,
     body: Object<A, U>,
@@ -175,16 +265,21 @@ pub fn put_frames<A: Allocator + Copy, U: Drop>(
     machine: &Machine<'_, '_, A>,
     program: &Program<'_, A>,
     shown: Shown<'_>,
+    source_map: Option<&SourceMap<A>>,
     page: Page,
-) -> Result<Object<A, U>, AllocError> {
+) -> Result<Object<A, U>, AllocError>
+    ensures { IfOk result (λ o. (tokens : List Token) × ShowsStack position (state_of machine.now) page tokens × Adds body.out o.out tokens) }
+{
     let count = machine.frames().len();
     let list = body.array("stackFrames")?;
     if count == 0 {
-        return put_end(alloc, list, position, machine)?
+        let body = put_end(alloc, list, position, machine)?
             .end()?
-            .number("totalFrames", 1);
+            .number("totalFrames", 1)?;
+        return Ok(body);
     }
-    put_page(alloc, list, machine, program, shown, page)?
+    let body = put_page(alloc, list, machine, program, shown, source_map, page)?
         .end()?
-        .number("totalFrames", count as u64)
+        .number("totalFrames", count as u64)?;
+    Ok(body)
 }

@@ -1,5 +1,11 @@
 //! What a state has besides temporaries and data, as variables that can't be set.
 
+ghost use Rattle.std.specs.Prelude.{◌≡◌, List, ℕ, flat_map, slice_get, IfOk, Some};
+ghost use Rattle.qil_state.specs.State.{state_of};
+ghost use Rattle.qrev_protocol.specs.Outgoing.{Adds};
+ghost use Rattle.qrev_views.specs.Pages.{page_of};
+ghost use Rattle.qrev_views.specs.Variables.{fixed_tokens, machine_rows};
+
 use crate::texts::{as_text, number_text, place_text};
 use crate::variable::{Page, begin_variable, end_read_only};
 use qil_machine::Machine;
@@ -14,7 +20,9 @@ fn put_fixed<A: Allocator, U: Drop>(
     list: Array<A, U>,
     name: &str,
     value: &str,
-) -> Result<Array<A, U>, AllocError> {
+) -> Result<Array<A, U>, AllocError>
+    ensures { IfOk result (λ l. Adds list.out l.out (fixed_tokens (name.now, value.now))) }
+{
     end_read_only(begin_variable(list, name, value)?)
 }
 
@@ -27,7 +35,10 @@ fn put_nth<A: Allocator + Copy, U: Drop>(
     oldest: u64,
     machine: &Machine<'_, '_, A>,
     number: usize,
-) -> Result<Array<A, U>, AllocError> {
+) -> Result<Array<A, U>, AllocError>
+    ensures { (row : List ℕ × List ℕ) → slice_get (machine_rows position oldest (state_of machine.now)) number ≡ Some row
+        → IfOk result (λ l. Adds list.out l.out (fixed_tokens row)) }
+{
     match number {
         0 => {
             let place = place_text(alloc, position, machine)?;
@@ -56,7 +67,9 @@ pub fn put_machine<A: Allocator + Copy, U: Drop>(
     oldest: u64,
     machine: &Machine<'_, '_, A>,
     page: Page,
-) -> Result<Array<A, U>, AllocError> {
+) -> Result<Array<A, U>, AllocError>
+    ensures { IfOk result (λ l. Adds list.out l.out (flat_map fixed_tokens (page_of page (machine_rows position oldest (state_of machine.now))))) }
+{
     let (first, after) = page.of(MACHINE_VARIABLES);
     let mut list = list;
     for number in first..after {

@@ -1,13 +1,21 @@
 //! Bytes as texts of the protocol, which are UTF-8.
 
+ghost use Rattle.std.specs.Prelude.{◌≡◌, ◌++◌, IfOk, decimal, encode_utf8_all, flat_map, string_bytes};
+ghost use Rattle.qil_state.specs.State.{state_of};
+ghost use Rattle.qil_pieces.specs.Texts.{fragment_text};
+ghost use Rattle.qil_answers.specs.Texts.{state_line};
+ghost use Rattle.qrev_views.specs.Texts.{shown_text, without_end};
+
 use qil_answers::put_place;
 use qil_machine::Machine;
-use qil_pieces::{Piece, put_pieces};
+use qil_pieces::{Fragment, put_fragments};
 use qil_streams::{Buffer, PutError};
 use std::alloc::{AllocError, Allocator};
 
 /// Each byte as the character of its number.
-fn by_characters<A: Allocator>(alloc: A, bytes: &[u8]) -> Result<String<A>, AllocError> {
+fn by_characters<A: Allocator>(alloc: A, bytes: &[u8]) -> Result<String<A>, AllocError>
+    ensures { IfOk result (λ text. string_bytes text ≡ encode_utf8_all bytes.now) }
+{
     let mut text = String::new(alloc);
     for byte in bytes {
         text.push(char::from(*byte))?;
@@ -16,28 +24,34 @@ fn by_characters<A: Allocator>(alloc: A, bytes: &[u8]) -> Result<String<A>, Allo
 }
 
 /// Bytes as a text: as they are if they are UTF-8, else each as the character of its number.
-pub fn as_text<A: Allocator>(alloc: A, bytes: &[u8]) -> Result<String<A>, AllocError> {
+pub fn as_text<A: Allocator>(alloc: A, bytes: &[u8]) -> Result<String<A>, AllocError>
+    ensures { IfOk result (λ text. string_bytes text ≡ shown_text bytes.now) }
+{
     match std::str::from_utf8(bytes) {
         Ok(text) => String::from_str(alloc, text),
         Err(_) => by_characters(alloc, bytes),
     }
 }
 
-/// Pieces one after the other, as a text.
+/// Fragments one after the other, as a text.
 pub fn joined<A: Allocator + Copy>(
     alloc: A,
-    pieces: &[Piece<'_>],
-) -> Result<String<A>, AllocError> {
+    fragments: &[Fragment<'_>],
+) -> Result<String<A>, AllocError>
+    ensures { IfOk result (λ text. string_bytes text ≡ shown_text (flat_map fragment_text fragments.now)) }
+{
     let mut text = Buffer::new(alloc);
-    match put_pieces(&mut text, pieces) {
+    match put_fragments(&mut text, fragments) {
         Ok(()) => as_text(alloc, text.bytes()),
         Err(PutError) => Err(AllocError),
     }
 }
 
 /// A number in decimal digits.
-pub fn number_text<A: Allocator + Copy>(alloc: A, number: u64) -> Result<String<A>, AllocError> {
-    joined(alloc, &[Piece::Number(number)])
+pub fn number_text<A: Allocator + Copy>(alloc: A, number: u64) -> Result<String<A>, AllocError>
+    ensures { IfOk result (λ text. string_bytes text ≡ decimal number) }
+{
+    joined(alloc, &[Fragment::Number(number)])
 }
 
 /// The line of the place after so many moves that led to a machine, without its end.
@@ -45,7 +59,10 @@ pub fn place_text<A: Allocator + Copy>(
     alloc: A,
     position: u64,
     machine: &Machine<'_, '_, A>,
-) -> Result<String<A>, AllocError> {
+) -> Result<String<A>, AllocError>
+    ensures { IfOk result (λ text. string_bytes text
+        ≡ shown_text (without_end (state_line position (state_of machine.now).frames (state_of machine.now).status))) }
+{
     let mut line = Buffer::new(alloc);
     match put_place(&mut line, position, machine) {
         Ok(()) => as_text(alloc, without_end(line.bytes())),
@@ -53,10 +70,20 @@ pub fn place_text<A: Allocator + Copy>(
     }
 }
 
-/// A line without the newline at its end.
-fn without_end(line: &[u8]) -> &[u8] {
-    match line.split_last() {
-        Some((b'\n', text)) => text,
-        _ => line,
-    }
+/// A name after its sigil.
+pub fn sigiled<A: Allocator + Copy>(
+    alloc: A,
+    sigil: &[u8],
+    name: &[u8],
+) -> Result<String<A>, AllocError>
+    ensures { IfOk result (λ text. string_bytes text ≡ shown_text (sigil.now ++ name.now)) }
+{
+    joined(alloc, &[Fragment::Bytes(sigil), Fragment::Bytes(name)])
+}
+
+/// A line without its last byte, the newline.
+fn without_end(line: &[u8]) -> &[u8]
+    ensures { result.now ≡ without_end line.now }
+{
+    &line[..line.len().saturating_sub(1)]
 }

@@ -1,6 +1,10 @@
 //! A variable, and which of many are shown.
 
-ghost use Rattle.std.specs.Prelude.{◌≤◌};
+ghost use Rattle.std.specs.Prelude.{◌≡◌, ◌+◌, [], ◌∷◌, ◌++◌, cond, IfOk, min, string_bytes};
+ghost use Rattle.json.specs.Token.{end_object};
+ghost use Rattle.qrev_protocol.specs.Outgoing.{Adds};
+ghost use Rattle.qrev_views.specs.Texts.{shown_value};
+ghost use Rattle.qrev_views.specs.Variables.{variable_head, read_only, reference};
 
 use crate::texts::number_text;
 use qrev_protocol::{Array, InArray, Object};
@@ -16,7 +20,8 @@ pub struct Page {
 impl Page {
     /// The items of a list that are shown, as the first and the one after the last.
     pub fn of(self, length: usize) -> (usize, usize)
-        ensures within { result.1 ≤ length }
+        ensures first { result.0 ≡ min self.start length }
+        ensures after { result.1 ≡ min (result.0 + self.count) length }
     {
         let length = length as u64;
         let first = self.start.min(length);
@@ -29,7 +34,9 @@ impl Page {
 pub fn value_text<A: Allocator + Copy>(
     alloc: A,
     value: Option<u64>,
-) -> Result<String<A>, AllocError> {
+) -> Result<String<A>, AllocError>
+    ensures { IfOk result (λ text. string_bytes text ≡ shown_value value) }
+{
     match value {
         Some(value) => number_text(alloc, value),
         None => String::from_str(alloc, "unset"),
@@ -41,24 +48,31 @@ pub fn begin_variable<A: Allocator, U: Drop>(
     list: Array<A, U>,
     name: &str,
     value: &str,
-) -> Result<Object<A, InArray<U>>, AllocError> {
-    list.object()?
+) -> Result<Object<A, InArray<U>>, AllocError>
+    ensures { IfOk result (λ o. Adds list.out o.out (variable_head name.now value.now)) }
+{
+    let variable = list
+        .object()?
         .text("name", name)?
         .text("value", value)?
-        .number("variablesReference", 0)
+        .number("variablesReference", 0)?;
+    Ok(variable)
 }
 
 /// Ends a variable that can't be set.
 pub fn end_read_only<A: Allocator, U: Drop>(
     variable: Object<A, InArray<U>>,
-) -> Result<Array<A, U>, AllocError> {
-    variable
+) -> Result<Array<A, U>, AllocError>
+    ensures { IfOk result (λ l. Adds variable.out l.out (read_only ++ end_object ∷ [])) }
+{
+    let list = variable
         .object("presentationHint")?
         .array("attributes")?
         .text("readOnly")?
         .end()?
         .end()?
-        .end_item()
+        .end_item()?;
+    Ok(list)
 }
 
 /// Adds a reference to the memory at an address.
@@ -66,7 +80,24 @@ pub fn add_address<A: Allocator + Copy, U: Drop>(
     alloc: A,
     variable: Object<A, InArray<U>>,
     address: u64,
-) -> Result<Object<A, InArray<U>>, AllocError> {
+) -> Result<Object<A, InArray<U>>, AllocError>
+    ensures { IfOk result (λ o. Adds variable.out o.out (reference address)) }
+{
     let address = number_text(alloc, address)?;
-    variable.text("memoryReference", address.as_str())
+    let variable = variable.text("memoryReference", address.as_str())?;
+    Ok(variable)
+}
+
+/// Ends a variable, which can be set or can't.
+pub fn end_variable<A: Allocator, U: Drop>(
+    variable: Object<A, InArray<U>>,
+    can_be_set: bool,
+) -> Result<Array<A, U>, AllocError>
+    ensures { IfOk result (λ l. Adds variable.out l.out (cond can_be_set [] read_only ++ end_object ∷ [])) }
+{
+    if can_be_set {
+        variable.end_item()
+    } else {
+        end_read_only(variable)
+    }
 }

@@ -10,7 +10,7 @@ use Rattle.std.proofs.lemmas.Cmp.{nat_list_eq_equiv}
 use Rattle.std.proofs.lemmas.Map.Made.{is_some-lookup, length-le_from_is_member, AllPairs-from_IsDistinct, IsDistinct-from_AllPairs}
 use Rattle.std.proofs.lemmas.List.Folds.{list_any_at, Any-from_list_any}
 use Rattle.indexmap.specs.IndexMap.{IndexMap, keys}
-use Rattle.qil_checker.specs.declared.lookup.Kind.TheVariants.{Named}
+use Rattle.qil_checker.specs.declared.lookup.TableKind.TheVariants.{Named}
 use Rattle.qil_rules.specs.declared.mention.Mention.{Mention}
 use Rattle.qil_rules.specs.Text.{IsTemporary}
 use Rattle.qil_rules.specs.Rules.{HasManyTemporaries}

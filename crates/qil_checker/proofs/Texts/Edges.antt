@@ -11,7 +11,7 @@ use Rattle.qil_checker.specs.Tables.{predecessor, predecessors_of, AreSameOnce}
 later : (b l : List ℕ) (m : Mention) (text : List Mention) → IsPredecessor text b l → IsPredecessor (m ∷ text) b l
 later b l m text p = (suc p.0, p.1)
 
--- what follows from an item of the list with a Edge mention before it
+-- what follows from an item of the list with the mention of an edge before it
 edge_prefix : (b l from to : List ℕ) (m : Mention) (text : List Mention) (t : Bool) → bytes_eq to b ≡ t → m.what ≡ Edge from to
     → (IsAmong l (predecessors_of b text) → IsPredecessor text b l)
     → IsAmong l ((if t then from ∷ [] else []) ++ predecessors_of b text) → IsPredecessor (m ∷ text) b l

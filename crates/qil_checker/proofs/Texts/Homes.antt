@@ -21,7 +21,7 @@ use Rattle.qil_tree.specs.declared.tree.Item.TheVariants as items
 use Rattle.qil_tree.specs.declared.tree.Field.{Field}
 use Rattle.qil_tree.specs.declared.tree.Field.TheVariants as fields
 use Rattle.qil_tree.specs.declared.tree.Data.{Data}
-use Rattle.qil_checker.specs.declared.lookup.Kind.TheVariants.{Labels}
+use Rattle.qil_checker.specs.declared.lookup.TableKind.TheVariants.{Labels}
 use Rattle.qil_rules.specs.Operands.{inst_reads, inst_target, inst_long_class}
 use Rattle.qil_rules.specs.declared.mention.MentionKind.{MentionKind}
 use Rattle.qil_rules.specs.declared.mention.MentionKind.TheVariants.{DataName, FunctionName, Label, Edge, PhiLabel, PhiOf, Defines, Uses, Global, Returns, Long}

@@ -9,7 +9,7 @@ use Rattle.qil_tree.specs.declared.ops.Class.{Class}
 use Rattle.qil_tree.specs.declared.ops.Class.TheVariants as classes
 use Rattle.qil_tree.specs.contracts.ops.Class.{the_type}
 use denote.Enum.Bare.{sameb}
-use Rattle.qil_checker.specs.declared.lookup.Kind.TheVariants.{Defined, Named, Labels}
+use Rattle.qil_checker.specs.declared.lookup.TableKind.TheVariants.{Defined, Named, Labels}
 use Rattle.qil_rules.specs.declared.mention.MentionKind.{MentionKind}
 use Rattle.qil_rules.specs.declared.mention.MentionKind.TheVariants.{DataName, FunctionName, Label, Edge, PhiLabel, PhiOf, Defines, Uses, Global, Returns, Long}
 use Rattle.qil_rules.specs.declared.mention.Mention.{Mention}

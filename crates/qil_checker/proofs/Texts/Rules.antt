@@ -5,7 +5,7 @@ use Rattle.std.proofs.lemmas.Slice.Eq.{bytes_eq-Decides}
 use Rattle.std.specs.Str.{bytes_eq}
 use Rattle.qil_tree.specs.declared.ops.Class.{Class}
 use Rattle.qil_tree.specs.declared.tree.PhiSource.{PhiSource}
-use Rattle.qil_checker.specs.declared.lookup.Kind.TheVariants.{Labels}
+use Rattle.qil_checker.specs.declared.lookup.TableKind.TheVariants.{Labels}
 use Rattle.qil_rules.specs.declared.mention.MentionKind.TheVariants.{Label, PhiLabel, PhiOf, Defines, Uses}
 use Rattle.qil_rules.specs.declared.mention.Mention.{Mention}
 use Rattle.qil_rules.specs.Text.{IsAt, FirstClass, IsUndefined, LacksLabel, IsFirstLabel, ArePredecessors, labels_of}

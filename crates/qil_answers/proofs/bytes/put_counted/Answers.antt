@@ -6,17 +6,17 @@ use Rattle.qil_answers.specs.Texts.{quoted_byte}
 use Rattle.qil_streams.proofs.TextLemmas.{HasPut-append, HasPut-stop}
 use Rattle.qil_answers.proofs.bytes.put_counted.Goals as goal
 
-pub returns-in_err-put_pieces : goal.returns-in_err-put_pieces
-returns-in_err-put_pieces g c =
-    HasPut-stop _ _ c.from_residual.ensures.1 _ _ _ (text_of (codes "out " ∷ decimal (length c.args.bytes.now) ∷ codes " \"" ∷ [])) ((flat_map quoted_byte c.args.bytes.now) ++ (codes "\"\n")) c.in_err-put_pieces.ensures
+pub returns-in_err-put_fragments : goal.returns-in_err-put_fragments
+returns-in_err-put_fragments g c =
+    HasPut-stop _ _ c.from_residual.ensures.1 _ _ _ (text_of (codes "out " ∷ decimal (length c.args.bytes.now) ∷ codes " \"" ∷ [])) ((flat_map quoted_byte c.args.bytes.now) ++ (codes "\"\n")) c.in_err-put_fragments.ensures
 
 pub returns-in_err-put_all_quoted : goal.returns-in_err-put_all_quoted
 returns-in_err-put_all_quoted g c =
-    HasPut-append _ _ _ _ _ (text_of (codes "out " ∷ decimal (length c.args.bytes.now) ∷ codes " \"" ∷ [])) ((flat_map quoted_byte c.args.bytes.now) ++ (codes "\"\n")) c.in_ok-put_pieces.ensures
+    HasPut-append _ _ _ _ _ (text_of (codes "out " ∷ decimal (length c.args.bytes.now) ∷ codes " \"" ∷ [])) ((flat_map quoted_byte c.args.bytes.now) ++ (codes "\"\n")) c.in_ok-put_fragments.ensures
     (HasPut-stop _ _ c.from_residual-in_err-put_all_quoted.ensures.1 _ _ _ (flat_map quoted_byte c.args.bytes.now) (codes "\"\n") c.in_err-put_all_quoted.ensures)
 
 pub returns : goal.returns
 returns g c =
-    HasPut-append _ _ _ _ _ (text_of (codes "out " ∷ decimal (length c.args.bytes.now) ∷ codes " \"" ∷ [])) ((flat_map quoted_byte c.args.bytes.now) ++ (codes "\"\n")) c.in_ok-put_pieces.ensures
+    HasPut-append _ _ _ _ _ (text_of (codes "out " ∷ decimal (length c.args.bytes.now) ∷ codes " \"" ∷ [])) ((flat_map quoted_byte c.args.bytes.now) ++ (codes "\"\n")) c.in_ok-put_fragments.ensures
     (HasPut-append _ _ _ _ _ (flat_map quoted_byte c.args.bytes.now) (codes "\"\n") c.in_ok-put_all_quoted.ensures
     (c.put.ensures))

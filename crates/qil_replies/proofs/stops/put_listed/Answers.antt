@@ -1,7 +1,7 @@
 -- Answers to the goals of `put_listed`.
 use Rattle.std.proofs.Common.{◌∙◌, refl, rules}
 use Rattle.qil_streams.proofs.DeviceLemmas.{Appends-nil}
-use Rattle.qil_streams.proofs.PieceLemmas.{put_more, put_stop, put_all}
+use Rattle.qil_streams.proofs.FragmentLemmas.{put_more, put_stop, put_all}
 use Rattle.qil_replies.specs.Texts.{listed_line}
 use Rattle.qil_replies.proofs.stops.put_listed.Goals as goal
 

@@ -1,8 +1,8 @@
 -- Answers to the goals of `put_more_arguments`.
 use Rattle.std.proofs.Common.{◌∙◌, refl, rules}
 use Rattle.qil_streams.proofs.DeviceLemmas.{Appends-nil}
-use Rattle.qil_streams.proofs.PieceLemmas.{put_all}
-use Rattle.qil_texts.specs.Pieces.{more_argument_text}
+use Rattle.qil_streams.proofs.FragmentLemmas.{put_all}
+use Rattle.qil_texts.specs.Fragments.{more_argument_text}
 use Rattle.qil_texts.proofs.CanonicalLemmas.{item_more, item_stop}
 use Rattle.qil_texts.proofs.canonical.put_more_arguments.Goals as goal
 

@@ -1,8 +1,8 @@
--- The pieces so far were put.
+-- The fragments so far were put.
 use Rattle.std.proofs.Common.{◌≡◌, take}
 use Rattle.std.specs.List.{flat_map}
 use Rattle.std.specs.Io.KnownBytes.{Appends}
-use Rattle.qil_texts.specs.Pieces.{more_argument_text}
+use Rattle.qil_texts.specs.Fragments.{more_argument_text}
 use Rattle.qil_texts.proofs.canonical.put_more_arguments.Given as goal
 
 abbrev pub invariant-loop-argument : goal.invariant-loop-argument

@@ -11,15 +11,15 @@ pub loop-byte-preserved : goal.loop-byte-preserved
 loop-byte-preserved g c =
     let so_far = c.loop-byte.invariant.0 in
     let line = so_far.line in
-    let piece = rw c.in-Byte.is at c.in_ok-next.ensures.piece in
+    let next_byte = rw c.in-Byte.is at c.in_ok-next.ensures.next_byte in
     let byte = c.in-Byte.byte in
     let longer : length (line ++ byte ∷ []) ≡ length line + 1 = length-append line (byte ∷ []) in (
       record {
         line = line ++ byte ∷ [];
         is_line = IsLine-append line byte so_far.is_line c.in-Byte.byte-test.1;
-        taken = Consumes-append _ _ _ line (byte ∷ []) so_far.taken piece.0;
+        taken = Consumes-append _ _ _ line (byte ∷ []) so_far.taken next_byte.0;
         kept_is = c.push.ensures ∙ ap (λ v. take 257 (v ++ byte ∷ [])) so_far.kept_is ∙ take-take-append 257 line (byte ∷ []);
-        given = omega (arith, piece.1, so_far.given, longer);
+        given = omega (arith, next_byte.1, so_far.given, longer);
         reads = Reads-append _ _ _ _ _ _ so_far.reads c.in_ok-next.ensures.reads;
       },
       c.in_ok-next.ensures.counted ∙ c.loop-byte.invariant.1,
@@ -29,8 +29,8 @@ pub returns-in-Byte-eq10-clause-line : goal.returns-in-Byte-eq10-clause-line
 returns-in-Byte-eq10-clause-line g c =
     let so_far = c.loop-byte.invariant.0 in
     let line = so_far.line in
-    let piece = rw c.in-Byte-eq10.is at c.in_ok-next.ensures.piece in
-    (line, so_far.is_line, (Consumes-append _ _ _ line (10 ∷ []) so_far.taken (rw c.in-Byte-eq10.field-0-test at piece.0), so_far.kept_is, omega (arith, piece.1, so_far.given), piece.2))
+    let next_byte = rw c.in-Byte-eq10.is at c.in_ok-next.ensures.next_byte in
+    (line, so_far.is_line, (Consumes-append _ _ _ line (10 ∷ []) so_far.taken (rw c.in-Byte-eq10.field-0-test at next_byte.0), so_far.kept_is, omega (arith, next_byte.1, so_far.given), next_byte.2))
 
 pub returns-in-Byte-eq10-clause-reads : goal.returns-in-Byte-eq10-clause-reads
 returns-in-Byte-eq10-clause-reads g c = Reads-append _ _ _ _ _ _ c.loop-byte.invariant.0.reads c.in_ok-next.ensures.reads

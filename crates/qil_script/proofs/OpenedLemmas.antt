@@ -1,0 +1,14 @@
+-- A session that was just opened.
+use Rattle.std.proofs.Common.{◌≡◌, ℕ, [], sym, ◌∙◌, ap}
+use Rattle.qil_tree.specs.declared.tree.Program.{Program}
+use Rattle.qil_meaning.specs.State.{State}
+use Rattle.qil_meaning.specs.Timeline.{Timeline, begun}
+use Rattle.qil_session.specs.Kept.{Kept, session_state}
+use Rattle.qil_script.specs.Transcript.{Setup, opened}
+
+-- a session over a history that has made no move is at the start of its program
+pub begun_session : {A H : Type 0} (program : H → Program A) (timeline : H → Timeline) (k : Kept H) (h : H) (s : Setup) (p : Program A) (start : State) (limit : ℕ)
+    → k ≡ record { history = h; stops = record { given = 0; kept = [] }; limit = limit } → s.limit ≡ limit → program h ≡ p → timeline h ≡ begun s.keeps start
+    → session_state program timeline k ≡ opened s p start
+begun_session {A} {H} program timeline k h s p start limit e l ep et =
+    ap (λ (x : Kept H). session_state program timeline x) e ∙ (λ i. record { program = ep i; timeline = et i; stops = record { given = 0; kept = [] }; limit = sym l i })

@@ -1,0 +1,3 @@
+-- What a script has been answered, and whole transcripts.
+pub mod Reached
+pub mod Transcript

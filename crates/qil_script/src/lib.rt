@@ -1,0 +1,19 @@
+//! Scripts and transcripts: what a session that is opened on a text is, what the lines of a script are answered in it, and
+//! the transcript that a text and a script have.
+//!
+//! `specs/Transcript.antt` says what a transcript is, `specs/Reached.antt` how far a script has been answered; the lemmas that
+//! lead from line to line are in `proofs/`. What serves a script, and what records one, state what they do by these words.
+//!
+//! Nothing here runs.
+#![tactic(auto)]
+
+ghost use Rattle.std.specs.Prelude.{ℕ, List};
+ghost use Rattle.qil_session.specs.Answers.{IsAnswered};
+ghost use Rattle.qil_session.specs.SessionState.{SessionState};
+
+use std::alloc::Allocator;
+
+/// From any state of a session each script has answers.
+pub fn script_has_answers<A: Allocator>()
+    ensures { (s : SessionState A) (lines : List (List ℕ)) → (text : List ℕ) × IsAnswered s lines text }
+{}

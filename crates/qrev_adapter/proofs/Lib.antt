@@ -1,0 +1,1 @@
+-- What this crate proves besides the goals of its functions.

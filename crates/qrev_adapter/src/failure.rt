@@ -1,0 +1,97 @@
+//! Why a request isn't done, and why the adapter can't go on.
+
+use qrev_protocol::SendError;
+use std::alloc::AllocError;
+
+/// Why the adapter can't go on.
+#[derive(Clone, Copy, Debug, PartialEq, Eq)]
+pub enum Trouble {
+    OutOfMemory,
+    /// The device that messages go to failed.
+    Device,
+}
+
+impl From<AllocError> for Trouble {
+    fn from(_refused: AllocError) -> Self {
+        Trouble::OutOfMemory
+    }
+}
+
+impl From<SendError> for Trouble {
+    fn from(error: SendError) -> Self {
+        match error {
+            SendError::OutOfMemory => Trouble::OutOfMemory,
+            SendError::Device => Trouble::Device,
+        }
+    }
+}
+
+/// What is wrong with a request.
+#[derive(Clone, Copy, Debug, PartialEq, Eq)]
+pub enum Cause {
+    NoSession,
+    SessionOpen,
+    AlreadyConfigured,
+    NotSupported,
+    AnotherFile,
+    NoSuchFrame,
+    NoSuchVariables,
+    ReadOnly,
+    NewlineInValue,
+    NoSuchName,
+    QuitInConsole,
+    NoFault,
+    NoAddress,
+    NoCount,
+    NotBase64,
+    DeadAddress,
+    NoMemory,
+    ScriptFull,
+}
+
+impl Cause {
+    /// What the editor is told.
+    pub fn as_str(self) -> &'static str {
+        match self {
+            Cause::NoSession => "no session",
+            Cause::SessionOpen => "a session is open",
+            Cause::AlreadyConfigured => "already configured",
+            Cause::NotSupported => "not supported",
+            Cause::AnotherFile => "another file",
+            Cause::NoSuchFrame => "no such frame",
+            Cause::NoSuchVariables => "no such variables",
+            Cause::ReadOnly => "read-only",
+            Cause::NewlineInValue => "a newline in a value",
+            Cause::NoSuchName => "no such temporary or global here",
+            Cause::QuitInConsole => "quit ends no session here",
+            Cause::NoFault => "no fault",
+            Cause::NoAddress => "no address",
+            Cause::NoCount => "no count",
+            Cause::NotBase64 => "not in base64",
+            Cause::DeadAddress => "no: dead address",
+            Cause::NoMemory => "no memory for the next move",
+            Cause::ScriptFull => "the script is full",
+        }
+    }
+}
+
+/// Why a request isn't done.
+#[derive(Clone, Copy, Debug, PartialEq, Eq)]
+pub enum Failure {
+    /// The session refused a line: its answer is the end of the transcript from there on.
+    Answered(usize),
+    Because(Cause),
+    OutOfMemory,
+}
+
+impl From<AllocError> for Failure {
+    fn from(_refused: AllocError) -> Self {
+        Failure::OutOfMemory
+    }
+}
+
+impl From<Cause> for Failure {
+    fn from(cause: Cause) -> Self {
+        Failure::Because(cause)
+    }
+}

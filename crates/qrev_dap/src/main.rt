@@ -1,0 +1,85 @@
+//! `qrev-dap`: a debug adapter for editors, on standard input and output.
+#![tactic(auto)]
+
+use qil_streams::{FromReader, IntoWriter};
+use qrev_adapter::{Ended, Files, Opening, Record, serve};
+use std::alloc::{AllocError, Global};
+use std::hash::RandomState;
+use std::io::Read;
+use std::process::ExitCode;
+use std::random::RandomSource;
+use std::{fs, io, rt};
+
+/// One byte more than a program may have, so that one that is too long is told by the reader of programs.
+const READ_LIMIT: u64 = (1 << 20) + 1;
+
+/// The same of a map of places.
+const MAP_READ_LIMIT: u64 = (1 << 24) + 1;
+
+/// The files of the system.
+#[derive(Drop)]
+struct Disk<'r, R> {
+    rt: &'r R,
+    alloc: Global,
+}
+
+/// The first bytes of a file.
+fn read_file<R: rt::Files>(rt: &R, alloc: Global, name: &str, limit: u64) -> io::Result<Vec<u8>> {
+    let mut bytes = Vec::new(alloc);
+    fs::open(rt, name)?.take(limit).read_to_end(&mut bytes)?;
+    Ok(bytes)
+}
+
+impl<'r, R: rt::Files> Files<Global> for Disk<'r, R> {
+    fn read(&self, name: &str) -> Option<Vec<u8>> {
+        read_file(self.rt, self.alloc, name, READ_LIMIT).ok()
+    }
+
+    fn read_map(&self, name: &str) -> Result<Option<Vec<u8>>, AllocError> {
+        match read_file(self.rt, self.alloc, name, MAP_READ_LIMIT) {
+            Ok(bytes) => Ok(Some(bytes)),
+            Err(error) => {
+                if error.kind() == io::ErrorKind::OutOfMemory {
+                    Err(AllocError)
+                } else {
+                    Ok(None)
+                }
+            }
+        }
+    }
+
+    fn write(
+        &self,
+        script_name: &str,
+        transcript_name: &str,
+        _opening: Opening<'_>,
+        kept: Record<'_>,
+    ) -> bool {
+        fs::write(self.rt, script_name, kept.script).is_ok()
+            && fs::write(self.rt, transcript_name, kept.transcript).is_ok()
+    }
+}
+
+/// The status after a session.
+fn status(ended: Ended) -> u8 {
+    match ended {
+        Ended::Left | Ended::InputEnded => 0,
+        Ended::Broken => 2,
+        Ended::OutOfMemory => 3,
+    }
+}
+
+/// Serves an editor. Each message is written by one call.
+fn run<R: rt::Files + Input + Print + RandomSource>(rt: &R, alloc: Global) -> u8 {
+    let Ok(keys) = RandomState::new(rt) else {
+        return 2;
+    };
+    let files = Disk { rt, alloc };
+    let source = FromReader::new(rt.reader());
+    let sink = IntoWriter::new(io::writer(rt));
+    status(serve(alloc, keys, source, sink, &files))
+}
+
+fn main(rt: HostRuntime) -> ExitCode {
+    ExitCode::from(run(&rt, rt.alloc()))
+}

@@ -1,0 +1,188 @@
+//! What the arguments of a launch say.
+
+ghost use Rattle.std.specs.Prelude.{◌≤◌, unwrap_or, IfSome, IfOk};
+
+use crate::arguments::Arguments;
+use json::Value;
+use std::alloc::{AllocError, Allocator};
+
+/// What is debugged, and how.
+#[derive(Drop)]
+pub struct Launch<A: Allocator> {
+    pub program: String<A>,
+    pub entry: String<A>,
+    pub args: Vec<u64, A>,
+    pub limit: u64,
+    /// The most moves that can be undone, if there is a bound.
+    pub bound: Option<u64>,
+    pub stops_on_entry: bool,
+    pub record: Option<String<A>>,
+    /// The path of the map of places: none is looked for if it is empty.
+    pub map: Option<String<A>>,
+    ghost bounded: { limit ≤ 4294967295 },
+    ghost least: { 1 ≤ unwrap_or bound 1 },
+    ghost most: { unwrap_or bound 1 ≤ 1000000 },
+}
+
+/// Why a launch is refused before anything is loaded.
+#[derive(Clone, Copy, Debug, PartialEq, Eq)]
+pub enum Unfit {
+    Program,
+    Entry,
+    Args,
+    Limit,
+    History,
+    StopOnEntry,
+    Record,
+    Map,
+    OutOfMemory,
+}
+
+impl From<AllocError> for Unfit {
+    fn from(_refused: AllocError) -> Self {
+        Unfit::OutOfMemory
+    }
+}
+
+/// What the editor is told.
+pub fn unfit_words(unfit: Unfit) -> &'static str {
+    match unfit {
+        Unfit::Program => "program: no path",
+        Unfit::Entry => "entry: no name",
+        Unfit::Args => "args: not a number from 0 to 18446744073709551615",
+        Unfit::Limit => "limit: not a number from 1 to 4294967295",
+        Unfit::History => "history: not a number from 1 to 1000000",
+        Unfit::StopOnEntry => "stopOnEntry: no flag",
+        Unfit::Record => "record: no path",
+        Unfit::Map => "map: no path",
+        Unfit::OutOfMemory => "out of memory",
+    }
+}
+
+/// A number that a value says, in digits, or a text of digits.
+fn number_said<A: Allocator + Copy>(value: &Value<'_, A>) -> Option<u64> {
+    match value.as_str() {
+        Some(text) if text.starts_with('+') => None,
+        Some(text) => text.parse::<u64>().ok(),
+        None => value.as_u64(),
+    }
+}
+
+/// The arguments of the entry.
+fn numbers_said<A: Allocator + Copy>(
+    alloc: A,
+    asked: Arguments<'_, '_, A>,
+) -> Result<Vec<u64, A>, Unfit> {
+    let mut numbers = Vec::new(alloc);
+    let Some(value) = asked.get("args") else {
+        return Ok(numbers);
+    };
+    if !matches!(value, Value::Array(_)) {
+        return Err(Unfit::Args);
+    }
+    for index in 0..usize::MAX {
+        let Some(item) = value.at(index) else {
+            return Ok(numbers);
+        };
+        match number_said(item) {
+            Some(number) => match numbers.push(number) {
+                Ok(()) => {}
+                Err(_) => return Err(Unfit::OutOfMemory),
+            },
+            None => return Err(Unfit::Args),
+        }
+    }
+    Ok(numbers)
+}
+
+/// A text that may be left out.
+fn text_said<A: Allocator + Copy>(
+    alloc: A,
+    asked: Arguments<'_, '_, A>,
+    name: &str,
+    unfit: Unfit,
+) -> Result<Option<String<A>>, Unfit> {
+    match asked.get(name) {
+        None => Ok(None),
+        Some(value) => match value.as_str() {
+            Some(text) => Ok(Some(String::from_str(alloc, text)?)),
+            None => Err(unfit),
+        },
+    }
+}
+
+/// The name of the entry.
+fn entry_said<A: Allocator + Copy>(
+    alloc: A,
+    asked: Arguments<'_, '_, A>,
+) -> Result<String<A>, Unfit> {
+    match text_said(alloc, asked, "entry", Unfit::Entry)? {
+        Some(entry) => Ok(entry),
+        None => Ok(String::from_str(alloc, "main")?),
+    }
+}
+
+/// The path of the program.
+fn program_said<A: Allocator + Copy>(
+    alloc: A,
+    asked: Arguments<'_, '_, A>,
+) -> Result<String<A>, Unfit> {
+    match text_said(alloc, asked, "program", Unfit::Program)? {
+        Some(program) => Ok(program),
+        None => Err(Unfit::Program),
+    }
+}
+
+/// Whether the run is to stand at its entry.
+fn stop_said<A: Allocator + Copy>(asked: Arguments<'_, '_, A>) -> Result<bool, Unfit> {
+    match asked.get("stopOnEntry") {
+        None => Ok(true),
+        Some(value) => match value.as_bool() {
+            Some(flag) => Ok(flag),
+            None => Err(Unfit::StopOnEntry),
+        },
+    }
+}
+
+/// A number in a range that may be left out.
+fn number_in<A: Allocator + Copy>(
+    asked: Arguments<'_, '_, A>,
+    name: &str,
+    most: u64,
+    unfit: Unfit,
+) -> Result<Option<u64>, Unfit>
+    ensures { IfOk result (λ number. IfSome number (λ n. (1 ≤ n) × (n ≤ most))) }
+{
+    match asked.get(name) {
+        None => Ok(None),
+        Some(value) => match number_said(value) {
+            Some(number) if number >= 1 && number <= most => Ok(Some(number)),
+            _ => Err(unfit),
+        },
+    }
+}
+
+/// What the arguments say.
+pub fn launch_said<A: Allocator + Copy>(
+    alloc: A,
+    asked: Arguments<'_, '_, A>,
+) -> Result<Launch<A>, Unfit> {
+    let program = program_said(alloc, asked)?;
+    let entry = entry_said(alloc, asked)?;
+    let args = numbers_said(alloc, asked)?;
+    let limit = number_in(asked, "limit", 4_294_967_295, Unfit::Limit)?;
+    let bound = number_in(asked, "history", 1_000_000, Unfit::History)?;
+    let stops_on_entry = stop_said(asked)?;
+    let record = text_said(alloc, asked, "record", Unfit::Record)?;
+    let map = text_said(alloc, asked, "map", Unfit::Map)?;
+    Ok(Launch {
+        program,
+        entry,
+        args,
+        limit: limit.unwrap_or(1_000_000),
+        bound,
+        stops_on_entry,
+        record,
+        map,
+    })
+}

@@ -1,0 +1,5 @@
+-- The lemmas of this crate.
+pub mod ShownTexts
+pub mod Pages
+pub mod Rows
+pub mod Stacks

@@ -1,0 +1,28 @@
+-- Answers to the goals of `put_frame`.
+use Rattle.std.proofs.Common.{refl, append_assoc, codes, decimal, [], ◌∷◌, ◌++◌}
+use Rattle.json.specs.Token.{key, number, end_object}
+use Rattle.qil_state.specs.State.{frame_state}
+use Rattle.qrev_views.specs.Frames.{frame_head}
+use Rattle.qrev_views.proofs.frames.put_frame.Goals as goal
+
+pub returns : goal.returns
+returns g c = λ callers.
+    let placed = c.in_ok-item-2.ensures in (
+      frame_head c.args.number (frame_state c.args.machine.now.program callers c.args.frame.now) ++ (placed.0 ++ key (codes "column") ∷ number (decimal c.from.result) ∷ end_object ∷ []),
+      (placed.0, c.from.result, placed.1, refl),
+      rw (
+        c.in_ok-list.ensures,
+        c.in_ok-number-2.ensures,
+        placed.2,
+        c.in_ok-item.ensures,
+        c.in_ok-number.ensures,
+        c.in_ok-object.ensures,
+        append_assoc,
+        append_assoc,
+        append_assoc,
+        append_assoc,
+        append_assoc,
+        c.as_str.ensures.value,
+        c.in_ok-name.ensures callers,
+      ) refl,
+    )

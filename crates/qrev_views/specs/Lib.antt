@@ -1,0 +1,5 @@
+-- What an editor is shown, as a function of the state of the meaning.
+pub mod Texts
+pub mod Pages
+pub mod Variables
+pub mod Frames

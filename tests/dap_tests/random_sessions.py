@@ -1,0 +1,340 @@
+"""Random sessions of requests on random programs. What must come of each is what the adapter of tests/reference answers; its
+`Free` parts may be anything. The record is played again by `qrev`."""
+import json
+import pathlib
+import subprocess
+from random import Random
+
+from harness.running import EXAMPLES
+from hostile_tests.programs import NUMBERS, random_program
+from hostile_tests.scripts import Lines
+from reference.adapter import Adapter
+from reference.shown import DATA, MACHINE, Free
+
+from .driver import Record, frame, messages_in, replay_fault, request_message
+from .sessions import FOLDER
+
+REQUESTS = 60
+KINDS = {"next": 12, "stepIn": 12, "stepOut": 6, "stepBack": 12, "continue": 10, "reverseContinue": 8, "restartFrame": 4,
+         "configurationDone": 4, "setBreakpoints": 6, "setFunctionBreakpoints": 4, "setDataBreakpoints": 5,
+         "dataBreakpointInfo": 5, "breakpointLocations": 2, "stackTrace": 6, "scopes": 3, "variables": 10, "setVariable": 8,
+         "evaluate": 8, "console": 14, "readMemory": 4, "writeMemory": 4, "exceptionInfo": 3, "completions": 3,
+         "threads": 1, "pause": 1, "setExceptionBreakpoints": 1, "odd": 2, "restart": 1, "terminate": 1}
+MOVES = ("next", "stepIn", "stepOut", "stepBack", "continue", "reverseContinue")
+# Lines whose answer hangs on what no page settles for an adapter: it ends nothing, and a text isn't a line of bytes.
+LEFT_OUT = ("quit", "\xff\xfe")
+# Paths in maps of places, numbers in them, and lines of another form.
+SOURCES = ("a.hll", "a.hll", "b c.hll", "./a.hll", "/abs/a.hll", "../up//y.hll", "caf\u00e9.hll", "d\\te\\\\t\\n.hll")
+NUMBERS_OF_LINES = ("1", "2", "2", "3", "4", "5", "6", "7", "8", "9", "007", "4294967295")
+MALFORMED = (b"x", b"x\t", b"\t5", b"5", b"x\t0", b"x\t00", b"x\t4294967296", b"x\t18446744073709551617", b"x\t+1", b"x\t-1", b"x\t1\r",
+             b"\r", b"\t", b"\xff\t1", b"caf\xe9.hll\t1", b"x 1", b"x\t1 ", b"x\t1a", b"x\t0x1", b"x\t1.0", b"x\t\xd9\xa1", b"x\t1\t",
+             b"x\t1\ty", b"x\t1\ty\t2", b"x\t1\ty\t2\t", b"x\t1\t\t\t", b"x\t0\ty\t2\t3", b"\t1\ty\t2\t3", b"x\t1\ty\t+2\t3",
+             b"x\t1\ty\t2\t-3", b"x\t1\t\xff\t2\t3", b"x\t1\ty\t2\t3\t4")
+
+
+def random_place(random):
+    """A line of a map: a source and a line of it, and as a rule not what that was made from."""
+    place = f"{random.choice(SOURCES)}\t{random.choice(NUMBERS_OF_LINES)}"
+    if random.randrange(5) == 0:
+        place += f"\t{random.choice(SOURCES + ('',))}\t{random.choice(NUMBERS_OF_LINES + ('0', '4294967296'))}\t{random.randrange(3)}"
+    return place.encode()
+
+
+def random_map(random, count, is_good):
+    """A map of places for so many lines of a text, a few more or fewer."""
+    lines = [random_place(random) if random.randrange(3) else b"" for _ in range(max(0, count + random.randrange(-3, 3)))]
+    if not is_good:
+        lines.insert(random.randrange(len(lines) + 1), random.choice(MALFORMED))
+    return b"\n".join(lines) + random.choice((b"", b"\n"))
+
+
+class Session:
+    """The requests of a seed, each chosen where the reference stands, and what it answers."""
+
+    def __init__(self, seed, folder):
+        self.random = Random(seed)
+        self.adapter = Adapter()
+        self.messages, self.wanted = [], []
+        self.program, self.record = folder / f"random-{seed}.ssa", folder / f"random-{seed}.script"
+        self.arguments = self.recorded = None
+        if self.random.randrange(5):
+            text, arguments = random_program(self.random)
+        else:
+            places = sorted(EXAMPLES.glob("*.ssa")) + sorted(FOLDER.glob("*.ssa"))
+            text, arguments = self.random.choice(places).read_bytes(), []
+        self.text, self.args = text, arguments
+        self.program.write_bytes(text)
+        self.write_maps(folder)
+
+    def write_maps(self, folder):
+        """A map beside the text, as a rule; one elsewhere, and one of another form."""
+        count = self.text.count(b"\n")
+        beside, elsewhere, bad = (folder / f"{name}.map" for name in (self.program.name, "elsewhere", "bad"))
+        if self.random.randrange(3):
+            beside.write_bytes(random_map(self.random, count, True))
+        elsewhere.write_bytes(random_map(self.random, count, True))
+        bad.write_bytes(random_map(self.random, count, False))
+        self.maps = (None,) * 8 + ("", str(elsewhere), str(bad), str(folder / "nowhere.map"))
+
+    # Requests.
+
+    def ask(self, command, arguments=None):
+        message = request_message(len(self.messages) + 1, command, arguments)
+        self.messages.append(message)
+        self.wanted += self.adapter.answer(message)
+
+    def launch_arguments(self):
+        random = self.random
+        given = {"program": str(self.program), "record": str(self.record), "args": [
+            str(one) if random.randrange(2) else one for one in self.args], "limit": random.choice((1, 2, 7, 50, 200))}
+        history = random.choice((None, None, None, 1, 2, 3, 10, 60))
+        if history is not None:
+            given["history"] = history
+        if random.randrange(3) == 0:
+            given["stopOnEntry"] = bool(random.randrange(2))
+        map_given = random.choice(self.maps)
+        if map_given is not None:
+            given["map"] = map_given
+        return given
+
+    def launch(self):
+        self.arguments = self.launch_arguments()
+        self.ask("launch", self.arguments)
+        self.note_recorded()
+
+    def note_recorded(self):
+        """Notes the arguments of a session that is open: its record is of these."""
+        if self.adapter.debuggee:
+            self.recorded = self.arguments
+
+    def begin(self):
+        self.ask("initialize", {"linesStartAt1": bool(self.random.randrange(3)),
+                                "columnsStartAt1": bool(self.random.randrange(3))})
+        self.launch()
+        return self.adapter.debuggee is not None
+
+    def run(self, requests):
+        if self.begin():
+            kinds = self.random.choices(list(KINDS), list(KINDS.values()), k=requests)
+            for kind in kinds:
+                if self.adapter.debuggee is None:
+                    self.launch()
+                    if self.adapter.debuggee is None:
+                        continue
+                self.lines = Lines(self.random, self.adapter.debuggee.program)
+                self.request(kind)
+        self.ask("disconnect")
+
+    def request(self, kind):
+        if kind in MOVES:
+            granularity = self.random.choice(({}, {}, {"granularity": "instruction"}, {"granularity": "line"}))
+            return self.ask(kind, {"threadId": 1, **granularity})
+        if not hasattr(self, kind):
+            return self.ask(kind, {"threadId": 1})
+        self.ask(*getattr(self, kind)())
+        if kind == "restart":
+            self.note_recorded()
+
+    def some(self, make, most=4):
+        return [make() for _ in range(self.random.randrange(most))]
+
+    @property
+    def depth(self):
+        return self.adapter.debuggee.depth
+
+    def frame(self):
+        return self.random.randrange(1, self.depth + 2)
+
+    def temporary(self, frame):
+        """A temporary of the frame of that number, or another name."""
+        found = self.adapter.view().frame(frame)
+        return "%" + self.lines.temp(self.adapter.debuggee.program.funcs[found.func] if found else None)
+
+    def datum(self):
+        return "$" + self.random.choice(self.lines.datas) if self.lines.datas else "$nope"
+
+    def restartFrame(self):
+        return "restartFrame", {"frameId": self.frame()}
+
+    def line_number(self):
+        return self.random.randrange(self.text.count(b"\n") + 3)
+
+    def path(self):
+        """The path of the text, of a source that its map names, or of another file."""
+        sources = self.adapter.debuggee.sources
+        if sources and sources.paths() and self.random.randrange(2):
+            path = sources.shown(self.random.choice(list(sources.paths())))
+            return self.random.choice((path, path, path, path.rsplit("/", 1)[-1], "/nowhere" + path))
+        return str(self.program) if self.random.randrange(8) else self.random.choice(
+            (self.program.name, "/nowhere/" + self.program.name, "x" + self.program.name))
+
+    def source_line(self):
+        return self.random.choice((self.line_number(), self.random.randrange(11), 2**32 - 1, 2**32))
+
+    def setBreakpoints(self):
+        return "setBreakpoints", {"source": {"path": self.path()}, "breakpoints": self.some(lambda: {"line": self.source_line()})}
+
+    def place(self):
+        line = self.lines.line("break").removeprefix("break ")
+        return self.random.choice((line, line, line.removeprefix("$"), "nope", "f0 @nope 1", "main @start x"))
+
+    def setFunctionBreakpoints(self):
+        return "setFunctionBreakpoints", {"breakpoints": self.some(lambda: {"name": self.place()}, 3)}
+
+    def watched(self):
+        return self.lines.line(self.random.choice(("watch bytes", "watch temp"))).removeprefix("watch ")
+
+    def setDataBreakpoints(self):
+        return "setDataBreakpoints", {"breakpoints": self.some(lambda: {
+            "dataId": self.watched(), "accessType": self.random.choice(("write", "write", "write", "read"))}, 3)}
+
+    def dataBreakpointInfo(self):
+        random, frame = self.random, self.frame()
+        return "dataBreakpointInfo", random.choice((
+            lambda: {"variablesReference": 1, "name": self.temporary(1)},
+            lambda: {"variablesReference": frame, "name": self.temporary(frame)},
+            lambda: {"variablesReference": DATA, "name": self.datum()},
+            lambda: {"variablesReference": MACHINE, "name": "top"},
+            lambda: {"name": self.temporary(1)},
+            lambda: {"name": self.temporary(frame), "frameId": frame},
+            lambda: {"name": self.datum()}))()
+
+    def breakpointLocations(self):
+        first = self.source_line()
+        last = {} if self.random.randrange(3) == 0 else {"endLine": first + self.random.randrange(20)}
+        return "breakpointLocations", {"source": {"path": self.path()}, "line": first, **last}
+
+    def stackTrace(self):
+        return "stackTrace", {"threadId": 1, **self.random.choice((
+            {}, {"startFrame": 0, "levels": 20}, {"startFrame": self.frame() - 1, "levels": self.random.randrange(4)}))}
+
+    def scopes(self):
+        return "scopes", {"frameId": self.frame()}
+
+    def variables(self):
+        reference = self.random.choice((1, 1, self.frame(), DATA, DATA, MACHINE, self.depth + 1))
+        page = self.random.choice(({}, {}, {"start": self.random.randrange(6), "count": self.random.randrange(4)}))
+        return "variables", {"variablesReference": reference, **page}
+
+    def value(self):
+        return self.lines.value() if self.random.randrange(4) else self.random.choice(("x", "1 2", "", str(2**64), "1\n2"))
+
+    def setVariable(self):
+        reference = self.random.choice((1, 1, 1, DATA, DATA, MACHINE, self.depth + 1))
+        name = self.datum() if reference == DATA else "top" if reference == MACHINE else self.temporary(1)
+        if name == "$nope" or reference == 1 and not self.depth:
+            reference = MACHINE
+        # Where nothing can be set, and the value has a newline too, no page says which of both is told.
+        value = self.value() if reference in (1, DATA) else self.lines.value()
+        return "setVariable", {"variablesReference": reference, "name": name, "value": value}
+
+    def evaluate(self):
+        frame = self.frame()
+        name = self.random.choice((self.temporary(1), self.temporary(frame), self.datum(), "$main", "%nope"))
+        context = self.random.choice(("watch", "hover", "repl"))
+        if context == "repl" and name.startswith(("$nope", "%")):
+            context = "watch"
+        if context == "hover" and self.random.randrange(2):
+            name = name[1:]
+        where = self.random.choice(({}, {"frameId": frame}))
+        return "evaluate", {"expression": name, "context": context, **where}
+
+    def console_line(self):
+        line = self.random.choice(list(self.lines.some(3)))
+        return "where" if line.strip(" \t\r").startswith(LEFT_OUT) else line.replace("4294967295", "500")
+
+    def console(self):
+        lines = [self.console_line() for _ in range(self.random.choice((1, 1, 1, 2, 3)))]
+        return "evaluate", {"expression": "\n".join(lines), "context": "repl"}
+
+    def address(self):
+        return str(self.random.choice((65536 + self.random.randrange(40), 2**24 + self.random.randrange(40),
+                                       self.random.choice(NUMBERS) % 2**64)))
+
+    def readMemory(self):
+        return "readMemory", {"memoryReference": self.address(), "count": self.random.choice((0, 1, 5, 16, 300)),
+                              **self.random.choice(({}, {"offset": self.random.randrange(-20, 20)}))}
+
+    def writeMemory(self):
+        data = self.random.choice(("", "AQ==", "AQI=", "AQID", "AQIDBAUGBwgJCgsMDQ4P", "x"))
+        return "writeMemory", {"memoryReference": self.address(), "data": data}
+
+    def completions(self):
+        text = self.random.choice(("s", "re", "print %", "print %w", "break $", "break $main @b", "watch $f", "x", "set %t"))
+        return "completions", {"text": text, "column": len(text) + self.adapter.first_column}
+
+    def odd(self):
+        return self.random.choice((("goto", {}), ("launch", {}), ("initialize", {}), ("nonsense", None), ("attach", {})))
+
+    def restart(self):
+        self.arguments = self.random.choice((self.arguments, self.launch_arguments()))
+        return "restart", {"arguments": self.arguments}
+
+
+def difference(want, got, place=""):
+    """Where a message is otherwise than it must be, or None."""
+    if isinstance(want, Free):
+        return None
+    if isinstance(want, dict) and isinstance(got, dict):
+        for name in {**want, **got}:
+            if isinstance(want.get(name), Free):
+                continue
+            if name not in want or name not in got:
+                return f"{place}.{name} is {'there' if name in got else 'not there'}"
+            fault = difference(want[name], got[name], f"{place}.{name}")
+            if fault:
+                return fault
+        return None
+    if isinstance(want, list) and isinstance(got, list) and len(want) == len(got):
+        found = (difference(one, other, f"{place}[{at}]") for at, (one, other) in enumerate(zip(want, got)))
+        return next(filter(None, found), None)
+    is_same = type(want) is type(got) and want == got
+    return None if is_same else f"{place} is {json.dumps(got)[:200]} in place of {json.dumps(want, default=vars)[:200]}"
+
+
+def with_order(message):
+    """A message without its number, with a body, and with targets in the order of their labels."""
+    message = {name: part for name, part in message.items() if name != "seq"}
+    if message["type"] == "event" or message.get("success"):
+        message.setdefault("body", {})
+    if message.get("command") == "completions" and message.get("success"):
+        targets = sorted(message["body"].get("targets", []), key=lambda target: target.get("label", ""))
+        message["body"] = {**message["body"], "targets": targets}
+    return message
+
+
+def answered_fault(session, got):
+    """The first message that is otherwise than the reference's, with the request that it comes of."""
+    asked = None
+    for at in range(max(len(session.wanted), len(got))):
+        if at < len(session.wanted) and session.wanted[at]["type"] == "response":
+            asked = session.messages[session.wanted[at]["request_seq"] - 1]
+        if at >= len(got) or at >= len(session.wanted):
+            return f"{len(got)} messages in place of {len(session.wanted)}, the last request being {json.dumps(asked)}"
+        if "wrong" in got[at]:
+            return got[at]["wrong"]
+        fault = difference(with_order(session.wanted[at]), with_order(got[at])) or (
+            None if got[at].get("seq") == at + 1 else f"seq {got[at].get('seq')} in place of {at + 1}")
+        if fault:
+            return f"message {at + 1}, of {json.dumps(asked)}: {fault}"
+    return None
+
+
+def fault_of(program, qrev, folder, seed, requests, seconds):
+    """What an adapter does otherwise than the reference in the session of a seed, or None."""
+    session = Session(seed, pathlib.Path(folder))
+    session.run(requests)
+    sent = b"".join(map(frame, session.messages))
+    try:
+        run = subprocess.run([program], input=sent, capture_output=True, cwd=folder, timeout=seconds)
+    except subprocess.TimeoutExpired:
+        return f"no end after {seconds:g} seconds"
+    fault = answered_fault(session, messages_in(run.stdout))
+    if fault or run.returncode != 0:
+        return fault or f"exit status {run.returncode}"
+    if not session.record.exists():
+        return None
+    given = session.recorded
+    words = [given["program"], *map(str, given["args"]), "--limit", str(given["limit"])]
+    words += ["--history", str(given["history"])] if "history" in given else []
+    return replay_fault(qrev, Record(str(session.record), words), pathlib.Path(folder), seconds)

@@ -1,0 +1,86 @@
+"""Whether messages are those of the protocol's own definitions, which the TypeScript compiler reads."""
+import json
+import pathlib
+import re
+import shutil
+import subprocess
+import tempfile
+
+DEFINITIONS = pathlib.Path("/usr/share/nodejs/@vscode/debugprotocol/lib/debugProtocol.d.ts")
+OLD_DEFINITIONS = pathlib.Path("/usr/share/nodejs/vscode-debugprotocol/lib/debugProtocol.d.ts")
+OPTIONS = {"compilerOptions": {"noEmit": True, "strict": True, "target": "es2015", "types": []}, "files": ["messages.ts"]}
+# Messages with something wrong, which must be refused, so that it is known that wrong ones are.
+PLANTED = [
+    ("a name", {"seq": 1, "type": "event", "event": "stopped", "body": {"reason": "step", "threadID": 1}}),
+    ("a type", {"seq": 1, "type": "event", "event": "stopped", "body": {"reason": "step", "threadId": "1"}}),
+    ("a part", {"seq": 1, "type": "response", "request_seq": 1, "success": True, "command": "evaluate",
+                "body": {"result": "1"}}),
+]
+
+
+def definitions():
+    return next((path for path in (DEFINITIONS, OLD_DEFINITIONS) if path.exists()), None)
+
+
+def type_of(message, known):
+    """The name of the definition that a message falls under."""
+    if message["type"] == "request":
+        name = "Request"
+    elif message["type"] == "event":
+        name = message["event"][:1].upper() + message["event"][1:] + "Event"
+    elif not message["success"]:
+        name = "ErrorResponse"
+    else:
+        name = message["command"][:1].upper() + message["command"][1:] + "Response"
+    return name if name in known else None
+
+
+def with_body(message):
+    """A failure with the body that its definition wants, whose parts may all be missing."""
+    is_failure = message["type"] == "response" and not message["success"]
+    return {**message, "body": {}} if is_failure and "body" not in message else message
+
+
+def text_of(messages, path, known):
+    """The messages as constants of TypeScript, one a line from the second on."""
+    lines = [f"import {{ DebugProtocol as D }} from {json.dumps(str(path)[:-len('.d.ts')])};"]
+    lines += [f"export const m{number}: D.{type_of(message, known)} = {json.dumps(with_body(message))};"
+              for number, message in enumerate(messages)]
+    return "\n".join(lines) + "\n"
+
+
+def refused_lines(messages, path, known, seconds):
+    """The messages that are refused, by their number, with what is said of each."""
+    with tempfile.TemporaryDirectory(prefix="schema-") as folder:
+        place = pathlib.Path(folder)
+        (place / "messages.ts").write_text(text_of(messages, path, known))
+        (place / "tsconfig.json").write_text(json.dumps(OPTIONS))
+        run = subprocess.run(["tsc", "-p", "."], cwd=folder, capture_output=True, text=True, timeout=seconds)
+    found = {}
+    for line in run.stdout.splitlines():
+        place = re.match(r"messages\.ts\((\d+),\d+\): (.*)", line)
+        if place:
+            found.setdefault(int(place[1]) - 2, place[2])
+    return found, run
+
+
+def faults(logs, seconds):
+    """For each session what its messages have otherwise than the definitions, or None."""
+    path = definitions()
+    if path is None or shutil.which("tsc") is None:
+        print("skipped: the protocol's definitions or tsc (node-vscode-debugprotocol, node-typescript) aren't here")
+        return
+    known = set(re.findall(r"interface (\w+)", path.read_text()))
+    sent = [(name, message) for name, log in logs.items() for message in log if message.get("type") != "request"]
+    nameless = [(name, message) for name, message in sent if type_of(message, known) is None]
+    told = [(name, message) for name, message in sent if type_of(message, known)]
+    messages = [message for _, message in told] + [message for _, message in PLANTED]
+    found, run = refused_lines(messages, path, known, 4 * seconds)
+    if run.returncode == 0 or not run.stdout or not told:
+        yield "schema", f"the compiler has looked at nothing: {run.stdout}{run.stderr}"
+    for at, (what, _) in enumerate(PLANTED, len(told)):
+        yield f"schema: {what} that is wrong", None if at in found else "it isn't refused"
+    for name in logs:
+        wrong = [f"{json.dumps(told[at][1])}: {found[at]}" for at in sorted(found) if at < len(told) and told[at][0] == name]
+        wrong += [f"no definition for {json.dumps(message)}" for one, message in nameless if one == name]
+        yield f"schema: {name}", "; ".join(wrong[:2])

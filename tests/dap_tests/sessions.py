@@ -1,0 +1,92 @@
+"""A session with a debug adapter as a text, line by line. `#` at the front of a line and empty lines aside:
+
+    > COMMAND {ARGUMENTS}   a request, its arguments as JSON, if it has some
+    < {BODY}                its response is a success, and its body has these parts
+    < no MESSAGE            its response is a failure with this message (`*`: any), and has no body
+    ! EVENT {BODY}          the next event is this one, and its body has these parts
+    = FILE                  the file has exactly the lines that follow, each behind `| `
+    + FILE                  from here on there is a file with these lines in the folder of the run
+
+@DIR is the folder of the run, which has the programs of this folder and of examples/. An object of JSON has the parts of another
+if each member of that is there and has its parts, and no member is there whose name is told with `!` before it; a list if it has
+as many items, and each has its parts; everything has "*". All events are told: one that isn't is a fault.
+"""
+import json
+import pathlib
+import re
+from typing import NamedTuple
+
+FOLDER = pathlib.Path(__file__).resolve().parent / "sessions"
+KINDS = {">": "request", "<": "response", "!": "event", "=": "file", "+": "given"}
+
+
+class Step(NamedTuple):
+    number: int    # of its line
+    kind: str      # request, response, event, file, given
+    name: str      # the command, the event or the file; of a failure its message
+    value: object  # the arguments or parts, or None; of a file its lines
+
+
+class BadSession(Exception):
+    pass
+
+
+def step_of(number, line):
+    kind, rest = KINDS.get(line[0]), line[2:]
+    if not kind or line[1:2] != " ":
+        raise BadSession(f"line {number}: {line}")
+    if kind == "response":
+        return Step(number, kind, rest[3:], None) if rest.startswith("no ") else Step(number, kind, "", json.loads(rest))
+    if kind in ("file", "given"):
+        return Step(number, kind, rest, [])
+    name, _, value = rest.partition(" ")
+    return Step(number, kind, name, json.loads(value) if value else None)
+
+
+def read_session(text):
+    """The steps of a session, of which the folder is named."""
+    steps = []
+    for number, line in enumerate(text.split("\n"), 1):
+        if not line or line.startswith("#"):
+            continue
+        if re.match(r"\|( |$)", line) and steps and steps[-1].kind in ("file", "given"):
+            steps[-1].value.append(line[2:])
+            continue
+        try:
+            steps.append(step_of(number, line))
+        except ValueError as error:
+            raise BadSession(f"line {number}: {error}") from None
+    return steps
+
+
+def make_file(step, folder):
+    """Makes a file that a session gives."""
+    path = folder / step.name
+    path.parent.mkdir(parents=True, exist_ok=True)
+    path.write_text("".join(f"{line}\n" for line in step.value))
+
+
+def make_files(text, folder):
+    """Makes the files that a session gives."""
+    for step in read_session(text):
+        if step.kind == "given":
+            make_file(step, folder)
+
+
+def is_changing(text):
+    """Whether a session gives a file after its first request."""
+    kinds = [step.kind for step in read_session(text)]
+    return "request" in kinds and "given" in kinds[kinds.index("request"):]
+
+
+def has(got, want):
+    """Whether a value of JSON has the parts of another."""
+    if want == "*":
+        return True
+    if isinstance(want, dict):
+        return isinstance(got, dict) and all(
+            name[1:] not in got if name.startswith("!") else name in got and has(got[name], part)
+            for name, part in want.items())
+    if isinstance(want, list):
+        return isinstance(got, list) and len(got) == len(want) and all(map(has, got, want))
+    return type(got) is type(want) and got == want

@@ -1,0 +1,97 @@
+"""What the arguments of a launch say."""
+import pathlib
+import re
+from typing import NamedTuple, Optional
+
+from .mapping import GREATEST_MAP, BadMap, SourceMap
+from .messages import is_number
+from .tokens import GREATEST_TEXT
+
+GREATEST_ARGUMENT, GREATEST_LIMIT, GREATEST_HISTORY = 2**64 - 1, 2**32 - 1, 1_000_000
+DEFAULT_LIMIT = 1_000_000
+
+
+class BadLaunch(Exception):
+    """A launch that is refused, and why."""
+
+
+class Launch(NamedTuple):
+    program: str
+    entry: str
+    args: list
+    limit: int
+    history: Optional[int]
+    stops_on_entry: bool
+    record: Optional[str]
+    map: Optional[str]
+
+    def text(self):
+        """The bytes of the program; what is beyond the greatest text is one byte at most."""
+        try:
+            with open(self.program, "rb") as file:
+                return file.read(GREATEST_TEXT + 1)
+        except (OSError, ValueError):
+            raise BadLaunch(f"cannot read {self.program}") from None
+
+    def sources(self):
+        """The map of places, or None."""
+        name = self.program + ".map" if self.map is None else self.map
+        if not name:
+            return None
+        try:
+            with open(name, "rb") as file:
+                given = file.read(GREATEST_MAP + 1)
+        except (OSError, ValueError):
+            if self.map is None:
+                return None
+            raise BadLaunch(f"cannot read {name}") from None
+        try:
+            return SourceMap(name, given)
+        except BadMap as bad:
+            raise BadLaunch(str(bad)) from None
+
+    def source(self):
+        return {"name": pathlib.PurePosixPath(self.program).name, "path": self.program}
+
+    def command_line(self):
+        """The words that replay the record."""
+        words = ["qrev", self.program, *map(str, self.args), "--entry", self.entry, "--limit", str(self.limit)]
+        return " ".join(words + ([] if self.history is None else ["--history", str(self.history)]))
+
+
+def number_or_fail(given, name, default, greatest):
+    value = given.get(name, default)
+    if name in given and not is_number(value, 1, greatest):
+        raise BadLaunch(f"{name}: not a number from 1 to {greatest}")
+    return value
+
+
+def argument(item):
+    value = int(item) if isinstance(item, str) and re.fullmatch("[0-9]+", item) else item
+    if not is_number(value, 0, GREATEST_ARGUMENT):
+        raise BadLaunch(f"args: not a number from 0 to {GREATEST_ARGUMENT}")
+    return value
+
+
+def launch_of(given):
+    """The launch that arguments mean. They are looked at in the order of the page."""
+    if not isinstance(given.get("program"), str):
+        raise BadLaunch("program: no path")
+    entry = given.get("entry", "main")
+    if not isinstance(entry, str):
+        raise BadLaunch("entry: no name")
+    args = given.get("args", [])
+    if not isinstance(args, list):
+        raise BadLaunch(f"args: not a number from 0 to {GREATEST_ARGUMENT}")
+    args = [argument(item) for item in args]
+    limit = number_or_fail(given, "limit", DEFAULT_LIMIT, GREATEST_LIMIT)
+    history = number_or_fail(given, "history", None, GREATEST_HISTORY)
+    stops_on_entry = given.get("stopOnEntry", True)
+    if not isinstance(stops_on_entry, bool):
+        raise BadLaunch("stopOnEntry: no flag")
+    record = given.get("record")
+    if "record" in given and not isinstance(record, str):
+        raise BadLaunch("record: no path")
+    if "map" in given and not isinstance(given["map"], str):
+        raise BadLaunch("map: no path")
+    return Launch(given["program"], entry, args, limit, history, stops_on_entry, record, given.get("map"))
