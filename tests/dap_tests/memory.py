@@ -35,18 +35,11 @@ def is_stopped_for_memory(messages):
     return first.get("event") == "stopped" and first["body"].get("text") == NO_MEMORY
 
 
-def is_unchanged(message, before):
-    """Whether a message tells that a variable has a value that was told before: there was no memory for the change."""
-    return message.get("command") == "setVariable" and message["success"] and \
-        f'"value": "{message["body"]["value"]}"' in json.dumps(before)
-
-
 def run_fault(run, normal):
     """What is wrong with a run in which an allocation was refused, beside one in which none was; or None.
 
     It ends as out of memory, and up to there all is as it was; or a run stood where it found no memory, and the session went on;
-    or a request failed, as a launch whose program can't be read for there is no memory for its bytes; or a variable has the value
-    that it had.
+    or a request failed, as a launch whose program can't be read for there is no memory for its bytes.
     """
     messages = messages_in(run.written)
     if run.status not in (0, OUT_OF_MEMORY) or run.errors:
@@ -55,8 +48,7 @@ def run_fault(run, normal):
     if fault:
         return fault
     at = next((at for at, (one, other) in enumerate(zip(messages, normal)) if one != other), None)
-    if at is not None and not (is_stopped_for_memory(messages[at:]) or is_failed(messages[at], normal[at]) or
-                               is_unchanged(messages[at], messages[:at])):
+    if at is not None and not (is_stopped_for_memory(messages[at:]) or is_failed(messages[at], normal[at])):
         return f"message {at + 1} is {json.dumps(messages[at])}"
     if at is None and run.status == 0 and len(messages) != len(normal):
         return f"{len(messages)} messages in place of {len(normal)}"

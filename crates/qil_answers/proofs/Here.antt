@@ -11,10 +11,10 @@ use Rattle.qil_names.specs.Numbers.{place_of}
 use Rattle.qil_streams.specs.Text.{line}
 use Rattle.qil_meaning.specs.State.{Name}
 use Rattle.qil_meaning.specs.Step.{func_named, block_labelled}
-use Rattle.qil_numbering.specs.Numbered.{func_at, block_in, block_at, names_in, names_of}
-use Rattle.qil_numbering.specs.Facts.{Finds}
-use Rattle.qil_numbering.specs.declared.numbered.Slot.{Slot}
-use Rattle.qil_numbering.proofs.Has.{name-at}
+use Rattle.qil_code.specs.Numbered.{func_at, block_in, block_at, names_in, names_of}
+use Rattle.qil_code.specs.Facts.{Finds}
+use Rattle.qil_code.specs.declared.numbered.Slot.{Slot}
+use Rattle.qil_code.proofs.Has.{name-at}
 use Rattle.qil_frames.specs.Frames.{SlotFrame, HasSlot}
 use Rattle.qil_state.specs.State.{func_name, label_in, frame_state, frames_state, PlaceFits, FrameFits, FramesFit, head_names}
 use Rattle.qil_machine.specs.Readings.{temp_here}

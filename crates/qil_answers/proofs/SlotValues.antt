@@ -6,9 +6,9 @@ use Rattle.qil_tree.specs.declared.tree.Program.{Program}
 use Rattle.qil_streams.specs.Text.{line}
 use Rattle.qil_meaning.specs.State.{Name}
 use Rattle.qil_meaning.specs.Slots.{temps_of}
-use Rattle.qil_numbering.specs.Numbered.{names_of}
-use Rattle.qil_numbering.specs.Slots.{name_at}
-use Rattle.qil_numbering.specs.Facts.{Finds}
+use Rattle.qil_code.specs.Numbered.{names_of}
+use Rattle.qil_code.specs.Slots.{name_at}
+use Rattle.qil_code.specs.Facts.{Finds}
 use Rattle.qil_frames.specs.Frames.{SlotFrame}
 use Rattle.qil_state.specs.State.{frame_state, frames_state, FramesFit}
 use Rattle.qil_state.specs.Values.{AreSlots}

@@ -8,9 +8,9 @@ ghost use Rattle.qil_answers.specs.Texts.{frame_line};
 ghost use Rattle.qil_answers.specs.Shown.{frames_shown};
 
 use crate::names::{func_name, innermost, label_name};
+use qil_code::Code;
 use qil_frames::Frame;
 use qil_machine::Machine;
-use qil_numbering::Code;
 use qil_pieces::{Fragment, put_fragments};
 use qil_streams::{Put, PutError, put_line};
 use std::alloc::Allocator;

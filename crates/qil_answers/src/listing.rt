@@ -4,14 +4,14 @@ ghost use Rattle.std.specs.Prelude.{◌-◌, ◌^◌, ◌<◌};
 ghost use Rattle.std.specs.List.{flat_map};
 ghost use Rattle.qil_streams.specs.Device.{HasPut};
 ghost use Rattle.qil_texts.specs.Canonical.{inst_text as inst_words, jump_text as jump_words};
-ghost use Rattle.qil_numbering.specs.Numbered.{func_at, block_at};
+ghost use Rattle.qil_code.specs.Numbered.{func_at, block_at};
 ghost use Rattle.qil_state.specs.State.{state_of, func_name, label_in};
 ghost use Rattle.qil_answers.specs.Listing.{phi_row, row, row_prefix, inst_rows, all_rows, rows_in, block_head, block_shown};
 
 use crate::names::{func_name, innermost, label_name};
+use qil_code::Code;
 use qil_frames::Frame;
 use qil_machine::Machine;
-use qil_numbering::Code;
 use qil_pieces::{Fragment, put_fragments};
 use qil_streams::{Put, PutError, put_line};
 use qil_texts::{inst_text, jump_text, phi_text};

@@ -2,14 +2,14 @@
 
 ghost use Rattle.std.specs.Prelude.{◌≡◌, slice_get};
 ghost use Rattle.std.specs.Option.{option_copied};
-ghost use Rattle.qil_numbering.specs.Numbered.{func_at, block_at, names_of};
-ghost use Rattle.qil_numbering.specs.Slots.{name_at};
+ghost use Rattle.qil_code.specs.Numbered.{func_at, block_at, names_of};
+ghost use Rattle.qil_code.specs.Slots.{name_at};
 ghost use Rattle.qil_state.specs.State.{func_name, label_in, FramesFit};
 
+use qil_code::{BlockId, Code, Slot};
 use qil_frames::Frame;
 use qil_layout::FuncId;
 use qil_machine::Machine;
-use qil_numbering::{BlockId, Code, Slot};
 use std::alloc::Allocator;
 
 /// The name of a function, without its sigil.

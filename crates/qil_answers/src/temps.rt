@@ -2,16 +2,16 @@
 
 ghost use Rattle.std.specs.Prelude.{◌≡◌, ◌-◌, ◌^◌, ◌<◌, length};
 ghost use Rattle.qil_streams.specs.Device.{HasPut};
-ghost use Rattle.qil_numbering.specs.Numbered.{names_of};
+ghost use Rattle.qil_code.specs.Numbered.{names_of};
 ghost use Rattle.qil_state.specs.State.{state_of};
 ghost use Rattle.qil_answers.specs.Texts.{value_line};
 ghost use Rattle.qil_answers.specs.Shown.{printed, temps_shown};
 ghost use Rattle.qil_answers.specs.Slots.{slot_lines};
 
 use crate::names::{innermost, temp_name};
+use qil_code::{Code, Slot};
 use qil_frames::Frame;
 use qil_machine::Machine;
-use qil_numbering::{Code, Slot};
 use qil_pieces::{Fragment, put_fragments};
 use qil_streams::{Put, PutError, put_line};
 use std::alloc::Allocator;

@@ -8,13 +8,12 @@ ghost use Rattle.qil_meaning.specs.Timeline.{begun, position, at_end, forward, p
 ghost use Rattle.qil_state.specs.State.{state_of};
 ghost use Rattle.qil_machine.specs.Pokes.{poke_slot};
 ghost use Rattle.qil_deltas.specs.Kept.{moved_timeline};
-ghost use Rattle.qil_pokes.specs.Pokes.{HasWidth, poke_of, poke_cost, Explains};
+ghost use Rattle.qil_history.specs.Pokes.{HasWidth, poke_of, poke_cost, Explains};
 ghost use Rattle.qil_deltas.specs.Weights.{total, TakesLatestOff};
 
-use qil_history::{BackError, History};
+use qil_code::Slot;
+use qil_history::{BackError, History, Poke};
 use qil_machine::{Delta, DeltaSink, Machine, MoveError, PokeError};
-use qil_numbering::Slot;
-use qil_pokes::Poke;
 use std::alloc::Allocator;
 use std::marker::Model;
 
@@ -128,7 +127,7 @@ impl<'c, 'a, A: Allocator + Copy> History<A, Machine<'c, 'a, A>> for Deltas<'c, 
         }
     }
 
-    #[tactic(auto, using(qil_pokes::proofs::PokeLemmas::slot_never_dead))]
+    #[tactic(auto, using(qil_history::proofs::PokeLemmas::slot_never_dead))]
     fn poke_temp(&mut self, slot: Slot, value: u64) -> Result<(), PokeError>
         requires { position (moved_timeline self.old) < 2 ^ 62 }
         ensures program { self.new.machine.program ≡ self.old.machine.program }
@@ -143,7 +142,7 @@ impl<'c, 'a, A: Allocator + Copy> History<A, Machine<'c, 'a, A>> for Deltas<'c, 
         self.poke(Poke::Slot(slot, value))
     }
 
-    #[tactic(auto, using(qil_pokes::proofs::PokeLemmas::temp_never_dead))]
+    #[tactic(auto, using(qil_history::proofs::PokeLemmas::temp_never_dead))]
     fn poke_named(&mut self, name: &[u8], value: u64) -> Result<(), PokeError>
         requires { position (moved_timeline self.old) < 2 ^ 62 }
         ensures program { self.new.machine.program ≡ self.old.machine.program }
@@ -158,7 +157,7 @@ impl<'c, 'a, A: Allocator + Copy> History<A, Machine<'c, 'a, A>> for Deltas<'c, 
         self.poke(Poke::Named(name, value))
     }
 
-    #[tactic(auto, using(qil_pokes::proofs::PokeLemmas::memory_never_frameless, qil_pokes::proofs::PokeLemmas::memory_never_unknown))]
+    #[tactic(auto, using(qil_history::proofs::PokeLemmas::memory_never_frameless, qil_history::proofs::PokeLemmas::memory_never_unknown))]
     fn poke_memory(&mut self, address: u64, width: u64, number: u64) -> Result<(), PokeError>
         requires before { position (moved_timeline self.old) < 2 ^ 62 }
         requires width { IsWidth width }

@@ -11,14 +11,13 @@ ghost use Rattle.qil_machine.specs.Moves.{undone, Fits};
 ghost use Rattle.qil_machine.specs.Pokes.{poke_slot};
 ghost use Rattle.qil_machine.specs.Steps.{StepTakes};
 ghost use Rattle.qil_deltas.specs.Kept.{recent_timeline};
-ghost use Rattle.qil_pokes.specs.Pokes.{HasWidth, poke_of, poke_cost, Explains};
+ghost use Rattle.qil_history.specs.Pokes.{HasWidth, poke_of, poke_cost, Explains};
 ghost use Rattle.qil_deltas.specs.Weights.{total, TakesLatestOff};
 
 use circular_buffer::HeapCircularBuffer;
-use qil_history::{BackError, History};
+use qil_code::Slot;
+use qil_history::{BackError, History, Poke};
 use qil_machine::{Delta, Machine, MoveError, PokeError};
-use qil_numbering::Slot;
-use qil_pokes::Poke;
 use std::alloc::{AllocError, Allocator};
 use std::marker::Model;
 
@@ -164,7 +163,7 @@ impl<'c, 'a, A: Allocator + Copy> History<A, Machine<'c, 'a, A>> for Ring<'c, 'a
         }
     }
 
-    #[tactic(auto, using(qil_pokes::proofs::PokeLemmas::slot_never_dead))]
+    #[tactic(auto, using(qil_history::proofs::PokeLemmas::slot_never_dead))]
     fn poke_temp(&mut self, slot: Slot, value: u64) -> Result<(), PokeError>
         requires { position (recent_timeline self.old) < 2 ^ 62 }
         ensures program { self.new.machine.program ≡ self.old.machine.program }
@@ -180,7 +179,7 @@ impl<'c, 'a, A: Allocator + Copy> History<A, Machine<'c, 'a, A>> for Ring<'c, 'a
         self.poke(Poke::Slot(slot, value))
     }
 
-    #[tactic(auto, using(qil_pokes::proofs::PokeLemmas::temp_never_dead))]
+    #[tactic(auto, using(qil_history::proofs::PokeLemmas::temp_never_dead))]
     fn poke_named(&mut self, name: &[u8], value: u64) -> Result<(), PokeError>
         requires { position (recent_timeline self.old) < 2 ^ 62 }
         ensures program { self.new.machine.program ≡ self.old.machine.program }
@@ -196,7 +195,7 @@ impl<'c, 'a, A: Allocator + Copy> History<A, Machine<'c, 'a, A>> for Ring<'c, 'a
         self.poke(Poke::Named(name, value))
     }
 
-    #[tactic(auto, using(qil_pokes::proofs::PokeLemmas::memory_never_frameless, qil_pokes::proofs::PokeLemmas::memory_never_unknown))]
+    #[tactic(auto, using(qil_history::proofs::PokeLemmas::memory_never_frameless, qil_history::proofs::PokeLemmas::memory_never_unknown))]
     fn poke_memory(&mut self, address: u64, width: u64, number: u64) -> Result<(), PokeError>
         requires before { position (recent_timeline self.old) < 2 ^ 62 }
         requires width { IsWidth width }

@@ -1,7 +1,7 @@
 -- From the frame that entered a block to all frames.
 use Rattle.std.proofs.Common.{◌≡◌, ℕ, List, [], ◌∷◌, Option, Result, Ok, Err, OnOk, IfOk, length, slice_set, reverse, sym, ap, subst, ◌∙◌}
-use Rattle.qil_numbering.specs.declared.numbered.Slot.{Slot}
-use Rattle.qil_numbering.specs.declared.numbered.PhiMove.{PhiMove}
+use Rattle.qil_code.specs.declared.numbered.Slot.{Slot}
+use Rattle.qil_code.specs.declared.numbered.PhiMove.{PhiMove}
 use Rattle.qil_frames.specs.declared.saved.SavedSlot.{SavedSlot}
 use Rattle.qil_frames.specs.declared.saved.PhiFault.{PhiFault}
 use Rattle.qil_frames.specs.Frames.{SlotFrame, HasFrame, on_innermost, at_place}

@@ -3,7 +3,7 @@ use Rattle.std.proofs.Common.{◌≡◌, refl, ◌↔◌, Bool, IsTrue, ℕ, ◌
 use Rattle.std.proofs.lemmas.List.{reverse-reverse, reverse-append, length-append}
 use Rattle.std.proofs.Math.Seq.{set-append_seam, get_or-append_seam}
 use Rattle.qil_frames.specs.Frames.{SlotFrame, HasFrame, HasSlot, on_innermost, held}
-use Rattle.qil_numbering.specs.declared.numbered.Slot.{Slot}
+use Rattle.qil_code.specs.declared.numbered.Slot.{Slot}
 
 reverse_cons : {X : Type 0} (x : X) (xs : List X) → reverse (x ∷ xs) ≡ reverse xs ++ x ∷ []
 reverse_cons x xs = reverse-append (x ∷ []) xs

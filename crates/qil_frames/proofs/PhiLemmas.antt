@@ -4,9 +4,9 @@ use Rattle.std.specs.List.{All}
 use Rattle.std.proofs.lemmas.List.{set-get_or, set-set, set_comm, drop_more}
 use Rattle.std.proofs.lemmas.List.Elements.{All-nil, All-cons, All-head, All-tail}
 use Rattle.std.proofs.lemmas.Bool.{cases_eq}
-use Rattle.qil_numbering.specs.declared.numbered.Slot.{Slot}
-use Rattle.qil_numbering.specs.declared.numbered.PhiMove.{PhiMove}
-use Rattle.qil_numbering.specs.Ranges.{MoveInRange}
+use Rattle.qil_code.specs.declared.numbered.Slot.{Slot}
+use Rattle.qil_code.specs.declared.numbered.PhiMove.{PhiMove}
+use Rattle.qil_code.specs.Ranges.{MoveInRange}
 use Rattle.qil_frames.specs.declared.saved.SavedSlot.{SavedSlot}
 use Rattle.qil_frames.specs.Enter.{value_in, write_to, onto, gathered, written, put_back, AreSlots}
 use Rattle.qil_frames.specs.Kept.{slots_by, AreDone}

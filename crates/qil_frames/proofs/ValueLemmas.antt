@@ -1,7 +1,7 @@
 -- Values that are written and put back.
 use Rattle.std.proofs.Common.{◌≡◌, ℕ, ◌+◌, ◌-◌, ◌<◌, ◌≤◌, List, [], ◌∷◌, ◌++◌, Option, None, length, drop, get_or, set, sym, ap, ◌∙◌, refl, arith}
 use Rattle.std.proofs.lemmas.List.{set-get_or, set-set, drop_more, length-set, get_or_default}
-use Rattle.qil_numbering.specs.declared.numbered.Slot.{Slot}
+use Rattle.qil_code.specs.declared.numbered.Slot.{Slot}
 use Rattle.qil_frames.specs.declared.saved.SavedSlot.{SavedSlot}
 use Rattle.qil_frames.specs.Enter.{put_back, written}
 

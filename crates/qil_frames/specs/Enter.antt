@@ -3,11 +3,11 @@ use Rattle.std.specs.Prelude.{◌≡◌, ℕ, ◌<◌, List, [], ◌∷◌, leng
 use Rattle.std.specs.List.{All}
 use Rattle.qil_tree.specs.declared.ops.Class.{Class}
 use Rattle.qil_ops.specs.Values.{width, low_bits}
-use Rattle.qil_numbering.specs.declared.numbered.Slot.{Slot}
-use Rattle.qil_numbering.specs.declared.numbered.NumberedOperand.{NumberedOperand}
-use Rattle.qil_numbering.specs.declared.numbered.NumberedOperand.TheVariants as numbered_operands
-use Rattle.qil_numbering.specs.declared.numbered.PhiMove.{PhiMove}
-use Rattle.qil_numbering.specs.Ranges.{MoveInRange}
+use Rattle.qil_code.specs.declared.numbered.Slot.{Slot}
+use Rattle.qil_code.specs.declared.numbered.NumberedOperand.{NumberedOperand}
+use Rattle.qil_code.specs.declared.numbered.NumberedOperand.TheVariants as numbered_operands
+use Rattle.qil_code.specs.declared.numbered.PhiMove.{PhiMove}
+use Rattle.qil_code.specs.Ranges.{MoveInRange}
 use Rattle.qil_frames.specs.declared.saved.SavedSlot.{SavedSlot}
 use Rattle.qil_frames.specs.declared.saved.PhiFault.{PhiFault}
 use Rattle.qil_frames.specs.declared.saved.PhiFault.TheVariants.{Unset, OutOfMemory}

@@ -1,7 +1,7 @@
 -- Frames with numbered slots, and what is done to the innermost. Lists of frames have the innermost first.
 use Rattle.std.specs.Prelude.{ℕ, ◌<◌, List, [], ◌∷◌, length, Option, None, get_or, slice_set}
-use Rattle.qil_numbering.specs.declared.numbered.Slot.{Slot}
-use Rattle.qil_numbering.specs.declared.numbered.Receiver.{Receiver}
+use Rattle.qil_code.specs.declared.numbered.Slot.{Slot}
+use Rattle.qil_code.specs.declared.numbered.Receiver.{Receiver}
 
 -- A call that is not over: the numbers of a function and of a block of it, and how many instructions of the block are done.
 -- A slot holds a value or is unset. The floor is the top of the stack from before the call. The result is the slot of the

@@ -1,7 +1,7 @@
 -- What is kept of slots as a list, and what phis make of slots.
 use Rattle.std.specs.Prelude.{◌≡◌, ℕ, List, [], ◌∷◌, length, Option, Some, Result, Ok, Err}
-use Rattle.qil_numbering.specs.declared.numbered.Slot.{Slot}
-use Rattle.qil_numbering.specs.declared.numbered.PhiMove.{PhiMove}
+use Rattle.qil_code.specs.declared.numbered.Slot.{Slot}
+use Rattle.qil_code.specs.declared.numbered.PhiMove.{PhiMove}
 use Rattle.qil_frames.specs.declared.saved.SavedSlot.{SavedSlot}
 use Rattle.qil_frames.specs.declared.saved.KeptSlots.{KeptSlots}
 use Rattle.qil_frames.specs.declared.saved.KeptSlots.TheVariants as kept

@@ -1,6 +1,6 @@
 -- What takes the value that a call returns, as a frame keeps it.
 use Rattle.std.specs.Prelude.{Option, option_map}
-use Rattle.qil_numbering.specs.declared.numbered.Receiver.{Receiver}
+use Rattle.qil_code.specs.declared.numbered.Receiver.{Receiver}
 use Rattle.qil_frames.specs.declared.frame.Taker.{Taker}
 
 -- with no type, nothing takes it

@@ -2,7 +2,7 @@
 
 ghost use Rattle.std.specs.Prelude.{◌≡◌, ◌≢◌, ◌<◌, ◌≤◌, ◌^◌, ◌↔◌, length, replicate, None, Err, IfOk, IfErr, OnErr, IsTrue, get_or};
 ghost use Rattle.std.specs.List.{All};
-ghost use Rattle.qil_numbering.specs.Ranges.{MoveInRange, IsShort};
+ghost use Rattle.qil_code.specs.Ranges.{MoveInRange, IsShort};
 ghost use Rattle.qil_frames.specs.Frames.{SlotFrame, with_slot, at_index, at_place};
 ghost use Rattle.qil_frames.specs.Enter.{gathered, AreSlots, returned, Explains};
 ghost use Rattle.qil_frames.specs.Kept.{HasEntered};
@@ -10,8 +10,8 @@ ghost use Rattle.qil_frames.specs.Taken.{taken};
 
 use crate::phis::{do_phis, undo_phis};
 use crate::saved::{PhiFault, PhiSaved};
+use qil_code::{BlockId, PhiMove, Receiver, Slot};
 use qil_layout::FuncId;
-use qil_numbering::{BlockId, PhiMove, Receiver, Slot};
 use qil_tree::AbiType;
 use std::alloc::{AllocError, Allocator};
 use std::marker::Model;

@@ -1,13 +1,13 @@
 //! The calls that are not over; what is read and written is of the innermost.
 
 ghost use Rattle.std.specs.Prelude.{◌≡◌, ◌≢◌, ◌<◌, ◌≤◌, ◌↔◌, [], ◌∷◌, length, reverse, Some, Ok, Err, OnOk, IfOk, OnErr, IfErr, IsTrue, MatchOption, slice_get};
-ghost use Rattle.qil_numbering.specs.Ranges.{IsShort};
+ghost use Rattle.qil_code.specs.Ranges.{IsShort};
 ghost use Rattle.qil_frames.specs.Frames.{on_innermost, with_slot, at_index, at_place, HasFrame, HasSlot, held};
 ghost use Rattle.qil_frames.specs.Enter.{HasMoves, entered_by, Explains, Fits, HasLeft, returned};
 
 use crate::frame::Frame;
 use crate::saved::{PhiFault, PhiSaved};
-use qil_numbering::{BlockId, PhiMove, Slot};
+use qil_code::{BlockId, PhiMove, Slot};
 use std::alloc::{AllocError, Allocator};
 use std::marker::Model;
 

@@ -1,13 +1,13 @@
 //! What going into a block keeps of a frame.
 
 ghost use Rattle.std.specs.Prelude.{◌≡◌, ◌↔◌, IsTrue, length};
-ghost use Rattle.qil_numbering.specs.Ranges.{IsShort};
+ghost use Rattle.qil_code.specs.Ranges.{IsShort};
 ghost use Rattle.qil_frames.specs.Enter.{AreSlots, Fits};
 ghost use Rattle.qil_frames.specs.Kept.{kept_slots};
 
 use crate::frames::Frames;
 use arrayvec::ArrayVec;
-use qil_numbering::{BlockId, Slot};
+use qil_code::{BlockId, Slot};
 use std::alloc::Allocator;
 use std::marker::Model;
 
@@ -76,7 +76,7 @@ pub struct PhiSaved<A: Allocator> {
 }
 
 impl<A: Allocator> Model for PhiSaved<A> {
-    ghost use Rattle.qil_numbering.specs.Ranges.{IsShort};
+    ghost use Rattle.qil_code.specs.Ranges.{IsShort};
     ghost use Rattle.qil_frames.specs.Enter.{LeftBlock};
     ghost use Rattle.qil_frames.specs.Kept.{kept_slots};
 

@@ -8,8 +8,8 @@ ghost use Rattle.qil_meaning.specs.Timeline.{Timeline, position, oldest, at_end,
 ghost use Rattle.qil_state.specs.State.{Whole, state_of};
 ghost use Rattle.qil_machine.specs.Pokes.{poke_slot};
 
+use qil_code::Slot;
 use qil_machine::{Machine, MoveError, PokeError};
-use qil_numbering::Slot;
 use std::alloc::Allocator;
 use thiserror::Error;
 

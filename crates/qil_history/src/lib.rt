@@ -1,6 +1,8 @@
-//! The states of a run from its start to now: one contract for all ways to keep them.
+//! The states of a run from its start to now: one contract for all ways to keep them, and the pokes of all kinds as one.
 #![tactic(auto)]
 
 mod history;
+mod poke;
 
 pub use history::{BackError, HasState, History};
+pub use poke::Poke;

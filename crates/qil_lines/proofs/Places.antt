@@ -1,6 +1,6 @@
 -- Which place a line means, over parts of a list of marks.
 use Rattle.std.proofs.Common.{◌≡◌, ℕ, suc, ◌+◌, ◌-◌, ◌<◌, ◌≤◌, List, [], ◌∷◌, ◌++◌, length, map, take, drop, get_or, refl, sym, ap, ◌∙◌, arith, true, false, Bool, cond, subst, ◌||◌}
-use Rattle.std.specs.Prelude.{Option, Some, None, position, nat_le, nat_lt, not}
+use Rattle.std.specs.Prelude.{Option, Some, None, position, nat_eq, nat_le, nat_lt, not, slice_get}
 use Rattle.std.specs.List.{list_any, position_or_len}
 use Rattle.std.proofs.lemmas.List.{drop_more, take_rest}
 use Rattle.std.proofs.lemmas.Bool.Decides.{nat_tests}
@@ -116,3 +116,10 @@ one_block {A} line b blocks there block written index same h e w means =
     (marks_step line b there block h e
     ∙ ap (λ v. or_else v (place_from line (marks_from (b + 1) (drop (b + 1) there))))
     (means b (drop (b + 1) there) (ap (λ v. is_written block v) (sym (take_rest there (b + 1))) ∙ sym w)))
+
+-- a block before others has a jump of its own where the first of them is on another line
+pub written_before : {A : Type 0} (block next : Block A) (after : List (Block A)) → slice_get after 0 ≡ Some next → not (nat_eq block.jump.line next.line) ≡ is_written block after
+written_before {A} block next [] first = absurd cc
+written_before {A} block next (other ∷ others) first =
+    let same : other ≡ next = cc in
+    ap (λ (b : Block A). not (nat_eq block.jump.line b.line)) (sym same)

@@ -20,12 +20,12 @@ use Rattle.qil_meaning.specs.State.{Name, Temps, State, no_function}
 use Rattle.qil_meaning.specs.Slots.{temps_of}
 use Rattle.qil_meaning.specs.Values.{Outcome, ◌>>=◌, val, vals}
 use Rattle.qil_meaning.specs.Step.{act}
-use Rattle.qil_numbering.specs.declared.numbered.Receiver.{Receiver}
-use Rattle.qil_numbering.specs.declared.numbered.NumberedOperand.{NumberedOperand}
-use Rattle.qil_numbering.specs.declared.numbered.NumberedArgument.{NumberedArgument}
-use Rattle.qil_numbering.specs.declared.numbered.NumberedInst.TheVariants as numbered
-use Rattle.qil_numbering.specs.Named.{named_operand, named_receiver, named_argument}
-use Rattle.qil_numbering.specs.Numbered.{names_of}
+use Rattle.qil_code.specs.declared.numbered.Receiver.{Receiver}
+use Rattle.qil_code.specs.declared.numbered.NumberedOperand.{NumberedOperand}
+use Rattle.qil_code.specs.declared.numbered.NumberedArgument.{NumberedArgument}
+use Rattle.qil_code.specs.declared.numbered.NumberedInst.TheVariants as numbered
+use Rattle.qil_code.specs.Named.{named_operand, named_receiver, named_argument}
+use Rattle.qil_code.specs.Numbered.{names_of}
 use Rattle.qil_frames.specs.Frames.{SlotFrame}
 use Rattle.qil_state.specs.declared.status.Fault.{Fault}
 use Rattle.qil_state.specs.declared.status.Status.{Status}

@@ -20,16 +20,16 @@ use Rattle.qil_meaning.specs.Temps.{named}
 use Rattle.qil_meaning.specs.Slots.{temps_of}
 use Rattle.qil_meaning.specs.Values.{Outcome, ◌>>=◌, fit_all, first}
 use Rattle.qil_meaning.specs.Calls.{next, first_label, begun, shape_of, agree, agree_all, gives, is_in_shape, in_shape, enters, call_defined, call_at, shape_of_putchar, shape_of_puts, shape_of_exit, putchar, puts}
-use Rattle.qil_numbering.specs.declared.numbered.Slot.{Slot}
-use Rattle.qil_numbering.specs.declared.numbered.Receiver.{Receiver}
-use Rattle.qil_numbering.specs.declared.numbered.NumberedArgument.{NumberedArgument}
-use Rattle.qil_numbering.specs.declared.numbered.NumberedBlock.{NumberedBlock}
-use Rattle.qil_numbering.specs.declared.numbered.FuncCode.{FuncCode}
-use Rattle.qil_numbering.specs.Named.{named_receiver, named_argument}
-use Rattle.qil_numbering.specs.Numbered.{func_at, block_in, block_at, names_of}
-use Rattle.qil_numbering.specs.Ranges.{FuncInRange}
-use Rattle.qil_numbering.specs.Reading.{func_code_at, block_code_at}
-use Rattle.qil_numbering.proofs.Readers.{IsCoded, coded, blocks-there}
+use Rattle.qil_code.specs.declared.numbered.Slot.{Slot}
+use Rattle.qil_code.specs.declared.numbered.Receiver.{Receiver}
+use Rattle.qil_code.specs.declared.numbered.NumberedArgument.{NumberedArgument}
+use Rattle.qil_code.specs.declared.numbered.NumberedBlock.{NumberedBlock}
+use Rattle.qil_code.specs.declared.numbered.FuncCode.{FuncCode}
+use Rattle.qil_code.specs.Named.{named_receiver, named_argument}
+use Rattle.qil_code.specs.Numbered.{func_at, block_in, block_at, names_of}
+use Rattle.qil_code.specs.Ranges.{FuncInRange}
+use Rattle.qil_code.specs.Reading.{func_code_at, block_code_at}
+use Rattle.qil_code.proofs.Readers.{IsCoded, coded, blocks-there}
 use Rattle.qil_frames.specs.Frames.{SlotFrame, on_innermost, at_index}
 use Rattle.qil_state.specs.declared.status.Status.{Status}
 use Rattle.qil_state.specs.declared.status.Status.TheVariants.{Running, Exited}

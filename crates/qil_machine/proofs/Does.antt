@@ -24,11 +24,11 @@ use Rattle.qil_meaning.specs.Slots.{temps_of}
 use Rattle.qil_meaning.specs.Values.{Outcome, ◌>>=◌, val, vals, result_of}
 use Rattle.qil_meaning.specs.Calls.{next}
 use Rattle.qil_meaning.specs.Step.{sets, alignment, copied}
-use Rattle.qil_numbering.specs.declared.numbered.NumberedOperand.{NumberedOperand}
-use Rattle.qil_numbering.specs.declared.numbered.NumberedInst.{NumberedInst}
-use Rattle.qil_numbering.specs.declared.numbered.NumberedInst.TheVariants as numbered
-use Rattle.qil_numbering.specs.Named.{named_operand, named_inst}
-use Rattle.qil_numbering.specs.Numbered.{names_of}
+use Rattle.qil_code.specs.declared.numbered.NumberedOperand.{NumberedOperand}
+use Rattle.qil_code.specs.declared.numbered.NumberedInst.{NumberedInst}
+use Rattle.qil_code.specs.declared.numbered.NumberedInst.TheVariants as numbered
+use Rattle.qil_code.specs.Named.{named_operand, named_inst}
+use Rattle.qil_code.specs.Numbered.{names_of}
 use Rattle.qil_frames.specs.Frames.{SlotFrame}
 use Rattle.qil_state.specs.declared.status.Status.{Status}
 use Rattle.qil_state.specs.State.{whole, state_of, frame_state, frames_state}

@@ -7,8 +7,8 @@ use Rattle.qil_layout.proofs.BytesLemmas.{length-low_bytes}
 use Rattle.qil_memory.specs.Buffers.{Buffers, stack_base}
 use Rattle.qil_memory.specs.Undo.{Kept}
 use Rattle.qil_memory.specs.Places.{HasBytes, HasPlaces}
-use Rattle.qil_numbering.specs.declared.numbered.Slot.{Slot}
-use Rattle.qil_numbering.specs.declared.numbered.Receiver.{Receiver}
+use Rattle.qil_code.specs.declared.numbered.Slot.{Slot}
+use Rattle.qil_code.specs.declared.numbered.Receiver.{Receiver}
 use Rattle.qil_frames.specs.declared.saved.SavedSlot.{SavedSlot}
 use Rattle.qil_frames.specs.Frames.{SlotFrame, HasSlot, on_innermost}
 use Rattle.qil_frames.specs.Enter.{put_back}

@@ -18,18 +18,18 @@ use Rattle.qil_meaning.specs.State.{Name, State}
 use Rattle.qil_meaning.specs.Values.{fit}
 use Rattle.qil_meaning.specs.Calls.{taken}
 use Rattle.qil_meaning.specs.Step as step
-use Rattle.qil_numbering.specs.declared.numbered.Slot.{Slot}
-use Rattle.qil_numbering.specs.declared.numbered.Receiver.{Receiver}
-use Rattle.qil_numbering.specs.declared.numbered.NumberedOperand.{NumberedOperand}
-use Rattle.qil_numbering.specs.declared.numbered.Edge.{Edge}
-use Rattle.qil_numbering.specs.declared.numbered.NumberedBlock.{NumberedBlock}
-use Rattle.qil_numbering.specs.declared.numbered.NumberedJump.{NumberedJump}
-use Rattle.qil_numbering.specs.declared.numbered.NumberedJump.TheVariants as jumps
-use Rattle.qil_numbering.specs.Numbered.{block_at, names_of, inst_of}
+use Rattle.qil_code.specs.declared.numbered.Slot.{Slot}
+use Rattle.qil_code.specs.declared.numbered.Receiver.{Receiver}
+use Rattle.qil_code.specs.declared.numbered.NumberedOperand.{NumberedOperand}
+use Rattle.qil_code.specs.declared.numbered.Edge.{Edge}
+use Rattle.qil_code.specs.declared.numbered.NumberedBlock.{NumberedBlock}
+use Rattle.qil_code.specs.declared.numbered.NumberedJump.{NumberedJump}
+use Rattle.qil_code.specs.declared.numbered.NumberedJump.TheVariants as jumps
+use Rattle.qil_code.specs.Numbered.{block_at, names_of, inst_of}
 use Rattle.qil_meaning.specs.Names.{temps_named}
-use Rattle.qil_numbering.specs.Ranges.{IsShort, InRange, MoveInRange, EdgeInRange, JumpInRange}
-use Rattle.qil_numbering.specs.Reading.{labels_at, returns_at}
-use Rattle.qil_numbering.proofs.EdgesNamed.{IsEdgeOf, EdgeNamed, edge-named}
+use Rattle.qil_code.specs.Ranges.{IsShort, InRange, MoveInRange, EdgeInRange, JumpInRange}
+use Rattle.qil_code.specs.Reading.{labels_at, returns_at}
+use Rattle.qil_code.proofs.EdgesNamed.{IsEdgeOf, EdgeNamed, edge-named}
 use Rattle.qil_frames.specs.Frames.{SlotFrame}
 use Rattle.qil_frames.specs.Enter.{HasMoves, entered_by}
 use Rattle.qil_state.specs.declared.status.Fault.{Fault}

@@ -5,9 +5,9 @@ use Rattle.qil_memory.specs.Undo.{Kept, with_bytes, with_top}
 use Rattle.qil_memory.specs.Undo as memory
 use Rattle.qil_memory.specs.Places.{HasPlaces}
 use Rattle.qil_memory.proofs.Undoing.{places_of}
-use Rattle.qil_numbering.specs.declared.numbered.Slot.{Slot}
-use Rattle.qil_numbering.specs.declared.numbered.Receiver.{Receiver}
-use Rattle.qil_numbering.specs.declared.numbered.PhiMove.{PhiMove}
+use Rattle.qil_code.specs.declared.numbered.Slot.{Slot}
+use Rattle.qil_code.specs.declared.numbered.Receiver.{Receiver}
+use Rattle.qil_code.specs.declared.numbered.PhiMove.{PhiMove}
 use Rattle.qil_tree.specs.declared.tree.Program.{Program}
 use Rattle.qil_frames.specs.Enter as enter
 use Rattle.qil_frames.specs.Enter.{LeftBlock, entered_by, HasLeft, Fits as PhiFits}

@@ -8,12 +8,12 @@ use Rattle.qil_memory.specs.Buffers.{Buffers, stack_base, stack_end, IsMemory}
 use Rattle.qil_memory.specs.Undo.{Kept, with_bytes, with_top}
 use Rattle.qil_memory.specs.Undo as memory
 use Rattle.qil_memory.specs.Places.{HasPlaces}
-use Rattle.qil_numbering.specs.declared.numbered.Slot.{Slot}
-use Rattle.qil_numbering.specs.declared.numbered.Receiver.{Receiver}
-use Rattle.qil_numbering.specs.Numbered.{block_at}
+use Rattle.qil_code.specs.declared.numbered.Slot.{Slot}
+use Rattle.qil_code.specs.declared.numbered.Receiver.{Receiver}
+use Rattle.qil_code.specs.Numbered.{block_at}
 use Rattle.qil_frames.specs.declared.saved.SavedSlot.{SavedSlot}
 use Rattle.qil_frames.specs.Frames.{SlotFrame, HasFrame, HasSlot, held, on_innermost, with_slot, at_index}
-use Rattle.qil_numbering.specs.declared.numbered.PhiMove.{PhiMove}
+use Rattle.qil_code.specs.declared.numbered.PhiMove.{PhiMove}
 use Rattle.qil_frames.specs.Enter as enter
 use Rattle.qil_frames.specs.Enter.{LeftBlock, gathered, written, enters, entered_by, put_back, AreSlots, Fits as PhiFits}
 use Rattle.qil_frames.proofs.ValueLemmas.{length-written}

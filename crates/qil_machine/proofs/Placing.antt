@@ -6,10 +6,10 @@ use Rattle.qil_tree.specs.declared.tree.Func.{Func}
 use Rattle.qil_tree.specs.declared.tree.Program.{Program}
 use Rattle.qil_meaning.specs.State as meaning
 use Rattle.qil_meaning.specs.Step.{func_named, block_labelled}
-use Rattle.qil_numbering.specs.Facts.{Finds, KnowsLabels, jump_labels}
-use Rattle.qil_numbering.specs.Numbered.{func_at, block_in, block_at}
-use Rattle.qil_numbering.proofs.Has.{has-among}
-use Rattle.qil_numbering.proofs.Edges.{label-found}
+use Rattle.qil_code.specs.Facts.{Finds, KnowsLabels, jump_labels}
+use Rattle.qil_code.specs.Numbered.{func_at, block_in, block_at}
+use Rattle.qil_code.proofs.Has.{has-among}
+use Rattle.qil_code.proofs.Edges.{label-found}
 use Rattle.qil_frames.specs.Frames.{SlotFrame}
 use Rattle.qil_state.specs.State.{Whole, state_of, func_name, label_in, frame_state, frames_state, FrameFits, FramesFit, PlaceFits, IsMachine}
 use Rattle.qil_state.proofs.Place.{block_at_here}

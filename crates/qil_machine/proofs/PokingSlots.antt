@@ -11,9 +11,9 @@ use Rattle.qil_meaning.specs.State as meaning
 use Rattle.qil_meaning.specs.State.{Name, State}
 use Rattle.qil_meaning.specs.Poke.{temp_class, poke_in, poke_temp, no_frame, unknown_temporary}
 use Rattle.qil_meaning.specs.Step.{func_named}
-use Rattle.qil_numbering.specs.declared.numbered.Slot.{Slot}
-use Rattle.qil_numbering.specs.Facts.{Finds}
-use Rattle.qil_numbering.specs.Numbered.{func_at, names_in, names_of}
+use Rattle.qil_code.specs.declared.numbered.Slot.{Slot}
+use Rattle.qil_code.specs.Facts.{Finds}
+use Rattle.qil_code.specs.Numbered.{func_at, names_in, names_of}
 use Rattle.qil_frames.specs.Frames.{SlotFrame, HasFrame, HasSlot, on_innermost, with_slot}
 use Rattle.qil_state.specs.declared.status.Status.{Status}
 use Rattle.qil_state.specs.State.{Whole, whole, state_of, func_name, frame_state, frames_state, head_names, FramesFit, IsMachine}

@@ -15,11 +15,11 @@ use Rattle.qil_meaning.specs.Poke.{temp_class, poke_in, poke_temp, no_frame}
 use Rattle.qil_meaning.specs.Slots.{temps_of}
 use Rattle.qil_meaning.specs.Step.{func_named}
 use Rattle.qil_meaning.specs.Temps.{with_temp}
-use Rattle.qil_numbering.specs.declared.numbered.Slot.{Slot}
-use Rattle.qil_numbering.specs.Facts.{Finds}
-use Rattle.qil_numbering.specs.Numbered.{class_of_temp, func_at, names_in, names_of}
-use Rattle.qil_numbering.specs.Reading.{class_at}
-use Rattle.qil_numbering.specs.Slots.{name_at}
+use Rattle.qil_code.specs.declared.numbered.Slot.{Slot}
+use Rattle.qil_code.specs.Facts.{Finds}
+use Rattle.qil_code.specs.Numbered.{class_of_temp, func_at, names_in, names_of}
+use Rattle.qil_code.specs.Reading.{class_at}
+use Rattle.qil_code.specs.Slots.{name_at}
 use Rattle.qil_frames.specs.Frames.{SlotFrame, HasFrame, HasSlot, held, on_innermost, with_slot}
 use Rattle.qil_state.specs.declared.status.Status.{Status}
 use Rattle.qil_state.specs.State.{Whole, whole, state_of, func_name, frame_state, frames_state, head_names, FrameFits, FramesFit, IsMachine}

@@ -11,10 +11,10 @@ use Rattle.qil_memory.specs.Buffers.{Buffers}
 use Rattle.qil_meaning.specs.State as meaning
 use Rattle.qil_meaning.specs.State.{Name, is_final}
 use Rattle.qil_meaning.specs.Stops.{Place, is_at, innermost_at}
-use Rattle.qil_numbering.specs.Facts.{Finds, NumbersBlocks}
-use Rattle.qil_numbering.specs.Gather.{labels_in}
-use Rattle.qil_numbering.specs.Numbered.{func_at, block_in, block_at}
-use Rattle.qil_numbering.specs.Slots.{number_in}
+use Rattle.qil_code.specs.Facts.{Finds, NumbersBlocks}
+use Rattle.qil_code.specs.Gather.{labels_in}
+use Rattle.qil_code.specs.Numbered.{func_at, block_in, block_at}
+use Rattle.qil_code.specs.Slots.{number_in}
 use Rattle.qil_frames.specs.Frames.{SlotFrame}
 use Rattle.qil_state.specs.declared.status.Status.{Status}
 use Rattle.qil_state.specs.declared.status.Status.TheVariants.{Running, Done, Exited, Faulted}

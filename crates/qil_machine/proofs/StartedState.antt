@@ -20,22 +20,22 @@ use Rattle.qil_meaning.specs.Step.{func_named}
 use Rattle.qil_meaning.specs.Start.{start_of, started, started_with}
 use Rattle.qil_meaning.specs.declared.start.StartFault.TheVariants as faults
 use Rattle.qil_meaning.proofs.StartLemmas.{live-fresh}
-use Rattle.qil_numbering.specs.declared.numbered.Slot.{Slot}
-use Rattle.qil_numbering.specs.declared.numbered.FuncCode.{FuncCode}
-use Rattle.qil_numbering.specs.Ranges.{FuncInRange}
-use Rattle.qil_numbering.specs.Facts.{Finds}
-use Rattle.qil_numbering.specs.Numbered.{func_at, block_at, block_in, block_of, func_of, func_code, param_of}
+use Rattle.qil_code.specs.declared.numbered.Slot.{Slot}
+use Rattle.qil_code.specs.declared.numbered.FuncCode.{FuncCode}
+use Rattle.qil_code.specs.Ranges.{FuncInRange}
+use Rattle.qil_code.specs.Facts.{Finds}
+use Rattle.qil_code.specs.Numbered.{func_at, block_at, block_in, block_of, func_of, func_code, param_of}
 use Rattle.qil_meaning.specs.Names.{temps_named}
-use Rattle.qil_numbering.specs.declared.numbered.Receiver.{Receiver}
+use Rattle.qil_code.specs.declared.numbered.Receiver.{Receiver}
 use Rattle.qil_layout.specs.declared.callee.FuncId.{FuncId}
-use Rattle.qil_numbering.specs.Reading.{func_names, func_code_at}
-use Rattle.qil_numbering.proofs.Has.{name-at}
+use Rattle.qil_code.specs.Reading.{func_names, func_code_at}
+use Rattle.qil_code.proofs.Has.{name-at}
 use Rattle.qil_frames.specs.Frames.{SlotFrame, with_slot}
 use Rattle.qil_state.specs.Beginning.{begun_slots}
 use Rattle.qil_state.specs.declared.status.Status.TheVariants.{Running}
 use Rattle.qil_state.specs.State.{whole, state_of, func_name, label_in, FrameFits, PlaceFits, IsMachine}
 use Rattle.qil_state.proofs.Place.{none_some, some_same}
-use Rattle.qil_numbering.proofs.Readers.{IsCoded, coded}
+use Rattle.qil_code.proofs.Readers.{IsCoded, coded}
 use Rattle.qil_state.proofs.Beginning.{begun_temps, begun_long}
 
 -- ---- parameters, one after the other

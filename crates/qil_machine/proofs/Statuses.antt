@@ -8,7 +8,7 @@ use denote.Enum.Bare.{same_true}
 use denote.Enum.Compared.{Each, by}
 use denote.Enum.Declared.{Record, Choice, values_one}
 use Rattle.qil_ops.specs.contracts.division.DivFault as division
-use Rattle.qil_numbering.specs.declared.numbered.Slot.{Slot}
+use Rattle.qil_code.specs.declared.numbered.Slot.{Slot}
 use Rattle.qil_state.specs.declared.status.Fault.{Fault}
 use Rattle.qil_state.specs.declared.status.Status.{Status}
 use Rattle.qil_state.specs.contracts.status.Fault as fault

@@ -18,13 +18,13 @@ use Rattle.qil_meaning.specs.Calls.{next}
 use Rattle.qil_meaning.specs.Slots.{temps_of}
 use Rattle.qil_meaning.specs.Values.{Outcome, ◌>>=◌, val}
 use Rattle.qil_meaning.specs.Step.{alignment, copied}
-use Rattle.qil_numbering.specs.declared.numbered.Slot.{Slot}
-use Rattle.qil_numbering.specs.declared.numbered.NumberedOperand.{NumberedOperand}
-use Rattle.qil_numbering.specs.declared.numbered.NumberedExpr.{NumberedExpr}
-use Rattle.qil_numbering.specs.declared.numbered.NumberedInst.{NumberedInst}
-use Rattle.qil_numbering.specs.declared.numbered.NumberedInst.TheVariants as insts
-use Rattle.qil_numbering.specs.Named.{named_operand, named_target, named_expr}
-use Rattle.qil_numbering.specs.Numbered.{names_of}
+use Rattle.qil_code.specs.declared.numbered.Slot.{Slot}
+use Rattle.qil_code.specs.declared.numbered.NumberedOperand.{NumberedOperand}
+use Rattle.qil_code.specs.declared.numbered.NumberedExpr.{NumberedExpr}
+use Rattle.qil_code.specs.declared.numbered.NumberedInst.{NumberedInst}
+use Rattle.qil_code.specs.declared.numbered.NumberedInst.TheVariants as insts
+use Rattle.qil_code.specs.Named.{named_operand, named_target, named_expr}
+use Rattle.qil_code.specs.Numbered.{names_of}
 use Rattle.qil_frames.specs.Frames.{SlotFrame, on_innermost, with_slot, at_index}
 use Rattle.qil_state.specs.declared.status.Fault.{Fault}
 use Rattle.qil_state.specs.declared.status.Fault.TheVariants as faults

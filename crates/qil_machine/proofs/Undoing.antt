@@ -1,7 +1,7 @@
 -- What undoing needs, from what a move fits.
 use Rattle.std.proofs.Common.{◌≡◌, ℕ, ◌<◌, List, [], ◌∷◌, length, Option, sym, ap, subst, ◌∙◌}
 use Rattle.std.proofs.lemmas.List.Elements.{recursion_from_All}
-use Rattle.qil_numbering.specs.declared.numbered.Slot.{Slot}
+use Rattle.qil_code.specs.declared.numbered.Slot.{Slot}
 use Rattle.qil_frames.specs.declared.saved.SavedSlot.{SavedSlot}
 use Rattle.qil_frames.specs.Frames.{SlotFrame, HasSlot}
 use Rattle.qil_state.specs.State.{Whole}

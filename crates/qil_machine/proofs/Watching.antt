@@ -14,11 +14,11 @@ use Rattle.qil_meaning.specs.State as meaning
 use Rattle.qil_meaning.specs.State.{Name}
 use Rattle.qil_meaning.specs.Slots.{temps_of}
 use Rattle.qil_meaning.specs.Stops.{temp_in, reading, temp_reading, value_reading}
-use Rattle.qil_numbering.specs.declared.numbered.Slot.{Slot}
-use Rattle.qil_numbering.specs.Facts.{Finds}
-use Rattle.qil_numbering.specs.Numbered.{func_at, block_in, names_of}
-use Rattle.qil_numbering.specs.Reading.{class_at, func_names}
-use Rattle.qil_numbering.specs.Slots.{name_at}
+use Rattle.qil_code.specs.declared.numbered.Slot.{Slot}
+use Rattle.qil_code.specs.Facts.{Finds}
+use Rattle.qil_code.specs.Numbered.{func_at, block_in, names_of}
+use Rattle.qil_code.specs.Reading.{class_at, func_names}
+use Rattle.qil_code.specs.Slots.{name_at}
 use Rattle.qil_frames.specs.Frames.{SlotFrame, held}
 use Rattle.qil_state.specs.State.{Whole, state_of, func_name, frame_state, frames_state, head_names, PlaceFits, FrameFits, FramesFit, IsMachine}
 use Rattle.qil_state.proofs.Place.{none_some, some_same}

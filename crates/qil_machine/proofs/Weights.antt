@@ -16,17 +16,17 @@ use Rattle.qil_meaning.specs.Values.{Outcome}
 use Rattle.qil_meaning.specs.Names.{temps_named}
 use Rattle.qil_meaning.specs.Step.{func_named, block_labelled, phi_moves, in_func}
 use Rattle.qil_meaning.specs.Cost.{result_count, inst_cost, phis_cost, outcome_cost, cost_in, cost_of}
-use Rattle.qil_numbering.specs.declared.numbered.Receiver.{Receiver}
-use Rattle.qil_numbering.specs.declared.numbered.Edge.{Edge}
-use Rattle.qil_numbering.specs.declared.numbered.NumberedBlock.{NumberedBlock}
-use Rattle.qil_numbering.specs.declared.numbered.NumberedInst.{NumberedInst}
-use Rattle.qil_numbering.specs.declared.numbered.NumberedInst.TheVariants as insts
-use Rattle.qil_numbering.specs.declared.numbered.NumberedJump.{NumberedJump}
-use Rattle.qil_numbering.specs.declared.numbered.NumberedJump.TheVariants as jumps
-use Rattle.qil_numbering.specs.Named.{named_receiver, named_inst, named_jump, named_move, resolved_move}
-use Rattle.qil_numbering.specs.Numbered.{func_at, block_at, names_of}
-use Rattle.qil_numbering.specs.Reading.{labels_at}
-use Rattle.qil_numbering.proofs.EdgesNamed.{IsEdgeOf, EdgeNamed, edge-named}
+use Rattle.qil_code.specs.declared.numbered.Receiver.{Receiver}
+use Rattle.qil_code.specs.declared.numbered.Edge.{Edge}
+use Rattle.qil_code.specs.declared.numbered.NumberedBlock.{NumberedBlock}
+use Rattle.qil_code.specs.declared.numbered.NumberedInst.{NumberedInst}
+use Rattle.qil_code.specs.declared.numbered.NumberedInst.TheVariants as insts
+use Rattle.qil_code.specs.declared.numbered.NumberedJump.{NumberedJump}
+use Rattle.qil_code.specs.declared.numbered.NumberedJump.TheVariants as jumps
+use Rattle.qil_code.specs.Named.{named_receiver, named_inst, named_jump, named_move, resolved_move}
+use Rattle.qil_code.specs.Numbered.{func_at, block_at, names_of}
+use Rattle.qil_code.specs.Reading.{labels_at}
+use Rattle.qil_code.proofs.EdgesNamed.{IsEdgeOf, EdgeNamed, edge-named}
 use Rattle.qil_frames.specs.Frames.{SlotFrame, on_innermost}
 use Rattle.qil_frames.specs.Enter.{gathered, entered, entered_by}
 use Rattle.qil_state.specs.declared.status.Status.{Status}

@@ -14,10 +14,10 @@ use Rattle.qil_meaning.specs.State as meaning
 use Rattle.qil_meaning.specs.State.{Name, State, output_full}
 use Rattle.qil_meaning.specs.Values.{Outcome, ◌>>=◌, first}
 use Rattle.qil_meaning.specs.Calls.{next, taken, writes, output_limit, putchar, puts, text_at}
-use Rattle.qil_numbering.specs.declared.numbered.Receiver.{Receiver}
-use Rattle.qil_numbering.specs.declared.numbered.NumberedArgument.{NumberedArgument}
-use Rattle.qil_numbering.specs.Named.{named_receiver}
-use Rattle.qil_numbering.specs.Numbered.{names_of}
+use Rattle.qil_code.specs.declared.numbered.Receiver.{Receiver}
+use Rattle.qil_code.specs.declared.numbered.NumberedArgument.{NumberedArgument}
+use Rattle.qil_code.specs.Named.{named_receiver}
+use Rattle.qil_code.specs.Numbered.{names_of}
 use Rattle.qil_frames.specs.Frames.{SlotFrame, on_innermost, at_index}
 use Rattle.qil_state.specs.declared.status.Status.{Status}
 use Rattle.qil_state.specs.Faults.{fault_of}

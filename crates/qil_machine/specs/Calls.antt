@@ -12,11 +12,11 @@ use Rattle.qil_meaning.specs.State as meaning
 use Rattle.qil_meaning.specs.State.{Name, State}
 use Rattle.qil_meaning.specs.Values.{Outcome}
 use Rattle.qil_meaning.specs.Calls.{in_shape, call_at, text_at}
-use Rattle.qil_numbering.specs.declared.numbered.NumberedArgument.{NumberedArgument}
-use Rattle.qil_numbering.specs.declared.numbered.Receiver.{Receiver}
-use Rattle.qil_numbering.specs.Named.{named_argument, named_receiver}
-use Rattle.qil_numbering.specs.Numbered.{func_at}
-use Rattle.qil_numbering.specs.Ranges.{InRange}
+use Rattle.qil_code.specs.declared.numbered.NumberedArgument.{NumberedArgument}
+use Rattle.qil_code.specs.declared.numbered.Receiver.{Receiver}
+use Rattle.qil_code.specs.Named.{named_argument, named_receiver}
+use Rattle.qil_code.specs.Numbered.{func_at}
+use Rattle.qil_code.specs.Ranges.{InRange}
 use Rattle.qil_frames.specs.Frames.{SlotFrame, on_innermost, at_index}
 use Rattle.qil_state.specs.declared.status.Fault.{Fault}
 use Rattle.qil_state.specs.Faults.{fault_of}

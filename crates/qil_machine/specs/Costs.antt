@@ -4,11 +4,11 @@ use Rattle.qil_tree.specs.declared.tree.Func.{Func}
 use Rattle.qil_layout.specs.Layout.{width_bytes}
 use Rattle.qil_meaning.specs.State as meaning
 use Rattle.qil_meaning.specs.Cost.{entered_cost}
-use Rattle.qil_numbering.specs.declared.numbered.NumberedInst.{NumberedInst}
-use Rattle.qil_numbering.specs.declared.numbered.NumberedInst.TheVariants as insts
-use Rattle.qil_numbering.specs.declared.numbered.NumberedJump.{NumberedJump}
-use Rattle.qil_numbering.specs.declared.numbered.NumberedJump.TheVariants as jumps
-use Rattle.qil_numbering.specs.declared.numbered.Receiver.{Receiver}
+use Rattle.qil_code.specs.declared.numbered.NumberedInst.{NumberedInst}
+use Rattle.qil_code.specs.declared.numbered.NumberedInst.TheVariants as insts
+use Rattle.qil_code.specs.declared.numbered.NumberedJump.{NumberedJump}
+use Rattle.qil_code.specs.declared.numbered.NumberedJump.TheVariants as jumps
+use Rattle.qil_code.specs.declared.numbered.Receiver.{Receiver}
 use Rattle.qil_frames.specs.Frames.{SlotFrame}
 use Rattle.qil_state.specs.State.{Whole, head_func, frames_state}
 use Rattle.qil_machine.specs.Moves.{Move, weight}

@@ -2,7 +2,7 @@
 use Rattle.std.specs.Prelude.{ℕ, ◌<◌, ◌≤◌, List, [], ◌∷◌, length, IsSome}
 use Rattle.qil_tree.specs.declared.tree.Program.{Program}
 use Rattle.qil_memory.specs.Buffers.{stack_base, stack_end}
-use Rattle.qil_numbering.specs.Numbered.{block_at}
+use Rattle.qil_code.specs.Numbered.{block_at}
 use Rattle.qil_frames.specs.declared.saved.SavedSlot.{SavedSlot}
 use Rattle.qil_frames.specs.Frames.{SlotFrame}
 use Rattle.qil_frames.specs.Enter.{AreSlots}

@@ -1,8 +1,8 @@
 -- The kinds of moves, as one record each; and what each keeps in a delta.
 use Rattle.std.specs.Prelude.{ℕ, Bool, true, false, List, [], ◌∷◌, Option, Some, None}
 use Rattle.qil_memory.specs.Undo.{Kept}
-use Rattle.qil_numbering.specs.declared.numbered.Slot.{Slot}
-use Rattle.qil_numbering.specs.declared.numbered.Receiver.{Receiver}
+use Rattle.qil_code.specs.declared.numbered.Slot.{Slot}
+use Rattle.qil_code.specs.declared.numbered.Receiver.{Receiver}
 use Rattle.qil_frames.specs.declared.saved.SavedSlot.{SavedSlot}
 use Rattle.qil_frames.specs.Frames.{SlotFrame, held, with_slot}
 use Rattle.qil_state.specs.declared.status.Status.TheVariants.{Running}

@@ -5,7 +5,7 @@ use Rattle.qil_tree.specs.declared.tree.Program.{Program}
 use Rattle.qil_memory.specs.Buffers.{Buffers, stack_base, stack_end}
 use Rattle.qil_memory.specs.Undo.{with_bytes, with_top}
 use Rattle.qil_memory.specs.Places.{HasPlaces}
-use Rattle.qil_numbering.specs.Numbered.{block_at}
+use Rattle.qil_code.specs.Numbered.{block_at}
 use Rattle.qil_frames.specs.declared.saved.SavedSlot.{SavedSlot}
 use Rattle.qil_frames.specs.Frames.{SlotFrame, HasFrame, on_innermost, at_index, at_place}
 use Rattle.qil_frames.specs.Enter.{put_back, AreSlots}

@@ -6,7 +6,7 @@ use Rattle.qil_tree.specs.declared.tree.Program.{Program}
 use Rattle.qil_rules.specs.Text.{IsAmong}
 use Rattle.qil_meaning.specs.State.{Name, Frame}
 use Rattle.qil_meaning.specs.Step.{func_named, block_labelled}
-use Rattle.qil_numbering.specs.Facts.{jump_labels}
+use Rattle.qil_code.specs.Facts.{jump_labels}
 
 -- the program has a block of each of these labels
 abbrev pub HasLabels : {A : Type 0} → List (Block A) → List Name → Type 0

@@ -1,7 +1,7 @@
 -- Where a running machine stands before a move of some kind.
 use Rattle.std.specs.Prelude.{◌≡◌, ℕ, List, [], ◌∷◌, ◌++◌}
 use Rattle.qil_tree.specs.declared.tree.Program.{Program}
-use Rattle.qil_numbering.specs.Numbered.{block_at}
+use Rattle.qil_code.specs.Numbered.{block_at}
 use Rattle.qil_frames.specs.Frames.{SlotFrame}
 use Rattle.qil_state.specs.declared.status.Status.TheVariants.{Running}
 use Rattle.qil_state.specs.State.{Whole, PlaceFits, IsMachine}

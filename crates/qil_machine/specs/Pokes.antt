@@ -6,8 +6,8 @@ use Rattle.qil_ops.specs.Values.{width, low_bits}
 use Rattle.qil_meaning.specs.State.{Name, Frame, State}
 use Rattle.qil_meaning.specs.Step.{func_named}
 use Rattle.qil_meaning.specs.Poke.{PokeFault, poke_temp, no_frame, unknown_temporary}
-use Rattle.qil_numbering.specs.declared.numbered.Slot.{Slot}
-use Rattle.qil_numbering.specs.Numbered.{names_in}
+use Rattle.qil_code.specs.declared.numbered.Slot.{Slot}
+use Rattle.qil_code.specs.Numbered.{names_in}
 use Rattle.qil_frames.specs.Frames.{HasFrame, HasSlot, on_innermost, with_slot}
 use Rattle.qil_state.specs.State.{Whole, state_of, head_names}
 use Rattle.qil_machine.specs.declared.error.PokeError.{PokeError}

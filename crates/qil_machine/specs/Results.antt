@@ -7,8 +7,8 @@ use Rattle.qil_memory.specs.declared.fault.BlitFault.TheVariants as blits
 use Rattle.qil_meaning.specs.State.{Name}
 use Rattle.qil_meaning.specs.Values.{Outcome}
 use Rattle.qil_meaning.specs.Calls.{taken}
-use Rattle.qil_numbering.specs.declared.numbered.Slot.{Slot}
-use Rattle.qil_numbering.specs.declared.numbered.Receiver.{Receiver}
+use Rattle.qil_code.specs.declared.numbered.Slot.{Slot}
+use Rattle.qil_code.specs.declared.numbered.Receiver.{Receiver}
 use Rattle.qil_frames.specs.Frames.{SlotFrame, on_innermost}
 use Rattle.qil_state.specs.declared.status.Status.{Status}
 use Rattle.qil_state.specs.declared.status.Status.TheVariants.{Running, Done}

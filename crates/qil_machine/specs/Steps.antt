@@ -4,18 +4,18 @@ use Rattle.qil_tree.specs.declared.ops.Class.TheVariants as classes
 use Rattle.qil_tree.specs.declared.tree.Program.{Program}
 use Rattle.qil_meaning.specs.Values.{Outcome, val}
 use Rattle.qil_meaning.specs.Slots.{temps_of}
-use Rattle.qil_numbering.specs.declared.numbered.NumberedInst.{NumberedInst}
-use Rattle.qil_numbering.specs.declared.numbered.NumberedInst.TheVariants as insts
-use Rattle.qil_numbering.specs.declared.numbered.NumberedJump.{NumberedJump}
-use Rattle.qil_numbering.specs.declared.numbered.NumberedJump.TheVariants as jumps
-use Rattle.qil_numbering.specs.declared.numbered.NumberedBlock.{NumberedBlock}
-use Rattle.qil_numbering.specs.declared.numbered.Edge.{Edge}
-use Rattle.qil_numbering.specs.declared.numbered.NumberedOperand.{NumberedOperand}
-use Rattle.qil_numbering.specs.Ranges.{InRange, InstInRange, BlockInRange}
-use Rattle.qil_numbering.specs.Named.{named_operand}
-use Rattle.qil_numbering.specs.Numbered.{names_of}
-use Rattle.qil_numbering.specs.Reading.{block_code_at, labels_at}
-use Rattle.qil_numbering.specs.Facts.{Finds, KnowsLabels}
+use Rattle.qil_code.specs.declared.numbered.NumberedInst.{NumberedInst}
+use Rattle.qil_code.specs.declared.numbered.NumberedInst.TheVariants as insts
+use Rattle.qil_code.specs.declared.numbered.NumberedJump.{NumberedJump}
+use Rattle.qil_code.specs.declared.numbered.NumberedJump.TheVariants as jumps
+use Rattle.qil_code.specs.declared.numbered.NumberedBlock.{NumberedBlock}
+use Rattle.qil_code.specs.declared.numbered.Edge.{Edge}
+use Rattle.qil_code.specs.declared.numbered.NumberedOperand.{NumberedOperand}
+use Rattle.qil_code.specs.Ranges.{InRange, InstInRange, BlockInRange}
+use Rattle.qil_code.specs.Named.{named_operand}
+use Rattle.qil_code.specs.Numbered.{names_of}
+use Rattle.qil_code.specs.Reading.{block_code_at, labels_at}
+use Rattle.qil_code.specs.Facts.{Finds, KnowsLabels}
 use Rattle.qil_frames.specs.Frames.{SlotFrame}
 
 -- the innermost frame has all slots that an instruction names

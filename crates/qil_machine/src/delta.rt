@@ -7,9 +7,9 @@ ghost use Rattle.qil_machine.specs.Deltas.{move_of};
 ghost use Rattle.qil_machine.specs.Kinds.{slots_move, one, bytes_move, called_move, returned_move, grown_move, copied_move, wrote_move, ended_move, poked_slot_move, poked_bytes_move};
 
 use arrayvec::ArrayVec;
+use qil_code::Slot;
 use qil_frames::{Frame, KeptSlots, PhiSaved, SavedSlot};
 use qil_memory::Saved;
-use qil_numbering::Slot;
 use std::alloc::Allocator;
 use std::marker::Model;
 

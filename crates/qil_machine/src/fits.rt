@@ -3,7 +3,7 @@
 ghost use Rattle.std.specs.Prelude.{◌≡◌, ◌↔◌, [], ◌∷◌, IsTrue, Some, true, option_copied, slice_get};
 ghost use Rattle.qil_layout.specs.Layout.{low_bytes};
 ghost use Rattle.qil_memory.specs.Places.{HasPlaces};
-ghost use Rattle.qil_numbering.specs.Numbered.{block_at};
+ghost use Rattle.qil_code.specs.Numbered.{block_at};
 ghost use Rattle.qil_frames.specs.Enter.{AreSlots};
 ghost use Rattle.qil_frames.specs.Frames.{HasSlot};
 ghost use Rattle.qil_state.specs.State.{PlaceFits, FrameFits, ReceiverFits, IsMachine};
@@ -14,9 +14,9 @@ ghost use Rattle.qil_machine.specs.Fitting.{HasIndex, HasBlock, HasSlots, HasFlo
 use crate::delta::{Delta, DeltaKind, Grown};
 use crate::machine::Machine;
 use crate::undo::value_of;
+use qil_code::{BlockId, Code, Receiver, Slot};
 use qil_frames::{Frame, Frames, SavedSlot};
 use qil_memory::{CAPACITY, Memory, STACK_BASE, Saved};
-use qil_numbering::{BlockId, Code, Receiver, Slot};
 use std::alloc::Allocator;
 
 impl<A: Allocator + Copy> Delta<A> {

@@ -1,8 +1,8 @@
 //! Jumps: what is at the end of a block is done.
 
 ghost use Rattle.std.specs.Prelude.{◌≡◌, ◌≢◌, ◌≤◌, None, Some, Ok, Err, IfOk, IfErr, OnOk, OnErr, slice_get, length};
-ghost use Rattle.qil_numbering.specs.declared.numbered.NumberedJump.{NumberedJump};
-ghost use Rattle.qil_numbering.proofs.EdgesNamed.{IsEdgeOf};
+ghost use Rattle.qil_code.specs.declared.numbered.NumberedJump.{NumberedJump};
+ghost use Rattle.qil_code.proofs.EdgesNamed.{IsEdgeOf};
 ghost use Rattle.qil_state.specs.State.{state_of, head_names};
 ghost use Rattle.qil_state.specs.Stepping.{left_whole, went_whole};
 ghost use Rattle.qil_rules.specs.Mentions.{returned_class};
@@ -15,7 +15,7 @@ ghost use Rattle.qil_machine.specs.Steps.{IsHere, HasOperand, HasReturned, Branc
 use crate::delta::Delta;
 use crate::error::StepError;
 use crate::machine::Machine;
-use qil_numbering::{Edge, NumberedBlock, NumberedJump, NumberedOperand};
+use qil_code::{Edge, NumberedBlock, NumberedJump, NumberedOperand};
 use qil_state::{Fault, fitted, value};
 use qil_tree::{AbiType, Class};
 use std::alloc::Allocator;

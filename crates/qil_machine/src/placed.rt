@@ -4,8 +4,8 @@ ghost use Rattle.qil_state.specs.State.{state_of};
 ghost use Rattle.qil_machine.specs.Placed.{ArePlaced};
 
 use crate::machine::Machine;
+use qil_code::BlockId;
 use qil_layout::FuncId;
-use qil_numbering::BlockId;
 use std::alloc::Allocator;
 
 impl<'c, 'a, A: Allocator + Copy> Machine<'c, 'a, A> {

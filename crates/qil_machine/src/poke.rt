@@ -13,7 +13,7 @@ ghost use Rattle.qil_machine.specs.Pokes.{IsOfClass, Refuses, RefusesName, Refus
 use crate::delta::Delta;
 use crate::error::PokeError;
 use crate::machine::Machine;
-use qil_numbering::Slot;
+use qil_code::Slot;
 use qil_ops::unary;
 use qil_tree::{Class, UnaryOp};
 use std::alloc::Allocator;

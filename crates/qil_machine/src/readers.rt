@@ -6,17 +6,17 @@ ghost use Rattle.qil_tree.specs.declared.tree.Func.{Func};
 ghost use Rattle.qil_memory.specs.Calls.{IsWidth, loaded};
 ghost use Rattle.qil_memory.specs.Live.{live};
 ghost use Rattle.qil_meaning.specs.Stops.{reading, temp_in, value_reading};
-ghost use Rattle.qil_numbering.specs.Numbered.{func_at, names_of};
+ghost use Rattle.qil_code.specs.Numbered.{func_at, names_of};
 ghost use Rattle.qil_frames.specs.Frames.{HasSlot, held};
 ghost use Rattle.qil_state.specs.declared.status.Status.{Status};
 ghost use Rattle.qil_state.specs.State.{IsMachine, state_of, head_names};
 ghost use Rattle.qil_machine.specs.Readings.{frame_of, temp_here};
 
 use crate::machine::Machine;
+use qil_code::{Code, Slot};
 use qil_frames::Frame;
 use qil_layout::FuncId;
 use qil_memory::Dead;
-use qil_numbering::{Code, Slot};
 use qil_state::Status;
 use std::alloc::Allocator;
 

@@ -2,8 +2,8 @@
 
 ghost use Rattle.std.specs.Prelude.{◌≡◌, ◌≤◌, []};
 ghost use Rattle.qil_layout.specs.Layout.{low_bytes};
-ghost use Rattle.qil_numbering.specs.Numbered.{block_at};
-ghost use Rattle.qil_numbering.specs.Ranges.{IsShort};
+ghost use Rattle.qil_code.specs.Numbered.{block_at};
+ghost use Rattle.qil_code.specs.Ranges.{IsShort};
 ghost use Rattle.qil_frames.specs.Frames.{on_innermost};
 ghost use Rattle.qil_frames.specs.Kept.{kept_slots};
 ghost use Rattle.qil_state.specs.State.{ReceiverFits};
@@ -12,9 +12,9 @@ ghost use Rattle.qil_machine.specs.Kinds.{slots_move, one, bytes_move, called_mo
 
 use crate::delta::{Copied, Delta, DeltaKind, Grown};
 use crate::machine::Machine;
+use qil_code::{BlockId, Code, Receiver, Slot};
 use qil_frames::{Frame, Frames, KeptSlots, PhiSaved};
 use qil_layout::FuncId;
-use qil_numbering::{BlockId, Code, Receiver, Slot};
 use qil_state::Status;
 use std::alloc::Allocator;
 

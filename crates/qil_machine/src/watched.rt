@@ -8,14 +8,14 @@ ghost use Rattle.qil_memory.specs.Bytes.{number};
 ghost use Rattle.qil_memory.specs.Calls.{IsWidth};
 ghost use Rattle.qil_memory.specs.Live.{live, read};
 ghost use Rattle.qil_meaning.specs.Stops.{is_at};
-ghost use Rattle.qil_numbering.specs.Numbered.{func_at, block_at};
+ghost use Rattle.qil_code.specs.Numbered.{func_at, block_at};
 ghost use Rattle.qil_state.specs.State.{state_of};
 ghost use Rattle.qil_machine.specs.Readings.{stands_at};
 
 use crate::machine::Machine;
+use qil_code::BlockId;
 use qil_frames::Frame;
 use qil_layout::FuncId;
-use qil_numbering::BlockId;
 use qil_state::Status;
 use std::alloc::Allocator;
 

@@ -2,7 +2,7 @@
 use Rattle.std.proofs.Common.{◌≡◌, refl, sym, ap, ◌∙◌, List, [], ◌∷◌, ◌++◌, Option, Some, None}
 use Rattle.std.specs.Prelude.{map, unwrap_or}
 use Rattle.qil_tree.specs.declared.ops.Class.TheVariants as classes
-use Rattle.qil_numbering.specs.Numbered.{class_of_temp}
+use Rattle.qil_code.specs.Numbered.{class_of_temp}
 use Rattle.std.specs.Option.{option_or}
 use Rattle.std.specs.List.{flat_map}
 use Rattle.qil_tree.specs.declared.ops.Class.{Class}

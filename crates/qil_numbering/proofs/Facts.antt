@@ -4,12 +4,12 @@ use Rattle.std.proofs.lemmas.Option.{slice_get-get_or}
 use Rattle.qil_tree.specs.declared.tree.Func.{Func}
 use Rattle.qil_tree.specs.declared.tree.Program.{Program}
 use Rattle.qil_rules.specs.Rules.{WellFormed}
-use Rattle.qil_numbering.specs.Facts.{IsNumerable, AreNumerable, Finds}
-use Rattle.qil_numbering.specs.Gather.{labels_in}
-use Rattle.qil_numbering.proofs.Apart.{recorded-same}
-use Rattle.qil_numbering.proofs.FactsNames.{names_apart, found_by, placed_by, mapped_at}
+use Rattle.qil_code.specs.Facts.{IsNumerable, AreNumerable, Finds}
+use Rattle.qil_code.specs.Gather.{labels_in}
+use Rattle.qil_code.proofs.Apart.{recorded-same}
+use Rattle.qil_code.proofs.FactsNames.{names_apart, found_by, placed_by, mapped_at}
 use Rattle.qil_numbering.proofs.FactsBlocks.{labels_apart, few_blocks}
-use Rattle.qil_numbering.proofs.FactsTemps.{few_temps}
+use Rattle.qil_code.proofs.FactsTemps.{few_temps}
 
 pub func_numerable : {A : Type 0} (p : Program A) → WellFormed p → (n : ℕ) (f : Func A) → slice_get p.funcs n ≡ Some f → IsNumerable f
 func_numerable p kept n f there = record {

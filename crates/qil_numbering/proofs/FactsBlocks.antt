@@ -25,10 +25,10 @@ use Rattle.qil_rules.specs.Mentions.{on, operand_mentions, read_mentions, target
 use Rattle.qil_rules.specs.Text.{IsAt}
 use Rattle.qil_rules.specs.Rules.{WellFormed, is_label}
 use Rattle.qil_meaning.specs.State.{Name}
-use Rattle.qil_numbering.specs.Gather.{labels_in}
-use Rattle.qil_numbering.proofs.Spots.{One, Two, two_more, one_behind, two_behind}
-use Rattle.qil_numbering.proofs.Apart.{AreApart}
-use Rattle.qil_numbering.proofs.FactsNames.{made_of, func_text}
+use Rattle.qil_code.specs.Gather.{labels_in}
+use Rattle.qil_code.proofs.Spots.{One, Two, two_more, one_behind, two_behind}
+use Rattle.qil_code.proofs.Apart.{AreApart}
+use Rattle.qil_code.proofs.FactsNames.{made_of, func_text}
 
 abbrev label_of : {A : Type 0} → Block A → Mention
 label_of b = on b.line (Label b.label)

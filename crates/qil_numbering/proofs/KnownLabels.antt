@@ -27,11 +27,11 @@ use Rattle.qil_rules.specs.Text.{IsAt, IsAmong}
 use Rattle.qil_rules.specs.Rules.{WellFormed, begins_block, is_label}
 use Rattle.qil_names.specs.Numbers.{place_of}
 use Rattle.qil_meaning.specs.State.{Name}
-use Rattle.qil_numbering.specs.Facts.{jump_labels, KnowsLabels}
-use Rattle.qil_numbering.specs.Gather.{labels_in}
-use Rattle.qil_numbering.proofs.Spots.{One, one_more, one_behind, one_before}
-use Rattle.qil_numbering.proofs.FactsNames.{func_text}
-use Rattle.qil_numbering.proofs.Has.{Has, HasAll, has-self, among-has}
+use Rattle.qil_code.specs.Facts.{jump_labels, KnowsLabels}
+use Rattle.qil_code.specs.Gather.{labels_in}
+use Rattle.qil_code.proofs.Spots.{One, one_more, one_behind, one_before}
+use Rattle.qil_code.proofs.FactsNames.{func_text}
+use Rattle.qil_code.proofs.Has.{Has, HasAll, has-self, among-has}
 
 -- ---- the edges of a jump, in the text of its function
 

@@ -1,24 +1,8 @@
 -- The lemmas of this crate.
 pub mod Parts
-pub mod Once
 pub mod Defining
-pub mod Edges
 pub mod Tables
 pub mod Whole
-pub mod Spots
-pub mod Apart
-pub mod FactsNames
 pub mod FactsBlocks
-pub mod FactsTemps
 pub mod Facts
-pub mod Readers
-pub mod Has
-pub mod Naming
 pub mod KnownLabels
-pub mod KnownTemps
-pub mod UnknownTemps
-pub mod NamedCode
-pub mod PhiMoves
-pub mod Ranged
-pub mod RangedCode
-pub mod EdgesNamed

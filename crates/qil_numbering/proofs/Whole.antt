@@ -7,12 +7,12 @@ use Rattle.qil_tree.specs.declared.tree.Func.{Func}
 use Rattle.qil_tree.specs.declared.tree.Program.{Program}
 use Rattle.qil_meaning.specs.State.{Name}
 use Rattle.qil_meaning.specs.Names.{temps_named}
-use Rattle.qil_numbering.specs.declared.numbered.Slot.{Slot}
-use Rattle.qil_numbering.specs.declared.numbered.NumberedBlock.{NumberedBlock}
-use Rattle.qil_numbering.specs.declared.numbered.NumberedFunc.{NumberedFunc}
-use Rattle.qil_numbering.specs.declared.numbered.FuncCode.{FuncCode}
-use Rattle.qil_numbering.specs.Gather.{labels_in}
-use Rattle.qil_numbering.specs.Numbered.{class_of_temp, param_of, block_of, func_with, func_of, func_code}
+use Rattle.qil_code.specs.declared.numbered.Slot.{Slot}
+use Rattle.qil_code.specs.declared.numbered.NumberedBlock.{NumberedBlock}
+use Rattle.qil_code.specs.declared.numbered.NumberedFunc.{NumberedFunc}
+use Rattle.qil_code.specs.declared.numbered.FuncCode.{FuncCode}
+use Rattle.qil_code.specs.Gather.{labels_in}
+use Rattle.qil_code.specs.Numbered.{class_of_temp, param_of, block_of, func_with, func_of, func_code}
 
 pub func-is : {A : Type 0} (p : Program A) (func : Func A) (classes : List Class) (params : List (Slot × AbiType)) (blocks : List (NumberedBlock A)) (temps : List Name) (code : NumberedFunc A)
     → classes ≡ map (class_of_temp func) temps → params ≡ map (param_of temps) func.params → blocks ≡ map (block_of p func.blocks temps) func.blocks

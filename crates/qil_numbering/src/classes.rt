@@ -7,7 +7,7 @@ ghost use Rattle.std.specs.Option.{option_or};
 ghost use Rattle.std.specs.List.{flat_map};
 ghost use Rattle.qil_names.specs.Tables.{value_at};
 ghost use Rattle.qil_numbering.specs.Classes.{param_target, inst_targets, block_targets, func_targets, first_class};
-ghost use Rattle.qil_numbering.specs.Numbered.{class_of_temp};
+ghost use Rattle.qil_code.specs.Numbered.{class_of_temp};
 
 use qil_names::{Firsts, Numbers};
 use qil_tree::{Block, Class, Func, Inst, InstKind, Param, Phi, Target};

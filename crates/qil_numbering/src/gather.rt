@@ -4,7 +4,7 @@ ghost use Rattle.std.specs.Prelude.{◌≡◌, [], OnOk, IfOk, map};
 ghost use Rattle.std.specs.List.{flat_map};
 ghost use Rattle.qil_meaning.specs.Names.{operand_names, phi_names, inst_names, jump_names, block_names, temps_named};
 ghost use Rattle.qil_names.specs.Numbers.{recorded};
-ghost use Rattle.qil_numbering.specs.Gather.{expr_names, param_names, arguments_names, sources_names, labels_in};
+ghost use Rattle.qil_code.specs.Gather.{expr_names, param_names, arguments_names, sources_names, labels_in};
 
 use qil_names::Numbers;
 use qil_tree::{
@@ -191,7 +191,7 @@ fn note_params<'a, A: Allocator + Copy>(
 }
 
 /// The temporaries of a function: each once, in the order in which the text first names them.
-#[tactic(auto, using(crate::proofs::Once::gathered))]
+#[tactic(auto, using(qil_code::proofs::Once::gathered))]
 pub fn temps_of<'a, A: Allocator + Copy>(
     alloc: A,
     keys: RandomState,

@@ -1,19 +1,13 @@
-//! The numbered form of a program, which a machine is to run: temporaries and blocks are numbers, globals addresses.
+//! Numbers a checked program: from its tree to its code.
 //!
-//! What the code of a function is follows from its tree: `specs/Numbered.antt` has it as a function, and
-//! `specs/Named.antt` reads the parts back through names.
+//! What the code of a function is follows from its tree: `qil_code` says what, and answers from it.
 #![tactic(auto)]
 
 mod classes;
-mod code;
 mod gather;
 mod moves;
-mod numbered;
+mod numbering;
 mod resolve;
 mod shape;
 
-pub use code::{Code, number};
-pub use numbered::{
-    BlockId, Edge, FuncCode, NumberedArgument, NumberedBlock, NumberedExpr, NumberedFunc,
-    NumberedInst, NumberedJump, NumberedOperand, PhiMove, Receiver, Slot,
-};
+pub use numbering::number;

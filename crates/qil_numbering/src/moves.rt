@@ -3,11 +3,11 @@
 ghost use Rattle.std.specs.Prelude.{◌≡◌, ◌++◌, List, ℕ, IfOk, OnOk};
 ghost use Rattle.std.specs.List.{flat_map};
 ghost use Rattle.qil_names.specs.Tables.{values_at};
-ghost use Rattle.qil_numbering.specs.Numbered.{one_phi_moves, block_moves};
-ghost use Rattle.qil_numbering.specs.Moves.{source_moves};
+ghost use Rattle.qil_code.specs.Numbered.{one_phi_moves, block_moves};
+ghost use Rattle.qil_code.specs.Moves.{source_moves};
 
-use crate::numbered::PhiMove;
 use crate::resolve::Resolver;
+use qil_code::PhiMove;
 use qil_names::Groups;
 use qil_tree::{Block, Phi, PhiSource, Target};
 use std::alloc::{AllocError, Allocator};

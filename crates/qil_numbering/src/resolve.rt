@@ -2,9 +2,9 @@
 
 ghost use Rattle.std.specs.Prelude.{◌≡◌, ◌≤◌, IfOk, map, length};
 ghost use Rattle.qil_tree.specs.declared.tree.Operand.TheVariants as operands;
-ghost use Rattle.qil_numbering.specs.Numbered.{slot_in, operand_of, expr_of, receiver_of, argument_of, inst_of, param_of, move_with};
+ghost use Rattle.qil_code.specs.Numbered.{slot_in, operand_of, expr_of, receiver_of, argument_of, inst_of, param_of, move_with};
 
-use crate::numbered::{
+use qil_code::{
     NumberedArgument, NumberedExpr, NumberedInst, NumberedOperand, PhiMove, Receiver, Slot,
 };
 use qil_layout::Image;

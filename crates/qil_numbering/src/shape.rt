@@ -4,18 +4,18 @@ ghost use Rattle.std.specs.Prelude.{◌≡◌, ◌<◌, ◌≤◌, All, List, �
 ghost use Rattle.std.specs.Option.{ForSome};
 ghost use Rattle.qil_tree.specs.declared.tree.Block.{Block};
 ghost use Rattle.qil_names.specs.Tables.{values_at};
-ghost use Rattle.qil_numbering.specs.Gather.{labels_in};
-ghost use Rattle.qil_numbering.specs.Numbered.{inst_of, block_moves, edge_of, jump_of, block_of, func_with, func_code};
-ghost use Rattle.qil_numbering.specs.Facts.{IsNumerable};
-ghost use Rattle.qil_numbering.specs.Ranges.{IsShort, JumpIsShort, BlockIsShort, FuncIsShort};
+ghost use Rattle.qil_code.specs.Gather.{labels_in};
+ghost use Rattle.qil_code.specs.Numbered.{inst_of, block_moves, edge_of, jump_of, block_of, func_with, func_code};
+ghost use Rattle.qil_code.specs.Facts.{IsNumerable};
+ghost use Rattle.qil_code.specs.Ranges.{IsShort, JumpIsShort, BlockIsShort, FuncIsShort};
 
 use crate::classes::classes_of;
 use crate::gather::{labels_of, temps_of};
 use crate::moves::moves_of;
-use crate::numbered::{
+use crate::resolve::Resolver;
+use qil_code::{
     BlockId, Edge, FuncCode, NumberedBlock, NumberedFunc, NumberedInst, NumberedJump, PhiMove,
 };
-use crate::resolve::Resolver;
 use qil_layout::Image;
 use qil_names::{Groups, Numbers};
 use qil_tree::{Block, Func, Inst, Items, Jump, JumpKind, Name};

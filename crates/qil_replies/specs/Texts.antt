@@ -5,8 +5,8 @@ use Rattle.qil_commands.specs.declared.command.Refused.{Refused}
 use Rattle.qil_commands.specs.declared.command.Refused.TheVariants.{LineTooLong, UnknownCommand, MissingWord, BadWord, ExtraWord}
 use Rattle.qil_meaning.specs.declared.reason.Reason.{Reason}
 use Rattle.qil_meaning.specs.declared.reason.Reason.TheVariants as reasons
-use Rattle.qil_numbering.specs.Numbered.{func_at, block_at, names_of}
-use Rattle.qil_numbering.specs.Slots.{name_at}
+use Rattle.qil_code.specs.Numbered.{func_at, block_at, names_of}
+use Rattle.qil_code.specs.Slots.{name_at}
 use Rattle.qil_state.specs.State.{func_name, label_in}
 use Rattle.qil_stops.specs.declared.stop.Watched.TheVariants as watches
 use Rattle.qil_stops.specs.declared.stop.StopKind.{StopKind}

@@ -6,7 +6,7 @@ ghost use Rattle.qil_streams.specs.Device.{HasPut};
 ghost use Rattle.qil_replies.specs.Texts.{listed_line, stops_shown};
 
 use crate::texts::put_stop;
-use qil_numbering::Code;
+use qil_code::Code;
 use qil_stops::NumberedStop;
 use qil_streams::{Put, PutError, put_line};
 use std::alloc::Allocator;

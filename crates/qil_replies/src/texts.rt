@@ -6,9 +6,9 @@ ghost use Rattle.qil_replies.specs.Texts.{line_refusal_text, refusal_text, reaso
 
 use crate::reply::CommandRefusal;
 use qil_answers::{func_name, label_name, temp_name};
+use qil_code::Code;
 use qil_commands::Refused;
 use qil_meaning::Reason;
-use qil_numbering::Code;
 use qil_pieces::{Fragment, put_fragments};
 use qil_stops::{StopKind, Watched};
 use qil_streams::{Put, PutError};

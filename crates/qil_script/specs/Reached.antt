@@ -1,8 +1,8 @@
 -- How far a script has been answered.
 use Rattle.std.specs.Prelude.{◌≡◌, ℕ, List, ◌++◌, false, Option}
 use Rattle.qil_streams.proofs.ScriptLemmas.{WholeLines}
-use Rattle.qil_session.specs.SessionState.{SessionState}
-use Rattle.qil_session.specs.Answers.{AreValid, answers, left_by, quits}
+use Rattle.qil_replies.specs.SessionState.{SessionState}
+use Rattle.qil_replies.specs.Answers.{AreValid, answers, left_by, quits}
 
 -- After these lines, each with its own shortage of memory or none, `reported` was answered and the session is `now`, whatever comes next.
 pub record Reported {A : Type 0} (first : SessionState A) (before : List (List ℕ)) (shortages : List (Option ℕ)) (reported : List ℕ) (now : SessionState A) : Type 0 where

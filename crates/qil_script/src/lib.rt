@@ -8,8 +8,8 @@
 #![tactic(auto)]
 
 ghost use Rattle.std.specs.Prelude.{ℕ, List};
-ghost use Rattle.qil_session.specs.Answers.{IsAnswered};
-ghost use Rattle.qil_session.specs.SessionState.{SessionState};
+ghost use Rattle.qil_replies.specs.Answers.{IsAnswered};
+ghost use Rattle.qil_replies.specs.SessionState.{SessionState};
 
 use std::alloc::Allocator;
 

@@ -1,5 +1,4 @@
 -- The lemmas of this crate.
-pub mod Walks
 pub mod MoveAnswers
 pub mod PokeAnswers
 pub mod StopAnswers

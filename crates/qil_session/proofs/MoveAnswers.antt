@@ -16,9 +16,9 @@ use Rattle.qil_replies.specs.declared.reply.CommandRefusal.{CommandRefusal}
 use Rattle.qil_replies.specs.declared.reply.CommandRefusal.TheVariants.{AtEnd, AtStart, HistoryEnds}
 use Rattle.qil_replies.specs.declared.reply.Reply.{Reply}
 use Rattle.qil_replies.specs.declared.reply.Reply.TheVariants.{Refused, Place, Stopped}
-use Rattle.qil_session.specs.SessionState.{SessionState, session_at}
-use Rattle.qil_session.specs.Answers.{Answer, Replies, answer, refuses, goes_to, if_back, back_refusal, stopped_for, reversed, IsValid}
-use Rattle.qil_session.proofs.Walks.{least-is}
+use Rattle.qil_replies.specs.SessionState.{SessionState, session_at}
+use Rattle.qil_replies.specs.Answers.{Answer, Replies, answer, refuses, goes_to, if_back, back_refusal, stopped_for, reversed, IsValid}
+use Rattle.qil_stops.proofs.Walks.{least-is}
 
 -- ---- `step N`
 

@@ -23,8 +23,8 @@ use Rattle.qil_replies.specs.declared.reply.CommandRefusal.{CommandRefusal}
 use Rattle.qil_replies.specs.declared.reply.CommandRefusal.TheVariants.{UnknownPlace}
 use Rattle.qil_replies.specs.declared.reply.Reply.{Reply}
 use Rattle.qil_replies.specs.declared.reply.Reply.TheVariants.{Refused, Place, Stopped}
-use Rattle.qil_session.specs.SessionState.{session_at, resolved_address}
-use Rattle.qil_session.specs.Answers.{Replies, answer, IsValid, poke_answer, poke_refusal}
+use Rattle.qil_replies.specs.SessionState.{session_at, resolved_address}
+use Rattle.qil_replies.specs.Answers.{Replies, answer, IsValid, poke_answer, poke_refusal}
 
 -- ---- what comes of a poke
 

@@ -9,8 +9,8 @@ use Rattle.qil_meaning.specs.State.{Name}
 use Rattle.qil_replies.specs.declared.reply.CommandRefusal.TheVariants.{Line}
 use Rattle.qil_replies.specs.declared.reply.Reply.{Reply}
 use Rattle.qil_replies.specs.declared.reply.Reply.TheVariants as replies
-use Rattle.qil_session.specs.SessionState.{SessionState, resolved_address, text_in}
-use Rattle.qil_session.specs.Answers.{Answers, Replies, answer, answer_text, IsValid, memory_reply}
+use Rattle.qil_replies.specs.SessionState.{SessionState, resolved_address, text_in}
+use Rattle.qil_replies.specs.Answers.{Answers, Replies, answer, answer_text, IsValid, memory_reply}
 
 pub replies_stops : {A : Type 0} (s : SessionState A) → Replies s s (Ok (Some commands.Stops)) replies.Stops
 unfolding answer IsValid

@@ -21,8 +21,8 @@ use Rattle.qil_stops.specs.Listed.{Listed, IsFull, added, is_listed, without}
 use Rattle.qil_replies.specs.declared.reply.CommandRefusal.TheVariants as refusals
 use Rattle.qil_replies.specs.declared.reply.Reply.{Reply}
 use Rattle.qil_replies.specs.declared.reply.Reply.TheVariants.{Refused, Added, Deleted}
-use Rattle.qil_session.specs.SessionState.{session_at, resolved_address, resolved_place, resolved_temp, has_kind, is_full}
-use Rattle.qil_session.specs.Answers.{Replies, answer, IsValid, stop_answer, made_reply}
+use Rattle.qil_replies.specs.SessionState.{session_at, resolved_address, resolved_place, resolved_temp, has_kind, is_full}
+use Rattle.qil_replies.specs.Answers.{Replies, answer, IsValid, stop_answer, made_reply}
 
 pub not_false : (b : Bool) → (b ≡ false → ⊥) → b ≡ true
 not_false true h = refl

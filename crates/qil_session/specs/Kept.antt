@@ -3,7 +3,7 @@ use Rattle.std.specs.Prelude.{ℕ}
 use Rattle.qil_tree.specs.declared.tree.Program.{Program}
 use Rattle.qil_meaning.specs.Timeline.{Timeline}
 use Rattle.qil_stops.specs.Listed.{Listed}
-use Rattle.qil_session.specs.SessionState.{SessionState, session_at}
+use Rattle.qil_replies.specs.SessionState.{SessionState, session_at}
 
 pub record Kept (H : Type 0) : Type 0 where
   pub history : H

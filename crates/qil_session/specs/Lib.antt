@@ -1,4 +1,3 @@
--- What a session answers: what words name, and the answer to each line.
-pub mod SessionState
-pub mod Answers
+-- What a session keeps, and what answering a line does to it.
 pub mod Kept
+pub mod AnsweredLine

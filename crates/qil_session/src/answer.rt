@@ -4,7 +4,7 @@ ghost use Rattle.std.specs.Prelude.{◌≡◌, ◌+◌, ◌-◌, ◌^◌, ◌<�
 ghost use Rattle.qil_commands.specs.Command.{command_of};
 ghost use Rattle.qil_meaning.specs.Timeline.{position};
 ghost use Rattle.qil_streams.specs.Device.{Counts};
-ghost use Rattle.qil_session.specs.Answers.{AnswersLine};
+ghost use Rattle.qil_session.specs.AnsweredLine.{AnswersLine};
 ghost use Rattle.qil_session.specs.Kept.{session_state};
 
 use crate::session::{Next, Session};

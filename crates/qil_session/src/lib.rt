@@ -1,6 +1,6 @@
 //! A session: a history, stops, and how many moves a run makes at most; and its answer to each line of a script.
 //!
-//! `specs/Answers.antt` says what each command is replied, and what it does to the timeline and to the stops. `Session::reply` gives
+//! `qil_replies` says what each command is replied, and what it does to the timeline and to the stops. `Session::reply` gives
 //! the reply as a value, and `Session::answer` puts its text.
 #![tactic(auto)]
 

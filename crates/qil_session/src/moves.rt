@@ -6,8 +6,8 @@ ghost use Rattle.qil_meaning.specs.Timeline.{position};
 ghost use Rattle.qil_meaning.specs.State.{is_final};
 ghost use Rattle.qil_state.specs.State.{state_of};
 ghost use Rattle.qil_stops.specs.Listed.{Listed};
-ghost use Rattle.qil_session.specs.SessionState.{session_at};
-ghost use Rattle.qil_session.specs.Answers.{Replies, back_refusal};
+ghost use Rattle.qil_replies.specs.SessionState.{session_at};
+ghost use Rattle.qil_replies.specs.Answers.{Replies, back_refusal};
 
 use crate::walk::{back_by, step_by};
 use qil_history::History;

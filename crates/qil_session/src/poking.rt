@@ -4,8 +4,8 @@ ghost use Rattle.std.specs.Prelude.{◌≡◌, ℕ, ◌+◌, ◌<◌, ◌^◌, O
 ghost use Rattle.qil_commands.specs.declared.command.Command.TheVariants as commands;
 ghost use Rattle.qil_meaning.specs.Timeline.{position};
 ghost use Rattle.qil_stops.specs.Listed.{Listed};
-ghost use Rattle.qil_session.specs.SessionState.{session_at};
-ghost use Rattle.qil_session.specs.Answers.{Replies};
+ghost use Rattle.qil_replies.specs.SessionState.{session_at};
+ghost use Rattle.qil_replies.specs.Answers.{Replies};
 
 use crate::words::{resolved_address, width_bytes};
 use qil_commands::Address;

@@ -4,8 +4,8 @@ ghost use Rattle.std.specs.Prelude.{◌≡◌, ◌+◌, ◌-◌, ◌^◌, ◌<�
 ghost use Rattle.qil_meaning.specs.Timeline.{position};
 ghost use Rattle.qil_streams.specs.Device.{Counts, HasPut};
 ghost use Rattle.qil_answers.specs.Texts.{place_line};
-ghost use Rattle.qil_session.specs.SessionState.{text_in};
-ghost use Rattle.qil_session.specs.Answers.{Answers, Replies};
+ghost use Rattle.qil_replies.specs.SessionState.{text_in};
+ghost use Rattle.qil_replies.specs.Answers.{Answers, Replies};
 ghost use Rattle.qil_session.specs.Kept.{session_state};
 ghost use Rattle.qil_stops.specs.Named.{named_stops};
 ghost use Rattle.qil_depths.specs.Depths.{RunsToDepth, RunsBackToDepth};

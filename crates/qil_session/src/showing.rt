@@ -1,12 +1,12 @@
 //! The reply to `mem`: an address that the program has, or none.
 
 ghost use Rattle.std.specs.Prelude.{◌≡◌};
-ghost use Rattle.qil_session.specs.SessionState.{resolved_address};
-ghost use Rattle.qil_session.specs.Answers.{memory_reply};
+ghost use Rattle.qil_replies.specs.SessionState.{resolved_address};
+ghost use Rattle.qil_replies.specs.Answers.{memory_reply};
 
 use crate::words::resolved_address;
+use qil_code::Code;
 use qil_commands::Address;
-use qil_numbering::Code;
 use qil_replies::{CommandRefusal, Reply};
 use std::alloc::Allocator;
 

@@ -4,12 +4,12 @@ ghost use Rattle.std.specs.Prelude.{◌≡◌, ℕ, Ok, Some};
 ghost use Rattle.qil_commands.specs.declared.command.Command.TheVariants as commands;
 ghost use Rattle.qil_meaning.specs.Timeline.{Timeline};
 ghost use Rattle.qil_tree.specs.declared.tree.Program.{Program};
-ghost use Rattle.qil_session.specs.SessionState.{session_at};
-ghost use Rattle.qil_session.specs.Answers.{Replies, made_reply};
+ghost use Rattle.qil_replies.specs.SessionState.{session_at};
+ghost use Rattle.qil_replies.specs.Answers.{Replies, made_reply};
 
 use crate::words::{resolved_address, resolved_place, resolved_temp, width_bytes};
+use qil_code::Code;
 use qil_commands::{Address, BreakPlace};
-use qil_numbering::Code;
 use qil_replies::{CommandRefusal, Reply};
 use qil_stops::{StopError, StopKind, Stops, Watched};
 use qil_tree::Width;

@@ -3,10 +3,10 @@
 ghost use Rattle.std.specs.Prelude.{◌≡◌};
 ghost use Rattle.qil_layout.specs.Layout.{width_bytes};
 ghost use Rattle.qil_memory.specs.Calls.{IsWidth};
-ghost use Rattle.qil_session.specs.SessionState.{resolved_address, resolved_place, resolved_temp};
+ghost use Rattle.qil_replies.specs.SessionState.{resolved_address, resolved_place, resolved_temp};
 
+use qil_code::{BlockId, Code};
 use qil_commands::{Address, BreakPlace};
-use qil_numbering::{BlockId, Code};
 use qil_stops::{Place, Watched};
 use qil_tree::Width;
 use std::alloc::Allocator;

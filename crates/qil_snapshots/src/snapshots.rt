@@ -6,12 +6,11 @@ ghost use Rattle.qil_meaning.specs.Timeline.{begun, position, poked};
 ghost use Rattle.qil_state.specs.State.{state_of};
 ghost use Rattle.qil_state.specs.declared.status.Status.{Status};
 ghost use Rattle.qil_snapshots.specs.Kept.{cloned_timeline};
-ghost use Rattle.qil_pokes.specs.Pokes.{HasWidth, poke_of, Explains};
+ghost use Rattle.qil_history.specs.Pokes.{HasWidth, poke_of, Explains};
 
-use qil_history::{BackError, History};
+use qil_code::Slot;
+use qil_history::{BackError, History, Poke};
 use qil_machine::{DeltaSink, Machine, MoveError, PokeError};
-use qil_numbering::Slot;
-use qil_pokes::Poke;
 use std::alloc::{AllocError, Allocator};
 use std::marker::Model;
 
@@ -177,17 +176,17 @@ impl<'c, 'a, A: Allocator + Copy> History<A, Machine<'c, 'a, A>> for Snapshots<'
         take_latest(&mut self.machine, &mut self.clones)
     }
 
-    #[tactic(auto, using(qil_pokes::proofs::PokeLemmas::slot_never_dead))]
+    #[tactic(auto, using(qil_history::proofs::PokeLemmas::slot_never_dead))]
     fn poke_temp(&mut self, slot: Slot, value: u64) -> Result<(), PokeError> {
         self.poke(Poke::Slot(slot, value))
     }
 
-    #[tactic(auto, using(qil_pokes::proofs::PokeLemmas::temp_never_dead))]
+    #[tactic(auto, using(qil_history::proofs::PokeLemmas::temp_never_dead))]
     fn poke_named(&mut self, name: &[u8], value: u64) -> Result<(), PokeError> {
         self.poke(Poke::Named(name, value))
     }
 
-    #[tactic(auto, using(qil_pokes::proofs::PokeLemmas::memory_never_frameless, qil_pokes::proofs::PokeLemmas::memory_never_unknown))]
+    #[tactic(auto, using(qil_history::proofs::PokeLemmas::memory_never_frameless, qil_history::proofs::PokeLemmas::memory_never_unknown))]
     fn poke_memory(&mut self, address: u64, width: u64, number: u64) -> Result<(), PokeError> {
         self.poke(Poke::Bytes(address, width, number))
     }

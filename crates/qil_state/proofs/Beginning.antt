@@ -16,15 +16,15 @@ use Rattle.qil_meaning.specs.Slots.{slot_of, temps_of}
 use Rattle.qil_meaning.specs.Temps.{with_temp, by_name, named, overlay}
 use Rattle.qil_meaning.specs.Values.{fit, fit_all}
 use Rattle.qil_meaning.specs.Calls.{shape_of}
-use Rattle.qil_numbering.specs.declared.numbered.Slot.{Slot}
-use Rattle.qil_numbering.specs.declared.numbered.NumberedArgument.{NumberedArgument}
-use Rattle.qil_numbering.specs.declared.numbered.FuncCode.{FuncCode}
-use Rattle.qil_numbering.specs.Slots.{name_at}
-use Rattle.qil_numbering.specs.Named.{named_argument}
-use Rattle.qil_numbering.specs.Numbered.{param_of, func_at, names_of}
-use Rattle.qil_numbering.proofs.Has.{HasAll, HasAll-left, once-has, name-number}
-use Rattle.qil_numbering.proofs.Ranged.{params-range}
-use Rattle.qil_numbering.proofs.Readers.{IsCoded, params-there, returns-there, temps-there}
+use Rattle.qil_code.specs.declared.numbered.Slot.{Slot}
+use Rattle.qil_code.specs.declared.numbered.NumberedArgument.{NumberedArgument}
+use Rattle.qil_code.specs.declared.numbered.FuncCode.{FuncCode}
+use Rattle.qil_code.specs.Slots.{name_at}
+use Rattle.qil_code.specs.Named.{named_argument}
+use Rattle.qil_code.specs.Numbered.{param_of, func_at, names_of}
+use Rattle.qil_code.proofs.Has.{HasAll, HasAll-left, once-has, name-number}
+use Rattle.qil_code.proofs.Ranged.{params-range}
+use Rattle.qil_code.proofs.Readers.{IsCoded, params-there, returns-there, temps-there}
 use Rattle.qil_state.specs.Values.{AreSlots, argument_values, shape_by}
 use Rattle.qil_state.specs.Beginning.{begun_slots, passed_value, passed_values}
 use Rattle.qil_state.proofs.Distinct.{names_distinct}

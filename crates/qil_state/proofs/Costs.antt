@@ -15,14 +15,14 @@ use Rattle.qil_meaning.specs.State.{Name, State}
 use Rattle.qil_meaning.specs.Names.{temps_named}
 use Rattle.qil_meaning.specs.Step.{func_named, block_labelled}
 use Rattle.qil_meaning.specs.Cost.{inst_cost, jump_cost, place_cost, block_cost, func_cost, outcome_cost, cost_in}
-use Rattle.qil_numbering.specs.declared.numbered.NumberedBlock.{NumberedBlock}
-use Rattle.qil_numbering.specs.declared.numbered.NumberedInst.{NumberedInst}
-use Rattle.qil_numbering.specs.Facts.{Finds, KnowsLabels}
-use Rattle.qil_numbering.specs.Named.{named_inst, named_jump, resolved_inst, resolved_jump}
-use Rattle.qil_numbering.specs.Numbered.{inst_of, func_at, names_of}
-use Rattle.qil_numbering.specs.Reading.{block_code_at, labels_at}
-use Rattle.qil_numbering.proofs.Naming.{named-kind}
-use Rattle.qil_numbering.proofs.NamedCode.{block-has, inst-has}
+use Rattle.qil_code.specs.declared.numbered.NumberedBlock.{NumberedBlock}
+use Rattle.qil_code.specs.declared.numbered.NumberedInst.{NumberedInst}
+use Rattle.qil_code.specs.Facts.{Finds, KnowsLabels}
+use Rattle.qil_code.specs.Named.{named_inst, named_jump, resolved_inst, resolved_jump}
+use Rattle.qil_code.specs.Numbered.{inst_of, func_at, names_of}
+use Rattle.qil_code.specs.Reading.{block_code_at, labels_at}
+use Rattle.qil_code.proofs.Naming.{named-kind}
+use Rattle.qil_code.proofs.NamedCode.{block-has, inst-has}
 use Rattle.qil_frames.specs.Frames.{SlotFrame}
 use Rattle.qil_state.specs.State.{func_name, label_in, frame_state, frames_state}
 use Rattle.qil_state.specs.Stepping.{stepped}

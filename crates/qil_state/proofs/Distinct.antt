@@ -9,8 +9,8 @@ use Rattle.qil_tree.specs.declared.tree.Program.{Program}
 use Rattle.qil_meaning.specs.State.{Name}
 use Rattle.qil_meaning.specs.Slots.{slot_of}
 use Rattle.qil_meaning.specs.Names.{once, block_names}
-use Rattle.qil_numbering.specs.Slots.{name_at}
-use Rattle.qil_numbering.specs.Numbered.{func_at, names_in, names_of}
+use Rattle.qil_code.specs.Slots.{name_at}
+use Rattle.qil_code.specs.Numbered.{func_at, names_in, names_of}
 
 -- a name is none of these
 abbrev IsAbsent : Name → List Name → Type 0

@@ -9,13 +9,13 @@ use Rattle.qil_meaning.specs.State.{Name, State, unset_temporary}
 use Rattle.qil_meaning.specs.Values.{Outcome, ◌>>=◌}
 use Rattle.qil_meaning.specs.Step as step
 use Rattle.qil_meaning.specs.Step.{phi_moves, merges, enters_block, goes, block_labelled}
-use Rattle.qil_numbering.specs.declared.numbered.Slot.{Slot}
-use Rattle.qil_numbering.specs.declared.numbered.Edge.{Edge}
-use Rattle.qil_numbering.specs.Slots.{name_at}
-use Rattle.qil_numbering.specs.Numbered.{func_at, block_at, names_of}
-use Rattle.qil_numbering.specs.Ranges.{MoveInRange}
-use Rattle.qil_numbering.specs.Reading.{labels_at}
-use Rattle.qil_numbering.proofs.EdgesNamed.{EdgeNamed}
+use Rattle.qil_code.specs.declared.numbered.Slot.{Slot}
+use Rattle.qil_code.specs.declared.numbered.Edge.{Edge}
+use Rattle.qil_code.specs.Slots.{name_at}
+use Rattle.qil_code.specs.Numbered.{func_at, block_at, names_of}
+use Rattle.qil_code.specs.Ranges.{MoveInRange}
+use Rattle.qil_code.specs.Reading.{labels_at}
+use Rattle.qil_code.proofs.EdgesNamed.{EdgeNamed}
 use Rattle.qil_frames.specs.declared.saved.SavedSlot.{SavedSlot}
 use Rattle.qil_frames.specs.Frames.{SlotFrame}
 use Rattle.qil_frames.specs.Enter.{gathered, entered}

@@ -16,13 +16,13 @@ use Rattle.qil_meaning.specs.Values as values
 use Rattle.qil_meaning.specs.Values.{Outcome, ◌>>=◌, val, vals}
 use Rattle.qil_meaning.specs.Step as step
 use Rattle.qil_meaning.specs.Step.{move_read, merges}
-use Rattle.qil_numbering.specs.declared.numbered.Slot.{Slot}
-use Rattle.qil_numbering.specs.declared.numbered.NumberedOperand.{NumberedOperand}
-use Rattle.qil_numbering.specs.declared.numbered.NumberedOperand.TheVariants as numbered_operands
-use Rattle.qil_numbering.specs.declared.numbered.PhiMove.{PhiMove}
-use Rattle.qil_numbering.specs.Slots.{name_at}
-use Rattle.qil_numbering.specs.Named.{named_operand, named_move, resolved_move}
-use Rattle.qil_numbering.specs.Ranges.{InRange, MoveInRange}
+use Rattle.qil_code.specs.declared.numbered.Slot.{Slot}
+use Rattle.qil_code.specs.declared.numbered.NumberedOperand.{NumberedOperand}
+use Rattle.qil_code.specs.declared.numbered.NumberedOperand.TheVariants as numbered_operands
+use Rattle.qil_code.specs.declared.numbered.PhiMove.{PhiMove}
+use Rattle.qil_code.specs.Slots.{name_at}
+use Rattle.qil_code.specs.Named.{named_operand, named_move, resolved_move}
+use Rattle.qil_code.specs.Ranges.{InRange, MoveInRange}
 use Rattle.qil_frames.specs.declared.saved.SavedSlot.{SavedSlot}
 use Rattle.qil_frames.specs.Enter.{value_in, known, write_to, onto, gathered, written}
 use Rattle.qil_state.specs.Values.{AreSlots}

@@ -10,14 +10,14 @@ use Rattle.qil_meaning.specs.State as meaning
 use Rattle.qil_meaning.specs.State.{Name, State}
 use Rattle.qil_meaning.specs.Names.{temps_named}
 use Rattle.qil_meaning.specs.Step.{does}
-use Rattle.qil_numbering.specs.declared.numbered.NumberedBlock.{NumberedBlock}
-use Rattle.qil_numbering.specs.declared.numbered.NumberedInst.{NumberedInst}
-use Rattle.qil_numbering.specs.Facts.{Finds}
-use Rattle.qil_numbering.specs.Numbered.{inst_of, func_at, block_at, names_of}
-use Rattle.qil_numbering.specs.Named.{named_inst, resolved_inst}
-use Rattle.qil_numbering.specs.Reading.{block_code_at}
-use Rattle.qil_numbering.proofs.Naming.{named-kind}
-use Rattle.qil_numbering.proofs.NamedCode.{block-has, inst-has}
+use Rattle.qil_code.specs.declared.numbered.NumberedBlock.{NumberedBlock}
+use Rattle.qil_code.specs.declared.numbered.NumberedInst.{NumberedInst}
+use Rattle.qil_code.specs.Facts.{Finds}
+use Rattle.qil_code.specs.Numbered.{inst_of, func_at, block_at, names_of}
+use Rattle.qil_code.specs.Named.{named_inst, resolved_inst}
+use Rattle.qil_code.specs.Reading.{block_code_at}
+use Rattle.qil_code.proofs.Naming.{named-kind}
+use Rattle.qil_code.proofs.NamedCode.{block-has, inst-has}
 use Rattle.qil_frames.specs.Frames.{SlotFrame}
 use Rattle.qil_state.specs.State.{frame_state, frames_state, PlaceFits}
 use Rattle.qil_state.specs.Stepping.{stepped, performed}

@@ -16,15 +16,15 @@ use Rattle.qil_meaning.specs.State.{Name, State, halted}
 use Rattle.qil_meaning.specs.Names.{temps_named}
 use Rattle.qil_meaning.specs.Values.{◌>>=◌, val, fit}
 use Rattle.qil_meaning.specs.Step.{does, leave, goes, returns}
-use Rattle.qil_numbering.specs.declared.numbered.NumberedBlock.{NumberedBlock}
-use Rattle.qil_numbering.specs.Facts.{Finds, KnowsLabels, jump_labels}
-use Rattle.qil_numbering.specs.Gather.{labels_in}
-use Rattle.qil_numbering.specs.Numbered.{inst_of, func_at, names_of}
-use Rattle.qil_numbering.specs.Named.{named_jump, resolved_jump}
-use Rattle.qil_numbering.specs.Reading.{block_code_at, labels_at, returns_at}
-use Rattle.qil_numbering.proofs.Has.{all-among}
-use Rattle.qil_numbering.proofs.Naming.{named-jump-kind}
-use Rattle.qil_numbering.proofs.NamedCode.{block-has, jump-has}
+use Rattle.qil_code.specs.declared.numbered.NumberedBlock.{NumberedBlock}
+use Rattle.qil_code.specs.Facts.{Finds, KnowsLabels, jump_labels}
+use Rattle.qil_code.specs.Gather.{labels_in}
+use Rattle.qil_code.specs.Numbered.{inst_of, func_at, names_of}
+use Rattle.qil_code.specs.Named.{named_jump, resolved_jump}
+use Rattle.qil_code.specs.Reading.{block_code_at, labels_at, returns_at}
+use Rattle.qil_code.proofs.Has.{all-among}
+use Rattle.qil_code.proofs.Naming.{named-jump-kind}
+use Rattle.qil_code.proofs.NamedCode.{block-has, jump-has}
 use Rattle.qil_frames.specs.Frames.{SlotFrame}
 use Rattle.qil_state.specs.State.{frame_state, frames_state}
 use Rattle.qil_state.specs.Stepping.{stepped, left}

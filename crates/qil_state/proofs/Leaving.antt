@@ -15,19 +15,19 @@ use Rattle.qil_meaning.specs.State.{Name, State, halted}
 use Rattle.qil_meaning.specs.Slots.{temps_of}
 use Rattle.qil_meaning.specs.Values.{◌>>=◌, val, fit}
 use Rattle.qil_meaning.specs.Step.{goes}
-use Rattle.qil_numbering.specs.declared.numbered.Slot.{Slot}
-use Rattle.qil_numbering.specs.declared.numbered.NumberedOperand.{NumberedOperand}
-use Rattle.qil_numbering.specs.declared.numbered.Edge.{Edge}
-use Rattle.qil_numbering.specs.declared.numbered.NumberedBlock.{NumberedBlock}
-use Rattle.qil_numbering.specs.declared.numbered.NumberedJump.{NumberedJump}
-use Rattle.qil_numbering.specs.declared.numbered.NumberedJump.TheVariants as numbered_jumps
-use Rattle.qil_numbering.specs.Slots.{name_at}
-use Rattle.qil_numbering.specs.Numbered.{func_at, block_in, block_at, names_of}
-use Rattle.qil_numbering.specs.Named.{named_operand}
-use Rattle.qil_numbering.specs.Ranges.{MoveInRange, EdgeInRange, JumpInRange, BlockInRange}
-use Rattle.qil_numbering.specs.Reading.{labels_at, returns_at, block_code_at}
-use Rattle.qil_numbering.specs.Facts.{KnowsLabels}
-use Rattle.qil_numbering.proofs.EdgesNamed.{IsEdgeOf, EdgeNamed, edge-named}
+use Rattle.qil_code.specs.declared.numbered.Slot.{Slot}
+use Rattle.qil_code.specs.declared.numbered.NumberedOperand.{NumberedOperand}
+use Rattle.qil_code.specs.declared.numbered.Edge.{Edge}
+use Rattle.qil_code.specs.declared.numbered.NumberedBlock.{NumberedBlock}
+use Rattle.qil_code.specs.declared.numbered.NumberedJump.{NumberedJump}
+use Rattle.qil_code.specs.declared.numbered.NumberedJump.TheVariants as numbered_jumps
+use Rattle.qil_code.specs.Slots.{name_at}
+use Rattle.qil_code.specs.Numbered.{func_at, block_in, block_at, names_of}
+use Rattle.qil_code.specs.Named.{named_operand}
+use Rattle.qil_code.specs.Ranges.{MoveInRange, EdgeInRange, JumpInRange, BlockInRange}
+use Rattle.qil_code.specs.Reading.{labels_at, returns_at, block_code_at}
+use Rattle.qil_code.specs.Facts.{KnowsLabels}
+use Rattle.qil_code.proofs.EdgesNamed.{IsEdgeOf, EdgeNamed, edge-named}
 use Rattle.qil_frames.specs.declared.saved.SavedSlot.{SavedSlot}
 use Rattle.qil_frames.specs.Frames.{SlotFrame}
 use Rattle.qil_frames.specs.Enter.{gathered, entered, enters, entered_by}

@@ -15,14 +15,14 @@ use Rattle.qil_meaning.specs.State.{Name, unset_temporary}
 use Rattle.qil_meaning.specs.Slots.{temps_of}
 use Rattle.qil_meaning.specs.Values.{Outcome, ◌>>=◌, known, vals}
 use Rattle.qil_meaning.specs.Calls.{agree, agree_all, gives, is_in_shape}
-use Rattle.qil_numbering.specs.declared.numbered.Slot.{Slot}
-use Rattle.qil_numbering.specs.declared.numbered.NumberedOperand.{NumberedOperand}
-use Rattle.qil_numbering.specs.declared.numbered.NumberedOperand.TheVariants as numbered_operands
-use Rattle.qil_numbering.specs.declared.numbered.Receiver.{Receiver}
-use Rattle.qil_numbering.specs.declared.numbered.NumberedArgument.{NumberedArgument}
-use Rattle.qil_numbering.specs.Slots.{name_at}
-use Rattle.qil_numbering.specs.Named.{named_argument, named_receiver}
-use Rattle.qil_numbering.specs.Ranges.{InRange}
+use Rattle.qil_code.specs.declared.numbered.Slot.{Slot}
+use Rattle.qil_code.specs.declared.numbered.NumberedOperand.{NumberedOperand}
+use Rattle.qil_code.specs.declared.numbered.NumberedOperand.TheVariants as numbered_operands
+use Rattle.qil_code.specs.declared.numbered.Receiver.{Receiver}
+use Rattle.qil_code.specs.declared.numbered.NumberedArgument.{NumberedArgument}
+use Rattle.qil_code.specs.Slots.{name_at}
+use Rattle.qil_code.specs.Named.{named_argument, named_receiver}
+use Rattle.qil_code.specs.Ranges.{InRange}
 use Rattle.qil_state.specs.Values.{AreSlots, unless_set, unset_in, held_or_zero, argument_value, argument_values, shape_by}
 use Rattle.qil_state.proofs.Reading.{slot_val, slot_val_is}
 

@@ -9,10 +9,10 @@ use Rattle.qil_meaning.specs.State as meaning
 use Rattle.qil_meaning.specs.State.{Name, State}
 use Rattle.qil_meaning.specs.Names.{temps_named}
 use Rattle.qil_meaning.specs.Step.{does, in_func, in_block, func_named, block_labelled}
-use Rattle.qil_numbering.specs.declared.numbered.NumberedBlock.{NumberedBlock}
-use Rattle.qil_numbering.specs.Facts.{Finds}
-use Rattle.qil_numbering.specs.Numbered.{block_of, func_at, block_in, block_at, names_in, names_of}
-use Rattle.qil_numbering.specs.Reading.{block_code_at}
+use Rattle.qil_code.specs.declared.numbered.NumberedBlock.{NumberedBlock}
+use Rattle.qil_code.specs.Facts.{Finds}
+use Rattle.qil_code.specs.Numbered.{block_of, func_at, block_in, block_at, names_in, names_of}
+use Rattle.qil_code.specs.Reading.{block_code_at}
 use Rattle.qil_frames.specs.Frames.{SlotFrame}
 use Rattle.qil_state.specs.State.{func_name, label_in, frame_state, frames_state}
 use Rattle.qil_state.specs.Stepping.{stepped}

@@ -10,16 +10,16 @@ use Rattle.qil_meaning.specs.Temps.{with_temp}
 use Rattle.qil_meaning.specs.Slots.{temps_of}
 use Rattle.qil_meaning.specs.Values.{Outcome, known, val}
 use Rattle.qil_meaning.proofs.SlotLemmas.{temps-at, temps-set}
-use Rattle.qil_numbering.specs.declared.numbered.NumberedOperand.{NumberedOperand}
-use Rattle.qil_numbering.specs.declared.numbered.NumberedOperand.TheVariants as numbered_operands
-use Rattle.qil_numbering.specs.Slots.{name_at}
-use Rattle.qil_numbering.specs.Named.{named_operand}
-use Rattle.qil_numbering.specs.Ranges.{InRange, MoveInRange}
-use Rattle.qil_numbering.specs.declared.numbered.PhiMove.{PhiMove}
+use Rattle.qil_code.specs.declared.numbered.NumberedOperand.{NumberedOperand}
+use Rattle.qil_code.specs.declared.numbered.NumberedOperand.TheVariants as numbered_operands
+use Rattle.qil_code.specs.Slots.{name_at}
+use Rattle.qil_code.specs.Named.{named_operand}
+use Rattle.qil_code.specs.Ranges.{InRange, MoveInRange}
+use Rattle.qil_code.specs.declared.numbered.PhiMove.{PhiMove}
 use Rattle.qil_frames.specs.Enter.{HasMoves}
 use Rattle.std.specs.List.{All}
 use Rattle.qil_frames.specs.Frames.{SlotFrame}
-use Rattle.qil_numbering.specs.Numbered.{names_of}
+use Rattle.qil_code.specs.Numbered.{names_of}
 use Rattle.qil_state.specs.State.{FrameFits, FramesFit}
 use Rattle.qil_state.specs.Values.{AreSlots}
 use Rattle.qil_state.proofs.Distinct.{names_distinct}

@@ -28,7 +28,7 @@ use Rattle.qil_meaning.specs.Values.{◌>>=◌, val, vals, result_of, fit, fit_a
 use Rattle.qil_meaning.specs.Calls.{Shape, next, in_shape, agree_all, gives, call_at, call_defined, shape_of, enters, putchar, puts, shape_of_putchar, shape_of_puts, shape_of_exit}
 use Rattle.qil_meaning.specs.Step as step
 use Rattle.qil_meaning.specs.Step.{act, sets, goes, leave, returns, move_read}
-use Rattle.qil_numbering.specs.Named.{resolved, resolved_expr, resolved_inst, resolved_argument, resolved_move, resolved_jump}
+use Rattle.qil_code.specs.Named.{resolved, resolved_expr, resolved_inst, resolved_argument, resolved_move, resolved_jump}
 
 -- ---- operands
 

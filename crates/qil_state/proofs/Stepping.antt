@@ -7,11 +7,11 @@ use Rattle.qil_meaning.specs.State as meaning
 use Rattle.qil_meaning.specs.State.{State}
 use Rattle.qil_meaning.specs.Step.{step_of, step_in, settled}
 use Rattle.qil_meaning.specs.Values.{Outcome}
-use Rattle.qil_numbering.specs.declared.numbered.NumberedBlock.{NumberedBlock}
-use Rattle.qil_numbering.specs.declared.numbered.NumberedInst.{NumberedInst}
-use Rattle.qil_numbering.specs.Facts.{Finds, KnowsLabels}
-use Rattle.qil_numbering.specs.Numbered.{block_at}
-use Rattle.qil_numbering.specs.Reading.{block_code_at}
+use Rattle.qil_code.specs.declared.numbered.NumberedBlock.{NumberedBlock}
+use Rattle.qil_code.specs.declared.numbered.NumberedInst.{NumberedInst}
+use Rattle.qil_code.specs.Facts.{Finds, KnowsLabels}
+use Rattle.qil_code.specs.Numbered.{block_at}
+use Rattle.qil_code.specs.Reading.{block_code_at}
 use Rattle.qil_frames.specs.Frames.{SlotFrame}
 use Rattle.qil_state.specs.declared.status.Fault.{Fault}
 use Rattle.qil_state.specs.declared.status.Status.{Status}

@@ -2,8 +2,8 @@
 use Rattle.std.specs.Prelude.{ℕ, List, [], ◌∷◌, map, slice_set, Option, Some}
 use Rattle.qil_tree.specs.declared.ops.AbiType.{AbiType}
 use Rattle.qil_meaning.specs.Values.{fit}
-use Rattle.qil_numbering.specs.declared.numbered.Slot.{Slot}
-use Rattle.qil_numbering.specs.declared.numbered.NumberedArgument.{NumberedArgument}
+use Rattle.qil_code.specs.declared.numbered.Slot.{Slot}
+use Rattle.qil_code.specs.declared.numbered.NumberedArgument.{NumberedArgument}
 use Rattle.qil_state.specs.Values.{argument_value}
 
 -- slots in which each parameter is set to the value next to it, as its type has it, one after the other

@@ -9,10 +9,10 @@ use Rattle.qil_memory.specs.Live.{live}
 use Rattle.qil_meaning.specs.State as meaning
 use Rattle.qil_meaning.specs.State.{Name, State}
 use Rattle.qil_meaning.specs.Slots.{temps_of}
-use Rattle.qil_numbering.specs.declared.numbered.Receiver.{Receiver}
-use Rattle.qil_numbering.specs.Named.{named_receiver}
-use Rattle.qil_numbering.specs.Numbered.{func_at, block_at, names_of}
-use Rattle.qil_numbering.specs.Reading.{labels_at}
+use Rattle.qil_code.specs.declared.numbered.Receiver.{Receiver}
+use Rattle.qil_code.specs.Named.{named_receiver}
+use Rattle.qil_code.specs.Numbered.{func_at, block_at, names_of}
+use Rattle.qil_code.specs.Reading.{labels_at}
 use Rattle.qil_frames.specs.Frames.{SlotFrame, HasFrame}
 use Rattle.qil_state.specs.declared.status.Status.{Status}
 use Rattle.qil_state.specs.declared.status.Status.TheVariants.{Running, Done, Exited, Faulted}

@@ -9,11 +9,11 @@ use Rattle.qil_meaning.specs.State as meaning
 use Rattle.qil_meaning.specs.State.{Name, State}
 use Rattle.qil_meaning.specs.Values.{Outcome, ◌>>=◌, vals}
 use Rattle.qil_meaning.specs.Step.{act, in_func, func_named, goes, leave, returns}
-use Rattle.qil_numbering.specs.declared.numbered.Edge.{Edge}
-use Rattle.qil_numbering.specs.declared.numbered.NumberedInst.{NumberedInst}
-use Rattle.qil_numbering.specs.declared.numbered.NumberedJump.{NumberedJump}
-use Rattle.qil_numbering.specs.Slots.{name_at}
-use Rattle.qil_numbering.specs.Named.{named_inst, named_jump}
+use Rattle.qil_code.specs.declared.numbered.Edge.{Edge}
+use Rattle.qil_code.specs.declared.numbered.NumberedInst.{NumberedInst}
+use Rattle.qil_code.specs.declared.numbered.NumberedJump.{NumberedJump}
+use Rattle.qil_code.specs.Slots.{name_at}
+use Rattle.qil_code.specs.Named.{named_inst, named_jump}
 use Rattle.qil_state.specs.State.{Whole, state_of, frames_state, head_names, head_func, head_labels}
 
 -- what comes of a step of a running state

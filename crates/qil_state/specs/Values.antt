@@ -12,11 +12,11 @@ use Rattle.qil_meaning.specs.State.{Name, Temps}
 use Rattle.qil_meaning.specs.Slots.{slot_of}
 use Rattle.qil_meaning.specs.Values.{Outcome, ◌>>=◌, vals, result_of}
 use Rattle.qil_meaning.specs.Calls.{Shape}
-use Rattle.qil_numbering.specs.declared.numbered.Slot.{Slot}
-use Rattle.qil_numbering.specs.declared.numbered.NumberedOperand.{NumberedOperand}
-use Rattle.qil_numbering.specs.declared.numbered.NumberedOperand.TheVariants as numbered_operands
-use Rattle.qil_numbering.specs.declared.numbered.NumberedArgument.{NumberedArgument}
-use Rattle.qil_numbering.specs.Slots.{name_at}
+use Rattle.qil_code.specs.declared.numbered.Slot.{Slot}
+use Rattle.qil_code.specs.declared.numbered.NumberedOperand.{NumberedOperand}
+use Rattle.qil_code.specs.declared.numbered.NumberedOperand.TheVariants as numbered_operands
+use Rattle.qil_code.specs.declared.numbered.NumberedArgument.{NumberedArgument}
+use Rattle.qil_code.specs.Slots.{name_at}
 use Rattle.qil_state.specs.declared.status.Fault.{Fault}
 use Rattle.qil_state.specs.Faults.{fault_of}
 

@@ -9,12 +9,12 @@ ghost use Rattle.qil_meaning.specs.State.{Name};
 ghost use Rattle.qil_meaning.specs.Slots.{temps_of};
 ghost use Rattle.qil_meaning.specs.Values.{vals};
 ghost use Rattle.qil_meaning.specs.Calls.{agree, agree_all, gives, is_in_shape as has_shape};
-ghost use Rattle.qil_numbering.specs.Named.{named_argument, named_receiver};
-ghost use Rattle.qil_numbering.specs.Ranges.{InRange};
+ghost use Rattle.qil_code.specs.Named.{named_argument, named_receiver};
+ghost use Rattle.qil_code.specs.Ranges.{InRange};
 ghost use Rattle.qil_state.specs.Values.{AreSlots, unset_in, held_or_zero, argument_value, argument_values, reported_with, shape_by};
 
 use crate::status::Fault;
-use qil_numbering::{NumberedArgument, NumberedOperand, Receiver, Slot};
+use qil_code::{NumberedArgument, NumberedOperand, Receiver, Slot};
 use qil_ops::unary;
 use qil_tree::{AbiType, UnaryOp};
 use std::alloc::Allocator;

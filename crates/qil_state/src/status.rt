@@ -2,8 +2,8 @@
 
 ghost use Rattle.std.specs.Prelude.{◌≡◌};
 
+use qil_code::Slot;
 use qil_memory::Dead;
-use qil_numbering::Slot;
 use qil_ops::DivFault;
 
 /// Why a step could not be taken as written. The run ends there, with all but its status as it was.

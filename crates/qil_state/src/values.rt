@@ -11,14 +11,14 @@ ghost use Rattle.qil_meaning.specs.State.{Name};
 ghost use Rattle.qil_meaning.specs.Slots.{temps_of};
 ghost use Rattle.qil_meaning.specs.Values.{val, load_of, fit};
 ghost use Rattle.qil_meaning.specs.Calls.{taken};
-ghost use Rattle.qil_numbering.specs.Named.{named_operand, named_expr};
-ghost use Rattle.qil_numbering.specs.Ranges.{InRange, ExprInRange};
+ghost use Rattle.qil_code.specs.Named.{named_operand, named_expr};
+ghost use Rattle.qil_code.specs.Ranges.{InRange, ExprInRange};
 ghost use Rattle.qil_state.specs.Faults.{reported};
 ghost use Rattle.qil_state.specs.Values.{AreSlots, evaluated};
 
 use crate::status::Fault;
+use qil_code::{NumberedExpr, NumberedOperand};
 use qil_memory::Memory;
-use qil_numbering::{NumberedExpr, NumberedOperand};
 use qil_ops::{binary, compare, extend, unary};
 use qil_tree::{AbiType, BinaryOp, Class, Extension, LoadOp, UnaryOp};
 use std::alloc::Allocator;

@@ -4,3 +4,4 @@ pub mod Naming
 pub mod Telling
 pub mod OnWay
 pub mod BackWay
+pub mod Walks

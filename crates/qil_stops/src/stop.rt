@@ -11,9 +11,9 @@ ghost use Rattle.qil_stops.specs.Listed.{HasWidth, IsReadable};
 ghost use Rattle.qil_stops.specs.Named.{named_kind, passes};
 ghost use Rattle.qil_stops.specs.Readings.{TellsWatched, Tells};
 
+use qil_code::{BlockId, Slot};
 use qil_layout::FuncId;
 use qil_machine::Machine;
-use qil_numbering::{BlockId, Slot};
 use std::alloc::Allocator;
 
 /// A place where a run can stand: a block, and how many of its instructions are done. Where all are, the jump is next.

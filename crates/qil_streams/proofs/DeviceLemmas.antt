@@ -1,6 +1,7 @@
 -- What is known of a device's bytes after several calls.
-use Rattle.std.proofs.Common.{◌≡◌, ℕ, ◌-◌, List, [], ◌++◌, length, take, drop, Option, refl, sym, ◌∙◌, ap, append_assoc}
-use Rattle.std.specs.Prelude.{Some, None}
+use Rattle.std.proofs.Common.{◌≡◌, ℕ, ◌-◌, ◌<◌, List, [], ◌++◌, length, take, drop, Option, Bool, true, refl, sym, ◌∙◌, ap, arith, append_assoc}
+use Rattle.std.proofs.lemmas.Bool.Decides.{Decides-eqb}
+use Rattle.std.specs.Prelude.{Some, None, ◌==◌}
 use Rattle.std.proofs.lemmas.List.{append-nil, take-append-drop, take_rest}
 use Rattle.std.specs.Io.KnownBytes.{Appends, Consumes}
 
@@ -23,6 +24,17 @@ Consumes-append None b c x y p q = tt
 Consumes-append (Some xs) None c x y p q = absurd p
 Consumes-append (Some xs) (Some ys) None x y p q = absurd q
 Consumes-append (Some xs) (Some ys) (Some zs) x y p q = p ∙ ap (λ v. x ++ v) q ∙ sym (append_assoc x y zs)
+
+-- a call that took nothing after one that took some
+pub Consumes-end : (a b c : Option (List ℕ)) (x : List ℕ) → Consumes a b x → Consumes b c [] → Consumes a c x
+Consumes-end None b c x p q = tt
+Consumes-end (Some xs) None c x p q = absurd p
+Consumes-end (Some xs) (Some ys) None x p q = absurd q
+Consumes-end (Some xs) (Some ys) (Some zs) x p q = p ∙ ap (λ v. x ++ v) q
+
+-- bytes of which there are some aren't tested to be none
+pub not_none : (n : ℕ) (test value : Bool) → test ≡ (n == 0) → value ≡ test → value ≡ true → 0 < n → ⊥
+not_none n test value is same holds some = omega (arith, (Decides-eqb n 0).0 (sym is ∙ sym same ∙ holds), some)
 
 -- one more write of a text that is written fragment by fragment
 pub wrote_more : (bytes rest : List ℕ) (n : ℕ) (old mid new : Option (List ℕ))

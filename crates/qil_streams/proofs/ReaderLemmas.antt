@@ -1,6 +1,7 @@
 -- What is kept of a line, and what was read of its source, byte by byte.
-use Rattle.std.proofs.Common.{◌≡◌, ℕ, ◌+◌, ◌^◌, ◌≤◌, ◌<◌, List, [], ◌∷◌, ◌++◌, take, length, arith, sym, ◌∙◌, ap, refl, suc, zero, ◌≢◌}
-use Rattle.std.specs.Prelude.{Option}
+use Rattle.std.proofs.Common.{◌≡◌, ℕ, ◌+◌, ◌^◌, ◌≤◌, ◌<◌, List, [], ◌∷◌, ◌++◌, take, length, arith, sym, ◌∙◌, ap, refl, suc, zero, ◌≢◌, Bool, false}
+use Rattle.std.specs.Prelude.{Option, ◌==◌}
+use Rattle.std.proofs.lemmas.Bool.{false≢true}
 use Rattle.std.specs.Io.KnownBytes.{Consumes}
 use Rattle.qil_streams.specs.Reader.{rest_of, IsLine, Reads}
 use Rattle.qil_streams.specs.Reading.{Reading, read_count}
@@ -57,6 +58,11 @@ TakesPrefix-nil reading kept before none = record {
   given = omega arith;
   reads = Reads-nil reading before;
 }
+
+-- a line of which some bytes are kept has some
+pub has_bytes : (slice kept line : List ℕ) (test : Bool) → slice ≡ kept → test ≡ (length slice == 0) → test ≡ false → kept ≡ take 257 line → 0 < length line
+has_bytes slice kept [] test same is fails kept_is = absurd (false≢true (sym fails ∙ is ∙ ap (λ (l : List ℕ). length l == 0) (same ∙ kept_is)))
+has_bytes slice kept (x ∷ xs) test same is fails kept_is = omega arith
 
 -- what a reader took of its source since it was made, as one bounded list
 pub Reads-within : (first now : Reading) (before after : Option (List ℕ)) → read_count first ≡ 0 → Reads first now before after → read_count now ≤ 2 ^ 24 + 1

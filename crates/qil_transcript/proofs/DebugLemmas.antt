@@ -21,8 +21,8 @@ use Rattle.qil_meaning.specs.State.{State}
 use Rattle.qil_meaning.specs.Start.{start_of}
 use Rattle.qil_meaning.specs.Timeline.{begun}
 use Rattle.qil_meaning.specs.declared.start.StartFault.{StartFault}
-use Rattle.qil_session.specs.SessionState.{SessionState}
-use Rattle.qil_session.specs.Answers.{IsAnswered, answers}
+use Rattle.qil_replies.specs.SessionState.{SessionState}
+use Rattle.qil_replies.specs.Answers.{IsAnswered, answers}
 use Rattle.qil_transcript.specs.declared.serving.IoFault.TheVariants.{Read, Write, TooLong}
 use Rattle.qil_transcript.specs.declared.outcome.Outcome.{Outcome}
 use Rattle.qil_transcript.specs.declared.outcome.Outcome.TheVariants as outcomes

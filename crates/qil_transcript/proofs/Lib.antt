@@ -3,3 +3,4 @@ pub mod KeptLemmas
 pub mod ServeLemmas
 pub mod FewLemmas
 pub mod DebugLemmas
+pub mod OpenedLemmas

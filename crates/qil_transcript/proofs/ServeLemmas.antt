@@ -11,8 +11,9 @@ use Rattle.qil_commands.specs.Command.{command_of}
 use Rattle.qil_streams.specs.Reader.{IsLine}
 use Rattle.qil_streams.specs.Script.{lines_of, whole_lines_of}
 use Rattle.qil_replies.specs.Reply.{reply_text}
-use Rattle.qil_session.specs.SessionState.{SessionState}
-use Rattle.qil_session.specs.Answers.{AnswersLine, answer, answer_text, answers, AreValid, IsValid, IsAnswered, IsAnsweredTo, is_quit, quits}
+use Rattle.qil_replies.specs.SessionState.{SessionState}
+use Rattle.qil_session.specs.AnsweredLine.{AnswersLine}
+use Rattle.qil_replies.specs.Answers.{answer, answer_text, answers, AreValid, IsValid, IsAnswered, IsAnsweredTo, is_quit, quits}
 use Rattle.std.specs.Prelude.{IfSome, IsErrAnd, OnOk}
 use Rattle.std.specs.Io.KnownBytes.{Consumes, Appends, IsAtEnd, prepend_known}
 use Rattle.qil_transcript.specs.declared.serving.IoFault.{IoFault}

@@ -6,7 +6,7 @@ use Rattle.qil_streams.specs.Script.{lines_of, whole_lines_of}
 use Rattle.qil_loading.specs.Load.{Refuses}
 use Rattle.qil_loading.specs.Lines.{refused_line}
 use Rattle.qil_loading.specs.declared.refusal.Refusal.{Refusal}
-use Rattle.qil_session.specs.Answers.{quits}
+use Rattle.qil_replies.specs.Answers.{quits}
 use Rattle.qil_transcript.specs.declared.outcome.Outcome.{Outcome}
 use Rattle.qil_transcript.specs.declared.outcome.Outcome.TheVariants.{Ended, Refused, ReadFault, WriteFault, TooLong, Memory}
 use Rattle.qil_transcript.specs.Serve.{IsTooLong}

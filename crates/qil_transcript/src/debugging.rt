@@ -21,13 +21,14 @@ ghost use Rattle.qil_transcript.specs.Handed.{IsRefused, of_start, setup_of};
 
 use crate::outcome::Outcome;
 use crate::serving::{IoFault, serve_lines};
+use qil_code::Code;
 use qil_deltas::{Deltas, Ring};
 use qil_history::History;
 use qil_layout::layout;
 use qil_loading::{LoadError, Loaded, Refusal, check_text, put_loaded_line, put_refusal_line};
 use qil_machine::{Machine, StartError};
 use qil_meaning::StartFault;
-use qil_numbering::{Code, number};
+use qil_numbering::number;
 use qil_rules::Checked;
 use qil_session::Session;
 use qil_streams::{Outlet, Put, PutError, Sink, Source};

@@ -5,11 +5,11 @@ ghost use Rattle.std.specs.Prelude.{◌≡◌};
 use crate::answer::Answer;
 use crate::asked::{Asked, Came, ask_one, read_line};
 use anyhow::bail;
+use qil_code::Code;
 use qil_deltas::Deltas;
 use qil_history::History;
 use qil_layout::Image;
 use qil_machine::{Delta, Machine};
-use qil_numbering::Code;
 use qil_snapshots::Snapshots;
 use std::alloc::Allocator;
 

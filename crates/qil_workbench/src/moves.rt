@@ -2,11 +2,11 @@
 
 use crate::answer::Answer;
 use crate::record::kind_of;
+use qil_code::{Code, NumberedInst, NumberedOperand, Slot};
 use qil_deltas::Deltas;
 use qil_frames::Frame;
 use qil_machine::{Delta, Machine};
 use qil_memory::{DATA_BASE, Saved};
-use qil_numbering::{Code, NumberedInst, NumberedOperand, Slot};
 use qil_snapshots::Snapshots;
 use refusing::{Refusing, refuse_each};
 use std::alloc::{AllocError, Allocator, Global};

@@ -4,7 +4,7 @@ use crate::answer::Answer;
 use crate::ask::Bench;
 use crate::load::checked;
 use crate::reader::Reader;
-use qil_numbering::Code;
+use qil_code::Code;
 use qil_rules::Checked;
 use std::alloc::Allocator;
 

@@ -1,10 +1,10 @@
 //! Whether the numbered code of a function, read through names, is what the tree has at the same place.
 
-use qil_layout::FuncId;
-use qil_numbering::{
+use qil_code::{
     BlockId, Code, NumberedArgument, NumberedExpr, NumberedInst, NumberedJump, NumberedOperand,
     PhiMove, Receiver, Slot,
 };
+use qil_layout::FuncId;
 use qil_tree::{
     Argument, Block, CallResult, Class, Expr, Func, InstKind, JumpKind, Name, Operand, Param, Phi,
     Target,

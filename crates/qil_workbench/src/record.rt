@@ -1,10 +1,10 @@
 //! What a record keeps, part by part, and nothing else.
 
 use arrayvec::ArrayVec;
+use qil_code::Slot;
 use qil_frames::{Frame, KeptSlots, SavedSlot};
 use qil_machine::{Copied, DeltaKind, Grown};
 use qil_memory::{KeptBytes, Saved};
-use qil_numbering::Slot;
 use std::alloc::Allocator;
 
 /// The kind of a jump, by what is kept of the slots that its phis set.

@@ -4,22 +4,9 @@
 //! debugger answers again with the same bytes.
 #![tactic(auto)]
 
-mod completing;
-mod debuggee;
-mod evaluating;
-mod failure;
-mod memory;
-mod motion;
 mod opening;
-mod recording;
-mod requests;
 mod serving;
-mod source_lines;
-mod source_map;
-mod stopped;
-mod stops;
-mod variables;
 
+pub use qrev_notices::{Ended, Files};
 pub use qrev_recorder::{Opening, Record};
-pub use recording::Files;
-pub use serving::{Ended, serve};
+pub use serving::serve;

@@ -5,138 +5,28 @@ ghost use Rattle.qil_loading.specs.Load.{Checks};
 ghost use Rattle.qrev_recorder.specs.Record.{setup_of, IsBeginning};
 ghost use Rattle.qrev_adapter.specs.Opened.{HasStarted, IsAccepted};
 
-use crate::debuggee::Debuggee;
-use crate::failure::Trouble;
-use crate::recording::Files;
-use crate::serving::{Closed, Ended, Line, serve_session};
-use crate::stopped::send;
+use qil_code::Code;
 use qil_deltas::{Deltas, Ring};
 use qil_layout::layout;
-use qil_loading::{LoadError, Loaded, Refusal, check_text, put_refusal_line};
-use qil_machine::{Machine, StartError};
-use qil_meaning::StartFault;
-use qil_numbering::{Code, number};
+use qil_loading::{LoadError, Loaded, check_text};
+use qil_machine::Machine;
+use qil_numbering::number;
 use qil_rules::Checked;
-use qil_streams::{Buffer, Sink, Source};
+use qil_streams::{Sink, Source};
 use qil_tree::Program;
-use qrev_protocol::{Object, Port, Request, Turn, Whole, event};
-use qrev_recorder::{BoundedSession, HasMachine, Opening, Recorder, WholeSession};
+use qrev_conversation::serve_session;
+use qrev_debuggee::Debuggee;
+use qrev_notices::{
+    Closed, Ended, Files, Line, read_sources, refuse_load, refuse_map, refuse_start, refuse_unread,
+    tell_open,
+};
+use qrev_protocol::{Request, Turn};
+use qrev_recorder::{HasMachine, Opening, Recorder};
 use qrev_requests::Launch;
-use qrev_views::{Numbering, Shown, as_text, put_source};
-use std::alloc::{AllocError, Allocator};
+use qrev_sessions::{BoundedSession, WholeSession};
+use qrev_views::Shown;
+use std::alloc::Allocator;
 use std::hash::RandomState;
-
-/// What a start that failed is to the load.
-fn start_error(error: StartError) -> LoadError {
-    match error {
-        StartError::NoEntry => LoadError::Refused(Refusal::Start(StartFault::NoEntry)),
-        StartError::ArgumentCount => LoadError::Refused(Refusal::Start(StartFault::ArgumentCount)),
-        StartError::OutOfMemory => LoadError::OutOfMemory,
-    }
-}
-
-/// The line of the text that a refusal is about, if it is about one.
-fn refused_line(refusal: Refusal) -> Option<u32> {
-    match refusal {
-        Refusal::Text { line, .. }
-        | Refusal::Tokens { line, .. }
-        | Refusal::Rule { line, .. }
-        | Refusal::Layout { line, .. } => Some(line),
-        Refusal::Start(_) => None,
-    }
-}
-
-/// The event that shows a refusal with its line, which editors make a link of.
-fn refusal_event<A: Allocator + Copy>(
-    alloc: A,
-    words: &str,
-    path: &str,
-    line: Option<u64>,
-) -> Result<Object<A, Whole>, AllocError> {
-    let mut text = String::from_str(alloc, words)?;
-    text.push_str("\n")?;
-    let body = event(alloc, "output")?
-        .object("body")?
-        .text("category", "stderr")?
-        .text("output", text.as_str())?;
-    match line {
-        Some(line) => put_source(body, path)?.number("line", line)?.end(),
-        None => body.end(),
-    }
-}
-
-/// The words of a refusal. Where memory ran out there are none.
-fn refusal_words<A: Allocator + Copy>(alloc: A, error: LoadError) -> Result<String<A>, AllocError> {
-    let LoadError::Refused(refusal) = error else {
-        return Err(AllocError);
-    };
-    let mut words = Buffer::new(alloc);
-    match put_refusal_line(&mut words, refusal) {
-        Ok(()) => as_text(alloc, words.bytes().trim_ascii_end()),
-        Err(_) => Err(AllocError),
-    }
-}
-
-/// Responds that a request isn't done, with these words, if memory was found for them.
-fn refuse_with<'p, A: Allocator + Copy, W: Sink>(
-    alloc: A,
-    turn: Turn<'p, '_, A, W>,
-    words: &Result<String<A>, AllocError>,
-) -> Result<&'p mut Port<A, W>, Trouble> {
-    match words {
-        Ok(words) => Ok(turn.refuse(alloc, words.as_str())?),
-        Err(_) => {
-            turn.give_up();
-            Err(Trouble::OutOfMemory)
-        }
-    }
-}
-
-/// Sends the event that shows a refusal.
-fn tell_refusal<A: Allocator + Copy, W: Sink>(
-    alloc: A,
-    port: &mut Port<A, W>,
-    numbering: Numbering,
-    words: &Result<String<A>, AllocError>,
-    path: &str,
-    error: LoadError,
-) -> Result<(), Trouble> {
-    let Ok(words) = words else {
-        return Ok(());
-    };
-    let line = match error {
-        LoadError::Refused(refusal) => match refused_line(refusal) {
-            Some(line) => Some(numbering.line(line)),
-            None => None,
-        },
-        LoadError::OutOfMemory => None,
-    };
-    send(port, refusal_event(alloc, words.as_str(), path, line)?)
-}
-
-/// Responds that a text is refused, and shows it.
-fn refuse_text<A: Allocator + Copy, W: Sink>(
-    alloc: A,
-    port: &mut Port<A, W>,
-    request: Request<'_>,
-    numbering: Numbering,
-    path: &str,
-    error: LoadError,
-) -> Result<Closed<A>, Ended> {
-    let words = refusal_words(alloc, error);
-    refuse_with(alloc, Turn::new(port, request), &words)?;
-    tell_refusal(alloc, port, numbering, &words, path, error)?;
-    Ok(Closed::Terminated)
-}
-
-/// Tells that a session is open.
-fn tell_open<A: Allocator + Copy, W: Sink>(
-    alloc: A,
-    turn: Turn<'_, '_, A, W>,
-) -> Result<(), Trouble> {
-    let port = turn.accept(alloc)?;
-    send(port, event(alloc, "initialized")?)
-}
 
 /// Serves a session that has made no move.
 fn open_session<
@@ -184,29 +74,6 @@ fn open_session<
         stops: Vec::new(alloc),
     };
     serve_session(debuggee, launch, files, line)
-}
-
-/// Responds that a program doesn't start.
-fn refuse_start<A: Allocator + Copy, S: Source, W: Sink>(
-    error: StartError,
-    launch: &Launch<A>,
-    request: Request<'_>,
-    line: &mut Line<A, S, W>,
-) -> Result<Closed<A>, Ended> {
-    refuse_load(start_error(error), launch, request, line)
-}
-
-/// Responds that a text isn't loaded.
-fn refuse_load<A: Allocator + Copy, S: Source, W: Sink>(
-    error: LoadError,
-    launch: &Launch<A>,
-    request: Request<'_>,
-    line: &mut Line<A, S, W>,
-) -> Result<Closed<A>, Ended> {
-    let alloc = line.alloc;
-    let numbering = line.numbering;
-    let path = launch.program.as_str();
-    refuse_text(alloc, &mut line.port, request, numbering, path, error)
 }
 
 /// Serves from a machine at its start, over all its deltas.
@@ -361,13 +228,6 @@ fn open_checked<'a, 'l, A: Allocator + Copy, S: Source, W: Sink, F: Files<A>>(
     )
 }
 
-/// Why a file can't be read.
-fn unread_words<A: Allocator>(alloc: A, path: &str) -> Result<String<A>, AllocError> {
-    let mut words = String::from_str(alloc, "cannot read ")?;
-    words.push_str(path)?;
-    Ok(words)
-}
-
 /// Loads a text and serves it, until the session is closed.
 fn open_text<'l, A: Allocator + Copy, S: Source, W: Sink, F: Files<A>>(
     keys: RandomState,
@@ -387,19 +247,33 @@ fn open_text<'l, A: Allocator + Copy, S: Source, W: Sink, F: Files<A>>(
 }
 
 /// Loads a program and serves it, until the session is closed.
-pub fn open<A: Allocator + Copy, S: Source, W: Sink, F: Files<A>>(
+fn open<A: Allocator + Copy, S: Source, W: Sink, F: Files<A>>(
     keys: RandomState,
     launch: &Launch<A>,
     request: Request<'_>,
     files: &F,
     line: &mut Line<A, S, W>,
 ) -> Result<Closed<A>, Ended> {
-    let alloc = line.alloc;
     let Some(text) = files.read(launch.program.as_str()) else {
-        let words = unread_words(alloc, launch.program.as_str());
-        refuse_with(alloc, Turn::new(&mut line.port, request), &words)?;
-        return Ok(Closed::Terminated);
+        return refuse_unread(launch, request, line);
     };
     let opening = opening_of(text.as_slice(), launch);
     open_text(keys, opening, launch, request, files, line)
+}
+
+/// Reads the map of a launch, loads its program and serves it, until the session is closed.
+pub fn open_mapped<A: Allocator + Copy, S: Source, W: Sink, F: Files<A>>(
+    keys: RandomState,
+    launch: &Launch<A>,
+    request: Request<'_>,
+    files: &F,
+    line: &mut Line<A, S, W>,
+) -> Result<Closed<A>, Ended> {
+    match read_sources(line.alloc, launch, files) {
+        Ok(source_map) => {
+            line.source_map = source_map;
+            open(keys, launch, request, files, line)
+        }
+        Err(fault) => refuse_map(fault, launch, request, line),
+    }
 }

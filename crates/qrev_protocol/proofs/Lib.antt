@@ -7,3 +7,4 @@ pub mod Lines
 pub mod Lost
 pub mod Messages
 pub mod Numbers
+pub mod Names

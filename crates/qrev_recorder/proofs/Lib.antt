@@ -2,3 +2,4 @@
 pub mod Recording
 pub mod Moves
 pub mod Beginnings
+pub mod Lines

@@ -16,8 +16,8 @@ use Rattle.qil_meaning.specs.State.{State}
 use Rattle.qil_meaning.specs.Timeline.{begun}
 use Rattle.qil_loading.specs.declared.loaded.Loaded.{Loaded}
 use Rattle.qil_replies.specs.declared.reply.Reply.{Reply}
-use Rattle.qil_session.specs.SessionState.{SessionState, text_in}
-use Rattle.qil_session.specs.Answers.{Replies, answer, answer_text, is_quit}
+use Rattle.qil_replies.specs.SessionState.{SessionState, text_in}
+use Rattle.qil_replies.specs.Answers.{Replies, answer, answer_text, is_quit}
 use Rattle.qil_script.specs.Transcript.{Setup, IsSession, opened, load_lines}
 use Rattle.qil_script.specs.Reached.{Reached}
 use Rattle.qil_script.proofs.ReachedLemmas.{Reached-nil, Reached-line, Reported-answered}

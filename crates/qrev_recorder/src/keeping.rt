@@ -7,8 +7,8 @@ ghost use Rattle.qil_commands.specs.declared.command.Command.TheVariants as comm
 ghost use Rattle.qil_streams.specs.Reader.{IsLine};
 ghost use Rattle.qil_loading.specs.Lines.{IsLoaded};
 ghost use Rattle.qil_replies.specs.declared.reply.Reply.TheVariants as replies;
-ghost use Rattle.qil_session.specs.SessionState.{text_in};
-ghost use Rattle.qil_session.specs.Answers as answers;
+ghost use Rattle.qil_replies.specs.SessionState.{text_in};
+ghost use Rattle.qil_replies.specs.Answers as answers;
 ghost use Rattle.qil_script.specs.Transcript.{load_lines};
 ghost use Rattle.qrev_recorder.specs.Record.{KeepsMoves};
 

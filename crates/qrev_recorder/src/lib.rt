@@ -9,6 +9,6 @@ mod done;
 mod keeping;
 mod recorder;
 
-pub use debugged::{BoundedSession, Debugged, HasMachine, WholeSession};
+pub use debugged::{Debugged, HasMachine};
 pub use done::{Done, LineError};
 pub use recorder::{Opening, Record, Recorder};

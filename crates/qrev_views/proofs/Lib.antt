@@ -3,3 +3,4 @@ pub mod ShownTexts
 pub mod Pages
 pub mod Rows
 pub mod Stacks
+pub mod Counted

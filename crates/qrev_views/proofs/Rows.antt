@@ -10,9 +10,9 @@ use Rattle.qil_memory.specs.Live.{Live}
 use Rattle.qil_meaning.specs.State.{Name}
 use Rattle.qil_meaning.specs.Step.{func_named}
 use Rattle.qil_meaning.specs.Slots.{temps_of}
-use Rattle.qil_numbering.specs.Numbered.{func_at, block_in, block_at, names_of}
-use Rattle.qil_numbering.specs.Slots.{name_at}
-use Rattle.qil_numbering.specs.Facts.{Finds}
+use Rattle.qil_code.specs.Numbered.{func_at, block_in, block_at, names_of}
+use Rattle.qil_code.specs.Slots.{name_at}
+use Rattle.qil_code.specs.Facts.{Finds}
 use Rattle.qil_frames.specs.Frames.{SlotFrame}
 use Rattle.qil_state.specs.State.{func_name, frame_state, PlaceFits, FrameFits, FramesFit}
 use Rattle.qil_state.proofs.Reading.{are_slots, slot_read}

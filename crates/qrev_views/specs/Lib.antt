@@ -3,3 +3,4 @@ pub mod Texts
 pub mod Pages
 pub mod Variables
 pub mod Frames
+pub mod Scopes

@@ -1,5 +1,10 @@
 //! The scopes of a frame: its temporaries, the data of the program, and the machine.
 
+ghost use Rattle.std.specs.Prelude.{◌++◌, length, IfOk};
+ghost use Rattle.std.specs.Option.{option_copied};
+ghost use Rattle.qrev_protocol.specs.Outgoing.{Adds};
+ghost use Rattle.qrev_views.specs.Scopes.{scope_name, scope_variables, hinted_scope, locals_scope, scopes_tokens};
+
 use crate::machine::MACHINE_VARIABLES;
 use qil_frames::Frame;
 use qrev_protocol::{Array, InArray, InObject, Object};
@@ -17,28 +22,55 @@ fn put_scope<A: Allocator, U: Drop>(
     name: &str,
     reference: u64,
     count: usize,
-) -> Result<Array<A, U>, AllocError> {
-    list.object()?
+) -> Result<Array<A, U>, AllocError>
+    ensures { IfOk result (λ l. Adds list.out l.out (scope_name name.now ++ scope_variables reference count)) }
+{
+    let list = list
+        .object()?
         .text("name", name)?
         .number("variablesReference", reference)?
         .number("namedVariables", count as u64)?
         .flag("expensive", false)?
-        .end_item()
+        .end_item()?;
+    Ok(list)
 }
 
-/// Adds the scope of the temporaries of a frame.
-fn put_locals<A: Allocator, U: Drop>(
+/// Adds a scope that an editor shows in its own way: `locals` or `registers`.
+fn put_hinted<A: Allocator, U: Drop>(
     list: Array<A, U>,
-    number: u64,
+    name: &str,
+    hint: &str,
+    reference: u64,
     count: usize,
-) -> Result<Array<A, U>, AllocError> {
-    list.object()?
-        .text("name", "Temporaries")?
-        .text("presentationHint", "locals")?
-        .number("variablesReference", number)?
+) -> Result<Array<A, U>, AllocError>
+    ensures { IfOk result (λ l. Adds list.out l.out (hinted_scope name.now hint.now reference count)) }
+{
+    let list = list
+        .object()?
+        .text("name", name)?
+        .text("presentationHint", hint)?
+        .number("variablesReference", reference)?
         .number("namedVariables", count as u64)?
         .flag("expensive", false)?
-        .end_item()
+        .end_item()?;
+    Ok(list)
+}
+
+/// Adds the scope of the temporaries of the frame of a number, if there is one.
+fn put_locals<A: Allocator, U: Drop>(
+    list: Array<A, U>,
+    frame: Option<&Frame<A>>,
+    number: u64,
+) -> Result<Array<A, U>, AllocError>
+    ensures { IfOk result (λ l. Adds list.out l.out (locals_scope number (option_copied frame.entry))) }
+{
+    match frame {
+        Some(frame) => {
+            let list = put_hinted(list, "Temporaries", "locals", number, frame.slots().len())?;
+            Ok(list)
+        }
+        None => Ok(list),
+    }
 }
 
 /// Adds the scopes: the temporaries of the frame of a number, if there is one, as many data objects, and the machine.
@@ -47,18 +79,12 @@ pub fn put_scopes<A: Allocator, U: Drop>(
     frame: Option<&Frame<A>>,
     number: u64,
     datas: usize,
-) -> Result<Object<A, U>, AllocError> {
-    let mut list = body.array("scopes")?;
-    if let Some(frame) = frame {
-        list = put_locals(list, number, frame.slots().len())?;
-    }
+) -> Result<Object<A, U>, AllocError>
+    ensures { IfOk result (λ o. Adds body.out o.out (scopes_tokens number (option_copied frame.entry) datas)) }
+{
+    let list = put_locals(body.array("scopes")?, frame, number)?;
     let list = put_scope(list, "Data", DATA, datas)?;
-    list.object()?
-        .text("name", "Machine")?
-        .text("presentationHint", "registers")?
-        .number("variablesReference", MACHINE)?
-        .number("namedVariables", MACHINE_VARIABLES as u64)?
-        .flag("expensive", false)?
-        .end_item()?
-        .end()
+    let list = put_hinted(list, "Machine", "registers", MACHINE, MACHINE_VARIABLES)?;
+    let body = list.end()?;
+    Ok(body)
 }

@@ -2,7 +2,7 @@
 
 ghost use Rattle.std.specs.Prelude.{◌≡◌, ℕ, ◌+◌, List, drop, flat_map, slice_get, IfOk, Some};
 ghost use Rattle.qil_memory.specs.Live.{live};
-ghost use Rattle.qil_numbering.specs.Numbered.{func_at, names_of};
+ghost use Rattle.qil_code.specs.Numbered.{func_at, names_of};
 ghost use Rattle.qil_state.specs.State.{frame_state};
 ghost use Rattle.qrev_protocol.specs.Outgoing.{Adds};
 ghost use Rattle.qrev_views.specs.Pages.{page_of};
@@ -11,9 +11,9 @@ ghost use Rattle.qrev_views.specs.Variables.{class_letter, live_reference, temp_
 use crate::texts::sigiled;
 use crate::variable::{Page, add_address, begin_variable, end_variable, value_text};
 use qil_answers::temp_name;
+use qil_code::Slot;
 use qil_frames::Frame;
 use qil_machine::Machine;
-use qil_numbering::Slot;
 use qil_tree::Class;
 use qrev_protocol::{Array, InArray, Object};
 use std::alloc::{AllocError, Allocator};

@@ -4,9 +4,6 @@
 use std::alloc::{AllocError, Allocator};
 use std::cell::Cell;
 
-#[cfg(test)]
-mod tests;
-
 /// Passes each call on to `inner`, but for the one allocation that it refuses.
 ///
 /// It is lent to what allocates: a collection holds a `&` to it.

@@ -1,6 +1,6 @@
 -- Answers to the goals of `script_has_answers`.
 use Rattle.std.proofs.Common.{refl}
-use Rattle.qil_session.specs.Answers.{answers}
+use Rattle.qil_replies.specs.Answers.{answers}
 use Rattle.qil_script.proofs.ReachedLemmas.{ample}
 use Rattle.qil_script.proofs.script_has_answers.Goals as goal
 

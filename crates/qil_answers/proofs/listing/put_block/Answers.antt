@@ -1,6 +1,6 @@
 -- Answers to the goals of `put_block`.
 use Rattle.qil_streams.proofs.TextLemmas.{HasPut-append, HasPut-stop}
-use Rattle.qil_numbering.specs.Numbered.{func_at, block_at}
+use Rattle.qil_code.specs.Numbered.{func_at, block_at}
 use Rattle.qil_state.specs.State.{func_name, label_in}
 use Rattle.qil_answers.specs.Listing.{rows_in, block_head}
 use Rattle.qil_answers.proofs.Here.{block_none, block_some}

@@ -1,7 +1,7 @@
 -- Answers to the goals of `put_slots`.
 use Rattle.std.proofs.Common.{◌+◌, ◌∙◌, drop, get_or, None, rules}
-use Rattle.qil_numbering.specs.Numbered.{names_of}
-use Rattle.qil_numbering.specs.Slots.{name_at}
+use Rattle.qil_code.specs.Numbered.{names_of}
+use Rattle.qil_code.specs.Slots.{name_at}
 use Rattle.qil_answers.specs.Texts.{value_line}
 use Rattle.qil_answers.specs.Slots.{slot_lines}
 use Rattle.qil_answers.proofs.Reported.{reported_as, reported_stop, reported_more}

@@ -1,6 +1,6 @@
 -- The values so far were put.
 use Rattle.std.proofs.Common.{◌≡◌, drop}
-use Rattle.qil_numbering.specs.Numbered.{names_of}
+use Rattle.qil_code.specs.Numbered.{names_of}
 use Rattle.qil_answers.specs.Slots.{slot_lines}
 use Rattle.qil_answers.proofs.Reported.{Reported}
 use Rattle.qil_answers.proofs.temps.put_slots.Given as goal

@@ -1,7 +1,7 @@
 -- The labels so far, with those that are left, are all.
 use Rattle.std.proofs.Common.{◌≡◌, drop, []}
 use Rattle.qil_names.specs.Numbers.{recorded}
-use Rattle.qil_numbering.specs.Gather.{labels_in}
+use Rattle.qil_code.specs.Gather.{labels_in}
 use Rattle.qil_numbering.proofs.gather.labels_of.Given as goal
 
 abbrev pub invariant-loop-block : goal.invariant-loop-block

@@ -1,7 +1,7 @@
 -- One phi more.
 use Rattle.std.proofs.Common.{◌++◌, ap}
 use Rattle.std.specs.List.{flat_map}
-use Rattle.qil_numbering.specs.Numbered.{one_phi_moves}
+use Rattle.qil_code.specs.Numbered.{one_phi_moves}
 use Rattle.qil_numbering.proofs.Parts.{flat_more, flat_all}
 use Rattle.qil_numbering.proofs.moves.moves_of.Goals as goal
 

@@ -2,7 +2,7 @@
 use Rattle.std.proofs.Common.{◌≡◌, ◌++◌, List, ℕ, drop}
 use Rattle.std.specs.List.{flat_map}
 use Rattle.qil_names.specs.Tables.{values_at}
-use Rattle.qil_numbering.specs.Numbered.{one_phi_moves}
+use Rattle.qil_code.specs.Numbered.{one_phi_moves}
 use Rattle.qil_numbering.proofs.moves.moves_of.Given as goal
 
 abbrev pub invariant-loop-phi : goal.invariant-loop-phi

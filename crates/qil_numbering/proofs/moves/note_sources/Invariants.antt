@@ -1,7 +1,7 @@
 -- The moves so far, with those of the sources that are left, are all.
 use Rattle.std.proofs.Common.{◌≡◌, ◌++◌, List, ℕ, drop}
 use Rattle.qil_names.specs.Tables.{values_at}
-use Rattle.qil_numbering.specs.Moves.{source_moves}
+use Rattle.qil_code.specs.Moves.{source_moves}
 use Rattle.qil_numbering.proofs.moves.note_sources.Given as goal
 
 abbrev pub invariant-loop-source : goal.invariant-loop-source

@@ -1,7 +1,7 @@
 -- The parts of a function are those of its code.
 use Rattle.std.proofs.Common.{◌∙◌, ap, []}
 use Rattle.qil_names.specs.Numbers.{recorded}
-use Rattle.qil_numbering.specs.Gather.{labels_in}
+use Rattle.qil_code.specs.Gather.{labels_in}
 use Rattle.qil_numbering.proofs.Whole.{code-is}
 use Rattle.qil_numbering.proofs.shape.func_code.Goals as goal
 

@@ -1,7 +1,7 @@
 -- One function more.
 use Rattle.std.proofs.Common.{sym, subst}
-use Rattle.qil_numbering.specs.Facts.{IsNumerable}
-use Rattle.qil_numbering.specs.Ranges.{FuncIsShort}
+use Rattle.qil_code.specs.Facts.{IsNumerable}
+use Rattle.qil_code.specs.Ranges.{FuncIsShort}
 use Rattle.qil_numbering.proofs.Parts.{all_more, mapped_more, mapped_all}
 use Rattle.qil_numbering.proofs.shape.funcs_code.Goals as goal
 

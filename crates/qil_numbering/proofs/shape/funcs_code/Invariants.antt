@@ -1,8 +1,8 @@
 -- The functions so far, with those that are left, are all; each so far is short.
 use Rattle.std.proofs.Common.{◌≡◌, ◌++◌, drop}
 use Rattle.std.specs.Prelude.{All, map}
-use Rattle.qil_numbering.specs.Numbered.{func_code}
-use Rattle.qil_numbering.specs.Ranges.{FuncIsShort}
+use Rattle.qil_code.specs.Numbered.{func_code}
+use Rattle.qil_code.specs.Ranges.{FuncIsShort}
 use Rattle.qil_numbering.proofs.shape.funcs_code.Given as goal
 
 abbrev pub invariant-loop-func : goal.invariant-loop-func

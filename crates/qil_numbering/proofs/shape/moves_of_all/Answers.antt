@@ -1,7 +1,7 @@
 -- One table more.
 use Rattle.std.proofs.Common.{◌≡◌, arith, List, ℕ}
 use Rattle.qil_names.specs.Tables.{values_at}
-use Rattle.qil_numbering.specs.Numbered.{block_moves}
+use Rattle.qil_code.specs.Numbered.{block_moves}
 use Rattle.qil_numbering.proofs.Tables.{one_more}
 use Rattle.qil_numbering.proofs.shape.moves_of_all.Goals as goal
 

@@ -4,7 +4,7 @@ use Rattle.std.specs.Prelude.{slice_get}
 use Rattle.std.specs.Option.{ForSome}
 use Rattle.qil_tree.specs.declared.tree.Block.{Block}
 use Rattle.qil_names.specs.Tables.{values_at}
-use Rattle.qil_numbering.specs.Numbered.{block_moves}
+use Rattle.qil_code.specs.Numbered.{block_moves}
 use Rattle.qil_numbering.proofs.shape.moves_of_all.Given as goal
 
 abbrev pub invariant-loop-block : goal.invariant-loop-block

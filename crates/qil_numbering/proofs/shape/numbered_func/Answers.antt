@@ -1,7 +1,7 @@
 -- The parts of a function are those of its code.
 use Rattle.std.proofs.Common.{◌∙◌, ap, refl}
 use Rattle.std.specs.Prelude.{map}
-use Rattle.qil_numbering.specs.Numbered.{param_of, block_of}
+use Rattle.qil_code.specs.Numbered.{param_of, block_of}
 use Rattle.qil_numbering.proofs.Whole.{func-is}
 use Rattle.qil_numbering.proofs.shape.numbered_func.Goals as goal
 

@@ -1,6 +1,6 @@
 -- Answers to the goals of `poke`.
 use Rattle.std.proofs.Common.{ap, sym, ◌∙◌, Err}
-use Rattle.qil_session.specs.SessionState.{resolved_address}
+use Rattle.qil_replies.specs.SessionState.{resolved_address}
 use Rattle.qil_session.proofs.PokeAnswers.{replies_nowhere, replies_poke, replies_poke_dead, replies_poke_wants, poked_near}
 use Rattle.qil_session.proofs.poking.poke.Goals as goal
 

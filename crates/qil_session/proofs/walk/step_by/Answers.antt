@@ -2,7 +2,7 @@
 use Rattle.std.proofs.Common.{◌≡◌, arith, ◌∙◌, ap, refl, false, Err}
 use Rattle.qil_meaning.specs.Timeline.{forward, at_end}
 use Rattle.qil_stops.proofs.OnWay.{not_true}
-use Rattle.qil_session.proofs.Walks.{walked-none, walked-more, walked-position, walked-near, walked-all}
+use Rattle.qil_stops.proofs.Walks.{walked-none, walked-more, walked-position, walked-near, walked-all}
 use Rattle.qil_session.proofs.walk.step_by.Goals as goal
 
 pub loop-made-init : goal.loop-made-init

@@ -1,6 +1,6 @@
 -- The moves so far, none of them from the end.
 use Rattle.std.proofs.Common.{◌≡◌}
-use Rattle.qil_session.proofs.Walks.{IsWalked}
+use Rattle.qil_stops.proofs.Walks.{IsWalked}
 use Rattle.qil_session.proofs.walk.step_by.Given as goal
 
 abbrev pub invariant-loop-made : goal.invariant-loop-made

@@ -1,7 +1,7 @@
 -- Answers to the goals of `debug_history`.
 use Rattle.std.specs.Prelude.{None}
 use Rattle.std.proofs.Common.{refl}
-use Rattle.qil_script.proofs.OpenedLemmas.{begun_session}
+use Rattle.qil_transcript.proofs.OpenedLemmas.{begun_session}
 use Rattle.qil_transcript.proofs.DebugLemmas.{Written-memory}
 use Rattle.qil_transcript.proofs.debugging.debug_history.Goals as goal
 

@@ -4,8 +4,8 @@ use Rattle.std.specs.Prelude.{min, slice_get, get_or}
 use Rattle.std.proofs.lemmas.Option.{slice_get-get_or}
 use Rattle.json.specs.Token.{Token}
 use Rattle.qil_memory.specs.Live.{live}
-use Rattle.qil_numbering.specs.Numbered.{names_of}
-use Rattle.qil_numbering.specs.Facts.{Finds}
+use Rattle.qil_code.specs.Numbered.{names_of}
+use Rattle.qil_code.specs.Facts.{Finds}
 use Rattle.qil_state.specs.State.{frame_state, FrameFits}
 use Rattle.qrev_views.specs.Variables.{temps_tokens}
 use Rattle.qrev_views.proofs.Pages.{page_more, page_all}

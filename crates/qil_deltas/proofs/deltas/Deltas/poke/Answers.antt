@@ -2,7 +2,7 @@
 use Rattle.std.proofs.Common.{ap, sym, ◌∙◌, [], ◌∷◌, ◌++◌}
 use Rattle.qil_state.specs.State.{state_of}
 use Rattle.qil_deltas.specs.Kept.{Moved}
-use Rattle.qil_pokes.specs.Pokes.{poke_of, poke_cost}
+use Rattle.qil_history.specs.Pokes.{poke_of, poke_cost}
 use Rattle.qil_deltas.proofs.KeptLemmas.{stays_kept, pokes_kept, adds_weight}
 use Rattle.qil_deltas.proofs.deltas.Deltas.poke.Goals as goal
 

@@ -2,7 +2,7 @@
 use Rattle.std.proofs.Common.{ap, sym, ◌∙◌}
 use Rattle.qil_state.specs.State.{state_of}
 use Rattle.qil_deltas.specs.Kept.{Recent}
-use Rattle.qil_pokes.specs.Pokes.{poke_of, poke_cost}
+use Rattle.qil_history.specs.Pokes.{poke_of, poke_cost}
 use Rattle.qil_deltas.proofs.RingLemmas.{pokes_on, stays_recent}
 use Rattle.qil_deltas.proofs.WeightLemmas.{adds_at_most}
 use Rattle.qil_deltas.proofs.ring.Ring.poke.Goals as goal

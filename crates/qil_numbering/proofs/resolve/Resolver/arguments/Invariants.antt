@@ -1,7 +1,7 @@
 -- The arguments so far, with those that are left, are all.
 use Rattle.std.proofs.Common.{◌≡◌, ◌++◌, drop}
 use Rattle.std.specs.Prelude.{map}
-use Rattle.qil_numbering.specs.Numbered.{argument_of}
+use Rattle.qil_code.specs.Numbered.{argument_of}
 use Rattle.qil_numbering.proofs.resolve.Resolver.arguments.Given as goal
 
 abbrev pub invariant-loop-argument : goal.invariant-loop-argument

@@ -1,7 +1,7 @@
 -- The parameters so far, with those that are left, are all.
 use Rattle.std.proofs.Common.{◌≡◌, ◌++◌, drop}
 use Rattle.std.specs.Prelude.{map}
-use Rattle.qil_numbering.specs.Numbered.{param_of}
+use Rattle.qil_code.specs.Numbered.{param_of}
 use Rattle.qil_numbering.proofs.resolve.Resolver.params.Given as goal
 
 abbrev pub invariant-loop-param : goal.invariant-loop-param

@@ -1,7 +1,7 @@
 -- The block of a label, by its number.
 use Rattle.std.proofs.Common.{◌∙◌, ap}
 use Rattle.qil_names.specs.Numbers.{place_of}
-use Rattle.qil_numbering.proofs.Edges.{edge-there, edge-nowhere}
+use Rattle.qil_code.proofs.Edges.{edge-there, edge-nowhere}
 use Rattle.qil_numbering.proofs.shape.Shape.edge.Goals as goal
 
 pub returns-in_ok-moves-in-Some-clause-edge : goal.returns-in_ok-moves-in-Some-clause-edge

@@ -1,7 +1,7 @@
 -- The instructions so far, with those that are left, are all.
 use Rattle.std.proofs.Common.{◌≡◌, ◌++◌, drop}
 use Rattle.std.specs.Prelude.{map}
-use Rattle.qil_numbering.specs.Numbered.{inst_of}
+use Rattle.qil_code.specs.Numbered.{inst_of}
 use Rattle.qil_numbering.proofs.shape.Shape.insts.Given as goal
 
 abbrev pub invariant-loop-inst : goal.invariant-loop-inst

@@ -1,5 +1,5 @@
 -- One block more.
-use Rattle.qil_numbering.specs.Ranges.{BlockIsShort}
+use Rattle.qil_code.specs.Ranges.{BlockIsShort}
 use Rattle.qil_numbering.proofs.Parts.{all_more, mapped_more}
 use Rattle.qil_numbering.proofs.shape.Shape.numbered.Goals as goal
 

@@ -1,8 +1,8 @@
 -- The blocks so far, with those that are left, are all; each so far is short.
 use Rattle.std.proofs.Common.{◌≡◌, ◌++◌, drop}
 use Rattle.std.specs.Prelude.{All, map}
-use Rattle.qil_numbering.specs.Numbered.{block_of}
-use Rattle.qil_numbering.specs.Ranges.{BlockIsShort}
+use Rattle.qil_code.specs.Numbered.{block_of}
+use Rattle.qil_code.specs.Ranges.{BlockIsShort}
 use Rattle.qil_numbering.proofs.shape.Shape.numbered.Given as goal
 
 abbrev pub invariant-loop-block : goal.invariant-loop-block

@@ -1,7 +1,7 @@
 -- Answers to the goals of `reply_command`, where the command changes nothing.
 use Rattle.std.proofs.Common.{ap, ◌∙◌}
-use Rattle.qil_session.specs.SessionState.{resolved_address}
-use Rattle.qil_session.specs.Answers.{memory_reply}
+use Rattle.qil_replies.specs.SessionState.{resolved_address}
+use Rattle.qil_replies.specs.Answers.{memory_reply}
 use Rattle.qil_session.specs.Kept.{Kept, session_state}
 use Rattle.qil_session.proofs.ShownAnswers.{replies_stops, replies_print, replies_temps, replies_mem, replies_where, replies_list, replies_out, replies_quit}
 use Rattle.qil_session.proofs.session.Session.reply_command.Goals as goal

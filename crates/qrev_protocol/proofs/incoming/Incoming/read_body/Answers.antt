@@ -28,3 +28,6 @@ loop-self-smaller g c =
     let longer = ap length moved.0 ∙ length-append body (take n pending) in
     let some = filled.0 in
     omega (arith, longer, length-take n pending)
+
+pub returns-clause-body : goal.returns-clause-body
+returns-clause-body g c = (omega (arith, c.loop-self-test.false, c.len.ensures, c.loop-self.invariant.1), c.loop-self.invariant.2)

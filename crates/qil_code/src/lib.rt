@@ -1,0 +1,14 @@
+//! The numbered form of a program, which a machine is to run: temporaries and blocks are numbers, globals addresses.
+//!
+//! What the code of a function is follows from its tree: `specs/Numbered.antt` has it as a function, and
+//! `specs/Named.antt` reads the parts back through names.
+#![tactic(auto)]
+
+mod code;
+mod numbered;
+
+pub use code::Code;
+pub use numbered::{
+    BlockId, Edge, FuncCode, NumberedArgument, NumberedBlock, NumberedExpr, NumberedFunc,
+    NumberedInst, NumberedJump, NumberedOperand, PhiMove, Receiver, Slot,
+};

@@ -1,0 +1,346 @@
+//! The requests that make stops: breakpoints at lines and at functions, watches.
+
+use crate::asked_file::{AskedFile, AskedSource, file_asked};
+use qil_lines::{Place, line_of, place_in};
+use qil_machine::Machine;
+use qil_pieces::Fragment;
+use qil_tree::{Func, Program};
+use qrev_debuggee::{Body, Debuggee, Failure, RequestedStop, StopFamily};
+use qrev_protocol::{Array, InObject, Whole};
+use qrev_recorder::{Done, HasMachine};
+use qrev_requests::Arguments;
+use qrev_views::{as_text, put_source};
+use std::alloc::{AllocError, Allocator};
+
+/// The list of breakpoints in a body.
+pub type BreakpointList<A> = Array<A, InObject<InObject<Whole>>>;
+
+/// Why a stop isn't made.
+#[derive(Clone, Copy)]
+pub enum Flaw {
+    NoLine,
+    NoPlace,
+    NoSource,
+    NoName,
+    Newline,
+    Condition,
+    HitCondition,
+    LogMessage,
+    AccessType,
+}
+
+/// What the editor is told.
+fn flaw_words(flaw: Flaw) -> &'static str {
+    match flaw {
+        Flaw::NoLine => "no line",
+        Flaw::NoPlace => "no place at or after this line",
+        Flaw::NoSource => "no line of the text is from this line or a later one",
+        Flaw::NoName => "no name",
+        Flaw::Newline => "a newline in a name",
+        Flaw::Condition => "not supported: condition",
+        Flaw::HitCondition => "not supported: hitCondition",
+        Flaw::LogMessage => "not supported: logMessage",
+        Flaw::AccessType => "not supported: accessType",
+    }
+}
+
+/// What a stop asks for that isn't served.
+fn unserved<A: Allocator + Copy>(asked: Arguments<'_, '_, A>) -> Option<Flaw> {
+    if asked.says("condition") {
+        return Some(Flaw::Condition);
+    }
+    if asked.says("hitCondition") {
+        return Some(Flaw::HitCondition);
+    }
+    if asked.says("logMessage") {
+        return Some(Flaw::LogMessage);
+    }
+    match asked.text("accessType") {
+        Some("read" | "readWrite") => Some(Flaw::AccessType),
+        _ => None,
+    }
+}
+
+/// A place in a program: of a function, by its number, and its name.
+#[derive(Drop)]
+struct Spot<'p, 'a, A: Allocator> {
+    func: &'p Func<'a, A>,
+    place: Place,
+}
+
+/// The place that a line of the text means: the first, in the order of the text, whose line isn't before it.
+fn spot_at<'p, 'a, A: Allocator>(
+    program: &'p Program<'a, A>,
+    line: u32,
+) -> Option<Spot<'p, 'a, A>> {
+    for func in program.funcs.as_slice() {
+        if let Some(place) = place_in(func, line) {
+            return Some(Spot { func, place });
+        }
+    }
+    None
+}
+
+/// Adds a stop that wasn't made.
+fn put_flaw<A: Allocator>(
+    list: BreakpointList<A>,
+    message: &str,
+) -> Result<BreakpointList<A>, AllocError> {
+    list.object()?
+        .flag("verified", false)?
+        .text("message", message)?
+        .end_item()
+}
+
+/// Adds a stop that was made, without a line.
+fn put_made<A: Allocator>(
+    list: BreakpointList<A>,
+    number: u64,
+) -> Result<BreakpointList<A>, AllocError> {
+    list.object()?
+        .number("id", number)?
+        .flag("verified", true)?
+        .end_item()
+}
+
+/// How the making of a stop went.
+#[derive(Clone, Copy)]
+enum Made {
+    Number(u64),
+    /// The session refused it, with this answer in the transcript.
+    Answered(usize),
+}
+
+/// Deletes the stops of a family, the lowest number first.
+fn delete_stops<'c, A: Allocator + Copy + 'c, L: HasMachine<A, Machine<'c, 'c, A>>>(
+    debuggee: &mut Debuggee<'_, '_, '_, A, L>,
+    family: StopFamily,
+) -> Result<(), Failure> {
+    for index in 0..debuggee.stops.len() {
+        let stop = match debuggee.stops.as_slice().get(index) {
+            Some(stop) => *stop,
+            None => return Ok(()),
+        };
+        if stop.family == family {
+            delete_stop(debuggee, stop.number)?;
+        }
+    }
+    debuggee.stops.retain(|stop| stop.family != family);
+    Ok(())
+}
+
+/// Deletes a stop, if it is still there.
+fn delete_stop<'c, A: Allocator + Copy + 'c, L: HasMachine<A, Machine<'c, 'c, A>>>(
+    debuggee: &mut Debuggee<'_, '_, '_, A, L>,
+    number: u64,
+) -> Result<(), Failure> {
+    match debuggee.line_of(&[Fragment::Bytes(b"delete "), Fragment::Number(number)]) {
+        Ok(_) | Err(Failure::Answered(_)) => Ok(()),
+        Err(failure) => Err(failure),
+    }
+}
+
+/// Makes a stop by a line.
+fn make_stop<'c, A: Allocator + Copy + 'c, L: HasMachine<A, Machine<'c, 'c, A>>>(
+    debuggee: &mut Debuggee<'_, '_, '_, A, L>,
+    family: StopFamily,
+    line: &[Fragment<'_>],
+) -> Result<Made, Failure> {
+    match debuggee.line_of(line) {
+        Ok(Done::Added(number)) => {
+            match debuggee.stops.push(RequestedStop { family, number }) {
+                Ok(()) => Ok(Made::Number(number)),
+                Err(_) => Err(Failure::OutOfMemory),
+            }
+        }
+        Ok(_) => Ok(Made::Answered(debuggee.answered())),
+        Err(Failure::Answered(from)) => Ok(Made::Answered(from)),
+        Err(failure) => Err(failure),
+    }
+}
+
+/// Adds a stop that the session refused.
+fn put_answered<'c, A: Allocator + Copy + 'c, L: HasMachine<A, Machine<'c, 'c, A>>>(
+    debuggee: &Debuggee<'_, '_, '_, A, L>,
+    list: BreakpointList<A>,
+    from: usize,
+) -> Result<BreakpointList<A>, AllocError> {
+    let answer = as_text(debuggee.alloc, debuggee.answers_from(from))?;
+    put_flaw(list, answer.as_str())
+}
+
+/// Makes a breakpoint at a place, which is shown on a line of a file.
+fn break_at<'c, A: Allocator + Copy + 'c, L: HasMachine<A, Machine<'c, 'c, A>>>(
+    debuggee: &mut Debuggee<'_, '_, '_, A, L>,
+    list: BreakpointList<A>,
+    family: StopFamily,
+    spot: Spot<'_, '_, A>,
+    path: &str,
+    line: u32,
+) -> Result<BreakpointList<A>, Failure> {
+    let Some(block) = spot.func.blocks.as_slice().get(spot.place.block) else {
+        return Ok(put_flaw(list, flaw_words(Flaw::NoPlace))?);
+    };
+    let made = make_stop(
+        debuggee,
+        family,
+        &[
+            Fragment::Bytes(b"break $"),
+            Fragment::Bytes(spot.func.name.bytes()),
+            Fragment::Bytes(b" @"),
+            Fragment::Bytes(block.label.bytes()),
+            Fragment::Bytes(b" "),
+            Fragment::Number(spot.place.index as u64),
+        ],
+    )?;
+    match made {
+        Made::Answered(from) => Ok(put_answered(debuggee, list, from)?),
+        Made::Number(number) => {
+            let item = list
+                .object()?
+                .number("id", number)?
+                .flag("verified", true)?
+                .number("line", debuggee.shown.numbering.line(line))?;
+            Ok(put_source(item, path)?.end_item()?)
+        }
+    }
+}
+
+/// Makes a breakpoint at the place that a line of the text means.
+fn break_in_text<'c, A: Allocator + Copy + 'c, L: HasMachine<A, Machine<'c, 'c, A>>>(
+    debuggee: &mut Debuggee<'_, '_, '_, A, L>,
+    list: BreakpointList<A>,
+    line: u64,
+) -> Result<BreakpointList<A>, Failure> {
+    let Some(spot) = spot_at(debuggee.program, debuggee.shown.numbering.text_line(line)) else {
+        return Ok(put_flaw(list, flaw_words(Flaw::NoPlace))?);
+    };
+    let line = line_of(spot.func, spot.place).unwrap_or(spot.func.line);
+    let path = debuggee.shown.path;
+    break_at(debuggee, list, StopFamily::Text, spot, path, line)
+}
+
+/// Makes a breakpoint at the place that a line of a source means: that of the first line of the text which came from it, or
+/// from the least line after it of which there is one.
+fn break_in_source<'c, A: Allocator + Copy + 'c, L: HasMachine<A, Machine<'c, 'c, A>>>(
+    debuggee: &mut Debuggee<'_, '_, '_, A, L>,
+    list: BreakpointList<A>,
+    source: &AskedSource<A>,
+    line: u64,
+) -> Result<BreakpointList<A>, Failure> {
+    let mapping = match debuggee.shown.numbering.file_line(line) {
+        Some(line) => source.file.first_from(line),
+        None => None,
+    };
+    let Some(mapping) = mapping else {
+        return Ok(put_flaw(list, flaw_words(Flaw::NoSource))?);
+    };
+    let Some(spot) = spot_at(debuggee.program, mapping.text_line) else {
+        return Ok(put_flaw(list, flaw_words(Flaw::NoPlace))?);
+    };
+    let family = StopFamily::Source(source.first_line);
+    break_at(
+        debuggee,
+        list,
+        family,
+        spot,
+        source.path.as_str(),
+        mapping.line,
+    )
+}
+
+/// Makes one breakpoint at a line of a file.
+fn set_line<'c, A: Allocator + Copy + 'c, L: HasMachine<A, Machine<'c, 'c, A>>>(
+    debuggee: &mut Debuggee<'_, '_, '_, A, L>,
+    list: BreakpointList<A>,
+    file: &AskedFile<A>,
+    asked: Arguments<'_, '_, A>,
+) -> Result<BreakpointList<A>, Failure> {
+    if let Some(flaw) = unserved(asked) {
+        return Ok(put_flaw(list, flaw_words(flaw))?);
+    }
+    let Some(line) = asked.number("line") else {
+        return Ok(put_flaw(list, flaw_words(Flaw::NoLine))?);
+    };
+    match file {
+        AskedFile::Text => break_in_text(debuggee, list, line),
+        AskedFile::Source(source) => break_in_source(debuggee, list, source, line),
+    }
+}
+
+/// Makes breakpoints at lines of a file in place of those that are there.
+pub fn set_breakpoints<'c, A: Allocator + Copy + 'c, L: HasMachine<A, Machine<'c, 'c, A>>>(
+    debuggee: &mut Debuggee<'_, '_, '_, A, L>,
+    asked: Arguments<'_, '_, A>,
+    body: Body<A>,
+) -> Result<Body<A>, Failure> {
+    let file = file_asked(debuggee, asked.inside("source"))?;
+    let family = match &file {
+        AskedFile::Text => StopFamily::Text,
+        AskedFile::Source(source) => StopFamily::Source(source.first_line),
+    };
+    delete_stops(debuggee, family)?;
+    let mut list = body.array("breakpoints")?;
+    for index in 0..usize::MAX {
+        let Some(item) = asked.item("breakpoints", index) else {
+            break;
+        };
+        list = set_line(debuggee, list, &file, item)?;
+    }
+    Ok(list.end()?)
+}
+
+/// Makes one stop by the words that a request says.
+fn set_words<'c, A: Allocator + Copy + 'c, L: HasMachine<A, Machine<'c, 'c, A>>>(
+    debuggee: &mut Debuggee<'_, '_, '_, A, L>,
+    list: BreakpointList<A>,
+    family: StopFamily,
+    words: Option<&str>,
+    asked: Arguments<'_, '_, A>,
+) -> Result<BreakpointList<A>, Failure> {
+    if let Some(flaw) = unserved(asked) {
+        return Ok(put_flaw(list, flaw_words(flaw))?);
+    }
+    let Some(words) = words else {
+        return Ok(put_flaw(list, flaw_words(Flaw::NoName))?);
+    };
+    let words = words.as_bytes();
+    if words.contains(&b'\n') {
+        return Ok(put_flaw(list, flaw_words(Flaw::Newline))?);
+    }
+    let verb: &[u8] = match family {
+        StopFamily::Data => b"watch ",
+        _ if words.first() == Some(&b'$') => b"break ",
+        _ => b"break $",
+    };
+    match make_stop(
+        debuggee,
+        family,
+        &[Fragment::Bytes(verb), Fragment::Bytes(words)],
+    )? {
+        Made::Number(number) => Ok(put_made(list, number)?),
+        Made::Answered(from) => Ok(put_answered(debuggee, list, from)?),
+    }
+}
+
+/// Makes the stops of a family that words say, in place of those that are there.
+pub fn set_by_words<'c, A: Allocator + Copy + 'c, L: HasMachine<A, Machine<'c, 'c, A>>>(
+    debuggee: &mut Debuggee<'_, '_, '_, A, L>,
+    asked: Arguments<'_, '_, A>,
+    family: StopFamily,
+    body: Body<A>,
+) -> Result<Body<A>, Failure> {
+    delete_stops(debuggee, family)?;
+    let mut list = body.array("breakpoints")?;
+    for index in 0..usize::MAX {
+        let Some(item) = asked.item("breakpoints", index) else {
+            break;
+        };
+        let words = match family {
+            StopFamily::Data => item.text("dataId"),
+            _ => item.text("name"),
+        };
+        list = set_words(debuggee, list, family, words, item)?;
+    }
+    Ok(list.end()?)
+}

@@ -1,0 +1,6 @@
+//! What an editor is offered while a command is typed.
+#![tactic(auto)]
+
+mod completing;
+
+pub use completing::completions;

@@ -1,0 +1,131 @@
+//! What an editor drives: a session that is recorded, and what the editor was told of it.
+
+use crate::failure::{Cause, Failure};
+use qil_depths::DepthEnd;
+use qil_machine::Machine;
+use qil_meaning::Reason;
+use qil_pieces::{Fragment, put_fragments};
+use qil_streams::Buffer;
+use qil_tree::Program;
+use qrev_recorder::{Debugged, Done, HasMachine, LineError, Recorder};
+use qrev_views::{Shown, SourceMap};
+use std::alloc::Allocator;
+
+/// The kinds of stops that an editor replaces by one request each.
+#[derive(Clone, Copy, PartialEq, Eq)]
+pub enum StopFamily {
+    /// At lines of the text.
+    Text,
+    /// At lines of a source, which is known by the first line of the text that came from it.
+    Source(u32),
+    Function,
+    Data,
+}
+
+/// A stop that a request made.
+#[derive(Clone, Copy)]
+pub struct RequestedStop {
+    pub family: StopFamily,
+    pub number: u64,
+}
+
+/// A session that an editor drives.
+#[derive(Drop)]
+pub struct Debuggee<'p, 'a, 'l, A: Allocator, L: Debugged<A>> {
+    pub alloc: A,
+    pub recorder: Recorder<'l, A, L>,
+    pub program: &'p Program<'a, A>,
+    pub shown: Shown<'l>,
+    /// Where the text came from, if a map tells it.
+    pub source_map: Option<SourceMap<A>>,
+    /// The output that the editor was told.
+    pub output: Vec<u8, A>,
+    /// The stops that requests made and didn't take away, the lowest number first.
+    pub stops: Vec<RequestedStop, A>,
+}
+
+impl From<LineError> for Failure {
+    fn from(error: LineError) -> Self {
+        match error {
+            LineError::Newline => Failure::Because(Cause::NewlineInValue),
+            LineError::Quit => Failure::Because(Cause::QuitInConsole),
+            LineError::Full => Failure::Because(Cause::ScriptFull),
+            LineError::OutOfMemory => Failure::OutOfMemory,
+        }
+    }
+}
+
+impl<'c, 'p, 'a, 'l, A: Allocator + Copy + 'c, L: HasMachine<A, Machine<'c, 'c, A>>> Debuggee<
+    'p,
+    'a,
+    'l,
+    A,
+    L,
+> {
+    pub fn machine(&self) -> &Machine<'c, 'c, A> {
+        self.recorder.live().machine()
+    }
+
+    /// How many calls are open.
+    pub fn depth(&self) -> usize {
+        self.machine().frames().len()
+    }
+
+    pub fn position(&self) -> u64 {
+        self.recorder.live().position()
+    }
+
+    /// The position of the oldest state that is kept.
+    pub fn oldest(&self) -> u64 {
+        self.recorder.live().oldest()
+    }
+
+    /// How many bytes the transcript has.
+    pub fn answered(&self) -> usize {
+        self.recorder.transcript().len()
+    }
+
+    /// The answers from an offset in the transcript on, without the last newline.
+    pub fn answers_from(&self, from: usize) -> &[u8] {
+        let transcript = self.recorder.transcript();
+        let (_, answers) = transcript.split_at(from.min(transcript.len()));
+        match answers.split_last() {
+            Some((b'\n', text)) => text,
+            _ => answers,
+        }
+    }
+
+    /// Answers a line.
+    pub fn line(&mut self, line: &[u8]) -> Result<Done, Failure> {
+        Ok(self.recorder.line(line)?)
+    }
+
+    /// Answers a line of fragments. One that is refused is a failure, and so is one for whose move there is no memory.
+    pub fn line_of(&mut self, fragments: &[Fragment<'_>]) -> Result<Done, Failure> {
+        let mut line = Buffer::new(self.alloc);
+        if put_fragments(&mut line, fragments).is_err() {
+            return Err(Failure::OutOfMemory);
+        }
+        let from = self.answered();
+        match self.line(line.bytes())? {
+            Done::Refused(_) => Err(Failure::Answered(from)),
+            Done::Stopped(Reason::Memory) => Err(Failure::Because(Cause::NoMemory)),
+            done => Ok(done),
+        }
+    }
+
+    /// Runs forward until no more calls are open than a number says, or to a stop.
+    pub fn run_to_depth(&mut self, most: usize) -> Result<DepthEnd, Failure> {
+        Ok(self.recorder.run_to_depth(most)?)
+    }
+
+    /// The same backward.
+    pub fn run_back_to_depth(&mut self, most: usize) -> Result<DepthEnd, Failure> {
+        Ok(self.recorder.run_back_to_depth(most)?)
+    }
+
+    /// As `run_back_to_depth`, and no stop ends it.
+    pub fn run_back_past_stops(&mut self, most: usize) -> Result<DepthEnd, Failure> {
+        Ok(self.recorder.run_back_past_stops(most)?)
+    }
+}

@@ -1,0 +1,14 @@
+//! What an editor drives: a session that is recorded, what the editor was told of it, and why a request isn't done.
+//!
+//! It is generic in the session, so that it stands next to those and not above them.
+#![tactic(auto)]
+
+mod body;
+mod debuggee;
+mod failure;
+mod motion;
+
+pub use body::Body;
+pub use debuggee::{Debuggee, RequestedStop, StopFamily};
+pub use failure::{Cause, Failure, Trouble};
+pub use motion::{Motion, Why, make_move};

@@ -1,0 +1,88 @@
+//! The moves that an editor asks for, and why the run stands after one.
+
+use crate::debuggee::Debuggee;
+use crate::failure::Failure;
+use qil_depths::DepthEnd;
+use qil_machine::Machine;
+use qil_meaning::Reason;
+use qil_replies::CommandRefusal;
+use qrev_recorder::{Done, HasMachine};
+use std::alloc::Allocator;
+
+/// A move that an editor asks for.
+#[derive(Clone, Copy, Debug, PartialEq, Eq)]
+pub enum Motion {
+    Step,
+    Back,
+    Continue,
+    Reverse,
+    /// Forward, until no more calls are open than this.
+    ToDepth(usize),
+    /// Back, until no more calls are open than this.
+    BackToDepth(usize),
+    /// Back to the beginning of the call before which so many were open.
+    ToBeginning(usize),
+}
+
+/// Why an editor is told that the run stands.
+#[derive(Clone, Copy, Debug, PartialEq, Eq)]
+pub enum Why {
+    Entry,
+    Step,
+    Run(Reason),
+}
+
+/// Why the run stands after a line.
+fn why_after(done: Done) -> Why {
+    match done {
+        Done::Stopped(reason) => Why::Run(reason),
+        Done::Refused(CommandRefusal::AtStart) => Why::Run(Reason::Start),
+        Done::Refused(CommandRefusal::HistoryEnds) => Why::Run(Reason::Oldest),
+        Done::Refused(CommandRefusal::AtEnd) => Why::Run(Reason::End),
+        _ => Why::Step,
+    }
+}
+
+/// Why the run stands after a run over calls.
+fn why_at(end: DepthEnd) -> Why {
+    match end {
+        DepthEnd::Depth => Why::Step,
+        DepthEnd::Stopped(reason) => Why::Run(reason),
+    }
+}
+
+/// Goes back to before a call, and makes the call again. Where the history doesn't go back so far it stays at its oldest state.
+fn go_to_beginning<'c, A: Allocator + Copy + 'c, L: HasMachine<A, Machine<'c, 'c, A>>>(
+    debuggee: &mut Debuggee<'_, '_, '_, A, L>,
+    depth: usize,
+) -> Result<Why, Failure> {
+    let mut end = debuggee.run_back_past_stops(depth)?;
+    for _ in 0..u64::MAX {
+        // One line makes no more moves than the limit, and the call may be further back.
+        if end != DepthEnd::Stopped(Reason::Limit) {
+            break;
+        }
+        end = debuggee.run_back_past_stops(depth)?;
+    }
+    if debuggee.depth() != depth {
+        return Ok(why_at(end));
+    }
+    let done = debuggee.line(b"step")?;
+    Ok(why_after(done))
+}
+
+/// Makes a move, and says why the run stands after it.
+pub fn make_move<'c, A: Allocator + Copy + 'c, L: HasMachine<A, Machine<'c, 'c, A>>>(
+    debuggee: &mut Debuggee<'_, '_, '_, A, L>,
+    motion: Motion,
+) -> Result<Why, Failure> {
+    match motion {
+        Motion::Step => Ok(why_after(debuggee.line(b"step")?)),
+        Motion::Back => Ok(why_after(debuggee.line(b"back")?)),
+        Motion::Continue => Ok(why_after(debuggee.line(b"continue")?)),
+        Motion::Reverse => Ok(why_after(debuggee.line(b"reverse")?)),
+        Motion::ToDepth(most) => Ok(why_at(debuggee.run_to_depth(most)?)),
+        Motion::BackToDepth(most) => Ok(why_at(debuggee.run_back_to_depth(most)?)),
+        Motion::ToBeginning(depth) => go_to_beginning(debuggee, depth),
+    }
+}

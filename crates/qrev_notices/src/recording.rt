@@ -1,0 +1,134 @@
+//! The record of a session: the script of what was done in it, and its transcript.
+
+ghost use Rattle.qil_streams.specs.Script.{lines_of};
+ghost use Rattle.qil_script.specs.Transcript.{IsSession};
+ghost use Rattle.qrev_recorder.specs.Record.{setup_of};
+
+use crate::stopped::{output_event, send};
+use qil_machine::Machine;
+use qil_streams::Sink;
+use qrev_debuggee::{Debuggee, Trouble};
+use qrev_protocol::Port;
+use qrev_recorder::{HasMachine, Opening, Record};
+use qrev_requests::Launch;
+use qrev_views::number_text;
+use std::alloc::{AllocError, Allocator};
+
+/// The files that an adapter reads and writes.
+pub trait Files<A: Allocator> {
+    /// The bytes of a file, up to one more than a program may have.
+    fn read(&self, name: &str) -> Option<Vec<u8, A>>;
+
+    /// The bytes of a file, up to one more than a map of places may have, or none if it can't be read.
+    fn read_map(&self, name: &str) -> Result<Option<Vec<u8, A>>, AllocError>;
+
+    /// Makes a file of a script, and one of its transcript, and says whether it could. Nothing else can be written: for what the
+    /// session was opened with, the script has this transcript.
+    fn write(
+        &self,
+        script_name: &str,
+        transcript_name: &str,
+        opening: Opening<'_>,
+        kept: Record<'_>,
+    ) -> bool
+        requires { ∥ IsSession A (setup_of opening) (lines_of kept.script.now) kept.transcript.now ∥₁ };
+}
+
+/// Adds a number after a word.
+fn add_number<A: Allocator + Copy>(
+    alloc: A,
+    text: &mut String<A>,
+    word: &str,
+    number: u64,
+) -> Result<(), AllocError> {
+    let number = number_text(alloc, number)?;
+    text.push_str(word)?;
+    text.push_str(number.as_str())
+}
+
+/// The command line that plays a record, up to the record.
+fn command_text<A: Allocator + Copy>(
+    alloc: A,
+    launch: &Launch<A>,
+) -> Result<String<A>, AllocError> {
+    let mut text = String::from_str(alloc, "replay: qrev ")?;
+    text.push_str(launch.program.as_str())?;
+    for argument in launch.args.as_slice() {
+        add_number(alloc, &mut text, " ", *argument)?;
+    }
+    text.push_str(" --entry ")?;
+    text.push_str(launch.entry.as_str())?;
+    add_number(alloc, &mut text, " --limit ", launch.limit)?;
+    if let Some(bound) = launch.bound {
+        add_number(alloc, &mut text, " --history ", bound)?;
+    }
+    Ok(text)
+}
+
+/// What the editor is told of a record that was written.
+fn replay_text<A: Allocator + Copy>(
+    alloc: A,
+    launch: &Launch<A>,
+    record: &str,
+) -> Result<String<A>, AllocError> {
+    let mut text = command_text(alloc, launch)?;
+    text.push_str(" < ")?;
+    text.push_str(record)?;
+    text.push_str("\n")?;
+    Ok(text)
+}
+
+/// What it is told of one that couldn't be written.
+fn unwritten_text<A: Allocator + Copy>(alloc: A, record: &str) -> Result<String<A>, AllocError> {
+    let mut text = String::from_str(alloc, "record: cannot write ")?;
+    text.push_str(record)?;
+    text.push_str("\n")?;
+    Ok(text)
+}
+
+/// The name of the file next to a record that takes the transcript.
+fn transcript_name<A: Allocator + Copy>(alloc: A, record: &str) -> Result<String<A>, AllocError> {
+    let mut name = String::from_str(alloc, record)?;
+    name.push_str(".transcript")?;
+    Ok(name)
+}
+
+/// Writes the record of a session, if one was asked for, and tells the editor how it is played, if anything may be told.
+pub fn write_record<
+    'c,
+    A: Allocator + Copy + 'c,
+    L: HasMachine<A, Machine<'c, 'c, A>>,
+    F: Files<A>,
+    W: Sink,
+>(
+    debuggee: &Debuggee<'_, '_, '_, A, L>,
+    launch: &Launch<A>,
+    files: &F,
+    port: &mut Port<A, W>,
+    is_told: bool,
+) -> Result<(), Trouble> {
+    let Some(record) = &launch.record else {
+        return Ok(());
+    };
+    let record = record.as_str();
+    let alloc = debuggee.alloc;
+    let transcript = transcript_name(alloc, record)?;
+    let is_written = match debuggee.recorder.record() {
+        Some(kept) => files.write(
+            record,
+            transcript.as_str(),
+            debuggee.recorder.opening(),
+            kept,
+        ),
+        None => false,
+    };
+    if !is_told {
+        return Ok(());
+    }
+    let text = if is_written {
+        replay_text(alloc, launch, record)?
+    } else {
+        unwritten_text(alloc, record)?
+    };
+    send(port, output_event(alloc, "console", text.as_str())?)
+}

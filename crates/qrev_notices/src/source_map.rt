@@ -1,0 +1,115 @@
+//! The map of places of a launch: it is read before the text, and refused as a whole.
+
+use crate::line::{Closed, Ended, Line};
+use crate::recording::Files;
+use qil_streams::{Sink, Source};
+use qrev_debuggee::Trouble;
+use qrev_map::{Map, MapError};
+use qrev_protocol::{Request, Turn};
+use qrev_requests::Launch;
+use qrev_views::{SourceMap, number_text};
+use std::alloc::{AllocError, Allocator};
+
+/// Why a launch has no map of places, though one was asked for or is there.
+#[derive(Clone, Copy)]
+pub enum MapFault {
+    /// The file that was asked for can't be read.
+    Unread,
+    Refused(MapError),
+}
+
+/// The path of the map: that of the launch, else the text's with `.map` behind it.
+fn map_path<A: Allocator + Copy>(alloc: A, launch: &Launch<A>) -> Result<String<A>, AllocError> {
+    match &launch.map {
+        Some(path) => String::from_str(alloc, path.as_str()),
+        None => {
+            let mut path = String::from_str(alloc, launch.program.as_str())?;
+            path.push_str(".map")?;
+            Ok(path)
+        }
+    }
+}
+
+/// The sources that a map tells of.
+fn sources_in<A: Allocator + Copy>(
+    alloc: A,
+    path: String<A>,
+    text: Vec<u8, A>,
+) -> Result<Option<SourceMap<A>>, MapFault> {
+    match Map::parse(alloc, text) {
+        Ok(map) => Ok(Some(SourceMap { map, path })),
+        Err(error) => Err(MapFault::Refused(error)),
+    }
+}
+
+/// Reads the map of a launch, if there is one.
+pub fn read_sources<A: Allocator + Copy, F: Files<A>>(
+    alloc: A,
+    launch: &Launch<A>,
+    files: &F,
+) -> Result<Option<SourceMap<A>>, MapFault> {
+    let Ok(path) = map_path(alloc, launch) else {
+        return Err(MapFault::Refused(MapError::OutOfMemory));
+    };
+    if path.as_str().is_empty() {
+        return Ok(None);
+    }
+    match files.read_map(path.as_str()) {
+        Ok(Some(text)) => sources_in(alloc, path, text),
+        Ok(None) => {
+            if launch.map.is_some() {
+                Err(MapFault::Unread)
+            } else {
+                Ok(None)
+            }
+        }
+        Err(_) => Err(MapFault::Refused(MapError::OutOfMemory)),
+    }
+}
+
+/// Why a map isn't taken, in words.
+fn fault_words<A: Allocator + Copy>(
+    alloc: A,
+    launch: &Launch<A>,
+    fault: MapFault,
+) -> Result<String<A>, AllocError> {
+    match fault {
+        MapFault::Unread => {
+            let mut words = String::from_str(alloc, "cannot read ")?;
+            if let Some(path) = &launch.map {
+                words.push_str(path.as_str())?;
+            }
+            Ok(words)
+        }
+        MapFault::Refused(MapError::TooLong) => {
+            String::from_str(alloc, "map: more than 16777216 bytes")
+        }
+        MapFault::Refused(MapError::Malformed(before)) => {
+            let mut words = String::from_str(alloc, "map: no path and line in line ")?;
+            let line = number_text(alloc, (before as u64).saturating_add(1))?;
+            words.push_str(line.as_str())?;
+            Ok(words)
+        }
+        MapFault::Refused(MapError::OutOfMemory) => Err(AllocError),
+    }
+}
+
+/// Responds that a map isn't taken.
+pub fn refuse_map<A: Allocator + Copy, S: Source, W: Sink>(
+    fault: MapFault,
+    launch: &Launch<A>,
+    request: Request<'_>,
+    line: &mut Line<A, S, W>,
+) -> Result<Closed<A>, Ended> {
+    let alloc = line.alloc;
+    match fault_words(alloc, launch, fault) {
+        Ok(words) => match Turn::new(&mut line.port, request).refuse(alloc, words.as_str()) {
+            Ok(_) => Ok(Closed::Terminated),
+            Err(error) => Err(Ended::from(Trouble::from(error))),
+        },
+        Err(_) => {
+            request.end();
+            Err(Ended::OutOfMemory)
+        }
+    }
+}

@@ -1,0 +1,6 @@
+-- Where the byte of a newline isn't found.
+use Rattle.qrev_recorder.proofs.Lines.{line_without}
+use Rattle.qrev_recorder.proofs.keeping.is_line.Goals as goal
+
+pub returns : goal.returns
+returns c t = line_without c.args.bytes.now c.contains.result c.contains.ensures.value t

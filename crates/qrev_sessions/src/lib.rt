@@ -1,0 +1,10 @@
+//! The sessions that a recorder drives: over a history that keeps every move, and over one that keeps the newest.
+//!
+//! Each is a type of its own, since the types of a recorder can't name the bound of its history, which names a lifetime.
+#![tactic(auto)]
+
+mod bounded;
+mod whole;
+
+pub use bounded::BoundedSession;
+pub use whole::WholeSession;
