@@ -10,6 +10,10 @@ their words as it can be and keeps a list of whole states, so it is slow.
     machine.py   states and steps
     session.py   commands, stops and answers
 
+Where two compilations part, written from docs/COMPARE.md alone:
+
+    compare.py   the events of two runs, and the first that differs
+
 And the debug adapter, written from docs/ADAPTER.md alone:
 
     messages.py   messages in their frames

@@ -1,0 +1,9 @@
+-- The lemmas of this crate.
+pub mod Due
+pub mod Places
+pub mod Happening
+pub mod Calling
+pub mod Walking
+pub mod Sameness
+pub mod Fronts
+pub mod Longest

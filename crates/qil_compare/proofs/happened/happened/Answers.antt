@@ -1,0 +1,13 @@
+-- Which event it was, by what is tested of the two states.
+use Rattle.std.proofs.Common.{◌∙◌, sym, refl, true}
+use Rattle.qil_state.specs.State.{state_of}
+use Rattle.qil_compare.proofs.Happening.{by_tests, told_as}
+use Rattle.qil_compare.proofs.happened.happened.Goals as goal
+
+pub returns-then-is_over : goal.returns-then-is_over
+returns-then-is_over g c = λ s due ed eo of ahead.
+    let p = c.args.machine.now.program in
+    let t = state_of c.args.machine.now in
+    told_as p c.args.side.now.kinds t c.ended.result _ _
+    (by_tests p c.args.side.now.other.now c.args.side.now.kinds due s t true _ _ _ (record { over_is = sym c.is_over.ensures ∙ c.if-is_over.true; called_is = refl; returned_is = refl; put_is = refl }))
+    (c.ended.ensures due of)

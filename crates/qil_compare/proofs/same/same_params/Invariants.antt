@@ -1,0 +1,8 @@
+-- The values so far are the same.
+use Rattle.qil_state.specs.State.{state_of}
+use Rattle.qil_compare.specs.Events.{call_params}
+use Rattle.qil_compare.proofs.Sameness.{AreAlike}
+use Rattle.qil_compare.proofs.same.same_params.Given as goal
+
+abbrev pub invariant-loop-i : goal.invariant-loop-i
+invariant-loop-i g l = AreAlike (call_params l.left.machine.now.program (state_of l.left.machine.now).frames) (call_params l.right.machine.now.program (state_of l.right.machine.now).frames) l.i

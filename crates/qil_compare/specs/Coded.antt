@@ -1,0 +1,36 @@
+-- What values and places in code are.
+use Rattle.std.specs.Prelude.{◌≡◌, ℕ, List, Option, Some, None, unwrap_or, slice_get}
+use Rattle.qil_code.specs.declared.numbered.Slot.{Slot}
+use Rattle.qil_compare.specs.declared.happened.Side.{Side}
+use Rattle.qil_compare.specs.declared.same.Stand.{Stand}
+use Rattle.qil_compare.specs.declared.seen.DataPlace.{DataPlace}
+use Rattle.qil_compare.specs.declared.seen.Seen.{Seen}
+use Rattle.qil_compare.specs.declared.seen.Seen.TheVariants as seens
+use Rattle.qil_compare.specs.Seen.{Offset, Value, number, stack, in_data, function}
+
+abbrev pub offset_of : DataPlace → Offset
+offset_of place = record { object = place.object.now; bytes = place.bytes }
+
+abbrev pub value_of : Seen → Value
+value_of (seens.Number n) = number n
+value_of seens.Stack = stack
+value_of (seens.Data place) = in_data (offset_of place)
+value_of (seens.Function name) = function name.now
+
+-- the tree is that of the program that the machine runs
+abbrev pub StandsIn : {A : Type 0} → Stand A → Type 0
+StandsIn stand = stand.side.now.program.now ≡ stand.machine.now.program
+
+-- two sides are compared in the same kinds of events, each with the program of the other
+pub record AreSides {A : Type 0} (good bad : Side A) : Type 0 where
+  pub kinds : good.kinds ≡ bad.kinds
+  pub good_other : good.other.now ≡ bad.program.now
+  pub bad_other : bad.other.now ≡ good.program.now
+
+-- what a slot holds, or 0
+abbrev pub value_or_zero : Option (Option ℕ) → ℕ
+value_or_zero None = 0
+value_or_zero (Some held) = unwrap_or held 0
+
+abbrev pub held_or_zero : List (Option ℕ) → Slot → ℕ
+held_or_zero slots slot = value_or_zero (slice_get slots slot.index)

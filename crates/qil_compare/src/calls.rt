@@ -1,0 +1,67 @@
+//! The call that the innermost frame is of: its name, and the values of its parameters. Nothing here takes memory.
+
+ghost use Rattle.std.specs.Prelude.{◌≡◌, ◌<◌, length, slice_get, Some};
+ghost use Rattle.qil_state.specs.State.{state_of};
+ghost use Rattle.qil_compare.specs.Coded.{held_or_zero, value_of};
+ghost use Rattle.qil_compare.specs.Events.{call_name, call_params};
+
+use crate::ahead::innermost;
+use crate::seen::{Seen, func_name, value_seen};
+use qil_code::Slot;
+use qil_frames::Frame;
+use qil_machine::Machine;
+use qil_tree::Program;
+use std::alloc::Allocator;
+
+/// The name of the function that was called, without its sigil.
+pub fn call_name<'c, A: Allocator + Copy>(machine: &Machine<'c, 'c, A>) -> &'c [u8]
+    ensures { result.now ≡ call_name (state_of machine.now).frames }
+{
+    match innermost(machine) {
+        Some(frame) => func_name(machine.code().image(), frame.func()),
+        None => b"",
+    }
+}
+
+/// How many parameters it has.
+pub fn param_count<A: Allocator + Copy>(machine: &Machine<'_, '_, A>) -> usize
+    ensures { result ≡ length (call_params machine.now.program (state_of machine.now).frames) }
+{
+    let code = machine.code();
+    code.names_are_distinct();
+    match innermost(machine) {
+        Some(frame) => code.params(frame.func()).len(),
+        None => 0,
+    }
+}
+
+/// What a slot of a frame holds, or 0.
+fn held_or_zero<A: Allocator + Copy>(frame: &Frame<A>, slot: Slot) -> u64
+    ensures { result ≡ held_or_zero frame.now.slots slot }
+{
+    match frame.slots().get(usize::from(slot.index)) {
+        Some(held) => held.unwrap_or(0),
+        None => 0,
+    }
+}
+
+/// What one of its parameters is, counted from 0.
+pub fn param_seen<'c, A: Allocator + Copy>(
+    program: &'c Program<'c, A>,
+    machine: &Machine<'c, 'c, A>,
+    index: usize,
+) -> Seen<'c>
+    requires program { program.now ≡ machine.now.program }
+    requires range { index < length (call_params machine.now.program (state_of machine.now).frames) }
+    ensures { Some (value_of result) ≡ slice_get (call_params machine.now.program (state_of machine.now).frames) index }
+{
+    let code = machine.code();
+    code.names_are_distinct();
+    let Some(frame) = innermost(machine) else {
+        return Seen::Number(0);
+    };
+    match code.params(frame.func()).get(index) {
+        Some(param) => value_seen(program, code.image(), param.1, held_or_zero(frame, param.0)),
+        None => Seen::Number(0),
+    }
+}

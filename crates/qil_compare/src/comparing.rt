@@ -1,0 +1,202 @@
+//! Two runs, event by event, to the first in which they differ.
+
+ghost use Rattle.std.specs.Prelude.{◌≡◌, ◌↔◌, ◌<◌, ◌≤◌, ◌^◌, IsTrue, false};
+ghost use Rattle.qil_meaning.specs.Timeline.{position};
+ghost use Rattle.qil_state.specs.State.{state_of};
+ghost use Rattle.qil_compare.specs.declared.event.Found.TheVariants as founds;
+ghost use Rattle.qil_compare.specs.Coded.{AreSides, StandsIn};
+ghost use Rattle.qil_compare.specs.Answer.{Agrees, Judges, IsAnswered};
+
+use crate::event::Found;
+use crate::happened::Side;
+use crate::running::{next_event, written};
+use crate::same::{Stand, same_event};
+use qil_history::History;
+use qil_machine::Machine;
+use std::alloc::Allocator;
+
+/// The most moves of a side after which a further event is looked for.
+const MOST_MOVES: u64 = 1_000_000_000_000_000_000;
+
+/// What came of a comparison.
+#[derive(Clone, Copy, PartialEq, Eq)]
+pub enum Verdict {
+    /// Both runs are over, and had the same events.
+    Same,
+    /// The next events differ.
+    Part,
+    /// One side made as many moves as may be without an event.
+    Limit,
+    /// One side has no memory for its next move.
+    OutOfMemory,
+}
+
+/// How many events are the same from the start on, what came of that, and what comes next on each side.
+#[derive(Clone, Copy)]
+pub struct Answer {
+    pub events: u64,
+    pub verdict: Verdict,
+    pub good: Found,
+    pub bad: Found,
+}
+
+/// Whether a run came to its limit.
+fn is_limit(found: Found) -> bool
+    ensures { IsTrue result ↔ (found ≡ founds.Limit) }
+{
+    match found {
+        Found::Limit => true,
+        Found::Event(_) | Found::Over | Found::OutOfMemory => false,
+    }
+}
+
+/// Whether there is no memory for a run.
+fn is_out_of_memory(found: Found) -> bool
+    ensures { IsTrue result ↔ (found ≡ founds.OutOfMemory) }
+{
+    match found {
+        Found::OutOfMemory => true,
+        Found::Event(_) | Found::Over | Found::Limit => false,
+    }
+}
+
+/// Whether two runs agree in what comes next: in an event, or in that there is none.
+fn agree<'c, A: Allocator + Copy>(
+    left: &Stand<'_, 'c, A>,
+    right: &Stand<'_, 'c, A>,
+    one: Found,
+    other: Found,
+) -> bool
+    requires good { StandsIn left.now }
+    requires bad { StandsIn right.now }
+    ensures { IsTrue result ↔ Agrees left.now.machine.now.program right.now.machine.now.program (state_of left.now.machine.now) (state_of right.now.machine.now) one other }
+{
+    match one {
+        Found::Event(event) => match other {
+            Found::Event(second) => same_event(left, right, event, second),
+            Found::Over | Found::Limit | Found::OutOfMemory => false,
+        },
+        Found::Over => match other {
+            Found::Over => true,
+            Found::Event(_) | Found::Limit | Found::OutOfMemory => false,
+        },
+        Found::Limit | Found::OutOfMemory => false,
+    }
+}
+
+/// What comes of two runs that found these, or nothing where they found the same event.
+fn judge<'c, A: Allocator + Copy>(
+    left: &Stand<'_, 'c, A>,
+    right: &Stand<'_, 'c, A>,
+    one: Found,
+    other: Found,
+) -> Option<Verdict>
+    requires good { StandsIn left.now }
+    requires bad { StandsIn right.now }
+    ensures { Judges left.now.machine.now.program right.now.machine.now.program (state_of left.now.machine.now) (state_of right.now.machine.now) one other result }
+{
+    if is_out_of_memory(one) || is_out_of_memory(other) {
+        return Some(Verdict::OutOfMemory);
+    }
+    if is_limit(one) || is_limit(other) {
+        return Some(Verdict::Limit);
+    }
+    if !agree(left, right, one, other) {
+        return Some(Verdict::Part);
+    }
+    match one {
+        Found::Over => Some(Verdict::Same),
+        Found::Event(_) | Found::Limit | Found::OutOfMemory => None,
+    }
+}
+
+/// What comes of two runs where they stand, or nothing where they found the same event.
+fn judge_here<
+    'c,
+    A: Allocator + Copy + 'c,
+    H: History<A, Machine<'c, 'c, A>>,
+    K: History<A, Machine<'c, 'c, A>>,
+>(
+    good: &H,
+    bad: &K,
+    good_side: &Side<'c, A>,
+    bad_side: &Side<'c, A>,
+    one: Found,
+    other: Found,
+) -> Option<Verdict>
+    requires good { good_side.now.program.now ≡ H.program good.now }
+    requires bad { bad_side.now.program.now ≡ K.program bad.now }
+    ensures { Judges (H.program good.now) (K.program bad.now) (H.timeline good.now).now (K.timeline bad.now).now one other result }
+{
+    let left = Stand {
+        side: good_side,
+        machine: good.machine(),
+    };
+    let right = Stand {
+        side: bad_side,
+        machine: bad.machine(),
+    };
+    judge(&left, &right, one, other)
+}
+
+/// Whether one of two runs has made so many moves that no further event is looked for.
+fn is_far<
+    'c,
+    A: Allocator + Copy + 'c,
+    H: History<A, Machine<'c, 'c, A>>,
+    K: History<A, Machine<'c, 'c, A>>,
+>(good: &H, bad: &K) -> bool
+    ensures near { result ≡ false → (position (H.timeline good.now) ≤ 1000000000000000000) × (position (K.timeline bad.now) ≤ 1000000000000000000) }
+{
+    good.position() > MOST_MOVES || bad.position() > MOST_MOVES
+}
+
+/// That no further event was looked for, after so many that are the same.
+fn limited(common: u64) -> Answer
+    ensures { result ≡ record { events = common; verdict = Verdict.Limit; good = Found.Limit; bad = Found.Limit } }
+{
+    Answer {
+        events: common,
+        verdict: Verdict::Limit,
+        good: Found::Limit,
+        bad: Found::Limit,
+    }
+}
+
+/// Runs two programs side by side to the first event in which they differ, to the end of both, or to a limit: of the moves
+/// from one event to the next, or of all moves of a side. Each is left behind the event that is told of it.
+pub fn compare<
+    'c,
+    A: Allocator + Copy + 'c,
+    H: History<A, Machine<'c, 'c, A>>,
+    K: History<A, Machine<'c, 'c, A>>,
+>(good: &mut H, bad: &mut K, good_side: &Side<'c, A>, bad_side: &Side<'c, A>, limit: u64) -> Answer
+    requires limit { limit ≤ 4294967295 }
+    requires start { (position (H.timeline good.old) ≤ 1000000000000000000) × (position (K.timeline bad.old) ≤ 1000000000000000000) }
+    requires good { good_side.now.program.now ≡ H.program good.old }
+    requires bad { bad_side.now.program.now ≡ K.program bad.old }
+    requires sides { AreSides good_side.now bad_side.now }
+    ensures good_program { H.program good.new ≡ H.program good.old }
+    ensures bad_program { K.program bad.new ≡ K.program bad.old }
+    ensures near { (position (H.timeline good.new) < 2 ^ 60) × (position (K.timeline bad.new) < 2 ^ 60) }
+    ensures answer { IsAnswered good_side.now.kinds (H.program good.old) (K.program bad.old) (H.timeline good.old) (H.timeline good.new) (K.timeline bad.old) (K.timeline bad.new) result }
+{
+    let mut good_told = written(good);
+    let mut bad_told = written(bad);
+    for events in 0..u64::MAX {
+        if is_far(good, bad) {
+            return limited(events);
+        }
+        let one = next_event(good, good_side, &mut good_told, limit);
+        let other = next_event(bad, bad_side, &mut bad_told, limit);
+        if let Some(verdict) = judge_here(good, bad, good_side, bad_side, one, other) {
+            return Answer {
+                events,
+                verdict,
+                good: one,
+                bad: other,
+            };
+        }
+    }
+    limited(u64::MAX)
+}

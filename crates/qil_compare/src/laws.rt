@@ -1,0 +1,23 @@
+//! What an answer says of all events of two runs.
+
+ghost use Rattle.std.specs.Prelude.{◌≡◌};
+ghost use Rattle.qil_tree.specs.declared.tree.Program.{Program};
+ghost use Rattle.qil_meaning.specs.Timeline.{Timeline};
+ghost use Rattle.qil_compare.specs.declared.event.Kinds.{Kinds};
+ghost use Rattle.qil_compare.specs.declared.comparing.Verdict.TheVariants as verdicts;
+ghost use Rattle.qil_compare.specs.declared.comparing.Answer.{Answer};
+ghost use Rattle.qil_compare.specs.Answer.{run_of, IsAnswered};
+ghost use Rattle.qil_compare.specs.Longest.{HaveLongest, HaveSame, AgreeSoFar};
+
+use std::alloc::Allocator;
+
+/// Where two runs part, the number that is told is the length of the longest list with which the events of both begin; where
+/// they are the same, both have so many events, the same ones; and where a limit was met, the events of both begin with the
+/// same ones, so many. It does nothing.
+pub fn number_is_of_longest_front<A: Allocator>()
+    ensures part { (kinds : Kinds) (p q : Program A) (t u w v : Timeline) (answer : Answer) → IsAnswered kinds p q t u w v answer → answer.verdict ≡ verdicts.Part
+        → HaveLongest (run_of kinds p q t) (run_of kinds q p w) answer.events }
+    ensures same { (kinds : Kinds) (p q : Program A) (t u w v : Timeline) (answer : Answer) → IsAnswered kinds p q t u w v answer → answer.verdict ≡ verdicts.Same
+        → HaveSame (run_of kinds p q t) (run_of kinds q p w) answer.events }
+    ensures limit { (kinds : Kinds) (p q : Program A) (t u w v : Timeline) (answer : Answer) → IsAnswered kinds p q t u w v answer → AgreeSoFar (run_of kinds p q t) (run_of kinds q p w) answer.events }
+{}

@@ -1,0 +1,23 @@
+//! Two runs side by side, and the first event in which they differ.
+//!
+//! `specs/Events.antt` says what an event is, `specs/Answer.antt` what is answered. Nothing here takes memory but the moves of
+//! the two histories.
+#![tactic(auto)]
+
+mod ahead;
+mod calls;
+mod comparing;
+mod event;
+mod happened;
+mod laws;
+mod running;
+mod same;
+mod seen;
+
+pub use calls::{call_name, param_count, param_seen};
+pub use comparing::{Answer, Verdict, compare};
+pub use event::{Event, Found, Kinds};
+pub use happened::Side;
+pub use laws::number_is_of_longest_front;
+pub use same::{Stand, byte_behind};
+pub use seen::{DataPlace, Seen};

@@ -1,0 +1,4 @@
+-- The lemmas of this crate.
+pub mod Values
+pub mod Comparisons
+pub mod Loads

@@ -1,0 +1,4 @@
+-- The definitions.
+pub mod Told
+pub mod Compared
+pub mod Handed

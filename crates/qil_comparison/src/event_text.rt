@@ -1,0 +1,289 @@
+//! The texts of events.
+
+ghost use Rattle.std.specs.Prelude.{◌≡◌, ◌-◌, ◌^◌, ◌<◌, ◌++◌, codes, option_map};
+ghost use Rattle.qil_memory.specs.Live.{live};
+ghost use Rattle.qil_streams.specs.Text.{line};
+ghost use Rattle.qil_streams.specs.Device.{HasPut};
+ghost use Rattle.qil_state.specs.State.{state_of};
+ghost use Rattle.qil_answers.specs.Texts.{hex_digit, byte_text, quoted_byte};
+ghost use Rattle.qil_answers.specs.Shown.{spaced_byte, bytes_text};
+ghost use Rattle.qil_compare.specs.declared.event.Event.TheVariants as events;
+ghost use Rattle.qil_compare.specs.Coded.{StandsIn, offset_of, value_of};
+ghost use Rattle.qil_compare.specs.Seen.{seen};
+ghost use Rattle.qil_compare.specs.Events.{byte_out, bytes_from, call_params};
+ghost use Rattle.qil_compare.specs.Next.{event_at, returns_of};
+ghost use Rattle.qil_comparison.specs.Told.{place_text, value_text, further_value, values_text, returned_text, event_line, found_line};
+
+use qil_compare::{
+    DataPlace, Event, Found, Seen, Stand, byte_behind, call_name, param_count, param_seen,
+};
+use qil_layout::FuncId;
+use qil_machine::Machine;
+use qil_pieces::{Fragment, put_fragments};
+use qil_streams::{Put, PutError};
+use std::alloc::Allocator;
+
+/// Puts a byte as it stands in quotes.
+fn put_quoted<P: Put>(out: &mut P, byte: u8) -> Result<(), PutError>
+    requires { P.stops out.old < 2 ^ 64 - 1 }
+    ensures { HasPut P.written P.stops P.device result out.old out.new (quoted_byte byte) }
+{
+    if byte == b'"' || byte == b'\\' {
+        return out.put(&[b'\\', byte]);
+    }
+    if byte > 31 && byte < 127 {
+        return out.put(&[byte]);
+    }
+    out.put(&[
+        b'\\',
+        b'0' + byte / 64,
+        b'0' + byte / 8 % 8,
+        b'0' + byte % 8,
+    ])
+}
+
+/// Puts the event of a byte of output.
+fn put_output<P: Put>(out: &mut P, byte: u8) -> Result<(), PutError>
+    requires { P.stops out.old < 2 ^ 64 - 1 }
+    ensures { HasPut P.written P.stops P.device result out.old out.new (event_line (byte_out byte)) }
+{
+    out.put(b"output \"")?;
+    put_quoted(out, byte)?;
+    out.put(b"\"\n")
+}
+
+/// Puts a place of the data.
+fn put_data<P: Put>(out: &mut P, place: DataPlace<'_>) -> Result<(), PutError>
+    requires { P.stops out.old < 2 ^ 64 - 1 }
+    ensures { HasPut P.written P.stops P.device result out.old out.new (place_text (offset_of place.entry)) }
+{
+    if place.bytes == 0 {
+        return put_fragments(out, &[Fragment::Bytes(b"$"), Fragment::Bytes(place.object)]);
+    }
+    put_fragments(
+        out,
+        &[
+            Fragment::Bytes(b"$"),
+            Fragment::Bytes(place.object),
+            Fragment::Bytes(b"+"),
+            Fragment::Number(place.bytes),
+        ],
+    )
+}
+
+/// Puts a value.
+fn put_seen<P: Put>(out: &mut P, value: Seen<'_>) -> Result<(), PutError>
+    requires { P.stops out.old < 2 ^ 64 - 1 }
+    ensures { HasPut P.written P.stops P.device result out.old out.new (value_text (value_of value.entry)) }
+{
+    match value {
+        Seen::Number(number) => put_fragments(out, &[Fragment::Number(number)]),
+        Seen::Stack => out.put(b"stack"),
+        Seen::Data(place) => put_data(out, place),
+        Seen::Function(name) => put_fragments(out, &[Fragment::Bytes(b"$"), Fragment::Bytes(name)]),
+    }
+}
+
+/// Puts a value after another, with a comma between them.
+fn put_next_seen<P: Put>(out: &mut P, value: Seen<'_>) -> Result<(), PutError>
+    requires { P.stops out.old < 2 ^ 64 - 1 }
+    ensures { HasPut P.written P.stops P.device result out.old out.new (further_value (value_of value.entry)) }
+{
+    out.put(b", ")?;
+    put_seen(out, value)
+}
+
+/// A hexadecimal digit.
+fn hex_digit(digit: u8) -> u8
+    requires { digit < 16 }
+    ensures { result ≡ hex_digit digit }
+{
+    if digit < 10 {
+        b'0' + digit
+    } else {
+        b'a' - 10 + digit
+    }
+}
+
+/// Puts a byte of memory: two digits, or `--` where it is dead.
+fn put_byte<P: Put>(out: &mut P, byte: Option<u8>) -> Result<(), PutError>
+    requires { P.stops out.old < 2 ^ 64 - 1 }
+    ensures { HasPut P.written P.stops P.device result out.old out.new (byte_text byte) }
+{
+    match byte {
+        None => out.put(b"--"),
+        Some(byte) => out.put(&[hex_digit(byte / 16), hex_digit(byte % 16)]),
+    }
+}
+
+/// Puts a space and a byte of memory.
+fn put_next_byte<P: Put>(out: &mut P, byte: Option<u8>) -> Result<(), PutError>
+    requires { P.stops out.old < 2 ^ 64 - 1 }
+    ensures { HasPut P.written P.stops P.device result out.old out.new (spaced_byte byte) }
+{
+    out.put(b" ")?;
+    put_byte(out, byte)
+}
+
+/// Puts so many bytes of memory from an address on in a line.
+fn put_bytes<P: Put, A: Allocator + Copy>(
+    out: &mut P,
+    machine: &Machine<'_, '_, A>,
+    start: u64,
+    count: u64,
+) -> Result<(), PutError>
+    requires { P.stops out.old < 2 ^ 64 - 1 }
+    ensures { HasPut P.written P.stops P.device result out.old out.new (line (bytes_text (bytes_from (live machine.now.memory) start count))) }
+{
+    if count == 0 {
+        return out.put(b"\n");
+    }
+    put_byte(out, machine.byte(start))?;
+    for offset in 1..count {
+        put_next_byte(out, byte_behind(machine, start, offset))?;
+    }
+    out.put(b"\n")
+}
+
+/// Puts a write to data.
+fn put_write<P: Put, A: Allocator + Copy>(
+    out: &mut P,
+    stand: &Stand<'_, '_, A>,
+    start: u64,
+    count: u64,
+) -> Result<(), PutError>
+    requires stops { P.stops out.old < 2 ^ 64 - 1 }
+    requires stand { StandsIn stand.now }
+    ensures { HasPut P.written P.stops P.device result out.old out.new (event_line (event_at stand.now.machine.now.program (state_of stand.now.machine.now) (events.Write start count))) }
+{
+    out.put(b"write ")?;
+    put_data(out, stand.place_or_nowhere(start))?;
+    out.put(b" ")?;
+    put_bytes(out, stand.machine, start, count)
+}
+
+/// Puts the values of the parameters of the innermost frame, commas between them.
+fn put_params<P: Put, A: Allocator + Copy>(
+    out: &mut P,
+    stand: &Stand<'_, '_, A>,
+) -> Result<(), PutError>
+    requires stops { P.stops out.old < 2 ^ 64 - 1 }
+    requires stand { StandsIn stand.now }
+    ensures { HasPut P.written P.stops P.device result out.old out.new (values_text (call_params stand.now.machine.now.program (state_of stand.now.machine.now).frames)) }
+{
+    let count = param_count(stand.machine);
+    if count == 0 {
+        return Ok(());
+    }
+    put_seen(out, param_seen(stand.side.program, stand.machine, 0))?;
+    for i in 1..count {
+        put_next_seen(out, param_seen(stand.side.program, stand.machine, i))?;
+    }
+    Ok(())
+}
+
+/// Puts a call: of the function of the innermost frame.
+fn put_call<P: Put, A: Allocator + Copy>(
+    out: &mut P,
+    stand: &Stand<'_, '_, A>,
+) -> Result<(), PutError>
+    requires stops { P.stops out.old < 2 ^ 64 - 1 }
+    requires stand { StandsIn stand.now }
+    ensures { HasPut P.written P.stops P.device result out.old out.new (event_line (event_at stand.now.machine.now.program (state_of stand.now.machine.now) events.Call)) }
+{
+    put_fragments(
+        out,
+        &[
+            Fragment::Bytes(b"call $"),
+            Fragment::Bytes(call_name(stand.machine)),
+            Fragment::Bytes(b"("),
+        ],
+    )?;
+    put_params(out, stand)?;
+    out.put(b")\n")
+}
+
+/// Puts a value behind a space, and the end of the line.
+fn put_last_seen<P: Put>(out: &mut P, value: Seen<'_>) -> Result<(), PutError>
+    requires { P.stops out.old < 2 ^ 64 - 1 }
+    ensures { HasPut P.written P.stops P.device result out.old out.new (codes " " ++ (value_text (value_of value.entry) ++ codes "\n")) }
+{
+    out.put(b" ")?;
+    put_seen(out, value)?;
+    out.put(b"\n")
+}
+
+/// Puts what a function returned, if it is a value, and the end of the line.
+fn put_returned<P: Put, A: Allocator + Copy>(
+    out: &mut P,
+    stand: &Stand<'_, '_, A>,
+    func: FuncId,
+    value: Option<u64>,
+) -> Result<(), PutError>
+    requires stops { P.stops out.old < 2 ^ 64 - 1 }
+    requires stand { StandsIn stand.now }
+    ensures { HasPut P.written P.stops P.device result out.old out.new (returned_text (option_map (seen stand.now.machine.now.program (returns_of stand.now.machine.now.program func)) value)) }
+{
+    match value {
+        Some(value) => put_last_seen(out, stand.seen(stand.returns(func), value)),
+        None => out.put(b"\n"),
+    }
+}
+
+/// Puts a return, with its value if there is one.
+fn put_return<P: Put, A: Allocator + Copy>(
+    out: &mut P,
+    stand: &Stand<'_, '_, A>,
+    func: FuncId,
+    value: Option<u64>,
+) -> Result<(), PutError>
+    requires stops { P.stops out.old < 2 ^ 64 - 1 }
+    requires stand { StandsIn stand.now }
+    ensures { HasPut P.written P.stops P.device result out.old out.new (event_line (event_at stand.now.machine.now.program (state_of stand.now.machine.now) (events.Return func value))) }
+{
+    put_fragments(
+        out,
+        &[
+            Fragment::Bytes(b"return $"),
+            Fragment::Bytes(stand.func_name(func)),
+        ],
+    )?;
+    put_returned(out, stand, func, value)
+}
+
+/// Puts the line of an event.
+fn put_event<P: Put, A: Allocator + Copy>(
+    out: &mut P,
+    stand: &Stand<'_, '_, A>,
+    event: Event,
+) -> Result<(), PutError>
+    requires stops { P.stops out.old < 2 ^ 64 - 1 }
+    requires stand { StandsIn stand.now }
+    ensures { HasPut P.written P.stops P.device result out.old out.new (event_line (event_at stand.now.machine.now.program (state_of stand.now.machine.now) event)) }
+{
+    match event {
+        Event::Output(byte) => put_output(out, byte),
+        Event::Write(start, count) => put_write(out, stand, start, count),
+        Event::Call => put_call(out, stand),
+        Event::Return(func, value) => put_return(out, stand, func, value),
+        Event::End(_) => out.put(b"end\n"),
+    }
+}
+
+/// Puts the line of what was found.
+pub fn put_found<P: Put, A: Allocator + Copy>(
+    out: &mut P,
+    stand: &Stand<'_, '_, A>,
+    found: Found,
+) -> Result<(), PutError>
+    requires stops { P.stops out.old < 2 ^ 64 - 1 }
+    requires stand { StandsIn stand.now }
+    ensures { HasPut P.written P.stops P.device result out.old out.new (found_line stand.now.machine.now.program (state_of stand.now.machine.now) found) }
+{
+    match found {
+        Found::Event(event) => put_event(out, stand, event),
+        Found::Over => out.put(b"none\n"),
+        Found::Limit => out.put(b"limit\n"),
+        Found::OutOfMemory => out.put(b"memory\n"),
+    }
+}

@@ -1,0 +1,229 @@
+//! Two machines at their starts are run side by side, what comes of it is told, and a script is served on one of them.
+
+ghost use Rattle.std.specs.Prelude.{◌≡◌, ◌≢◌, ◌-◌, ◌^◌, ◌<◌, ◌≤◌, None, Some, IfSome};
+ghost use Rattle.qil_rules.specs.Verdict as accepted;
+ghost use Rattle.qil_meaning.specs.State.{State};
+ghost use Rattle.qil_meaning.specs.Timeline.{position};
+ghost use Rattle.qil_state.specs.State.{state_of};
+ghost use Rattle.qil_streams.specs.Device.{Counts, Puts};
+ghost use Rattle.qil_transcript.specs.Serve.{TakesFew};
+ghost use Rattle.qil_compare.specs.Coded.{AreSides};
+ghost use Rattle.qil_comparison.specs.declared.request.Text.{Text};
+ghost use Rattle.qil_comparison.specs.declared.request.SideName.TheVariants.{Good, Bad};
+ghost use Rattle.qil_comparison.specs.Told.{told_text};
+ghost use Rattle.qil_comparison.specs.Compared.{Begin, CountsFaults, IsUntouched, Written, setup_of, keeps, good_begun, bad_begun};
+
+use crate::outcome::Outcome;
+use crate::request::{Request, SideName};
+use crate::serving::serve_at;
+use crate::telling::put_answer;
+use qil_compare::{Answer, Side, compare};
+use qil_deltas::{Deltas, Ring};
+use qil_history::History;
+use qil_machine::Machine;
+use qil_streams::{Outlet, PutError, Sink, Source};
+use std::alloc::Allocator;
+
+/// Writes what is told of a comparison.
+fn write_answer<
+    'c,
+    A: Allocator + Copy + 'c,
+    H: History<A, Machine<'c, 'c, A>>,
+    K: History<A, Machine<'c, 'c, A>>,
+    W: Sink,
+>(
+    sink: &mut W,
+    good: &H,
+    bad: &K,
+    good_side: &Side<'c, A>,
+    bad_side: &Side<'c, A>,
+    answer: Answer,
+) -> Result<(), PutError>
+    requires writes { W.failures sink.old < 2 ^ 64 - 1 }
+    requires good { good_side.now.program.now ≡ H.program good.now }
+    requires bad { bad_side.now.program.now ≡ K.program bad.now }
+    ensures text { Puts result (W.contents sink.old) (W.contents sink.new) (told_text (H.program good.now) (K.program bad.now) (H.timeline good.now) (K.timeline bad.now) answer) }
+    ensures counted { Counts result (W.failures sink.old) (W.failures sink.new) }
+{
+    let mut out = Outlet { sink };
+    let put = put_answer(&mut out, good, bad, good_side, bad_side, answer);
+    let Outlet { sink: _ } = out;
+    put
+}
+
+/// Runs both histories side by side, writes what is told, and serves the script where it is asked for.
+fn run_histories<
+    'c,
+    A: Allocator + Copy + 'c,
+    H: History<A, Machine<'c, 'c, A>> + Drop,
+    K: History<A, Machine<'c, 'c, A>> + Drop,
+    S: Source,
+    W: Sink,
+>(
+    alloc: A,
+    mut good: H,
+    mut bad: K,
+    good_side: &Side<'c, A>,
+    bad_side: &Side<'c, A>,
+    request: &Request<'_>,
+    source: &mut S,
+    sink: &mut W,
+) -> Outcome
+    requires reads { S.failures source.old < 2 ^ 64 - 1 }
+    requires writes { W.failures sink.old < 2 ^ 64 - 1 }
+    requires limit { request.now.limit ≤ 4294967295 }
+    requires start { (position (H.timeline good) ≤ 1000000000000000000) × (position (K.timeline bad) ≤ 1000000000000000000) }
+    requires good { good_side.now.program.now ≡ H.program good }
+    requires bad { bad_side.now.program.now ≡ K.program bad }
+    requires sides { AreSides good_side.now bad_side.now }
+    requires kinds { good_side.now.kinds ≡ request.now.kinds }
+    ensures written { (one two : Text) (p q : accepted.Verdict A) (s t : State) → Begin (setup_of one two request.now) p q s t
+        → H.program good ≡ p.program → K.program bad ≡ q.program → H.timeline good ≡ good_begun (setup_of one two request.now) s → K.timeline bad ≡ bad_begun (setup_of one two request.now) t
+        → Written A result (setup_of one two request.now) (S.remaining source.old) (S.remaining source.new) (W.contents sink.old) (W.contents sink.new) }
+    ensures ran { result ≢ Outcome.Refused }
+    ensures untouched { IsUntouched result source.old source.new }
+    ensures unasked { request.now.session ≡ None → source.new ≡ source.old }
+    ensures few { IfSome (S.remaining source.old) (λ script. TakesFew script (S.remaining source.new)) }
+    ensures counted { CountsFaults result (S.failures source.old) (S.failures source.new) (W.failures sink.old) (W.failures sink.new) }
+{
+    let answer = compare(&mut good, &mut bad, good_side, bad_side, request.limit);
+    match write_answer(sink, &good, &bad, good_side, bad_side, answer) {
+        Ok(()) => {}
+        Err(PutError) => return Outcome::WriteFault,
+    }
+    match request.session {
+        None => Outcome::Told(answer.verdict),
+        Some(SideName::Good) => {
+            serve_at(alloc, good, request.limit, answer.verdict, source, sink)
+        }
+        Some(SideName::Bad) => serve_at(alloc, bad, request.limit, answer.verdict, source, sink),
+    }
+}
+
+/// Runs both machines over histories that keep their newest moves alone.
+fn run_bounded<'c, A: Allocator + Copy + 'c, S: Source, W: Sink>(
+    alloc: A,
+    good: Machine<'c, 'c, A>,
+    bad: Machine<'c, 'c, A>,
+    bound: u64,
+    good_side: &Side<'c, A>,
+    bad_side: &Side<'c, A>,
+    request: &Request<'_>,
+    source: &mut S,
+    sink: &mut W,
+) -> Outcome
+    requires reads { S.failures source.old < 2 ^ 64 - 1 }
+    requires writes { W.failures sink.old < 2 ^ 64 - 1 }
+    requires limit { request.now.limit ≤ 4294967295 }
+    requires good { good_side.now.program.now ≡ good.program }
+    requires bad { bad_side.now.program.now ≡ bad.program }
+    requires sides { AreSides good_side.now bad_side.now }
+    requires kinds { good_side.now.kinds ≡ request.now.kinds }
+    requires bound { (1 ≤ bound) × (bound ≤ 1000000) }
+    ensures written { (one two : Text) (p q : accepted.Verdict A) → Begin (setup_of one two request.now) p q (state_of good.entry) (state_of bad.entry)
+        → good.entry.program ≡ p.program → bad.entry.program ≡ q.program → keeps request.now.bound request.now.session Good ≡ Some bound → keeps request.now.bound request.now.session Bad ≡ Some bound
+        → Written A result (setup_of one two request.now) (S.remaining source.old) (S.remaining source.new) (W.contents sink.old) (W.contents sink.new) }
+    ensures ran { result ≢ Outcome.Refused }
+    ensures untouched { IsUntouched result source.old source.new }
+    ensures unasked { request.now.session ≡ None → source.new ≡ source.old }
+    ensures few { IfSome (S.remaining source.old) (λ script. TakesFew script (S.remaining source.new)) }
+    ensures counted { CountsFaults result (S.failures source.old) (S.failures source.new) (W.failures sink.old) (W.failures sink.new) }
+{
+    let good = match Ring::new(alloc, good, bound) {
+        Ok(good) => good,
+        Err(_) => return Outcome::Memory,
+    };
+    match Ring::new(alloc, bad, bound) {
+        Ok(bad) => run_histories(alloc, good, bad, good_side, bad_side, request, source, sink),
+        Err(_) => Outcome::Memory,
+    }
+}
+
+/// Runs both machines, the one that a session is asked of over all its deltas.
+fn run_keeping<'c, A: Allocator + Copy + 'c, S: Source, W: Sink>(
+    alloc: A,
+    good: Machine<'c, 'c, A>,
+    bad: Machine<'c, 'c, A>,
+    kept: SideName,
+    good_side: &Side<'c, A>,
+    bad_side: &Side<'c, A>,
+    request: &Request<'_>,
+    source: &mut S,
+    sink: &mut W,
+) -> Outcome
+    requires reads { S.failures source.old < 2 ^ 64 - 1 }
+    requires writes { W.failures sink.old < 2 ^ 64 - 1 }
+    requires limit { request.now.limit ≤ 4294967295 }
+    requires good { good_side.now.program.now ≡ good.program }
+    requires bad { bad_side.now.program.now ≡ bad.program }
+    requires sides { AreSides good_side.now bad_side.now }
+    requires kinds { good_side.now.kinds ≡ request.now.kinds }
+    ensures written { (one two : Text) (p q : accepted.Verdict A) → Begin (setup_of one two request.now) p q (state_of good.entry) (state_of bad.entry)
+        → good.entry.program ≡ p.program → bad.entry.program ≡ q.program → request.now.bound ≡ None → request.now.session ≡ Some kept
+        → Written A result (setup_of one two request.now) (S.remaining source.old) (S.remaining source.new) (W.contents sink.old) (W.contents sink.new) }
+    ensures ran { result ≢ Outcome.Refused }
+    ensures untouched { IsUntouched result source.old source.new }
+    ensures unasked { request.now.session ≡ None → source.new ≡ source.old }
+    ensures few { IfSome (S.remaining source.old) (λ script. TakesFew script (S.remaining source.new)) }
+    ensures counted { CountsFaults result (S.failures source.old) (S.failures source.new) (W.failures sink.old) (W.failures sink.new) }
+{
+    match kept {
+        SideName::Good => match Ring::new(alloc, bad, 1) {
+            Ok(bad) => {
+                let good = Deltas::new(alloc, good);
+                run_histories(alloc, good, bad, good_side, bad_side, request, source, sink)
+            }
+            Err(_) => Outcome::Memory,
+        },
+        SideName::Bad => match Ring::new(alloc, good, 1) {
+            Ok(good) => {
+                let bad = Deltas::new(alloc, bad);
+                run_histories(alloc, good, bad, good_side, bad_side, request, source, sink)
+            }
+            Err(_) => Outcome::Memory,
+        },
+    }
+}
+
+/// Runs both machines: the side that a session is asked of keeps its moves, the other one its last.
+pub fn run_machines<'c, A: Allocator + Copy + 'c, S: Source, W: Sink>(
+    alloc: A,
+    good: Machine<'c, 'c, A>,
+    bad: Machine<'c, 'c, A>,
+    good_side: &Side<'c, A>,
+    bad_side: &Side<'c, A>,
+    request: &Request<'_>,
+    source: &mut S,
+    sink: &mut W,
+) -> Outcome
+    requires reads { S.failures source.old < 2 ^ 64 - 1 }
+    requires writes { W.failures sink.old < 2 ^ 64 - 1 }
+    requires limit { request.now.limit ≤ 4294967295 }
+    requires good { good_side.now.program.now ≡ good.program }
+    requires bad { bad_side.now.program.now ≡ bad.program }
+    requires sides { AreSides good_side.now bad_side.now }
+    requires kinds { good_side.now.kinds ≡ request.now.kinds }
+    requires bound { IfSome request.now.bound (λ n. (1 ≤ n) × (n ≤ 1000000)) }
+    ensures written { (one two : Text) (p q : accepted.Verdict A) → Begin (setup_of one two request.now) p q (state_of good.entry) (state_of bad.entry)
+        → good.entry.program ≡ p.program → bad.entry.program ≡ q.program
+        → Written A result (setup_of one two request.now) (S.remaining source.old) (S.remaining source.new) (W.contents sink.old) (W.contents sink.new) }
+    ensures ran { result ≢ Outcome.Refused }
+    ensures untouched { IsUntouched result source.old source.new }
+    ensures unasked { request.now.session ≡ None → source.new ≡ source.old }
+    ensures few { IfSome (S.remaining source.old) (λ script. TakesFew script (S.remaining source.new)) }
+    ensures counted { CountsFaults result (S.failures source.old) (S.failures source.new) (W.failures sink.old) (W.failures sink.new) }
+{
+    match request.bound {
+        Some(bound) => run_bounded(
+            alloc, good, bad, bound, good_side, bad_side, request, source, sink,
+        ),
+        None => match request.session {
+            Some(kept) => run_keeping(
+                alloc, good, bad, kept, good_side, bad_side, request, source, sink,
+            ),
+            None => run_bounded(
+                alloc, good, bad, 1, good_side, bad_side, request, source, sink,
+            ),
+        },
+    }
+}

@@ -1,0 +1,157 @@
+//! What is told of a comparison: how many events are the same, and for each side what comes next and where it stands.
+
+ghost use Rattle.std.specs.Prelude.{◌≡◌, ◌↔◌, ◌-◌, ◌^◌, ◌<◌, ◌++◌, IsTrue};
+ghost use Rattle.qil_streams.specs.Device.{HasPut};
+ghost use Rattle.qil_state.specs.State.{state_of};
+ghost use Rattle.qil_answers.specs.Texts.{state_line};
+ghost use Rattle.qil_answers.specs.Shown.{frames_shown};
+ghost use Rattle.qil_answers.specs.Listing.{block_shown};
+ghost use Rattle.qil_compare.specs.declared.comparing.Verdict.TheVariants as verdicts;
+ghost use Rattle.qil_comparison.specs.Told.{way_line, side_text, sides_text, verdict_line, told_text};
+
+use crate::event_text::put_found;
+use qil_answers::{put_block, put_frames, put_place};
+use qil_compare::{Answer, Found, Side, Stand, Verdict};
+use qil_history::History;
+use qil_machine::Machine;
+use qil_pieces::{Fragment, put_fragments};
+use qil_streams::{Put, PutError};
+use std::alloc::Allocator;
+
+/// Puts the first line.
+fn put_verdict<P: Put>(out: &mut P, verdict: Verdict, events: u64) -> Result<(), PutError>
+    requires { P.stops out.old < 2 ^ 64 - 1 }
+    ensures { HasPut P.written P.stops P.device result out.old out.new (verdict_line verdict events) }
+{
+    let count = Fragment::Number(events);
+    let end = Fragment::Bytes(b"\n");
+    match verdict {
+        Verdict::Same => put_fragments(
+            out,
+            &[
+                Fragment::Bytes(b"same "),
+                count,
+                Fragment::Bytes(b" events\n"),
+            ],
+        ),
+        Verdict::Part => put_fragments(out, &[Fragment::Bytes(b"part at event "), count, end]),
+        Verdict::Limit => put_fragments(out, &[Fragment::Bytes(b"limit at event "), count, end]),
+        Verdict::OutOfMemory => {
+            put_fragments(out, &[Fragment::Bytes(b"memory at event "), count, end])
+        }
+    }
+}
+
+/// Puts the command that takes a session from its start to a position, where there is one.
+fn put_way<P: Put>(out: &mut P, position: u64) -> Result<(), PutError>
+    requires { P.stops out.old < 2 ^ 64 - 1 }
+    ensures { HasPut P.written P.stops P.device result out.old out.new (way_line position) }
+{
+    if position == 0 {
+        return out.put(b"");
+    }
+    put_fragments(
+        out,
+        &[
+            Fragment::Bytes(b"step "),
+            Fragment::Number(position),
+            Fragment::Bytes(b"\n"),
+        ],
+    )
+}
+
+/// Puts where a machine stands after so many moves.
+fn put_stand<P: Put, A: Allocator + Copy>(
+    out: &mut P,
+    position: u64,
+    machine: &Machine<'_, '_, A>,
+) -> Result<(), PutError>
+    requires { P.stops out.old < 2 ^ 64 - 1 }
+    ensures { HasPut P.written P.stops P.device result out.old out.new
+        (state_line position (state_of machine.now).frames (state_of machine.now).status ++ (frames_shown (state_of machine.now).frames ++ (block_shown machine.now.program (state_of machine.now).frames ++ way_line position))) }
+{
+    put_place(out, position, machine)?;
+    put_frames(out, machine)?;
+    put_block(out, machine)?;
+    put_way(out, position)
+}
+
+/// Puts what is told of one side.
+fn put_side<'c, A: Allocator + Copy + 'c, H: History<A, Machine<'c, 'c, A>>, P: Put>(
+    out: &mut P,
+    name: &[u8],
+    history: &H,
+    side: &Side<'c, A>,
+    found: Found,
+) -> Result<(), PutError>
+    requires stops { P.stops out.old < 2 ^ 64 - 1 }
+    requires side { side.now.program.now ≡ H.program history.now }
+    ensures { HasPut P.written P.stops P.device result out.old out.new (side_text name.now (H.program history.now) (H.timeline history.now) found) }
+{
+    let machine = history.machine();
+    let stand = Stand { side, machine };
+    out.put(name)?;
+    put_found(out, &stand, found)?;
+    put_stand(out, history.position(), machine)
+}
+
+/// Puts what is told of both sides.
+fn put_sides<
+    'c,
+    A: Allocator + Copy + 'c,
+    H: History<A, Machine<'c, 'c, A>>,
+    K: History<A, Machine<'c, 'c, A>>,
+    P: Put,
+>(
+    out: &mut P,
+    good: &H,
+    bad: &K,
+    good_side: &Side<'c, A>,
+    bad_side: &Side<'c, A>,
+    answer: Answer,
+) -> Result<(), PutError>
+    requires stops { P.stops out.old < 2 ^ 64 - 1 }
+    requires good { good_side.now.program.now ≡ H.program good.now }
+    requires bad { bad_side.now.program.now ≡ K.program bad.now }
+    ensures { HasPut P.written P.stops P.device result out.old out.new (sides_text (H.program good.now) (K.program bad.now) (H.timeline good.now) (K.timeline bad.now) answer) }
+{
+    put_side(out, b"good: ", good, good_side, answer.good)?;
+    put_side(out, b"bad: ", bad, bad_side, answer.bad)
+}
+
+/// Whether no difference was found.
+fn is_same(verdict: Verdict) -> bool
+    ensures { IsTrue result ↔ (verdict ≡ verdicts.Same) }
+{
+    match verdict {
+        Verdict::Same => true,
+        Verdict::Part | Verdict::Limit | Verdict::OutOfMemory => false,
+    }
+}
+
+/// Puts what is told of a comparison.
+pub fn put_answer<
+    'c,
+    A: Allocator + Copy + 'c,
+    H: History<A, Machine<'c, 'c, A>>,
+    K: History<A, Machine<'c, 'c, A>>,
+    P: Put,
+>(
+    out: &mut P,
+    good: &H,
+    bad: &K,
+    good_side: &Side<'c, A>,
+    bad_side: &Side<'c, A>,
+    answer: Answer,
+) -> Result<(), PutError>
+    requires stops { P.stops out.old < 2 ^ 64 - 1 }
+    requires good { good_side.now.program.now ≡ H.program good.now }
+    requires bad { bad_side.now.program.now ≡ K.program bad.now }
+    ensures { HasPut P.written P.stops P.device result out.old out.new (told_text (H.program good.now) (K.program bad.now) (H.timeline good.now) (K.timeline bad.now) answer) }
+{
+    if is_same(answer.verdict) {
+        return put_verdict(out, answer.verdict, answer.events);
+    }
+    put_verdict(out, answer.verdict, answer.events)?;
+    put_sides(out, good, bad, good_side, bad_side, answer)
+}

@@ -1,0 +1,32 @@
+-- The status that the process ends with.
+use Rattle.std.specs.Prelude.{ℕ}
+use Rattle.qil_compare.specs.declared.comparing.Verdict.{Verdict}
+use Rattle.qil_compare.specs.declared.comparing.Verdict.TheVariants as verdicts
+use Rattle.qil_comparison.specs.declared.outcome.Outcome.{Outcome}
+use Rattle.qil_comparison.specs.declared.outcome.Outcome.TheVariants as outcomes
+use Rattle.qrev_compare.specs.declared.failure.Failure.{Failure}
+use Rattle.qrev_compare.specs.declared.failure.Failure.TheVariants as failures
+
+-- where nothing was compared
+abbrev pub failure_status : Failure → ℕ
+failure_status failures.Helped = 0
+failure_status failures.Device = 2
+failure_status failures.OutOfMemory = 3
+failure_status failures.Usage = 64
+
+-- after that was told
+abbrev pub told_status : Verdict → ℕ
+told_status verdicts.Same = 0
+told_status verdicts.Part = 1
+told_status verdicts.OutOfMemory = 3
+told_status verdicts.Limit = 4
+
+-- after a comparison
+abbrev pub outcome_status : Outcome → ℕ
+outcome_status (outcomes.Told verdict) = told_status verdict
+outcome_status outcomes.ReadFault = 2
+outcome_status outcomes.WriteFault = 2
+outcome_status outcomes.TooLong = 2
+outcome_status outcomes.Unserved = 3
+outcome_status outcomes.Memory = 3
+outcome_status outcomes.Refused = 65

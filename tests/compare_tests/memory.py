@@ -1,0 +1,86 @@
+"""Each allocation of a comparison refused in turn, by a library that is preloaded: want of memory is an answer."""
+import pathlib
+import tempfile
+from typing import NamedTuple
+
+from compare_tests.pairs import told_by_reference
+from harness.preloaded import Run, library
+from harness.running import quoted
+
+MOST = 20_000  # refused allocations that are tried before a run must meet none
+
+# A program with calls, room on the stack and output: its moves take memory. The other one's second line is another.
+GOOD = rb"""data $one = { b "one line of some length, so that its output wants memory", b 0 }
+data $two = { b "two", b 0 }
+function $say(l %text) {
+@start
+	%room =l alloc8 4096
+	storel %text, %room
+	%told =l loadl %room
+	%n =w call $puts(l %told)
+	ret
+}
+function $main() {
+@start
+	call $say(l $one)
+	call $say(l $two)
+	ret
+}
+"""
+BAD = GOOD.replace(b'"two"', b'"tow"')
+SCRIPT = b"where\nback 3\nlist\n"
+
+
+class Asked(NamedTuple):
+    """The program that is asked, and how long it may take, as a run of it wants to know it."""
+
+    program: str
+    seconds: float
+
+
+def fault_of(run, ample, told, status, kinds):
+    """What a run with a refused allocation tells otherwise than it may, or None; its kind is added to those that were seen."""
+    if run.errors:
+        return f"standard error: {quoted(run.errors)}"
+    if not run.was_refused:
+        return None if (run.written, run.status) == (ample, status) else f"{quoted(run.written)}, though none was refused"
+    if run.status == status:
+        kinds.add("spared")
+        return None if run.written == ample else f"{quoted(run.written)} with status {status}"
+    if run.status != 3:
+        return f"status {run.status}"
+    if not run.written:
+        kinds.add("load")
+        return None if not run.script_read else f"{run.script_read} bytes of the script were read"
+    if run.written == told:
+        kinds.add("session")
+        return None if not run.script_read else f"{run.script_read} bytes of the script were read"
+    kinds.add("move")
+    first, *lines = run.written.split(b"\n")
+    most = int(ample.split(b"\n")[0].split()[-1])
+    if not first.startswith(b"memory at event ") or int(first.split()[-1]) > most:
+        return f"{quoted(first)} as the first line, and {most} events are the same"
+    sides = [line for line in lines if line.startswith((b"good: ", b"bad: "))]
+    if len(sides) != 2 or not any(line.endswith(b": memory") for line in sides):
+        return f"{sides} as what comes next"
+    return None
+
+
+def memory_fault(program, seconds, words):
+    """What is wrong of the runs with each allocation refused, or None."""
+    ample, status = told_by_reference(GOOD, BAD, [*words, "--session", "bad"], SCRIPT)
+    told, _ = told_by_reference(GOOD, BAD, words, b"")
+    kinds = set()
+    with tempfile.TemporaryDirectory(prefix="compare-") as place, library() as made:
+        files = [str(pathlib.Path(place) / name) for name in ("good.ssa", "bad.ssa")]
+        for file, text in zip(files, (GOOD, BAD)):
+            pathlib.Path(file).write_bytes(text)
+        for which in range(1, MOST):
+            run = Run(Asked(program, seconds), made, which, [*files, *words, "--session", "bad"], SCRIPT)
+            fault = fault_of(run, ample, told, status, kinds)
+            if fault:
+                return f"allocation {which}: {fault}"
+            if not run.was_refused:
+                lacks = {"load", "session", "move"} - kinds
+                return f"no run wanted memory for {sorted(lacks)}, only for {sorted(kinds)}" if lacks else None
+    return f"more than {MOST} allocations"

@@ -1,0 +1,132 @@
+"""Pairs of texts: the stories with their mended texts, programs written anew, random ones; and what the reference tells."""
+import random
+import re
+
+from compare_tests.rewriting import rewritten
+from harness.running import EXAMPLES
+from hostile_tests.programs import changed, random_program
+from reference import Refused, compare
+from reference.grammar import parse
+from reference.rules import check
+from reference.tokens import cut
+
+# Each story's change, as docs/STORIES.md has it: what stands in the text, and what is to stand there.
+MENDED = {
+    "transpose": [("%t3 =w mul %row, 2", "%t3 =w mul %row, 3")],
+    "account": [("%t1 =w loadw $balance\n\tcall $charge()", "call $charge()\n\t%t1 =w loadw $balance")],
+    "largest": [("@body %t5, @larger %best", "@body %best, @larger %t5")],
+    "digits": [("%buffer =l alloc4 4", "%buffer =l alloc4 12"), ("add %buffer, 4", "add %buffer, 12")],
+    "months": [("%t2 =w copy 28", "%days =w copy 28")],
+}
+EVENTS = ("output,calls,end", "output,writes,calls,end", "writes", "output", "end", "calls", "calls,end", "writes,end")
+MOST_MOVES = 20_000
+
+
+TooLong = compare.TooLong
+
+
+def told_by_reference(good, bad, words, script):
+    """What the reference tells, by the words behind the two files, and the status."""
+    given = {"args": []}
+    words = iter(words)
+    for word in words:
+        if word == "--events":
+            given["events"] = next(words).split(",")
+        elif word in ("--limit", "--history"):
+            given[word[2:]] = int(next(words))
+        elif word.startswith("--"):
+            given[word[2:]] = next(words)
+        else:
+            given["args"].append(int(word))
+    return compare.comparison(good, bad, script, most=MOST_MOVES, **given)
+
+
+def mended(name):
+    text = (EXAMPLES / f"{name}.ssa").read_text()
+    for old, new in MENDED[name]:
+        if text.count(old) != 1:
+            raise ValueError(f"{name}: {old}")
+        text = text.replace(old, new)
+    return text.encode()
+
+
+def story_pairs():
+    """A name, both texts, words, a script."""
+    found = []
+    for name in MENDED:
+        bad = (EXAMPLES / f"{name}.ssa").read_bytes()
+        for events in EVENTS:
+            found.append((f"stories/{name}-{events}", mended(name), bad, ["--events", events], b""))
+        for side in ("good", "bad"):
+            script = b"where\nback\nlist\nreverse\ncontinue\nout\n"
+            found.append((f"stories/{name}-on-{side}", mended(name), bad, ["--session", side], script))
+    return found
+
+
+def example_pairs():
+    """Each example that is short, next to itself written anew: the same."""
+    found = []
+    for path in sorted(EXAMPLES.glob("*.ssa")):
+        text = path.read_bytes()
+        for number in range(3):
+            other = rewritten(text, random.Random(number).shuffle)
+            for events in ("output,calls,end", "output,writes,calls,end"):
+                found.append((f"rewritten/{path.stem}-{number}-{events}", text, other, ["--events", events], b"", None, None, b"same "))
+    return found
+
+
+def is_lawful(text):
+    try:
+        check(parse(cut(text)))
+        return True
+    except Refused:
+        return False
+
+
+def with_other_number(source, text):
+    """The text with one number or operation that is another."""
+    places = [found for found in re.finditer(rb"(?<=[ ,(])-?\d+|\b(?:add|sub|mul|and|or|xor|csltw|csgtw|ceqw)\b", text)]
+    if not places:
+        return text
+    found = source.choice(places)
+    if found[0][-1:].isdigit():
+        new = str(source.choice((0, 1, 2, 3, 7, 255, 65536))).encode()
+    else:
+        new = source.choice((b"add", b"sub", b"mul", b"and", b"or", b"xor"))
+        if found[0].startswith(b"c"):
+            new = source.choice((b"csltw", b"csgtw", b"ceqw"))
+    return text[:found.start()] + new + text[found.end():]
+
+
+def random_script(source):
+    lines = ("where", "list", "back", "back 3", "reverse", "continue", "temps", "out", "step", "step 5", "mem 65536 16")
+    return "".join(source.choice(lines) + "\n" for _ in range(source.randrange(6))).encode()
+
+
+def random_words(source, arguments):
+    words = [str(one) for one in arguments]
+    if source.randrange(2):
+        words += ["--events", source.choice(EVENTS)]
+    words += ["--limit", str(source.choice((1, 3, 10, 100, 1000, 3000, 3000, 3000, 3000, 3000)))]
+    if source.randrange(2):
+        words += ["--session", source.choice(("good", "bad"))]
+    if source.randrange(3) == 0:
+        words += ["--history", str(source.choice((1, 2, 5, 100)))]
+    return words
+
+
+def random_pair(source):
+    """Both texts, words, a script, as the fields of what is asked."""
+    text, arguments = random_program(source)
+    while not is_lawful(text):
+        text, arguments = random_program(source)
+    kind = source.randrange(4)
+    if kind == 0:
+        other = rewritten(text, source.shuffle)
+    elif kind == 1:
+        other = with_other_number(source, text)
+    elif kind == 2:
+        other = with_other_number(source, rewritten(text, source.shuffle))
+    else:
+        other = changed(source, text)
+    return text, other, random_words(source, arguments), random_script(source)
