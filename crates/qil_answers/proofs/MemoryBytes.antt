@@ -1,17 +1,10 @@
 -- Bytes of memory from an address on.
-use Rattle.std.proofs.Common.{◌≡◌, refl, sym, ap, ◌∙◌, ℕ, zero, suc, ◌+◌, ◌-◌, ◌<◌, ◌≤◌, ◌^◌, List, [], ◌∷◌, ◌++◌, codes, Option, None, append_assoc, arith}
-use Rattle.std.proofs.lemmas.Bool.Decides.{nat_tests}
+use Rattle.std.proofs.Common.{◌≡◌, ap, ◌∙◌, ℕ, zero, suc, ◌+◌, ◌-◌, ◌<◌, ◌≤◌, List, ◌++◌, codes, append_assoc, arith}
 use Rattle.std.specs.List.{flat_map}
-use Rattle.qil_memory.specs.Buffers.{Buffers}
-use Rattle.qil_memory.specs.Live.{Live, live}
+use Rattle.qil_memory.specs.Live.{Live}
 use Rattle.qil_meaning.specs.State.{State}
 use Rattle.qil_answers.specs.Texts.{byte_text}
 use Rattle.qil_answers.specs.Shown.{bytes_from, spaced_byte, memory_shown}
-
--- after all addresses of 64 bits nothing is live
-pub dead_far : (m : Buffers) (a : ℕ) → m.top < 2 ^ 64 → 2 ^ 64 ≤ a → live m a ≡ None
-unfolding live
-dead_far m a low far = grind (arith, nat_tests, low, far)
 
 -- the bytes after the first, and the end of the line
 abbrev pub later_bytes : Live → ℕ → ℕ → List ℕ

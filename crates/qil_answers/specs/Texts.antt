@@ -38,13 +38,17 @@ fault_detail (no_function a) = decimal a
 fault_detail (unset_temporary x) = x
 fault_detail fault = []
 
+-- the line of a run that ended in a fault, with what the fault is called and what it tells
+abbrev pub fault_line : ℕ → List ℕ → List ℕ → List ℕ
+fault_line n words detail = text_of (codes "#" ∷ decimal n ∷ codes " fault " ∷ words ∷ detail ∷ codes "\n" ∷ [])
+
 -- the line of a place: how many moves were made, and where the state stands or how it ended
 abbrev pub state_line : ℕ → List Frame → Status → List ℕ
 state_line n frames running = standing_line n frames
 state_line n frames (done None) = text_of (codes "#" ∷ decimal n ∷ codes " done\n" ∷ [])
 state_line n frames (done (Some v)) = text_of (codes "#" ∷ decimal n ∷ codes " done " ∷ decimal v ∷ codes "\n" ∷ [])
 state_line n frames (exited w) = text_of (codes "#" ∷ decimal n ∷ codes " exit " ∷ decimal w ∷ codes "\n" ∷ [])
-state_line n frames (faulted fault) = text_of (codes "#" ∷ decimal n ∷ codes " fault " ∷ fault_words fault ∷ fault_detail fault ∷ codes "\n" ∷ [])
+state_line n frames (faulted fault) = fault_line n (fault_words fault) (fault_detail fault)
 
 abbrev pub place_line : Timeline → List ℕ
 place_line t = state_line (position t) t.now.frames t.now.status

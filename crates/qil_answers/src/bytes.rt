@@ -3,13 +3,13 @@
 ghost use Rattle.std.specs.Prelude.{◌≡◌, ◌+◌, ◌-◌, ◌^◌, ◌<◌};
 ghost use Rattle.std.specs.List.{flat_map};
 ghost use Rattle.qil_streams.specs.Device.{HasPut};
-ghost use Rattle.qil_memory.specs.Live.{live};
 ghost use Rattle.qil_state.specs.State.{state_of};
 ghost use Rattle.qil_answers.specs.Texts.{hex_digit, byte_text, quoted_byte};
 ghost use Rattle.qil_answers.specs.Shown.{spaced_byte, memory_shown, output_shown};
 
-use qil_machine::Machine;
+use qil_code::Code;
 use qil_pieces::{Fragment, put_fragments};
+use qil_readers::Readers;
 use qil_streams::{Put, PutError};
 use std::alloc::Allocator;
 
@@ -36,21 +36,6 @@ fn put_byte<P: Put>(out: &mut P, byte: Option<u8>) -> Result<(), PutError>
     }
 }
 
-/// The byte so far after an address, if it is live. After the last address there is none.
-fn byte_behind<A: Allocator + Copy>(
-    machine: &Machine<'_, '_, A>,
-    address: u64,
-    offset: u64,
-) -> Option<u8>
-    ensures { result ≡ live machine.now.memory (address + offset) }
-{
-    let _top = machine.top();
-    match address.checked_add(offset) {
-        Some(at) => machine.byte(at),
-        None => None,
-    }
-}
-
 /// Puts a space and a byte of memory.
 fn put_next_byte<P: Put>(out: &mut P, byte: Option<u8>) -> Result<(), PutError>
     requires { P.stops out.old < 2 ^ 64 - 1 }
@@ -65,21 +50,21 @@ fn put_next_byte<P: Put>(out: &mut P, byte: Option<u8>) -> Result<(), PutError>
 /// # Errors
 ///
 /// `PutError` where `out` stopped. Then a prefix of the line was put.
-pub fn put_memory<P: Put, A: Allocator + Copy>(
+pub fn put_memory<'c, P: Put, A: Allocator + Copy + 'c, M: Readers<A, Code<'c, 'c, A>>>(
     out: &mut P,
-    machine: &Machine<'_, '_, A>,
+    machine: &M,
     address: u64,
     count: u32,
 ) -> Result<(), PutError>
     requires { P.stops out.old < 2 ^ 64 - 1 }
-    ensures { HasPut P.written P.stops P.device result out.old out.new (memory_shown (state_of machine.now) address count) }
+    ensures { HasPut P.written P.stops P.device result out.old out.new (memory_shown (state_of (M.whole machine.now)) address count) }
 {
     if count == 0 {
         return out.put(b"\n");
     }
     put_byte(out, machine.byte(address))?;
     for offset in 1..u64::from(count) {
-        put_next_byte(out, byte_behind(machine, address, offset))?;
+        put_next_byte(out, machine.byte_after(address, offset))?;
     }
     out.put(b"\n")
 }
@@ -136,12 +121,12 @@ fn put_counted<P: Put>(out: &mut P, bytes: &[u8]) -> Result<(), PutError>
 /// # Errors
 ///
 /// `PutError` where `out` stopped. Then a prefix of the line was put.
-pub fn put_output<P: Put, A: Allocator + Copy>(
+pub fn put_output<'c, P: Put, A: Allocator + Copy + 'c, M: Readers<A, Code<'c, 'c, A>>>(
     out: &mut P,
-    machine: &Machine<'_, '_, A>,
+    machine: &M,
 ) -> Result<(), PutError>
     requires { P.stops out.old < 2 ^ 64 - 1 }
-    ensures { HasPut P.written P.stops P.device result out.old out.new (output_shown (state_of machine.now).output) }
+    ensures { HasPut P.written P.stops P.device result out.old out.new (output_shown (state_of (M.whole machine.now)).output) }
 {
     put_counted(out, machine.output())
 }

@@ -9,23 +9,23 @@ ghost use Rattle.qil_answers.specs.Shown.{frames_shown};
 
 use crate::names::{func_name, innermost, label_name};
 use qil_code::Code;
-use qil_frames::Frame;
-use qil_machine::Machine;
 use qil_pieces::{Fragment, put_fragments};
+use qil_readers::{FrameView, Readers};
 use qil_streams::{Put, PutError, put_line};
 use std::alloc::Allocator;
 
 /// Puts the place of a frame.
-fn put_frame<'c, 'a, P: Put, A: Allocator + Copy>(
+fn put_frame<'c, P: Put, A: Allocator + Copy + 'c, M: Readers<A, Code<'c, 'c, A>>>(
     out: &mut P,
-    code: &'c Code<'c, 'a, A>,
-    frame: &Frame<A>,
+    machine: &M,
+    frame: &FrameView<'_>,
 ) -> Result<(), PutError>
     requires { P.stops out.old < 2 ^ 64 - 1 }
-    ensures text { (callers : List SlotFrame) → Puts result (P.written out.old) (P.written out.new) (frame_line (frame_state code.now callers frame.now)) }
+    ensures text { (callers : List SlotFrame) → Puts result (P.written out.old) (P.written out.new) (frame_line (frame_state (M.whole machine.now).program callers frame.now)) }
     ensures counted { Counts result (P.stops out.old) (P.stops out.new) }
     ensures device { P.device out.new ≡ P.device out.old }
 {
+    let code = machine.code();
     put_fragments(
         out,
         &[
@@ -41,12 +41,17 @@ fn put_frame<'c, 'a, P: Put, A: Allocator + Copy>(
 }
 
 /// A frame, counted from the innermost one.
-fn frame_at<'m, A: Allocator + Copy>(machine: &'m Machine<'_, '_, A>, inner: usize) -> &'m Frame<A>
-    requires { inner < length machine.now.frames }
-    ensures { slice_get machine.now.frames inner ≡ Some result.now }
+fn frame_at<'c, 'm, A: Allocator + Copy + 'c, M: Readers<A, Code<'c, 'c, A>>>(
+    machine: &'m M,
+    inner: usize,
+) -> FrameView<'m>
+    requires { inner < length (M.whole machine.now).frames }
+    ensures { slice_get (M.whole machine.now).frames inner ≡ Some result }
 {
-    let frames = machine.frames();
-    &frames[frames.len() - 1 - inner]
+    match machine.frame(inner) {
+        Some(frame) => frame,
+        None => unreachable!(),
+    }
 }
 
 /// Puts the place of each frame, the innermost first.
@@ -54,19 +59,18 @@ fn frame_at<'m, A: Allocator + Copy>(machine: &'m Machine<'_, '_, A>, inner: usi
 /// # Errors
 ///
 /// `PutError` where `out` stopped. Then a prefix of the text was put.
-pub fn put_frames<P: Put, A: Allocator + Copy>(
+pub fn put_frames<'c, P: Put, A: Allocator + Copy + 'c, M: Readers<A, Code<'c, 'c, A>>>(
     out: &mut P,
-    machine: &Machine<'_, '_, A>,
+    machine: &M,
 ) -> Result<(), PutError>
     requires { P.stops out.old < 2 ^ 64 - 1 }
-    ensures { HasPut P.written P.stops P.device result out.old out.new (frames_shown (state_of machine.now).frames) }
+    ensures { HasPut P.written P.stops P.device result out.old out.new (frames_shown (state_of (M.whole machine.now)).frames) }
 {
     let Some(_) = innermost(machine) else {
         return put_line(out, b"none");
     };
-    let code = machine.code();
-    for inner in 0..machine.frames().len() {
-        put_frame(out, code, frame_at(machine, inner))?;
+    for inner in 0..machine.depth() {
+        put_frame(out, machine, &frame_at(machine, inner))?;
     }
     Ok(())
 }

@@ -10,9 +10,8 @@ ghost use Rattle.qil_answers.specs.Listing.{phi_row, row, row_prefix, inst_rows,
 
 use crate::names::{func_name, innermost, label_name};
 use qil_code::Code;
-use qil_frames::Frame;
-use qil_machine::Machine;
 use qil_pieces::{Fragment, put_fragments};
+use qil_readers::{FrameView, Readers};
 use qil_streams::{Put, PutError, put_line};
 use qil_texts::{inst_text, jump_text, phi_text};
 use qil_tree::{Inst, Jump, Phi};
@@ -119,7 +118,7 @@ fn put_rows<P: Put, A: Allocator>(
 fn put_head<'c, 'a, P: Put, A: Allocator + Copy>(
     out: &mut P,
     code: &'c Code<'c, 'a, A>,
-    frame: &Frame<A>,
+    frame: &FrameView<'_>,
 ) -> Result<(), PutError>
     requires { P.stops out.old < 2 ^ 64 - 1 }
     ensures { HasPut P.written P.stops P.device result out.old out.new (block_head (func_name (func_at code.now frame.now.func)) (label_in (block_at code.now frame.now.func frame.now.block))) }
@@ -140,7 +139,7 @@ fn put_head<'c, 'a, P: Put, A: Allocator + Copy>(
 fn put_block_of<'c, 'a, P: Put, A: Allocator + Copy>(
     out: &mut P,
     code: &'c Code<'c, 'a, A>,
-    frame: &Frame<A>,
+    frame: &FrameView<'_>,
 ) -> Result<(), PutError>
     requires { P.stops out.old < 2 ^ 64 - 1 }
     ensures { HasPut P.written P.stops P.device result out.old out.new (rows_in frame.now.index (block_at code.now frame.now.func frame.now.block)) }
@@ -162,12 +161,12 @@ fn put_block_of<'c, 'a, P: Put, A: Allocator + Copy>(
 /// # Errors
 ///
 /// `PutError` where `out` stopped. Then a prefix of the text was put.
-pub fn put_block<P: Put, A: Allocator + Copy>(
+pub fn put_block<'c, P: Put, A: Allocator + Copy + 'c, M: Readers<A, Code<'c, 'c, A>>>(
     out: &mut P,
-    machine: &Machine<'_, '_, A>,
+    machine: &M,
 ) -> Result<(), PutError>
     requires { P.stops out.old < 2 ^ 64 - 1 }
-    ensures { HasPut P.written P.stops P.device result out.old out.new (block_shown machine.now.program (state_of machine.now).frames) }
+    ensures { HasPut P.written P.stops P.device result out.old out.new (block_shown (M.whole machine.now).program (state_of (M.whole machine.now)).frames) }
 {
     let Some(frame) = innermost(machine) else {
         return put_line(out, b"no: no frame");
@@ -175,6 +174,6 @@ pub fn put_block<P: Put, A: Allocator + Copy>(
     let code = machine.code();
     // Its clauses say that names find the block.
     let _known = code.func(frame.func());
-    put_head(out, code, frame)?;
-    put_block_of(out, code, frame)
+    put_head(out, code, &frame)?;
+    put_block_of(out, code, &frame)
 }

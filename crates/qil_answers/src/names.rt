@@ -1,15 +1,13 @@
 //! The names of what a machine has by number.
 
 ghost use Rattle.std.specs.Prelude.{◌≡◌, slice_get};
-ghost use Rattle.std.specs.Option.{option_copied};
 ghost use Rattle.qil_code.specs.Numbered.{func_at, block_at, names_of};
 ghost use Rattle.qil_code.specs.Slots.{name_at};
 ghost use Rattle.qil_state.specs.State.{func_name, label_in, FramesFit};
 
 use qil_code::{BlockId, Code, Slot};
-use qil_frames::Frame;
 use qil_layout::FuncId;
-use qil_machine::Machine;
+use qil_readers::{FrameView, Readers};
 use std::alloc::Allocator;
 
 /// The name of a function, without its sigil.
@@ -51,9 +49,11 @@ pub fn temp_name<'c, 'a, A: Allocator + Copy>(
 }
 
 /// The innermost frame, if a call isn't over.
-pub fn innermost<'m, A: Allocator + Copy>(machine: &'m Machine<'_, '_, A>) -> Option<&'m Frame<A>>
-    ensures frame { option_copied result ≡ slice_get machine.now.frames 0 }
-    ensures fits { FramesFit machine.now.program machine.now.frames }
+pub fn innermost<'c, 'm, A: Allocator + Copy + 'c, M: Readers<A, Code<'c, 'c, A>>>(
+    machine: &'m M,
+) -> Option<FrameView<'m>>
+    ensures frame { result ≡ slice_get (M.whole machine.now).frames 0 }
+    ensures fits { FramesFit (M.whole machine.now).program (M.whole machine.now).frames }
 {
-    machine.frames().last()
+    machine.frame(0)
 }

@@ -5,12 +5,13 @@ ghost use Rattle.qil_streams.specs.Device.{HasPut};
 ghost use Rattle.qil_pieces.specs.Texts.{fragment_text};
 ghost use Rattle.qil_state.specs.State.{state_of, head_names};
 ghost use Rattle.qil_state.specs.Faults.{fault_of};
-ghost use Rattle.qil_answers.specs.Texts.{fault_words, fault_detail, standing_line, state_line};
+ghost use Rattle.qil_answers.specs.Texts.{fault_words, fault_detail, fault_line, standing_line, state_line};
 
 use crate::names::{func_name, innermost, label_name, temp_name};
-use qil_machine::Machine;
+use qil_code::Code;
 use qil_ops::DivFault;
 use qil_pieces::{Fragment, put_fragments};
+use qil_readers::Readers;
 use qil_state::{Fault, Status};
 use qil_streams::{Put, PutError};
 use std::alloc::Allocator;
@@ -35,11 +36,11 @@ fn fault_words(fault: Fault) -> &'static [u8]
 }
 
 /// The address or the temporary that a fault tells.
-fn fault_detail<'c, 'a, A: Allocator + Copy>(
-    machine: &Machine<'c, 'a, A>,
+fn fault_detail<'c: 'm, 'm, A: Allocator + Copy + 'c, M: Readers<A, Code<'c, 'c, A>>>(
+    machine: &'m M,
     fault: Fault,
-) -> Fragment<'c>
-    ensures { fragment_text result ≡ fault_detail (fault_of (head_names machine.now.program machine.now.frames) fault) }
+) -> Fragment<'m>
+    ensures { fragment_text result ≡ fault_detail (fault_of (head_names (M.whole machine.now).program (M.whole machine.now).frames) fault) }
 {
     match fault {
         Fault::DeadAddress(address) | Fault::NoFunction(address) => Fragment::Number(address),
@@ -52,13 +53,13 @@ fn fault_detail<'c, 'a, A: Allocator + Copy>(
 }
 
 /// Puts the line of the place of a run that goes on.
-fn put_standing<P: Put, A: Allocator + Copy>(
+fn put_standing<'c, P: Put, A: Allocator + Copy + 'c, M: Readers<A, Code<'c, 'c, A>>>(
     out: &mut P,
     position: u64,
-    machine: &Machine<'_, '_, A>,
+    machine: &M,
 ) -> Result<(), PutError>
     requires { P.stops out.old < 2 ^ 64 - 1 }
-    ensures { HasPut P.written P.stops P.device result out.old out.new (standing_line position (state_of machine.now).frames) }
+    ensures { HasPut P.written P.stops P.device result out.old out.new (standing_line position (state_of (M.whole machine.now)).frames) }
 {
     let Some(frame) = innermost(machine) else {
         return put_fragments(
@@ -87,18 +88,41 @@ fn put_standing<P: Put, A: Allocator + Copy>(
     )
 }
 
+/// Puts the line of the place of a run that ended in a fault, of which this is told.
+fn put_fault<'w, P: Put>(
+    out: &mut P,
+    position: u64,
+    words: &'w [u8],
+    detail: Fragment<'w>,
+) -> Result<(), PutError>
+    requires { P.stops out.old < 2 ^ 64 - 1 }
+    ensures { HasPut P.written P.stops P.device result out.old out.new (fault_line position words.now (fragment_text detail.entry)) }
+{
+    put_fragments(
+        out,
+        &[
+            Fragment::Bytes(b"#"),
+            Fragment::Number(position),
+            Fragment::Bytes(b" fault "),
+            Fragment::Bytes(words),
+            detail,
+            Fragment::Bytes(b"\n"),
+        ],
+    )
+}
+
 /// Puts the line of the place of a run after so many moves.
 ///
 /// # Errors
 ///
 /// `PutError` where `out` stopped. Then a prefix of the line was put.
-pub fn put_place<P: Put, A: Allocator + Copy>(
+pub fn put_place<'c, P: Put, A: Allocator + Copy + 'c, M: Readers<A, Code<'c, 'c, A>>>(
     out: &mut P,
     position: u64,
-    machine: &Machine<'_, '_, A>,
+    machine: &M,
 ) -> Result<(), PutError>
     requires { P.stops out.old < 2 ^ 64 - 1 }
-    ensures { HasPut P.written P.stops P.device result out.old out.new (state_line position (state_of machine.now).frames (state_of machine.now).status) }
+    ensures { HasPut P.written P.stops P.device result out.old out.new (state_line position (state_of (M.whole machine.now)).frames (state_of (M.whole machine.now)).status) }
 {
     let prefix = Fragment::Bytes(b"#");
     let number = Fragment::Number(position);
@@ -126,16 +150,11 @@ pub fn put_place<P: Put, A: Allocator + Copy>(
                 end,
             ],
         ),
-        Status::Faulted(fault) => put_fragments(
+        Status::Faulted(fault) => put_fault(
             out,
-            &[
-                prefix,
-                number,
-                Fragment::Bytes(b" fault "),
-                Fragment::Bytes(fault_words(fault)),
-                fault_detail(machine, fault),
-                end,
-            ],
+            position,
+            fault_words(fault),
+            fault_detail(machine, fault),
         ),
     }
 }

@@ -10,9 +10,8 @@ ghost use Rattle.qil_answers.specs.Slots.{slot_lines};
 
 use crate::names::{innermost, temp_name};
 use qil_code::{Code, Slot};
-use qil_frames::Frame;
-use qil_machine::Machine;
 use qil_pieces::{Fragment, put_fragments};
+use qil_readers::{FrameView, Readers};
 use qil_streams::{Put, PutError, put_line};
 use std::alloc::Allocator;
 
@@ -49,13 +48,13 @@ fn put_value<P: Put>(out: &mut P, name: &[u8], value: Option<u64>) -> Result<(),
 /// # Errors
 ///
 /// `PutError` where `out` stopped. Then a prefix of the text was put.
-pub fn put_printed<P: Put, A: Allocator + Copy>(
+pub fn put_printed<'c, P: Put, A: Allocator + Copy + 'c, M: Readers<A, Code<'c, 'c, A>>>(
     out: &mut P,
-    machine: &Machine<'_, '_, A>,
+    machine: &M,
     name: &[u8],
 ) -> Result<(), PutError>
     requires { P.stops out.old < 2 ^ 64 - 1 }
-    ensures { HasPut P.written P.stops P.device result out.old out.new (printed machine.now.program (state_of machine.now).frames name.now) }
+    ensures { HasPut P.written P.stops P.device result out.old out.new (printed (M.whole machine.now).program (state_of (M.whole machine.now)).frames name.now) }
 {
     let Some(frame) = innermost(machine) else {
         return put_line(out, b"no: no frame");
@@ -70,7 +69,7 @@ pub fn put_printed<P: Put, A: Allocator + Copy>(
 fn put_slots<'c, 'a, P: Put, A: Allocator + Copy>(
     out: &mut P,
     code: &'c Code<'c, 'a, A>,
-    frame: &Frame<A>,
+    frame: &FrameView<'_>,
 ) -> Result<(), PutError>
     requires stops { P.stops out.old < 2 ^ 64 - 1 }
     requires slots { length (names_of code.now frame.now.func) ≡ length frame.now.slots }
@@ -91,12 +90,12 @@ fn put_slots<'c, 'a, P: Put, A: Allocator + Copy>(
 /// # Errors
 ///
 /// `PutError` where `out` stopped. Then a prefix of the text was put.
-pub fn put_temps<P: Put, A: Allocator + Copy>(
+pub fn put_temps<'c, P: Put, A: Allocator + Copy + 'c, M: Readers<A, Code<'c, 'c, A>>>(
     out: &mut P,
-    machine: &Machine<'_, '_, A>,
+    machine: &M,
 ) -> Result<(), PutError>
     requires { P.stops out.old < 2 ^ 64 - 1 }
-    ensures { HasPut P.written P.stops P.device result out.old out.new (temps_shown machine.now.program (state_of machine.now).frames) }
+    ensures { HasPut P.written P.stops P.device result out.old out.new (temps_shown (M.whole machine.now).program (state_of (M.whole machine.now)).frames) }
 {
     let Some(frame) = innermost(machine) else {
         return put_line(out, b"no: no frame");
@@ -107,5 +106,5 @@ pub fn put_temps<P: Put, A: Allocator + Copy>(
     if code.slot_count(frame.func()) == 0 {
         return put_line(out, b"none");
     }
-    put_slots(out, code, frame)
+    put_slots(out, code, &frame)
 }

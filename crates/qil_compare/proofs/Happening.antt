@@ -1,7 +1,8 @@
 -- What a step had: from what code finds to the events of the step.
-use Rattle.std.proofs.Common.{◌≡◌, ◌↔◌, ◌≢◌, refl, sym, ap, ◌∙◌, subst, ℕ, suc, ◌+◌, ◌<◌, ◌≤◌, Bool, true, false, not, if◌then◌else◌, List, [], ◌∷◌, length, drop, map, Option, Some, None, IsTrue, nat_lt, get_or}
-use Rattle.std.specs.Prelude.{is_some, option_map, unwrap_or}
+use Rattle.std.proofs.Common.{◌≡◌, ◌↔◌, ◌≢◌, refl, sym, ap, ◌∙◌, subst, ℕ, zero, suc, ◌+◌, ◌<◌, ◌≤◌, Bool, true, false, not, if◌then◌else◌, List, [], ◌∷◌, length, drop, map, Option, Some, None, IsTrue, nat_lt, get_or}
+use Rattle.std.specs.Prelude.{is_some, option_map, slice_get, unwrap_or}
 use Rattle.std.specs.Str.{bytes_eq}
+use Rattle.std.proofs.lemmas.Slice.Eq.{bytes_eq-Decides}
 use Rattle.std.proofs.lemmas.Bool.{true≢false}
 use Rattle.std.proofs.lemmas.List.{drop_all, at_drop_more}
 use Rattle.std.proofs.Math.Seq.{drop-length}
@@ -72,6 +73,22 @@ func_there (f ∷ funcs) x = either_there (bytes_eq f.name x) _ f _ (func_there 
 
 pub func_known : {A : Type 0} {X : Type 0} (p : Program A) (x : Name) (number : X → ℕ) (o : Option X) (r : Bool) → option_map number o ≡ place_of (func_names p) x → r ≡ is_some o → r ≡ has_func p x
 func_known p x number o r at is = is ∙ sym (mapped_some number o) ∙ ap is_some at ∙ func_there p.funcs x
+
+some_first : {X : Type 0} (b : Bool) (f : X) (o : Option X) → b ≡ true → is_some (if b then Some f else o) ≡ true
+some_first b f o e = rw e refl
+
+some_later : {X : Type 0} (b : Bool) (f : X) (o : Option X) → is_some o ≡ true → is_some (if b then Some f else o) ≡ true
+some_later true f o e = refl
+some_later false f o e = e
+
+named_at : {A : Type 0} (funcs : List (Func A)) (i : ℕ) (x : Name) → option_map (λ f. f.name) (slice_get funcs i) ≡ Some x → is_some (func_named funcs x) ≡ true
+named_at [] i x e = absurd cc
+named_at (f ∷ funcs) zero x e = let same : f.name ≡ x = cc in some_first (bytes_eq f.name x) f (func_named funcs x) ((bytes_eq-Decides f.name x).1 same)
+named_at (f ∷ funcs) (suc i) x e = some_later (bytes_eq f.name x) f (func_named funcs x) (named_at funcs i x e)
+
+-- what a program has at a number, it has by its name
+pub func_at_number : {A : Type 0} (p q : Program A) (i : ℕ) (x : Name) (r : Bool) → q ≡ p → option_map (λ f. f.name) (slice_get q.funcs i) ≡ Some x → r ≡ true → r ≡ has_func p x
+func_at_number p q i x r same at found = found ∙ sym (named_at p.funcs i x (subst (λ (w : Program _). option_map (λ f. f.name) (slice_get w.funcs i) ≡ Some x) same at))
 
 -- ---- bytes of output that weren't told
 

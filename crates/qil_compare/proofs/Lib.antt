@@ -1,4 +1,4 @@
--- The lemmas of this crate.
+-- The lemmas of this crate, and worked rows.
 pub mod Due
 pub mod Places
 pub mod Happening
@@ -7,3 +7,4 @@ pub mod Walking
 pub mod Sameness
 pub mod Fronts
 pub mod Longest
+pub mod EventRows

@@ -6,10 +6,17 @@ use Rattle.std.proofs.lemmas.Bool.{true≢false}
 use Rattle.std.proofs.lemmas.Bool.Decides.{nat_tests}
 use borrow.Author.Count.{below_more}
 use Rattle.qil_memory.specs.Buffers.{Buffers}
+use Rattle.qil_tree.specs.declared.ops.AbiType.{AbiType}
+use Rattle.qil_tree.specs.declared.tree.Program.{Program}
 use Rattle.qil_memory.specs.Live.{Live, live}
+use Rattle.qil_meaning.specs.State.{Name}
+use Rattle.qil_state.specs.declared.status.Fault.{Fault}
+use Rattle.qil_state.specs.declared.status.Status.{Status}
+use Rattle.qil_state.specs.declared.status.Status.TheVariants.{Faulted}
+use Rattle.qil_state.specs.Faults.{fault_of, status_of}
 use Rattle.qil_state.proofs.Place.{none_some, some_same}
 use Rattle.qil_compare.specs.Seen.{Offset}
-use Rattle.qil_compare.specs.Events.{Event, written, bytes_from}
+use Rattle.qil_compare.specs.Events.{Event, written, bytes_from, Cause, unset, faulted_by, ended, cause_of, end_of}
 
 -- after all addresses of 64 bits nothing is live
 pub dead_far : (m : Buffers) (a : ℕ) → m.top < 2 ^ 64 → 2 ^ 64 ≤ a → live m a ≡ None
@@ -142,3 +149,17 @@ same_place_bytes m w a b n k place other p q r s en ep eq test on bytes =
     let at : place ≡ other = sym ep ∙ test.0 on ∙ eq in
     subst (λ j. IsTrue s ↔ (written place (bytes_from m a n) ≡ written other (bytes_from w b j))) en
     (λ t. (λ i. written (at i) (bytes.0 t i)), λ e. bytes.1 (ap bytes_in e))
+
+-- ---- ends
+
+abbrev cause_in : Event → Cause
+cause_in (ended (Some (faulted_by cause))) = cause
+cause_in e = unset
+
+-- two runs that faulted ended the same where they did for the same cause
+pub faulted_same : {A : Type 0} (p q : Program A) (t u : AbiType) (ns ms : List Name) (s w : Status) (one other : Fault) (r : Bool) → Faulted one ≡ s → Faulted other ≡ w
+    → ((ns ms : List Name) → IsTrue r ↔ (cause_of p (fault_of ns one) ≡ cause_of q (fault_of ms other))) → IsTrue r ↔ (ended (end_of p t (status_of ns s)) ≡ ended (end_of q u (status_of ms w)))
+faulted_same p q t u ns ms s w one other r es ew test =
+    subst (λ x. IsTrue r ↔ (ended (end_of p t (status_of ns x)) ≡ ended (end_of q u (status_of ms w)))) es
+    (subst (λ y. IsTrue r ↔ (ended (end_of p t (status_of ns (Faulted one))) ≡ ended (end_of q u (status_of ms y)))) ew
+    (λ on. ap (λ cause. ended (Some (faulted_by cause))) ((test ns ms).0 on), λ e. (test ns ms).1 (ap cause_in e)))

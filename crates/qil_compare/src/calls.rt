@@ -1,6 +1,6 @@
 //! The call that the innermost frame is of: its name, and the values of its parameters. Nothing here takes memory.
 
-ghost use Rattle.std.specs.Prelude.{◌≡◌, ◌<◌, length, slice_get, Some};
+ghost use Rattle.std.specs.Prelude.{◌≡◌, ◌<◌, length, slice_get, Some, IfSome};
 ghost use Rattle.qil_state.specs.State.{state_of};
 ghost use Rattle.qil_compare.specs.Coded.{held_or_zero, value_of};
 ghost use Rattle.qil_compare.specs.Events.{call_name, call_params};
@@ -9,9 +9,20 @@ use crate::ahead::innermost;
 use crate::seen::{Seen, func_name, value_seen};
 use qil_code::Slot;
 use qil_frames::Frame;
+use qil_layout::FuncId;
 use qil_machine::Machine;
 use qil_tree::Program;
 use std::alloc::Allocator;
+
+/// The number of the function that was called.
+pub fn call_func<A: Allocator + Copy>(machine: &Machine<'_, '_, A>) -> FuncId
+    ensures { IfSome (slice_get machine.now.frames 0) (λ frame. result.index ≡ frame.func) }
+{
+    match innermost(machine) {
+        Some(frame) => frame.func(),
+        None => FuncId { index: 0 },
+    }
+}
 
 /// The name of the function that was called, without its sigil.
 pub fn call_name<'c, A: Allocator + Copy>(machine: &Machine<'c, 'c, A>) -> &'c [u8]

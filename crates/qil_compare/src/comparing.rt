@@ -151,16 +151,23 @@ fn is_far<
     good.position() > MOST_MOVES || bad.position() > MOST_MOVES
 }
 
+/// What is told of two runs after so many events that are the same.
+fn told_of(common: u64, verdict: Verdict, one: Found, other: Found) -> Answer
+    ensures { result ≡ record { events = common; verdict = verdict; good = one; bad = other } }
+{
+    Answer {
+        events: common,
+        verdict,
+        good: one,
+        bad: other,
+    }
+}
+
 /// That no further event was looked for, after so many that are the same.
 fn limited(common: u64) -> Answer
     ensures { result ≡ record { events = common; verdict = Verdict.Limit; good = Found.Limit; bad = Found.Limit } }
 {
-    Answer {
-        events: common,
-        verdict: Verdict::Limit,
-        good: Found::Limit,
-        bad: Found::Limit,
-    }
+    told_of(common, Verdict::Limit, Found::Limit, Found::Limit)
 }
 
 /// Runs two programs side by side to the first event in which they differ, to the end of both, or to a limit: of the moves
@@ -190,12 +197,7 @@ pub fn compare<
         let one = next_event(good, good_side, &mut good_told, limit);
         let other = next_event(bad, bad_side, &mut bad_told, limit);
         if let Some(verdict) = judge_here(good, bad, good_side, bad_side, one, other) {
-            return Answer {
-                events,
-                verdict,
-                good: one,
-                bad: other,
-            };
+            return told_of(events, verdict, one, other);
         }
     }
     limited(u64::MAX)

@@ -1,6 +1,6 @@
 //! Which event a step had, by the machine before and after it. Nothing here takes memory.
 
-ghost use Rattle.std.specs.Prelude.{◌≡◌, [], ◌∷◌, drop, option_map};
+ghost use Rattle.std.specs.Prelude.{◌≡◌, [], ◌∷◌, IsTrue, Some, drop, option_map, slice_get};
 ghost use Rattle.qil_meaning.specs.State.{is_final};
 ghost use Rattle.qil_state.specs.State.{state_of};
 ghost use Rattle.qil_compare.specs.Events.{Due, has_func, has_data, bytes_out, write_in, write_by, call_by, return_by, one_if, ended, end_of};
@@ -9,11 +9,11 @@ ghost use Rattle.qil_compare.specs.Next.{event_at, AreTold};
 ghost use Rattle.qil_compare.specs.Ahead.{value_ahead, writes_ahead, IsAhead, IsFuncOf, HasHappened};
 
 use crate::ahead::{Ahead, Before, depth};
-use crate::calls::call_name;
+use crate::calls::{call_func, call_name};
 use crate::event::{Event, Kinds, Told};
 use crate::seen::{data_place, func_name};
 use qil_code::Code;
-use qil_layout::{DATA_BASE, Image};
+use qil_layout::{DATA_BASE, FuncId, Image};
 use qil_machine::Machine;
 use qil_tree::Program;
 use std::alloc::Allocator;
@@ -37,10 +37,24 @@ fn has_data<A: Allocator + Copy>(image: &Image<'_, '_, A>, name: &[u8]) -> bool
     }
 }
 
-/// Whether a program defines a function of a name.
-fn has_func<A: Allocator + Copy>(code: &Code<'_, '_, A>, name: &[u8]) -> bool
+/// Whether a function of a program has a name.
+fn is_named<A: Allocator + Copy>(image: &Image<'_, '_, A>, func: FuncId, name: &[u8]) -> bool
+    ensures { IsTrue result → option_map (λ f. f.name) (slice_get image.now.funcs func.index) ≡ Some name.now }
+{
+    match image.name_of(func) {
+        Some(other) => other.bytes() == name,
+        None => false,
+    }
+}
+
+/// Whether a program defines a function of a name. It is looked for at a number first: two compilations of a program mostly
+/// have their functions in one order, and to find a name in a table takes much longer.
+fn has_func<A: Allocator + Copy>(code: &Code<'_, '_, A>, func: FuncId, name: &[u8]) -> bool
     ensures { result ≡ has_func code.now name.now }
 {
+    if is_named(code.image(), func, name) {
+        return true;
+    }
     code.func_named(name).is_some()
 }
 
@@ -83,7 +97,7 @@ fn called<'c, A: Allocator + Copy>(side: &Side<'c, A>, machine: &Machine<'c, 'c,
     if !side.kinds.calls {
         return None;
     }
-    if !has_func(side.other, call_name(machine)) {
+    if !has_func(side.other, call_func(machine), call_name(machine)) {
         return None;
     }
     told(machine, Event::Call)
@@ -102,7 +116,7 @@ fn returned<'c, A: Allocator + Copy>(
         return None;
     }
     let name = func_name(machine.code().image(), before.func);
-    if !has_func(side.other, name) {
+    if !has_func(side.other, before.func, name) {
         return None;
     }
     told(

@@ -29,38 +29,84 @@ pub struct Copied<A: Allocator> {
     pub saved: Saved<A>,
 }
 
-/// The kinds of moves. A flag says whether a slot was set; then the number is what it held.
+/// The kinds of moves. `old` is what a slot held, if `was_set`; a `number` is what `count` bytes spelled.
 #[derive(Drop)]
 pub enum DeltaKind<A: Allocator> {
-    /// Slot, index, what the slot held.
-    Assigned(Slot, u32, Option<u64>),
-    /// How many bytes, index, address, and the number that they spelled.
-    Stored(u8, u32, u32, u64),
-    /// The block that was left, at its end.
-    Left(u16),
-    /// The block, the slot that a phi wrote, and what it held.
-    LeftOne(u16, Slot, Option<u64>),
+    Assigned {
+        slot: Slot,
+        index: u32,
+        old: Option<u64>,
+    },
+    Stored {
+        count: u8,
+        index: u32,
+        address: u32,
+        number: u64,
+    },
+    /// The block was left, at its end.
+    Left {
+        block: u16,
+    },
+    /// And a phi wrote a slot.
+    LeftOne {
+        block: u16,
+        slot: Slot,
+        old: Option<u64>,
+    },
     /// Both slots were set.
-    LeftTwo(u16, Slot, Slot, u64, u64),
+    LeftTwo {
+        block: u16,
+        first: Slot,
+        second: Slot,
+        first_old: u64,
+        second_old: u64,
+    },
     /// Up to four slots.
-    LeftShort(u16, Box<ArrayVec<SavedSlot, 4>, A>),
-    LeftMany(u16, Box<Vec<SavedSlot, A>, A>),
+    LeftShort {
+        block: u16,
+        kept: Box<ArrayVec<SavedSlot, 4>, A>,
+    },
+    LeftMany {
+        block: u16,
+        kept: Box<Vec<SavedSlot, A>, A>,
+    },
     /// The caller's index.
-    Called(u32),
-    /// Flag of the caller's slot, the top, what the slot held, and the frame itself.
-    Returned(bool, u32, u64, Frame<A>),
+    Called {
+        index: u32,
+    },
+    /// The slot is the caller's; the frame itself is kept.
+    Returned {
+        was_set: bool,
+        top: u32,
+        old: u64,
+        frame: Frame<A>,
+    },
     Grew(Box<Grown<A>, A>),
     Copied(Box<Copied<A>, A>),
-    /// Index, and how many bytes had been written.
-    Wrote(u32, u32),
-    /// Flag, slot, index, how many bytes had been written, old value.
-    WroteTo(bool, Slot, u32, u32, u64),
+    /// `count` bytes had been written.
+    Wrote {
+        index: u32,
+        count: u32,
+    },
+    WroteTo {
+        was_set: bool,
+        slot: Slot,
+        index: u32,
+        count: u32,
+        old: u64,
+    },
     /// A fault, or an exit.
     Ended,
-    /// Flag, slot, old value.
-    PokedSlot(bool, Slot, u64),
-    /// How many bytes, address, and the number that they spelled.
-    PokedBytes(u8, u32, u64),
+    PokedSlot {
+        was_set: bool,
+        slot: Slot,
+        old: u64,
+    },
+    PokedBytes {
+        count: u8,
+        address: u32,
+        number: u64,
+    },
 }
 
 /// What a move of a machine keeps. `Machine::undo` puts it back. Specifications see one record for all kinds.
@@ -87,7 +133,7 @@ impl<A: Allocator> Delta<A> {
         ensures { result ≡ slots_move (at index) (one slot old) }
     {
         Delta {
-            kind: DeltaKind::Assigned(slot, index, old),
+            kind: DeltaKind::Assigned { slot, index, old },
         }
     }
 
@@ -97,7 +143,12 @@ impl<A: Allocator> Delta<A> {
         ensures { result ≡ bytes_move index address (low_bytes count number) }
     {
         Delta {
-            kind: DeltaKind::Stored(count, index, address, number),
+            kind: DeltaKind::Stored {
+                count,
+                index,
+                address,
+                number,
+            },
         }
     }
 
@@ -109,19 +160,25 @@ impl<A: Allocator> Delta<A> {
         let block = block.index;
         match slots {
             KeptSlots::None => Delta {
-                kind: DeltaKind::Left(block),
+                kind: DeltaKind::Left { block },
             },
-            KeptSlots::One(slot, value) => Delta {
-                kind: DeltaKind::LeftOne(block, slot, value),
+            KeptSlots::One(slot, old) => Delta {
+                kind: DeltaKind::LeftOne { block, slot, old },
             },
-            KeptSlots::Two(a, b, x, y) => Delta {
-                kind: DeltaKind::LeftTwo(block, a, b, x, y),
+            KeptSlots::Two(first, second, first_old, second_old) => Delta {
+                kind: DeltaKind::LeftTwo {
+                    block,
+                    first,
+                    second,
+                    first_old,
+                    second_old,
+                },
             },
             KeptSlots::Short(kept) => Delta {
-                kind: DeltaKind::LeftShort(block, kept),
+                kind: DeltaKind::LeftShort { block, kept },
             },
             KeptSlots::Many(kept) => Delta {
-                kind: DeltaKind::LeftMany(block, kept),
+                kind: DeltaKind::LeftMany { block, kept },
             },
         }
     }
@@ -131,7 +188,7 @@ impl<A: Allocator> Delta<A> {
         ensures { result ≡ called_move index }
     {
         Delta {
-            kind: DeltaKind::Called(index),
+            kind: DeltaKind::Called { index },
         }
     }
 
@@ -142,10 +199,20 @@ impl<A: Allocator> Delta<A> {
         let _ = frame.slots();
         match old {
             Some(old) => Delta {
-                kind: DeltaKind::Returned(true, top, old, frame),
+                kind: DeltaKind::Returned {
+                    was_set: true,
+                    top,
+                    old,
+                    frame,
+                },
             },
             None => Delta {
-                kind: DeltaKind::Returned(false, top, 0, frame),
+                kind: DeltaKind::Returned {
+                    was_set: false,
+                    top,
+                    old: 0,
+                    frame,
+                },
             },
         }
     }
@@ -172,7 +239,7 @@ impl<A: Allocator> Delta<A> {
         ensures { result ≡ wrote_move index count [] }
     {
         Delta {
-            kind: DeltaKind::Wrote(index, count),
+            kind: DeltaKind::Wrote { index, count },
         }
     }
 
@@ -181,10 +248,22 @@ impl<A: Allocator> Delta<A> {
     {
         match old {
             Some(old) => Delta {
-                kind: DeltaKind::WroteTo(true, slot, index, count, old),
+                kind: DeltaKind::WroteTo {
+                    was_set: true,
+                    slot,
+                    index,
+                    count,
+                    old,
+                },
             },
             None => Delta {
-                kind: DeltaKind::WroteTo(false, slot, index, count, 0),
+                kind: DeltaKind::WroteTo {
+                    was_set: false,
+                    slot,
+                    index,
+                    count,
+                    old: 0,
+                },
             },
         }
     }
@@ -203,10 +282,18 @@ impl<A: Allocator> Delta<A> {
     {
         match old {
             Some(old) => Delta {
-                kind: DeltaKind::PokedSlot(true, slot, old),
+                kind: DeltaKind::PokedSlot {
+                    was_set: true,
+                    slot,
+                    old,
+                },
             },
             None => Delta {
-                kind: DeltaKind::PokedSlot(false, slot, 0),
+                kind: DeltaKind::PokedSlot {
+                    was_set: false,
+                    slot,
+                    old: 0,
+                },
             },
         }
     }
@@ -216,7 +303,11 @@ impl<A: Allocator> Delta<A> {
         ensures { result ≡ poked_bytes_move address (low_bytes count number) }
     {
         Delta {
-            kind: DeltaKind::PokedBytes(count, address, number),
+            kind: DeltaKind::PokedBytes {
+                count,
+                address,
+                number,
+            },
         }
     }
 }
@@ -235,25 +326,25 @@ impl<A: Allocator> Delta<A> {
         ensures { result ≡ weight self.now }
     {
         match &self.kind {
-            DeltaKind::Assigned(_, _, _) => 6,
-            DeltaKind::Stored(count, _, _, _) => 4 + u64::from(*count),
-            DeltaKind::Left(_) => 4,
-            DeltaKind::LeftOne(_, _, _) => 6,
-            DeltaKind::LeftTwo(_, _, _, _, _) => 8,
-            DeltaKind::LeftShort(_, kept) => 4 + 2 * (kept.len() as u64),
-            DeltaKind::LeftMany(_, kept) => 4 + 2 * (kept.len() as u64),
-            DeltaKind::Called(_) => 4,
-            DeltaKind::Returned(_, _, _, frame) => {
+            DeltaKind::Assigned { .. } => 6,
+            DeltaKind::Stored { count, .. } => 4 + u64::from(*count),
+            DeltaKind::Left { .. } => 4,
+            DeltaKind::LeftOne { .. } => 6,
+            DeltaKind::LeftTwo { .. } => 8,
+            DeltaKind::LeftShort { kept, .. } => 4 + 2 * (kept.len() as u64),
+            DeltaKind::LeftMany { kept, .. } => 4 + 2 * (kept.len() as u64),
+            DeltaKind::Called { .. } => 4,
+            DeltaKind::Returned { frame, .. } => {
                 let received = if frame.result().is_some() { 2 } else { 0 };
                 4 + received + frame.slots().len() as u64
             }
             DeltaKind::Grew(grown) => 6 + grown.saved.byte_count() as u64,
             DeltaKind::Copied(copied) => 4 + copied.saved.byte_count() as u64,
-            DeltaKind::Wrote(_, _) => 4,
-            DeltaKind::WroteTo(_, _, _, _, _) => 6,
+            DeltaKind::Wrote { .. } => 4,
+            DeltaKind::WroteTo { .. } => 6,
             DeltaKind::Ended => 4,
-            DeltaKind::PokedSlot(_, _, _) => 6,
-            DeltaKind::PokedBytes(count, _, _) => 4 + u64::from(*count),
+            DeltaKind::PokedSlot { .. } => 6,
+            DeltaKind::PokedBytes { count, .. } => 4 + u64::from(*count),
         }
     }
 }

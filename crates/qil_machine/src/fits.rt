@@ -26,32 +26,50 @@ impl<A: Allocator + Copy> Delta<A> {
         ensures { IsTrue result ↔ Fits self.now machine.now }
     {
         match &self.kind {
-            DeltaKind::Assigned(slot, index, value) => machine.fits_assigned(*slot, *value, *index),
-            DeltaKind::Stored(count, index, address, number) => {
-                machine.fits_stored(*count, *index, *address, *number)
-            }
-            DeltaKind::Left(block) => machine.fits_left(*block, &[]),
-            DeltaKind::LeftOne(block, slot, value) => machine.fits_left_one(*block, *slot, *value),
-            DeltaKind::LeftTwo(block, a, b, x, y) => machine.fits_left_two(*block, *a, *b, *x, *y),
-            DeltaKind::LeftShort(block, kept) => machine.fits_left(*block, kept.as_slice()),
-            DeltaKind::LeftMany(block, kept) => machine.fits_left(*block, kept.as_slice()),
-            DeltaKind::Called(index) => machine.fits_called(*index),
-            DeltaKind::Returned(set, top, value, frame) => {
-                machine.fits_returned(frame, *top, value_of(*set, *value))
-            }
+            DeltaKind::Assigned { slot, index, old } => machine.fits_assigned(*slot, *old, *index),
+            DeltaKind::Stored {
+                count,
+                index,
+                address,
+                number,
+            } => { machine.fits_stored(*count, *index, *address, *number) }
+            DeltaKind::Left { block } => machine.fits_left(*block, &[]),
+            DeltaKind::LeftOne { block, slot, old } => machine.fits_left_one(*block, *slot, *old),
+            DeltaKind::LeftTwo {
+                block,
+                first,
+                second,
+                first_old,
+                second_old,
+            } => machine.fits_left_two(*block, *first, *second, *first_old, *second_old),
+            DeltaKind::LeftShort { block, kept } => machine.fits_left(*block, kept.as_slice()),
+            DeltaKind::LeftMany { block, kept } => machine.fits_left(*block, kept.as_slice()),
+            DeltaKind::Called { index } => machine.fits_called(*index),
+            DeltaKind::Returned {
+                was_set,
+                top,
+                old,
+                frame,
+            } => { machine.fits_returned(frame, *top, value_of(*was_set, *old)) }
             DeltaKind::Grew(grown) => machine.fits_grew(grown),
             DeltaKind::Copied(copied) => machine.fits_copied(copied.index, &copied.saved),
-            DeltaKind::Wrote(index, count) => machine.fits_wrote(*index, *count),
-            DeltaKind::WroteTo(set, slot, index, count, value) => {
-                machine.fits_wrote_to(*slot, value_of(*set, *value), *index, *count)
-            }
+            DeltaKind::Wrote { index, count } => machine.fits_wrote(*index, *count),
+            DeltaKind::WroteTo {
+                was_set,
+                slot,
+                index,
+                count,
+                old,
+            } => { machine.fits_wrote_to(*slot, value_of(*was_set, *old), *index, *count) }
             DeltaKind::Ended => machine.fits_ended(),
-            DeltaKind::PokedSlot(set, slot, value) => {
-                machine.fits_poked_slot(*slot, value_of(*set, *value))
+            DeltaKind::PokedSlot { was_set, slot, old } => {
+                machine.fits_poked_slot(*slot, value_of(*was_set, *old))
             }
-            DeltaKind::PokedBytes(count, address, number) => {
-                machine.fits_poked_bytes(*count, *address, *number)
-            }
+            DeltaKind::PokedBytes {
+                count,
+                address,
+                number,
+            } => { machine.fits_poked_bytes(*count, *address, *number) }
         }
     }
 }

@@ -27,34 +27,60 @@ impl<'c, 'a, A: Allocator + Copy> Machine<'c, 'a, A> {
     {
         let Delta { kind } = delta;
         match kind {
-            DeltaKind::Assigned(slot, index, value) => self.undo_assigned(slot, value, index),
-            DeltaKind::Stored(count, index, address, number) => {
+            DeltaKind::Assigned { slot, index, old } => self.undo_assigned(slot, old, index),
+            DeltaKind::Stored {
+                count,
+                index,
+                address,
+                number,
+            } => {
                 self.undo_stored(count, index, address, number);
             }
-            DeltaKind::Left(block) => self.undo_left(block, KeptSlots::None),
-            DeltaKind::LeftOne(block, slot, value) => {
-                self.undo_left(block, KeptSlots::One(slot, value));
+            DeltaKind::Left { block } => self.undo_left(block, KeptSlots::None),
+            DeltaKind::LeftOne { block, slot, old } => {
+                self.undo_left(block, KeptSlots::One(slot, old));
             }
-            DeltaKind::LeftTwo(block, a, b, x, y) => {
-                self.undo_left(block, KeptSlots::Two(a, b, x, y));
+            DeltaKind::LeftTwo {
+                block,
+                first,
+                second,
+                first_old,
+                second_old,
+            } => {
+                self.undo_left(block, KeptSlots::Two(first, second, first_old, second_old));
             }
-            DeltaKind::LeftShort(block, kept) => self.undo_left(block, KeptSlots::Short(kept)),
-            DeltaKind::LeftMany(block, kept) => self.undo_left(block, KeptSlots::Many(kept)),
-            DeltaKind::Called(index) => self.undo_called(index),
-            DeltaKind::Returned(set, top, value, frame) => {
-                self.undo_returned(frame, top, value_of(set, value));
+            DeltaKind::LeftShort { block, kept } => self.undo_left(block, KeptSlots::Short(kept)),
+            DeltaKind::LeftMany { block, kept } => self.undo_left(block, KeptSlots::Many(kept)),
+            DeltaKind::Called { index } => self.undo_called(index),
+            DeltaKind::Returned {
+                was_set,
+                top,
+                old,
+                frame,
+            } => {
+                self.undo_returned(frame, top, value_of(was_set, old));
             }
             DeltaKind::Grew(grown) => self.undo_boxed_grew(grown),
             DeltaKind::Copied(copied) => self.undo_boxed_copied(copied),
-            DeltaKind::Wrote(index, count) => self.undo_wrote(index, count),
-            DeltaKind::WroteTo(set, slot, index, count, value) => {
-                self.undo_wrote_to(slot, value_of(set, value), index, count);
+            DeltaKind::Wrote { index, count } => self.undo_wrote(index, count),
+            DeltaKind::WroteTo {
+                was_set,
+                slot,
+                index,
+                count,
+                old,
+            } => {
+                self.undo_wrote_to(slot, value_of(was_set, old), index, count);
             }
             DeltaKind::Ended => self.undo_ended(),
-            DeltaKind::PokedSlot(set, slot, value) => {
-                self.undo_poked_slot(slot, value_of(set, value));
+            DeltaKind::PokedSlot { was_set, slot, old } => {
+                self.undo_poked_slot(slot, value_of(was_set, old));
             }
-            DeltaKind::PokedBytes(count, address, number) => {
+            DeltaKind::PokedBytes {
+                count,
+                address,
+                number,
+            } => {
                 self.undo_poked_bytes(count, address, number);
             }
         }

@@ -1,5 +1,5 @@
 -- What the calls did, in words of the map of live bytes.
-use Rattle.std.proofs.Common.{◌≡◌, ℕ, ◌+◌, ◌<◌, ◌≤◌, List, [], length, Option, Some, None, Result, Ok, Err, IsErrAnd, IfErr, inl, true, false, ◌==◌, if◌then◌else◌, ◌-◌, IsTrue, refl, sym, ap, subst, ◌∙◌, arith, ⊎_elim}
+use Rattle.std.proofs.Common.{◌≡◌, ◌≢◌, ℕ, ◌+◌, ◌<◌, ◌≤◌, List, [], length, Option, Some, None, Result, Ok, Err, IsErrAnd, IfErr, inl, true, false, ◌==◌, if◌then◌else◌, ◌-◌, IsTrue, refl, sym, ap, subst, ◌∙◌, arith, ⊎_elim}
 use Rattle.std.proofs.lemmas.Bool.Decides.{nat_tests}
 use Rattle.qil_layout.specs.Layout.{low_bytes, zeros}
 use Rattle.qil_layout.proofs.BytesLemmas.{length-low_bytes, length-zeros}
@@ -107,6 +107,17 @@ blit_keeps m w saved s t n top kept xs h k e f g top_is is =
 pub wants_memory : {A : Type 0} (r : Result A BlitFault) (b : Result Live BlitFault) (x : Live) → b ≡ Ok x → IsErrAnd r (λ e. e ≡ OutOfMemory) → IfErr r (λ e. Explains e b)
 wants_memory (Ok a) b x e h = tt
 wants_memory (Err fault) b x e h = rw (h, e) refl
+
+own_explains : (e fault : BlitFault) (b : Result Live BlitFault) → b ≡ Err fault → fault ≢ OutOfMemory → e ≡ fault → Explains e b
+own_explains OutOfMemory fault b of_it other e = absurd (other (sym e))
+own_explains (Source a) fault b of_it other e = of_it ∙ ap Err (sym e)
+own_explains (Target a) fault b of_it other e = of_it ∙ ap Err (sym e)
+own_explains Overlap fault b of_it other e = of_it ∙ ap Err (sym e)
+
+-- a fault of the blit's own, handed on
+pub passed_on : {A : Type 0} (r : Result A BlitFault) (b : Result Live BlitFault) (fault : BlitFault) → b ≡ Err fault → fault ≢ OutOfMemory → IsErrAnd r (λ e. e ≡ fault) → IfErr r (λ e. Explains e b)
+passed_on (Ok a) b fault of_it other h = tt
+passed_on (Err e) b fault of_it other h = own_explains e fault b of_it other h
 
 pub top_places : (m : Buffers) (top n : ℕ) → IsMemory m → top ≡ m.top → top + n ≤ stack_end → HasBytes m top n
 top_places m top n i e h = let low = i.low in let whole = i.whole in record {

@@ -208,18 +208,10 @@ impl<A: Allocator + Copy> Memory<A> {
         if n == 0 {
             return Ok(Saved::new(STACK_BASE, KeptBytes::Few(0, 0), self.top()));
         }
-        if !self.is_live(source, n) {
-            return Err(BlitFault::Source(source));
-        }
-        if !self.is_live(target, n) {
-            return Err(BlitFault::Target(target));
-        }
-        if overlaps(source, target, n) {
-            return Err(BlitFault::Overlap);
-        }
+        self.test_blit(source, target, n)?;
         let count = n as usize;
         let kept = keep(self.allocator(), self.bytes_at(target, count))?;
-        self.copy(source, target, count);
+        self.copy_bytes(source, target, count);
         Ok(Saved::new(target, kept, self.top()))
     }
 
@@ -244,10 +236,9 @@ impl<A: Allocator + Copy> Memory<A> {
         ensures err { OnErr result (self.new ≡ self.old) }
     {
         let top = self.top();
-        let address = aligned(align, top);
-        if address > STACK_END || n > STACK_END - address {
+        let Some(address) = self.room(align, n) else {
             return Err(AllocFault::Full);
-        }
+        };
         let end = address + n;
         let count = (end - top) as usize;
         let kept = keep(self.allocator(), self.bytes_at(top, count))?;
@@ -400,6 +391,45 @@ impl<A: Allocator + Copy> Memory<A> {
         is_between(address, n, self.live_end(address))
     }
 
+    /// Why `n` bytes, of which there are some, can't be copied from one address to another, where they can't.
+    pub(crate) fn test_blit(&self, source: u64, target: u64, n: u64) -> Result<(), BlitFault>
+        requires { 0 < n }
+        ensures ok { OnOk result (blitted (live self.now) source target n ≡ Ok (live (with_bytes self.now target (bytes_at self.now source n)))) }
+        ensures fault { IfErr result (λ e. blitted (live self.now) source target n ≡ Err e) }
+        ensures memory { result ≢ Err BlitFault.OutOfMemory }
+        ensures source { OnOk result (HasBytes self.now source n) }
+        ensures target { OnOk result (HasBytes self.now target n) }
+        ensures inside { OnOk result (target + n ≤ STACK_END) }
+        ensures valid { IsMemory self.now }
+    {
+        if !self.is_live(source, n) {
+            return Err(BlitFault::Source(source));
+        }
+        if !self.is_live(target, n) {
+            return Err(BlitFault::Target(target));
+        }
+        if overlaps(source, target, n) {
+            return Err(BlitFault::Overlap);
+        }
+        Ok(())
+    }
+
+    /// The address that `n` bytes on top of the stack would have, where the stack has room for them.
+    #[inline(always)]
+    pub(crate) fn room(&self, align: u64, n: u64) -> Option<u64>
+        requires { IsAlignment align }
+        ensures address { IfSome result (λ address. address ≡ rounded align self.now.top) }
+        ensures full { (result ≡ None) ↔ (stack_end < rounded align self.now.top + n) }
+        ensures low { IfSome result (λ address. self.now.top ≤ address) }
+        ensures high { IfSome result (λ address. address + n ≤ STACK_END) }
+    {
+        let address = aligned(align, self.top());
+        if address > STACK_END || n > STACK_END - address {
+            return None;
+        }
+        Some(address)
+    }
+
     fn bytes_at(&self, address: u64, n: usize) -> &[u8]
         requires { HasBytes self.now address n }
         ensures { result.now ≡ bytes_at self.now address n }
@@ -457,7 +487,7 @@ impl<A: Allocator + Copy> Memory<A> {
     }
 
     /// Copies `n` bytes from one address to another.
-    fn copy(&mut self, source: u64, target: u64, n: usize)
+    pub(crate) fn copy_bytes(&mut self, source: u64, target: u64, n: usize)
         requires source { HasBytes self.old source n }
         requires target { HasBytes self.old target n }
         ensures { self.new ≡ with_bytes self.old target (bytes_at self.old source n) }
@@ -484,7 +514,7 @@ impl<A: Allocator + Copy> Memory<A> {
     }
 
     /// Makes bytes of the stack zero.
-    fn clear(&mut self, address: u64, n: usize)
+    pub(crate) fn clear(&mut self, address: u64, n: usize)
         requires stack { stack_base ≤ address }
         requires places { HasBytes self.old address n }
         ensures { self.new ≡ with_bytes self.old address (zeros n) }

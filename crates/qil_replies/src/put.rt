@@ -13,21 +13,22 @@ use crate::texts::{put_deleted, put_reason, put_stop, refusal_words};
 use qil_answers::{
     put_block, put_frames, put_memory, put_output, put_place, put_printed, put_temps,
 };
-use qil_machine::Machine;
+use qil_code::Code;
 use qil_meaning::Reason;
+use qil_readers::Readers;
 use qil_stops::NumberedStop;
 use qil_streams::{Put, PutError, put_line};
 use std::alloc::Allocator;
 
 /// Puts why a run stopped, and the place.
-fn put_stopped<P: Put, A: Allocator + Copy>(
+fn put_stopped<'c, P: Put, A: Allocator + Copy + 'c, M: Readers<A, Code<'c, 'c, A>>>(
     out: &mut P,
     position: u64,
-    machine: &Machine<'_, '_, A>,
+    machine: &M,
     reason: Reason,
 ) -> Result<(), PutError>
     requires { P.stops out.old < 2 ^ 64 - 1 }
-    ensures { HasPut P.written P.stops P.device result out.old out.new (reason_line reason ++ state_line position (state_of machine.now).frames (state_of machine.now).status) }
+    ensures { HasPut P.written P.stops P.device result out.old out.new (reason_line reason ++ state_line position (state_of (M.whole machine.now)).frames (state_of (M.whole machine.now)).status) }
 {
     put_reason(out, reason)?;
     put_place(out, position, machine)
@@ -38,15 +39,15 @@ fn put_stopped<P: Put, A: Allocator + Copy>(
 /// # Errors
 ///
 /// `PutError` where `out` stopped. Then a prefix of the text was put.
-pub fn put_reply<P: Put, A: Allocator + Copy>(
+pub fn put_reply<'c, P: Put, A: Allocator + Copy + 'c, M: Readers<A, Code<'c, 'c, A>>>(
     out: &mut P,
     position: u64,
-    machine: &Machine<'_, '_, A>,
+    machine: &M,
     stops: &[NumberedStop],
     reply: Reply<'_>,
 ) -> Result<(), PutError>
     requires { P.stops out.old < 2 ^ 64 - 1 }
-    ensures { HasPut P.written P.stops P.device result out.old out.new (reply_text machine.now.program position (state_of machine.now) stops.now reply.entry) }
+    ensures { HasPut P.written P.stops P.device result out.old out.new (reply_text (M.whole machine.now).program position (state_of (M.whole machine.now)) stops.now reply.entry) }
 {
     match reply {
         Reply::Nothing => Ok(()),

@@ -8,14 +8,14 @@ ghost use Rattle.qil_session.specs.AnsweredLine.{AnswersLine};
 ghost use Rattle.qil_session.specs.Kept.{session_state};
 
 use crate::session::{Next, Session};
+use qil_code::Code;
 use qil_commands::{Command, read_command};
-use qil_history::History;
-use qil_machine::Machine;
+use qil_runs::Runs;
 use qil_streams::{Put, PutError};
 use std::alloc::Allocator;
 
 /// Answers a line, of which the prefix is kept: a `quit` is no more than reported.
-pub fn answer_line<'c, A: Allocator + Copy + 'c, H: History<A, Machine<'c, 'c, A>>, P: Put>(
+pub fn answer_line<'c, A: Allocator + Copy + 'c, H: Runs<A, Code<'c, 'c, A>>, P: Put>(
     session: &mut Session<A, H>,
     kept: &[u8],
     out: &mut P,

@@ -10,7 +10,6 @@ mod poking;
 mod session;
 mod showing;
 mod stopping;
-mod walk;
 mod words;
 
 pub use answer::answer_line;

@@ -9,23 +9,23 @@ ghost use Rattle.qil_stops.specs.Listed.{Listed};
 ghost use Rattle.qil_replies.specs.SessionState.{session_at};
 ghost use Rattle.qil_replies.specs.Answers.{Replies, back_refusal};
 
-use crate::walk::{back_by, step_by};
-use qil_history::History;
-use qil_machine::Machine;
+use qil_code::Code;
 use qil_meaning::Reason;
+use qil_readers::Readers;
 use qil_replies::{CommandRefusal, Reply};
-use qil_stops::{Stops, run, run_back};
+use qil_runs::Runs;
+use qil_stops::Stops;
 use std::alloc::Allocator;
 
 /// Whether the run is over.
-fn is_over<'c, 'a, A: Allocator + Copy>(machine: &Machine<'c, 'a, A>) -> bool
-    ensures { result ≡ is_final (state_of machine.now).status }
+fn is_over<'c, A: Allocator + Copy + 'c, M: Readers<A, Code<'c, 'c, A>>>(machine: &M) -> bool
+    ensures { result ≡ is_final (state_of (M.whole machine.now)).status }
 {
     machine.is_final()
 }
 
 /// Replies to `step N`.
-pub fn step<'c, 'r, A: Allocator + Copy + 'c, H: History<A, Machine<'c, 'c, A>>>(
+pub fn step<'c, 'r, A: Allocator + Copy + 'c, H: Runs<A, Code<'c, 'c, A>>>(
     history: &mut H,
     count: u32,
 ) -> Reply<'r>
@@ -38,7 +38,7 @@ pub fn step<'c, 'r, A: Allocator + Copy + 'c, H: History<A, Machine<'c, 'c, A>>>
     if is_over(history.machine()) {
         return Reply::Refused(CommandRefusal::AtEnd);
     }
-    match step_by(history, count) {
+    match history.forward_by(count) {
         Ok(()) => Reply::Place,
         Err(_made) => Reply::Stopped(Reason::Memory),
     }
@@ -58,7 +58,7 @@ fn no_way_back(position: u64, oldest: u64) -> Option<CommandRefusal>
 }
 
 /// Replies to `back N`.
-pub fn back<'c, 'r, A: Allocator + Copy + 'c, H: History<A, Machine<'c, 'c, A>>>(
+pub fn back<'c, 'r, A: Allocator + Copy + 'c, H: Runs<A, Code<'c, 'c, A>>>(
     history: &mut H,
     count: u32,
 ) -> Reply<'r>
@@ -70,12 +70,12 @@ pub fn back<'c, 'r, A: Allocator + Copy + 'c, H: History<A, Machine<'c, 'c, A>>>
     if let Some(refusal) = no_way_back(history.position(), history.oldest()) {
         return Reply::Refused(refusal);
     }
-    back_by(history, count);
+    history.back_by(count);
     Reply::Place
 }
 
 /// Replies to `continue`.
-pub fn answer_continue<'c, 'r, A: Allocator + Copy + 'c, H: History<A, Machine<'c, 'c, A>>>(
+pub fn answer_continue<'c, 'r, A: Allocator + Copy + 'c, H: Runs<A, Code<'c, 'c, A>>>(
     history: &mut H,
     stops: &Stops<A>,
     limit: u64,
@@ -90,12 +90,12 @@ pub fn answer_continue<'c, 'r, A: Allocator + Copy + 'c, H: History<A, Machine<'
     if is_over(history.machine()) {
         return Reply::Refused(CommandRefusal::AtEnd);
     }
-    let (reason, _made) = run(history, stops, limit);
+    let (reason, _made) = history.run(stops.list(), limit);
     Reply::Stopped(reason)
 }
 
 /// Replies to `reverse`.
-pub fn answer_reverse<'c, 'r, A: Allocator + Copy + 'c, H: History<A, Machine<'c, 'c, A>>>(
+pub fn answer_reverse<'c, 'r, A: Allocator + Copy + 'c, H: Runs<A, Code<'c, 'c, A>>>(
     history: &mut H,
     stops: &Stops<A>,
     limit: u64,
@@ -108,6 +108,6 @@ pub fn answer_reverse<'c, 'r, A: Allocator + Copy + 'c, H: History<A, Machine<'c
     if let Some(refusal) = no_way_back(history.position(), history.oldest()) {
         return Reply::Refused(refusal);
     }
-    let (reason, _made) = run_back(history, stops, limit);
+    let (reason, _made) = history.run_back(stops.list(), limit);
     Reply::Stopped(reason)
 }

@@ -8,16 +8,18 @@ ghost use Rattle.qil_replies.specs.SessionState.{session_at};
 ghost use Rattle.qil_replies.specs.Answers.{Replies};
 
 use crate::words::{resolved_address, width_bytes};
+use qil_code::Code;
 use qil_commands::Address;
-use qil_history::History;
-use qil_machine::{Machine, PokeError};
+use qil_machine::PokeError;
 use qil_meaning::Reason;
+use qil_readers::Readers;
 use qil_replies::{CommandRefusal, Reply};
+use qil_runs::Runs;
 use qil_tree::Width;
 use std::alloc::Allocator;
 
 /// Replies to `set %x N`.
-pub fn set<'c, 'r, A: Allocator + Copy + 'c, H: History<A, Machine<'c, 'c, A>>>(
+pub fn set<'c, 'r, A: Allocator + Copy + 'c, H: Runs<A, Code<'c, 'c, A>>>(
     history: &mut H,
     name: &[u8],
     value: u64,
@@ -38,7 +40,7 @@ pub fn set<'c, 'r, A: Allocator + Copy + 'c, H: History<A, Machine<'c, 'c, A>>>(
 }
 
 /// Replies to `poke b ADDR N`.
-pub fn poke<'c, 'r, A: Allocator + Copy + 'c, H: History<A, Machine<'c, 'c, A>>>(
+pub fn poke<'c, 'r, A: Allocator + Copy + 'c, H: Runs<A, Code<'c, 'c, A>>>(
     history: &mut H,
     width: Width,
     address: Address<'_>,

@@ -15,11 +15,14 @@ use crate::poking::{poke, set};
 use crate::showing::show_bytes;
 use crate::stopping::{add_break, delete, watch_bytes, watch_temp};
 use qil_answers::put_place;
+use qil_code::Code;
 use qil_commands::{Command, Refused};
 use qil_depths::{DepthEnd, run_back_to_depth, run_to_depth};
 use qil_history::History;
 use qil_machine::Machine;
+use qil_readers::Readers;
 use qil_replies::{CommandRefusal, Reply, put_reply};
+use qil_runs::Runs;
 use qil_stops::Stops;
 use qil_streams::{Put, PutError};
 use std::alloc::{AllocError, Allocator};
@@ -88,7 +91,7 @@ impl<A: Allocator, H> Session<A, H> {
     }
 }
 
-impl<'c, A: Allocator + Copy + 'c, H: History<A, Machine<'c, 'c, A>>> Session<A, H> {
+impl<'c, A: Allocator + Copy + 'c, H: Runs<A, Code<'c, 'c, A>>> Session<A, H> {
     /// Puts the line of the place where the session stands.
     pub fn put_now<P: Put>(&self, out: &mut P) -> Result<(), PutError>
         requires { P.stops out.old < 2 ^ 64 - 1 }

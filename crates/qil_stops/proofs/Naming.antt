@@ -98,5 +98,5 @@ unfolding named_stops
 named-none p [] e = refl
 named-none p (stop ∷ stops) e = absurd (omega (arith, e))
 
-pub no_length : (list stops : List NumberedStop) (b : Bool) → list ≡ stops → b ≡ (length list == 0) → b ≡ true → length stops ≡ 0
-no_length list stops b same is test = (Decides-eqb (length stops) 0).0 (ap (λ (l : List NumberedStop). length l == 0) (sym same) ∙ sym is ∙ test)
+pub no_length : (stops : List NumberedStop) (b : Bool) → b ≡ (length stops == 0) → b ≡ true → length stops ≡ 0
+no_length stops b is test = (Decides-eqb (length stops) 0).0 (sym is ∙ test)

@@ -11,7 +11,6 @@ ghost use Rattle.qil_stops.specs.Readings.{AllTell};
 
 use crate::found::{is_over, readings, stopped};
 use crate::stop::NumberedStop;
-use crate::stops::Stops;
 use qil_history::{BackError, History};
 use qil_machine::{Machine, MoveError};
 use qil_meaning::Reason;
@@ -21,22 +20,23 @@ use std::alloc::Allocator;
 /// the end of the run, where a stop holds after a move, or after `limit` moves; or where there is no memory for a move.
 pub fn run<'c, A: Allocator + Copy + 'c, H: History<A, Machine<'c, 'c, A>>>(
     history: &mut H,
-    stops: &Stops<A>,
+    stops: &[NumberedStop],
     limit: u64,
 ) -> (Reason, u64)
-    requires { position (H.timeline history.old) + limit ≤ 2 ^ 62 }
+    requires near { position (H.timeline history.old) + limit ≤ 2 ^ 62 }
+    requires few { length stops.now ≤ 64 }
+    requires readable { AreReadable stops.now }
     ensures program { H.program history.new ≡ H.program history.old }
-    ensures run { RunsOn (H.program history.old) (named_stops (H.program history.old) stops.now.kept) limit (H.timeline history.old) result.0 result.1 (H.timeline history.new) }
+    ensures run { RunsOn (H.program history.old) (named_stops (H.program history.old) stops.now) limit (H.timeline history.old) result.0 result.1 (H.timeline history.new) }
     ensures near { position (H.timeline history.new) ≤ position (H.timeline history.old) + limit }
 
     // Without a move a run ends at a final status, and nowhere else.
     ensures end { ((result.0 ≡ Reason.End) × (result.1 ≡ 0)) ↔ (at_end (H.timeline history.old) ≡ true) }
 {
-    let list = stops.list();
-    if list.is_empty() {
+    if stops.is_empty() {
         run_freely(history, limit)
     } else {
-        run_watching(history, list, limit)
+        run_watching(history, stops, limit)
     }
 }
 
@@ -119,22 +119,23 @@ pub fn end_or<'c, A: Allocator + Copy + 'c, H: History<A, Machine<'c, 'c, A>>>(
 /// oldest state that is kept, where a stop holds after a move, or after `limit` moves. Takes no memory.
 pub fn run_back<'c, A: Allocator + Copy + 'c, H: History<A, Machine<'c, 'c, A>>>(
     history: &mut H,
-    stops: &Stops<A>,
+    stops: &[NumberedStop],
     limit: u64,
 ) -> (Reason, u64)
+    requires few { length stops.now ≤ 64 }
+    requires readable { AreReadable stops.now }
     ensures program { H.program history.new ≡ H.program history.old }
-    ensures run { RunsBack (named_stops (H.program history.old) stops.now.kept) limit (H.timeline history.old) result.0 result.1 (H.timeline history.new) }
+    ensures run { RunsBack (named_stops (H.program history.old) stops.now) limit (H.timeline history.old) result.0 result.1 (H.timeline history.new) }
     ensures near { position (H.timeline history.new) ≤ position (H.timeline history.old) }
 
     // Without a move it stops at the start or at the oldest state that is kept, and nowhere else.
     ensures start { ((result.0 ≡ Reason.Start) × (result.1 ≡ 0)) ↔ (position (H.timeline history.old) ≡ 0) }
     ensures oldest { ((result.0 ≡ Reason.Oldest) × (result.1 ≡ 0)) ↔ ((position (H.timeline history.old) ≡ oldest (H.timeline history.old)) × (0 < position (H.timeline history.old))) }
 {
-    let list = stops.list();
-    if list.is_empty() {
+    if stops.is_empty() {
         back_freely(history, limit)
     } else {
-        back_watching(history, list, limit)
+        back_watching(history, stops, limit)
     }
 }
 

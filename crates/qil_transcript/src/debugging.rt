@@ -30,6 +30,7 @@ use qil_machine::{Machine, StartError};
 use qil_meaning::StartFault;
 use qil_numbering::number;
 use qil_rules::Checked;
+use qil_runs::Runs;
 use qil_session::Session;
 use qil_streams::{Outlet, Put, PutError, Sink, Source};
 use std::alloc::Allocator;
@@ -75,7 +76,7 @@ fn refuse<P: Put>(out: &mut P, error: LoadError) -> Outcome
 }
 
 /// Puts the load lines of a session.
-fn put_loaded<'c, A: Allocator + Copy + 'c, H: History<A, Machine<'c, 'c, A>>, P: Put>(
+fn put_loaded<'c, A: Allocator + Copy + 'c, H: Runs<A, Code<'c, 'c, A>>, P: Put>(
     session: &Session<A, H>,
     loaded: &Loaded<'_>,
     out: &mut P,
@@ -91,7 +92,7 @@ fn put_loaded<'c, A: Allocator + Copy + 'c, H: History<A, Machine<'c, 'c, A>>, P
 }
 
 /// Puts the load lines of a session, and serves a script on it.
-fn run<'c, A: Allocator + Copy + 'c, H: History<A, Machine<'c, 'c, A>> + Drop, S: Source, P: Put>(
+fn run<'c, A: Allocator + Copy + 'c, H: Runs<A, Code<'c, 'c, A>> + Drop, S: Source, P: Put>(
     mut session: Session<A, H>,
     loaded: &Loaded<'_>,
     source: &mut S,

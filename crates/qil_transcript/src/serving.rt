@@ -6,8 +6,8 @@ ghost use Rattle.qil_meaning.specs.Timeline.{position};
 ghost use Rattle.qil_session.specs.Kept.{session_state};
 ghost use Rattle.qil_transcript.specs.Serve.{AreServed, IsServed, IsTooLong, CountsServe, TakesFew};
 
-use qil_history::History;
-use qil_machine::Machine;
+use qil_code::Code;
+use qil_runs::Runs;
 use qil_session::{Next, Session, answer_line};
 use qil_streams::{LineEnd, LineReader, Outlet, Put, Sink, Source};
 use std::alloc::Allocator;
@@ -24,13 +24,11 @@ pub enum IoFault {
 }
 
 /// Answers the lines of a script in order, up to a `quit`. No read is made after the end or after a `quit`.
-pub fn serve_lines<
-    'c,
-    A: Allocator + Copy + 'c,
-    H: History<A, Machine<'c, 'c, A>>,
-    S: Source,
-    P: Put,
->(session: &mut Session<A, H>, source: &mut S, out: &mut P) -> Result<(), IoFault>
+pub fn serve_lines<'c, A: Allocator + Copy + 'c, H: Runs<A, Code<'c, 'c, A>>, S: Source, P: Put>(
+    session: &mut Session<A, H>,
+    source: &mut S,
+    out: &mut P,
+) -> Result<(), IoFault>
     requires reads { S.failures source.old < 2 ^ 64 - 1 }
     requires writes { P.stops out.old < 2 ^ 64 - 1 }
     requires before { position (H.timeline session.old.history) < 2 ^ 60 }
@@ -73,7 +71,7 @@ pub fn serve_lines<
 ///
 /// `Read` and `Write` where the device failed, and `TooLong` where the script passes 2^24 bytes. The session is where the
 /// lines before moved it, and where a write failed its line moved it all the same.
-pub fn serve<'c, A: Allocator + Copy + 'c, H: History<A, Machine<'c, 'c, A>>, S: Source, W: Sink>(
+pub fn serve<'c, A: Allocator + Copy + 'c, H: Runs<A, Code<'c, 'c, A>>, S: Source, W: Sink>(
     session: &mut Session<A, H>,
     source: &mut S,
     sink: &mut W,
@@ -107,7 +105,7 @@ pub fn serve<'c, A: Allocator + Copy + 'c, H: History<A, Machine<'c, 'c, A>>, S:
 pub fn serve_in_turn<
     'c,
     A: Allocator + Copy + 'c,
-    H: History<A, Machine<'c, 'c, A>>,
+    H: Runs<A, Code<'c, 'c, A>>,
     S: Source,
     T: Source,
     W: Sink,

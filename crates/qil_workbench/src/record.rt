@@ -58,27 +58,41 @@ fn name_bytes<A: Allocator>(saved: Saved<A>) {
 /// pass the compiler.
 pub fn kind_of<A: Allocator>(kind: DeltaKind<A>) -> &'static str {
     match kind {
-        DeltaKind::Assigned(slot, index, value) => {
-            let _: (Slot, u32, Option<u64>) = (slot, index, value);
+        DeltaKind::Assigned { slot, index, old } => {
+            let _: (Slot, u32, Option<u64>) = (slot, index, old);
             "result"
         }
-        DeltaKind::Stored(count, index, address, number) => {
+        DeltaKind::Stored {
+            count,
+            index,
+            address,
+            number,
+        } => {
             let _: (u8, u32, u32, u64) = (count, index, address, number);
             "bytes"
         }
-        DeltaKind::Left(block) => left::<A>(block, KeptSlots::None),
-        DeltaKind::LeftOne(block, slot, value) => left::<A>(block, KeptSlots::One(slot, value)),
-        DeltaKind::LeftTwo(block, first, second, one, other) => {
-            left::<A>(block, KeptSlots::Two(first, second, one, other))
-        }
-        DeltaKind::LeftShort(block, kept) => left(block, KeptSlots::Short(kept)),
-        DeltaKind::LeftMany(block, kept) => left(block, KeptSlots::Many(kept)),
-        DeltaKind::Called(index) => {
+        DeltaKind::Left { block } => left::<A>(block, KeptSlots::None),
+        DeltaKind::LeftOne { block, slot, old } => left::<A>(block, KeptSlots::One(slot, old)),
+        DeltaKind::LeftTwo {
+            block,
+            first,
+            second,
+            first_old,
+            second_old,
+        } => { left::<A>(block, KeptSlots::Two(first, second, first_old, second_old)) }
+        DeltaKind::LeftShort { block, kept } => left(block, KeptSlots::Short(kept)),
+        DeltaKind::LeftMany { block, kept } => left(block, KeptSlots::Many(kept)),
+        DeltaKind::Called { index } => {
             let _: u32 = index;
             "call"
         }
-        DeltaKind::Returned(set, top, value, frame) => {
-            let _: (bool, u32, u64) = (set, top, value);
+        DeltaKind::Returned {
+            was_set,
+            top,
+            old,
+            frame,
+        } => {
+            let _: (bool, u32, u64) = (was_set, top, old);
             let _: Frame<A> = frame;
             "return"
         }
@@ -99,20 +113,30 @@ pub fn kind_of<A: Allocator>(kind: DeltaKind<A>) -> &'static str {
             name_bytes(saved);
             "copied bytes"
         }
-        DeltaKind::Wrote(index, count) => {
+        DeltaKind::Wrote { index, count } => {
             let _: (u32, u32) = (index, count);
             "output"
         }
-        DeltaKind::WroteTo(set, slot, index, count, value) => {
-            let _: (bool, Slot, u32, u32, u64) = (set, slot, index, count, value);
+        DeltaKind::WroteTo {
+            was_set,
+            slot,
+            index,
+            count,
+            old,
+        } => {
+            let _: (bool, Slot, u32, u32, u64) = (was_set, slot, index, count, old);
             "output and a result"
         }
         DeltaKind::Ended => "end",
-        DeltaKind::PokedSlot(set, slot, value) => {
-            let _: (bool, Slot, u64) = (set, slot, value);
+        DeltaKind::PokedSlot { was_set, slot, old } => {
+            let _: (bool, Slot, u64) = (was_set, slot, old);
             "poke of a temporary"
         }
-        DeltaKind::PokedBytes(count, address, number) => {
+        DeltaKind::PokedBytes {
+            count,
+            address,
+            number,
+        } => {
             let _: (u8, u32, u64) = (count, address, number);
             "poke of bytes"
         }

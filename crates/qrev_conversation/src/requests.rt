@@ -37,8 +37,6 @@ pub enum Ending {
     Left,
     /// The program is loaded again.
     Restarted,
-    /// The input ended.
-    InputEnded,
 }
 
 /// Adds the one thread.

@@ -109,7 +109,6 @@ fn answer_messages<
             None => {}
             Some(Ending::Terminated) => return Ok(Closed::Terminated),
             Some(Ending::Left) => return Ok(Closed::Left),
-            Some(Ending::InputEnded) => return Ok(Closed::InputEnded),
             Some(Ending::Restarted) => return Ok(Closed::Restarted(body)),
         }
     }

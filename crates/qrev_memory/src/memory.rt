@@ -6,7 +6,7 @@ use base64::engine::general_purpose::STANDARD;
 use qil_machine::Machine;
 use qil_pieces::Fragment;
 use qrev_debuggee::{Body, Cause, Debuggee, Failure};
-use qrev_recorder::{Done, HasMachine};
+use qrev_recorder::HasMachine;
 use qrev_requests::Arguments;
 use qrev_views::number_text;
 use std::alloc::Allocator;
@@ -126,7 +126,7 @@ fn poke_all<'c, A: Allocator + Copy + 'c, L: HasMachine<A, Machine<'c, 'c, A>>>(
         }
         let (letter, width) = widest(rest.len());
         let (word, after) = rest.split_at(width);
-        let done = debuggee.line_of(&[
+        let _done = debuggee.line_of(&[
             Fragment::Bytes(b"poke "),
             Fragment::Bytes(letter.as_bytes()),
             Fragment::Bytes(b" "),
@@ -134,9 +134,6 @@ fn poke_all<'c, A: Allocator + Copy + 'c, L: HasMachine<A, Machine<'c, 'c, A>>>(
             Fragment::Bytes(b" "),
             Fragment::Number(number_of(word)),
         ])?;
-        if matches!(done, Done::Stopped(_)) {
-            return Err(Failure::Because(Cause::NoMemory));
-        }
         at = at.wrapping_add(width as u64);
         rest = after;
     }

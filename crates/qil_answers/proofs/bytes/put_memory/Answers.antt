@@ -14,20 +14,20 @@ returns-then-count-eq0 g c = rw c.if-count-eq0.true c.put.ensures
 
 pub returns-in_err-put_byte : goal.returns-in_err-put_byte
 returns-in_err-put_byte g c =
-    let m = live c.args.machine.now.memory in
+    let m = live (g.M.Readers.whole c.args.machine.now).memory in
     let a = c.args.address in
     let n = c.args.count in
-    rw (memory_first (state_of c.args.machine.now) a n (positive n c.if-count-eq0.false))
+    rw (memory_first (state_of (g.M.Readers.whole c.args.machine.now)) a n (positive n c.if-count-eq0.false))
     (HasPut-stop _ _ c.from_residual.ensures.1 _ _ _ (byte_text (m a)) (later_bytes m (a + 1) (n - 1)) (rw c.byte.ensures at c.in_err-put_byte.ensures))
 
 pub loop-offset-init : goal.loop-offset-init
 loop-offset-init g c =
-    let m = live c.args.machine.now.memory in
+    let m = live (g.M.Readers.whole c.args.machine.now).memory in
     let a = c.args.address in
     let n = c.args.count in
     record {
       text = reported_more _ (byte_text (m a)) (later_bytes m (a + 1) (n - 1)) _ _ _
-          (reported_as _ _ _ _ _ (memory_first (state_of c.args.machine.now) a n (positive n c.if-count-eq0.false)) (reported_none (memory_shown (state_of c.args.machine.now) a n) _))
+          (reported_as _ _ _ _ _ (memory_first (state_of (g.M.Readers.whole c.args.machine.now)) a n (positive n c.if-count-eq0.false)) (reported_none (memory_shown (state_of (g.M.Readers.whole c.args.machine.now)) a n) _))
           (rw c.byte.ensures at c.in_ok-put_byte.ensures.text);
       counted = c.in_ok-put_byte.ensures.counted;
       device = c.put_byte.ensures.device;
@@ -35,7 +35,7 @@ loop-offset-init g c =
 
 pub returns-in_err-put_next_byte : goal.returns-in_err-put_next_byte
 returns-in_err-put_next_byte g c =
-    let m = live c.args.machine.now.memory in
+    let m = live (g.M.Readers.whole c.args.machine.now).memory in
     let a = c.args.address in
     let n = c.args.count in
     let i = c.loop-offset.offset in
@@ -43,14 +43,14 @@ returns-in_err-put_next_byte g c =
     record {
       text = reported_stop _ (spaced_byte (m (a + i))) (later_bytes m (a + (i + 1)) (n - (i + 1))) _ _ _
           (reported_as _ _ _ _ _ (later_step m a i n lt) c.loop-offset.invariant.text)
-          _ _ c.from_residual-in_err-put_next_byte.ensures.1 c.in_err-put_next_byte.field-0.0 (rw c.byte_behind.ensures at c.in_err-put_next_byte.ensures.text);
+          _ _ c.from_residual-in_err-put_next_byte.ensures.1 c.in_err-put_next_byte.field-0.0 (rw c.byte_after.ensures at c.in_err-put_next_byte.ensures.text);
       counted = search rules;
       device = search rules;
     }
 
 pub loop-offset-preserved : goal.loop-offset-preserved
 loop-offset-preserved g c =
-    let m = live c.args.machine.now.memory in
+    let m = live (g.M.Readers.whole c.args.machine.now).memory in
     let a = c.args.address in
     let n = c.args.count in
     let i = c.loop-offset.offset in
@@ -58,14 +58,14 @@ loop-offset-preserved g c =
     record {
       text = reported_more _ (spaced_byte (m (a + i))) (later_bytes m (a + (i + 1)) (n - (i + 1))) _ _ _
           (reported_as _ _ _ _ _ (later_step m a i n lt) c.loop-offset.invariant.text)
-          (rw c.byte_behind.ensures at c.in_ok-put_next_byte.ensures.text);
+          (rw c.byte_after.ensures at c.in_ok-put_next_byte.ensures.text);
       counted = c.in_ok-put_next_byte.ensures.counted ∙ c.loop-offset.invariant.counted;
       device = c.put_next_byte.ensures.device ∙ c.loop-offset.invariant.device;
     }
 
 pub returns : goal.returns
 returns g c =
-    let m = live c.args.machine.now.memory in
+    let m = live (g.M.Readers.whole c.args.machine.now).memory in
     let a = c.args.address in
     let n = c.args.count in
     let i = c.loop-offset.offset in

@@ -5,8 +5,8 @@ use Rattle.qil_answers.proofs.place.put_standing.Goals as goal
 
 pub returns-in_default : goal.returns-in_default
 returns-in_default g c =
-    rw (standing_none c.args.machine.now.program c.args.machine.now.frames c.args.position c.in_default.ensures.frame) (search rules)
+    rw (standing_none (g.M.Readers.whole c.args.machine.now).program (g.M.Readers.whole c.args.machine.now).frames c.args.position c.in_default.ensures.frame) (search rules)
 
 pub returns : goal.returns
 returns g c =
-    rw (standing_some c.args.machine.now.program c.args.machine.now.frames c.in-Some.frame.now c.args.position c.in-Some.ensures.frame) (search rules)
+    rw (standing_some (g.M.Readers.whole c.args.machine.now).program (g.M.Readers.whole c.args.machine.now).frames c.in-Some.frame c.args.position c.in-Some.ensures.frame) (search rules)

@@ -25,11 +25,11 @@ returns-in-Some-clause-answer g c =
     i.good_program (c.requires.sides.good_other ∙ c.requires.bad) refl c.next_event-one.ensures.next in
     let other = next_as q (g.K.History.program c.loop-events.bad) p c.args.bad_side.now.other.now kinds c.args.bad_side.now.kinds c.args.limit (g.K.History.timeline c.loop-events.bad) v c.loop-events.bad_told c.next_event-other.new.told c.next_event-other.result
     i.bad_program (c.requires.sides.bad_other ∙ c.requires.good) (sym c.requires.sides.kinds) c.next_event-other.ensures.next in
-    answered kinds p q (g.H.History.timeline c.args.good.now) u (g.K.History.timeline c.args.bad.now) v c.loop-events.events c.next_event-one.new.told c.next_event-other.new.told c.next_event-one.result c.next_event-other.result c.in-Some.verdict
+    rw c.told_of.ensures (answered kinds p q (g.H.History.timeline c.args.good.now) u (g.K.History.timeline c.args.bad.now) v c.loop-events.events c.next_event-one.new.told c.next_event-other.new.told c.next_event-one.result c.next_event-other.result c.in-Some.verdict
     (both_found kinds p q c.args.limit (g.H.History.timeline c.args.good.now) (g.H.History.timeline c.loop-events.good) u (g.K.History.timeline c.args.bad.now) (g.K.History.timeline c.loop-events.bad) v c.loop-events.events
     c.loop-events.good_told c.loop-events.bad_told c.next_event-one.new.told c.next_event-other.new.told c.next_event-one.result c.next_event-other.result i.alike one other)
     (judges_as p (g.H.History.program c.next_event-one.new.history) q (g.K.History.program c.next_event-other.new.history) u.now v.now c.next_event-one.result c.next_event-other.result (Some c.in-Some.verdict) (Some c.in-Some.verdict)
-    (c.next_event-one.ensures.program ∙ i.good_program) (c.next_event-other.ensures.program ∙ i.bad_program) refl c.in-Some.ensures)
+    (c.next_event-one.ensures.program ∙ i.good_program) (c.next_event-other.ensures.program ∙ i.bad_program) refl c.in-Some.ensures))
 
 pub loop-events-preserved : goal.loop-events-preserved
 loop-events-preserved g c =

@@ -6,16 +6,16 @@ use Rattle.qil_session.proofs.moves.step.Goals as goal
 
 pub returns-then-is_over-clause-replied : goal.returns-then-is_over-clause-replied
 returns-then-is_over-clause-replied g c = λ stops limit.
-    replies_end (g.H.History.program c.args.history.now) (g.H.History.timeline c.args.history.now) stops limit c.args.count
+    replies_end (g.H.Runs.program c.args.history.now) (g.H.Runs.timeline c.args.history.now) stops limit c.args.count
     (ap (λ (s : State). is_final s.status) (sym c.machine.ensures.now) ∙ sym c.is_over.ensures ∙ c.if-is_over.true)
 
 pub returns-in-Ok-clause-replied : goal.returns-in-Ok-clause-replied
 returns-in-Ok-clause-replied g c = λ stops limit.
-    replies_step (g.H.History.program c.args.history.now) (g.H.History.timeline c.args.history.now) (g.H.History.timeline c.step_by.new.history) stops limit c.args.count
+    replies_step (g.H.Runs.program c.args.history.now) (g.H.Runs.timeline c.args.history.now) (g.H.Runs.timeline c.forward_by.new.self) stops limit c.args.count
     (ap (λ (s : State). is_final s.status) (sym c.machine.ensures.now) ∙ sym c.is_over.ensures ∙ c.if-is_over.false) c.in-Ok.ensures.moved
 
 pub returns-in-Err-clause-replied : goal.returns-in-Err-clause-replied
 returns-in-Err-clause-replied g c = λ stops limit.
     let m = c.in-Err.ensures.moved in
-    replies_step_wants (g.H.History.program c.args.history.now) (g.H.History.timeline c.args.history.now) (g.H.History.timeline c.step_by.new.history) stops limit c.args.count c.in-Err._made
+    replies_step_wants (g.H.Runs.program c.args.history.now) (g.H.Runs.timeline c.args.history.now) (g.H.Runs.timeline c.forward_by.new.self) stops limit c.args.count c.in-Err._made
     m.0 m.1 m.2

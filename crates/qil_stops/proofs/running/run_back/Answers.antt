@@ -8,11 +8,9 @@ use Rattle.qil_stops.proofs.running.run_back.Goals as goal
 
 pub returns-then-is_empty-clause-run : goal.returns-then-is_empty-clause-run
 returns-then-is_empty-clause-run g c =
-    let empty = c.is_empty.ensures in
-    let test = c.if-is_empty.true in
-    let none : length c.args.stops.now.kept ≡ 0 = no_length c.list-list.result.now c.args.stops.now.kept c.is_empty.result c.list-list.ensures.stops empty test in
+    let none : length c.args.stops.now ≡ 0 = no_length c.args.stops.now c.is_empty.result c.is_empty.ensures c.if-is_empty.true in
     subst (λ (stops : List Numbered). RunsBack stops c.args.limit (g.H.History.timeline c.args.history.now) c.back_freely.result.0 c.back_freely.result.1 (g.H.History.timeline c.back_freely.new.history))
-    (named-none (g.H.History.program c.args.history.now) c.args.stops.now.kept none) c.back_freely.ensures.run
+    (named-none (g.H.History.program c.args.history.now) c.args.stops.now none) c.back_freely.ensures.run
 
 pub returns-then-is_empty-clause-near : goal.returns-then-is_empty-clause-near
 returns-then-is_empty-clause-near g c = back-near _ c.args.limit _ _ _ _ c.back_freely.ensures.run

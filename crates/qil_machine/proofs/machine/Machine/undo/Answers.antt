@@ -91,7 +91,7 @@ returns-in-Ended g c = kind_undone _ _ _ _ _ _ c.delta.view_is c.in-Ended.is ref
 
 pub undo_poked_slot-requires : goal.undo_poked_slot-requires
 undo_poked_slot-requires g c =
-    poked_fits c.args.delta c.args.self.now c.in-PokedSlot.slot (value_of c.in-PokedSlot.set c.in-PokedSlot.value) _
+    poked_fits c.args.delta c.args.self.now c.in-PokedSlot.slot (value_of c.in-PokedSlot.was_set c.in-PokedSlot.old) _
     (sym c.delta.view_is ∙ rw c.in-PokedSlot.is refl) c.value_of-in-PokedSlot.ensures c.requires
 
 pub returns-in-PokedSlot : goal.returns-in-PokedSlot

@@ -1,0 +1,6 @@
+pub mod Cutting
+pub mod Reading
+pub mod Entered
+pub mod Placed
+pub mod Outward
+pub mod Sameness

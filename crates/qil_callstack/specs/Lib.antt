@@ -1,0 +1,6 @@
+-- The definitions.
+pub mod Calls
+pub mod Entry
+pub mod Cut
+pub mod Stack
+pub mod Shown

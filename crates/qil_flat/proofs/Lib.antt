@@ -1,0 +1,6 @@
+-- The lemmas of this crate.
+pub mod Found
+pub mod Laying
+pub mod Doing
+pub mod Stepping
+pub mod Rows

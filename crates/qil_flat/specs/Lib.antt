@@ -1,0 +1,4 @@
+-- The definitions of this crate.
+pub mod Ways
+pub mod Flat
+pub mod Laid

@@ -1,0 +1,57 @@
+//! A history of a machine runs by its single moves.
+
+ghost use Rattle.std.specs.Prelude.{◌≡◌, ◌≢◌, ◌+◌, ◌<◌, ◌≤◌, ◌^◌, ◌↔◌};
+
+use crate::runs::Runs;
+use crate::walk::{back_by, forward_by};
+use qil_code::Code;
+use qil_history::History;
+use qil_machine::{Machine, PokeError};
+use qil_meaning::Reason;
+use qil_stops::{NumberedStop, run, run_back};
+use std::alloc::Allocator;
+
+impl<'c, A: Allocator + Copy + 'c, H: History<A, Machine<'c, 'c, A>>> Runs<A, Code<'c, 'c, A>>
+    for H {
+    type Machine = Machine<'c, 'c, A>;
+
+    ghost program = { λ history. H.program history };
+
+    ghost timeline = { λ history. H.timeline history };
+
+    fn forward_by(&mut self, count: u32) -> Result<(), u32> {
+        forward_by(self, count)
+    }
+
+    fn back_by(&mut self, count: u32) {
+        back_by(self, count)
+    }
+
+    fn run(&mut self, stops: &[NumberedStop], limit: u64) -> (Reason, u64) {
+        run(self, stops, limit)
+    }
+
+    fn run_back(&mut self, stops: &[NumberedStop], limit: u64) -> (Reason, u64) {
+        run_back(self, stops, limit)
+    }
+
+    fn poke_named(&mut self, name: &[u8], value: u64) -> Result<(), PokeError> {
+        History::poke_named(self, name, value)
+    }
+
+    fn poke_memory(&mut self, address: u64, width: u64, number: u64) -> Result<(), PokeError> {
+        History::poke_memory(self, address, width, number)
+    }
+
+    fn position(&self) -> u64 {
+        History::position(self)
+    }
+
+    fn oldest(&self) -> u64 {
+        History::oldest(self)
+    }
+
+    fn machine(&self) -> &Machine<'c, 'c, A> {
+        History::machine(self)
+    }
+}
