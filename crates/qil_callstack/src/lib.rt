@@ -3,9 +3,11 @@
 #![tactic(auto)]
 
 mod call;
+mod kept;
 mod parts;
 mod phis;
 mod stack;
 
 pub use call::{Returned, ShownCall};
+pub use kept::KeptCalls;
 pub use stack::CallStack;

@@ -12,6 +12,7 @@ use crate::outcome::Outcome;
 use qil_compare::Verdict;
 use qil_history::History;
 use qil_machine::Machine;
+use qil_runs::Stepwise;
 use qil_streams::{Sink, Source};
 use qil_transcript::{IoFault, Session, serve};
 use std::alloc::Allocator;
@@ -32,7 +33,7 @@ fn served_outcome(served: Result<(), IoFault>, told: Verdict) -> Outcome
 pub fn serve_at<
     'c,
     A: Allocator + Copy + 'c,
-    H: History<A, Machine<'c, 'c, A>> + Drop,
+    H: History<A, Machine<'c, 'c, A>> + Stepwise + Drop,
     S: Source,
     W: Sink,
 >(alloc: A, history: H, limit: u64, told: Verdict, source: &mut S, sink: &mut W) -> Outcome

@@ -21,6 +21,7 @@ use qil_compare::{Answer, Side, compare};
 use qil_deltas::{Deltas, Ring};
 use qil_history::History;
 use qil_machine::Machine;
+use qil_runs::Stepwise;
 use qil_streams::{Outlet, PutError, Sink, Source};
 use std::alloc::Allocator;
 
@@ -55,8 +56,8 @@ fn write_answer<
 fn run_histories<
     'c,
     A: Allocator + Copy + 'c,
-    H: History<A, Machine<'c, 'c, A>> + Drop,
-    K: History<A, Machine<'c, 'c, A>> + Drop,
+    H: History<A, Machine<'c, 'c, A>> + Stepwise + Drop,
+    K: History<A, Machine<'c, 'c, A>> + Stepwise + Drop,
     S: Source,
     W: Sink,
 >(

@@ -6,3 +6,4 @@ mod stepwise;
 mod walk;
 
 pub use runs::Runs;
+pub use stepwise::Stepwise;

@@ -5,14 +5,25 @@ ghost use Rattle.std.specs.Prelude.{◌≡◌, ◌≢◌, ◌+◌, ◌<◌, ◌�
 use crate::runs::Runs;
 use crate::walk::{back_by, forward_by};
 use qil_code::Code;
+use qil_deltas::{Deltas, Ring};
 use qil_history::History;
 use qil_machine::{Machine, PokeError};
 use qil_meaning::Reason;
 use qil_stops::{NumberedStop, run, run_back};
 use std::alloc::Allocator;
 
-impl<'c, A: Allocator + Copy + 'c, H: History<A, Machine<'c, 'c, A>>> Runs<A, Code<'c, 'c, A>>
-    for H {
+/// Marks a history that goes by single moves: each of these has runs by the one `impl` below. Without the mark no type could have
+/// runs of its own, since a crate above may still make any type a `History`.
+pub trait Stepwise {}
+
+impl<'c, 'a, A: Allocator> Stepwise for Deltas<'c, 'a, A> {}
+
+impl<'c, 'a, A: Allocator> Stepwise for Ring<'c, 'a, A> {}
+
+impl<'c, A: Allocator + Copy + 'c, H: History<A, Machine<'c, 'c, A>> + Stepwise> Runs<
+    A,
+    Code<'c, 'c, A>,
+> for H {
     type Machine = Machine<'c, 'c, A>;
 
     ghost program = { λ history. H.program history };

@@ -30,7 +30,7 @@ use qil_machine::{Machine, StartError};
 use qil_meaning::StartFault;
 use qil_numbering::number;
 use qil_rules::Checked;
-use qil_runs::Runs;
+use qil_runs::{Runs, Stepwise};
 use qil_session::Session;
 use qil_streams::{Outlet, Put, PutError, Sink, Source};
 use std::alloc::Allocator;
@@ -127,7 +127,7 @@ fn run<'c, A: Allocator + Copy + 'c, H: Runs<A, Code<'c, 'c, A>> + Drop, S: Sour
 fn debug_history<
     'c,
     A: Allocator + Copy + 'c,
-    H: History<A, Machine<'c, 'c, A>> + Drop,
+    H: History<A, Machine<'c, 'c, A>> + Stepwise + Drop,
     S: Source,
     P: Put,
 >(alloc: A, history: H, loaded: &Loaded<'_>, limit: u64, source: &mut S, out: &mut P) -> Outcome

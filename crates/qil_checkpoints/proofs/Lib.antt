@@ -1,0 +1,11 @@
+-- The lemmas.
+pub mod Parts
+pub mod AlongWalks
+pub mod WalkTimelines
+pub mod Copies
+pub mod HeldLemmas
+pub mod Choices
+pub mod Refusing
+pub mod Told
+pub mod Onward
+pub mod Hitting

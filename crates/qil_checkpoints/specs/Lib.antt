@@ -1,0 +1,4 @@
+-- The definitions.
+pub mod Walk
+pub mod Held
+pub mod Hits

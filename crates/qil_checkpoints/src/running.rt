@@ -1,0 +1,94 @@
+//! Runs forward, part by part, with copies kept between the parts; or with a look at stops after each move.
+
+ghost use Rattle.std.specs.Prelude.{◌≡◌, ◌≤◌, ◌<◌, ◌+◌, ◌^◌, ◌⊎◌, ℕ, true, false, [], length};
+ghost use Rattle.qil_meaning.specs.Timeline.{moved, at_end};
+ghost use Rattle.qil_meaning.specs.Runs.{RunsOn};
+ghost use Rattle.qil_stops.specs.Listed.{AreReadable};
+ghost use Rattle.qil_stops.specs.Named.{named_stops};
+ghost use Rattle.qil_checkpoints.specs.Held.{held_timeline};
+
+use crate::checkpoints::Checkpoints;
+use qil_code::Code;
+use qil_meaning::Reason;
+use qil_restorable::Restorable;
+use qil_stops::NumberedStop;
+use std::alloc::Allocator;
+
+/// A copy is kept at positions that are multiples of this.
+const GAP: u64 = 1 << 20;
+
+/// How many moves are made before a copy may be kept again: up to the next multiple of the gap, and no more than are left.
+#[inline(always)]
+fn part_length(position: u64, left: u64) -> u64
+    ensures few { result ≤ left }
+    ensures some { 0 < left → 0 < result }
+{
+    let room = GAP - position % GAP;
+    if room < left { room } else { left }
+}
+
+impl<'c, A: Allocator + Copy + 'c, M: Restorable<A, Code<'c, 'c, A>>> Checkpoints<A, M> {
+    /// Makes up to so many steps, and fewer only where the run is over. Gives how many.
+    pub(crate) fn run_on(&mut self, count: u64) -> u64
+        requires { self.old.position + count ≤ 2 ^ 62 }
+        ensures program { (M.present self.new.machine).program ≡ (M.present self.old.machine).program }
+        ensures position { self.new.position ≡ self.old.position + result }
+        ensures few { result ≤ count }
+        ensures moved { held_timeline M.present M.kept self.new ≡ moved (M.present self.old.machine).program result (held_timeline M.present M.kept self.old) }
+        ensures running { (j : ℕ) → j < result → at_end (moved (M.present self.old.machine).program j (held_timeline M.present M.kept self.old)) ≡ false }
+        ensures over { (result ≡ count) ⊎ (at_end (held_timeline M.present M.kept self.new) ≡ true) }
+    {
+        let mut made = 0;
+        while made < count {
+            let part = part_length(self.moves(), count - made);
+            let done = self.run_part(part);
+            made += done;
+            if done < part {
+                return made;
+            }
+            self.keep_between();
+        }
+        made
+    }
+
+    /// Keeps a copy where one is to be kept.
+    fn keep_between(&mut self)
+        ensures program { (M.present self.new.machine).program ≡ (M.present self.old.machine).program }
+        ensures position { self.new.position ≡ self.old.position }
+        ensures same { held_timeline M.present M.kept self.new ≡ held_timeline M.present M.kept self.old }
+    {
+        if self.moves() % GAP == 0 {
+            self.keep_copy();
+        }
+    }
+
+    /// Moves forward where there are no stops.
+    pub(crate) fn run_freely(&mut self, limit: u64) -> (Reason, u64)
+        requires { self.old.position + limit ≤ 2 ^ 62 }
+        ensures program { (M.present self.new.machine).program ≡ (M.present self.old.machine).program }
+        ensures run { RunsOn (M.present self.old.machine).program [] limit (held_timeline M.present M.kept self.old) result.0 result.1 (held_timeline M.present M.kept self.new) }
+    {
+        let made = self.run_on(limit);
+        (self.end_or(Reason::Limit), made)
+    }
+
+    /// Moves forward, and looks for a stop after each move.
+    pub(crate) fn run_watching(&mut self, stops: &[NumberedStop], limit: u64) -> (Reason, u64)
+        requires near { self.old.position + limit ≤ 2 ^ 62 }
+        requires few { length stops.now ≤ 64 }
+        requires readable { AreReadable stops.now }
+        ensures program { (M.present self.new.machine).program ≡ (M.present self.old.machine).program }
+        ensures run { RunsOn (M.present self.old.machine).program (named_stops (M.present self.old.machine).program stops.now) limit (held_timeline M.present M.kept self.old) result.0 result.1 (held_timeline M.present M.kept self.new) }
+    {
+        let before = self.readings(stops);
+        for moves in 0..limit {
+            if self.run_on(1) == 0 {
+                return (Reason::End, moves);
+            }
+            if let Some(reason) = self.stopped_here(stops, before.as_slice()) {
+                return (self.end_or(reason), moves + 1);
+            }
+        }
+        (self.end_or(Reason::Limit), limit)
+    }
+}

@@ -1,0 +1,16 @@
+-- The lemmas.
+pub mod Placing
+pub mod Moving
+pub mod Growing
+pub mod Operands
+pub mod Beginning
+pub mod Passed
+pub mod Written
+pub mod Failing
+pub mod Unwritten
+pub mod Fetching
+pub mod Going
+pub mod Viewing
+pub mod Replacing
+pub mod Setting
+pub mod Copying

@@ -1,0 +1,10 @@
+-- After the last address nothing is live.
+use Rattle.std.proofs.Common.{◌≡◌, ◌+◌, ◌∙◌, ap, arith, sym}
+use Rattle.qil_readers.proofs.FarBytes.{dead_far}
+use Rattle.qil_flatmachine.specs.Seen.{FlatWhole}
+use Rattle.qil_flatmachine.proofs.readers.FlatMachineReadersCode.byte_after.Goals as goal
+
+pub returns-in-None : goal.returns-in-None
+returns-in-None g c =
+    let top : c.top-top.result ≡ c.args.self.now.whole.memory.top = c.top-top.ensures.value ∙ ap (λ (x : FlatWhole _). x.whole.memory.top) c.self.view_is in
+    sym (dead_far c.args.self.now.whole.memory (c.args.address + c.args.offset) (omega (arith, top)) (omega (arith, c.in-None.ensures)))

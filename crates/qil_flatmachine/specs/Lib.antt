@@ -1,0 +1,7 @@
+-- The definitions.
+pub mod Seen
+pub mod Fetched
+pub mod Received
+pub mod Passing
+pub mod Faults
+pub mod Kept

@@ -1,0 +1,19 @@
+//! A machine over flat code: it moves in place, keeps nothing of its moves, and no step takes memory.
+#![tactic(auto)]
+
+mod advance;
+mod call;
+mod jump;
+mod kept;
+mod machine;
+mod output;
+mod poke;
+mod readers;
+mod restorable;
+mod start;
+mod step;
+mod widths;
+
+pub use kept::KeptState;
+pub use machine::FlatMachine;
+pub use restorable::RestorableMachine;
