@@ -172,7 +172,8 @@ class Shell:
         if taken > self.memory_told:
             self.memory_told = 2 * taken
             self.say(f"the session takes {taken // MEGABYTE} MB, some 28 bytes a move; with --history 1000000 it would "
-                     "keep the last million moves only, in 28 MB, and `back` would end there")
+                     "keep the last million moves only, in 28 MB, and `back` would end there; with --replay it would keep "
+                     "copies of states and no moves, in 64 MB, and `back` would go everywhere")
 
     # What lines are made of.
 

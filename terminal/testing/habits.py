@@ -229,7 +229,8 @@ def refused(program: str) -> str | None:
                     return f"{file}: another status than {status}"
             finally:
                 terminal.close()
-        for more in (["--limit", "0"], ["--history", "x"], ["--nothing"], [str(SQUARES), "7", "8"]):
+        for more in (["--limit", "0"], ["--history", "x"], ["--replay", "0"], ["--replay", "--history", "9"], ["--nothing"],
+                     [str(SQUARES), "7", "8"]):
             run = subprocess.run([*words, *more], capture_output=True, text=True, stdin=subprocess.DEVNULL, timeout=20)
             if run.returncode not in (1, 64) or "Traceback" in run.stderr:
                 return f"{more}: {run}"
@@ -317,7 +318,7 @@ def wrapped(program: str) -> str | None:
 def memory_told(program: str) -> str | None:
     session = Held(program, str(SQUARES), memory=1)
     try:
-        return missing(session.do("c") + session.told, " MB", "--history 1000000") or session.replayed_fault()
+        return missing(session.do("c") + session.told, " MB", "--history 1000000", "--replay") or session.replayed_fault()
     finally:
         session.close()
 

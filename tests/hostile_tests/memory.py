@@ -168,12 +168,20 @@ def moves_made(session, line, place):
     return made
 
 
+# What a session keeps: all moves, so many, or copies of states.
+REPLAY = "replay"
+
+
+def words_of(history):
+    return [] if history is None else ["--replay", "1"] if history == REPLAY else ["--history", str(history)]
+
+
 def session_refused(running, text, script, history, limit, must_want):
     """A session whose allocations are refused: nothing is written, or it goes on and says where memory was wanting.
 
     `must_want` are commands of which some run must have said so, behind moves if it is said with a `+`."""
-    options = {"history": history, "limit": limit}
-    words = ["--limit", str(limit)] + ([] if history is None else ["--history", str(history)])
+    options = {"history": None if history == REPLAY else history, "limit": limit}
+    words = ["--limit", str(limit)] + words_of(history)
     ample, status = reference.transcript(text, script, **options)
     seen, loads = set(), 0
 
@@ -235,10 +243,11 @@ def want_while_loading(run):
 def as_stated(running, name, history):
     """A session that answers as it is stated where no allocation is refused, and where one is; each answer must come.
 
-    With a bound of the history only what is written takes memory, and it alone may be wanting."""
+    With a bound of the history only what is written takes memory, and it alone may be wanting; with copies of states only what
+    is set."""
     text, script, plain, wants = STATED[name]
-    words = [] if history is None else ["--history", str(history)]
-    if history is not None and text != HELLO:
+    words = words_of(history)
+    if history == REPLAY and (script.startswith(b"step")) or history not in (None, REPLAY) and text != HELLO:
         wants = []
     seen = set()
 
@@ -289,15 +298,21 @@ def cases():
                (LOOP, b"back\nstep 9\nout\nback 9\nstep 9\n", None, 1000, ("step",)))
     yield Case("pokes, each allocation refused", session_refused,
                (PROGRAM, b"set %v 1\nset %v 2\npoke w $d 1\npoke b $d 2\nback 9\nmem $d 4\n" * 3, None, 1000, ("set",)))
+    yield Case("pokes among copies of states, each allocation refused", session_refused,
+               (PROGRAM, b"set %v 1\nset %v 2\npoke w $d 1\npoke b $d 2\nback 9\nmem $d 4\n" * 3, REPLAY, 1000, ("set",)))
+    yield Case("a session over copies of states wants memory only while loading", session_refused,
+               (PROGRAM, b"".join(line for line in SCRIPT.splitlines(True) if line.split()[:1] not in ([b"set"], [b"poke"])),
+                REPLAY, 1_000_000, ()))
+    yield Case("a loop over copies of states wants memory only while loading", session_refused,
+               (LOOP, b"continue\nback\ncontinue\nreverse\nstep 5\n", REPLAY, 1000, ()))
     for name, (moves, own) in counts.OWN.items():
-        for history in (None, 3):
-            yield Case(f"the moves of {name}, --history {history}, each allocation refused", session_refused,
+        for history in (None, 3, REPLAY):
+            yield Case(f"the moves of {name}, {' '.join(words_of(history)) or 'all kept'}, each allocation refused", session_refused,
                        (counts.own_text(name), b"step\ntemps\nout\n" * moves + b"back 99\nstep 99\n", history, 1000,
-                        ("step",) if own or history is None else ()))
+                        () if history == REPLAY else ("step",) if own or history is None else ()))
     for name in STATED:
-        for history in (None, 3):
-            bound = "" if history is None else f" with --history {history}"
-            yield Case(f"{name}{bound}, each allocation refused", as_stated, (name, history))
+        for history in (None, 3, REPLAY):
+            yield Case(" ".join([name, *words_of(history)]) + ", each allocation refused", as_stated, (name, history))
     yield Case("a refused program, each allocation refused", answer_refused,
                (PROGRAM + b"data $d = { }\n", [], (b"refused: C1 line 33\n", 1)))
     yield Case("a text that can't be cut, each allocation refused", answer_refused,

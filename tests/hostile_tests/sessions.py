@@ -58,7 +58,7 @@ def unbounded(text, arguments, script, limit):
 
 
 def bound_not_met(running, seed, lines=LINES):
-    """With a bound of as many moves as a session makes, it is that without a bound."""
+    """With a bound of as many moves as a session makes, and over copies of states, it is that without a bound."""
     text, arguments, script, options = seeded(seed, lines)
     limit = options["limit"]
     wanted, status, moves = unbounded(text, arguments, script, limit)
@@ -66,6 +66,10 @@ def bound_not_met(running, seed, lines=LINES):
         fault = running.fault(text, script, words_of(arguments, limit, bound), wanted, status)
         if fault:
             return f"with {'no bound' if bound is None else f'a bound of {bound}'}: {fault}"
+    for most in ("1", "64"):
+        fault = running.fault(text, script, words_of(arguments, limit, None) + ["--replay", most], wanted, status)
+        if fault:
+            return f"with --replay {most}: {fault}"
     return None
 
 

@@ -62,6 +62,13 @@ over-run new q kept positions pokes n r count h e (inl all) = inl all
 over-run {A} new q kept positions pokes n r count h e (inr over) =
     inr (ap (λ (r : Program A). is_final (walk r (first_of kept) pokes n).status) e ∙ ap (λ (t : State). is_final t.status) (sym h.now) ∙ over)
 
+-- where no step was made
+pub some-run : {A : Type 0} (new : Whole A) (q : Program A) (kept : List State) (positions : List ℕ) (pokes : List Poked) (n count : ℕ) → Holds new kept positions pokes n → q ≡ new.program
+    → (count ≡ 0) ⊎ (is_final (state_of new).status ≡ true) → (count ≡ 0) ⊎ (at_end (timeline_at q (first_of kept) pokes n) ≡ true)
+some-run new q kept positions pokes n count h e (inl none) = inl none
+some-run {A} new q kept positions pokes n count h e (inr over) =
+    inr (ap (λ (r : Program A). is_final (walk r (first_of kept) pokes n).status) e ∙ ap (λ (t : State). is_final t.status) (sym h.now) ∙ over)
+
 -- ---- after a jump back
 
 pub reached : {A : Type 0} (p : Program A) (kept : List State) (positions : List ℕ) (pokes : List Poked) (n k : ℕ) → IsKept p kept positions pokes n → k ≤ n → Reaches p kept positions pokes k

@@ -9,10 +9,10 @@ use Rattle.std.proofs.lemmas.Slice.Eq.{bytes_eq-Decides}
 use Rattle.qil_tree.specs.declared.tree.Program.{Program}
 use Rattle.qil_meaning.specs.State.{State}
 use Rattle.qil_meaning.specs.Timeline.{Timeline, gone}
-use Rattle.qil_meaning.specs.Stops.{Reading, dead, unset, bytes_read, value_read, same_reading, reading, Stop, break_at, watch, Numbered, differs, first_watch, first_break, stopped}
+use Rattle.qil_meaning.specs.Stops.{Reading, dead, unset, bytes_read, value_read, same_reading, reading, Stop, break_at, watch, Numbered, differs, first_watch, stopped}
 use Rattle.qil_meaning.specs.Runs.{if_holds, bottom, stop_back, stopping, RunsBack}
 use Rattle.qil_meaning.specs.declared.reason.Reason.{Reason}
-use Rattle.qil_meaning.specs.declared.reason.Reason.TheVariants.{Watch, Break, Start, Limit}
+use Rattle.qil_meaning.specs.declared.reason.Reason.TheVariants.{Start, Limit}
 use Rattle.qil_stops.specs.declared.stop.NumberedStop.{NumberedStop}
 use Rattle.qil_stops.specs.Named.{named_stops}
 use Rattle.qil_stops.proofs.OnWay.{Passes, least_at, least_limit, stopped-plain, none-stopped}
@@ -62,21 +62,6 @@ turned_stop a b (break_at place) = refl
 pub watch-turned : (a b : State) (stops : List Numbered) → first_watch a b stops ≡ first_watch b a stops
 unfolding first_watch
 watch-turned a b stops = λ i. option_map (λ (one : Numbered). one.number) (find (λ (one : Numbered). turned_stop a b one.stop i) stops)
-
--- what holds in going back: by the first watch in going forward, and the first breakpoint from before
-pub behind-watch : (stops : List Numbered) (before now : State) (n : ℕ) → Some n ≡ first_watch before now stops → Some (Watch n) ≡ stopped stops now before
-unfolding stopped
-behind-watch stops before now n e = ap (λ o. option_or (option_map Watch o) (option_map Break (first_break before stops))) (e ∙ watch-turned before now stops)
-
-pub behind-break : (stops : List Numbered) (before now : State) (n : ℕ) → None ≡ first_watch before now stops → Some n ≡ first_break before stops → Some (Break n) ≡ stopped stops now before
-unfolding stopped
-behind-break stops before now n e f =
-    ap (λ o. option_or None (option_map Break o)) f ∙ ap (λ o. option_or (option_map Watch o) (option_map Break (first_break before stops))) (e ∙ watch-turned before now stops)
-
-pub behind-none : (stops : List Numbered) (before now : State) → None ≡ first_watch before now stops → None ≡ first_break before stops → None ≡ stopped stops now before
-unfolding stopped
-behind-none stops before now e f =
-    ap (λ o. option_or None (option_map Break o)) f ∙ ap (λ o. option_or (option_map Watch o) (option_map Break (first_break before stops))) (e ∙ watch-turned before now stops)
 
 -- ---- a part, position by position
 
@@ -228,15 +213,6 @@ hit-under stop low n None is le = le
 hit-under stop low n (Some hit) is le = let lt : hit.position < n = is.1 in omega (arith, lt)
 
 -- ---- in the loops
-
--- one position further in a part
-pub hit-step : {A : Type 0} (p : Program A) (stops : List Numbered) (s now new : State) (pokes : List Poked) (from at : ℕ) (last result : Option Hit) (found : Option Reason) → from ≤ at → now ≡ walk p s pokes at → new ≡ walk p s pokes (at + 1)
-    → IsLastHit (stop_at p stops s pokes) from at last → found ≡ stopped stops new now → result ≡ later_hit last at found → IsLastHit (stop_at p stops s pokes) from (at + 1) result
-hit-step {A} p stops s now new pokes from at last result found le here there hits is e =
-    let one : at + 1 ≡ suc at = omega arith in
-    let stop : found ≡ stop_at p stops s pokes at =
-    is ∙ ap (λ (t : State). stopped stops t now) (there ∙ ap (walk p s pokes) one) ∙ ap (λ (t : State). stopped stops (walk p s pokes (suc at)) t) here in
-    subst (λ (h : Option Hit). IsLastHit (stop_at p stops s pokes) from (at + 1) h) (sym e) (hit-more (stop_at p stops s pokes) from at last found le hits stop)
 
 -- a part that has a hit, and one that has none
 pub hit-done : (stop : ℕ → Option Reason) (lowest from end now : ℕ) (found : Option Hit) → is_some found ≡ true → IsLastHit stop from end found → lowest ≤ from → end ≤ now → ((j : ℕ) → end ≤ j → j < now → stop j ≡ None) → IsLastHit stop lowest now found

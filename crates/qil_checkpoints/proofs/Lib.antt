@@ -6,6 +6,6 @@ pub mod Copies
 pub mod HeldLemmas
 pub mod Choices
 pub mod Refusing
-pub mod Told
 pub mod Onward
 pub mod Hitting
+pub mod Quiet

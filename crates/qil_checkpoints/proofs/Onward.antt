@@ -64,31 +64,12 @@ run-unwatched {A} p limit k t now moves runs le (inr over) =
 
 -- ---- one move
 
-pub one-step : {A : Type 0} (p : Program A) (r : ℕ) (t new : Timeline) → r ≡ 1 → new ≡ moved p r t → new ≡ forward p t
-unfolding moved
-one-step p r t new e moves = moves ∙ ap (λ n. moved p n t) e
-
 pub no-step : {A : Type 0} (p : Program A) (r : ℕ) (t new : Timeline) → r ≡ 0 → new ≡ moved p r t → new ≡ t
 unfolding moved
 no-step p r t new e moves = moves ∙ ap (λ n. moved p n t) e
-
--- where none was made of one, the run is over
-pub none-left : (r : ℕ) (t new : Timeline) → r ≡ 0 → new ≡ t → (r ≡ 1) ⊎ (at_end new ≡ true) → at_end t ≡ true
-none-left r t new e same (inl one) = absurd (omega (arith, e, one))
-none-left r t new e same (inr over) = ap at_end (sym same) ∙ over
-
-pub one-running : {A : Type 0} (p : Program A) (r : ℕ) (t : Timeline) → r ≡ 1 → ((j : ℕ) → j < r → at_end (moved p j t) ≡ false) → at_end t ≡ false
-unfolding moved
-one-running p r t e runs = runs 0 (omega (arith, e))
 
 -- ---- what a machine says by its own program
 
 pub walked-by : {A : Type 0} (q p : Program A) (a b : ℕ) (t now new : Timeline) → q ≡ p → IsWalked p t a now → new ≡ moved q b now → ((j : ℕ) → j < b → at_end (moved q j now) ≡ false) → IsWalked p t (a + b) new
 walked-by {A} q p a b t now new e way more runs =
     walked-part p a b t now new way (subst (λ (r : Program A). new ≡ moved r b now) e more) (λ j lt. subst (λ (r : Program A). at_end (moved r j now) ≡ false) e (runs j lt))
-
-pub step-by : {A : Type 0} (q p : Program A) (r : ℕ) (t new : Timeline) → q ≡ p → r ≡ 1 → new ≡ moved q r t → new ≡ forward p t
-step-by {A} q p r t new e one moves = one-step p r t new one (subst (λ (o : Program A). new ≡ moved o r t) e moves)
-
-pub running-by : {A : Type 0} (q p : Program A) (r : ℕ) (t : Timeline) → q ≡ p → r ≡ 1 → ((j : ℕ) → j < r → at_end (moved q j t) ≡ false) → at_end t ≡ false
-running-by q p r t e one runs = one-running q r t one runs

@@ -1,12 +1,13 @@
 -- Pokes at rising positions: which is found where, and the parts of such a list.
-use Rattle.std.proofs.Common.{◌≡◌, refl, sym, ap, ◌∙◌, subst, ℕ, suc, ◌+◌, ◌<◌, ◌≤◌, Bool, true, false, cond, List, [], ◌∷◌, ◌++◌, length, get_or, take, drop, Option, Some, None, eq-eqb, arith}
-use Rattle.std.proofs.lemmas.Bool.{ne_eqb}
+use Rattle.std.proofs.Common.{◌≡◌, refl, sym, ap, ◌∙◌, subst, ℕ, suc, ◌+◌, ◌<◌, ◌≤◌, Bool, true, false, cond, List, [], ◌∷◌, ◌++◌, length, get_or, take, drop, Option, Some, None, inl, inr, eq-eqb, arith}
+use Rattle.std.proofs.lemmas.Bool.{ne_eqb, cases_lt}
 use Rattle.std.proofs.lemmas.List.{drop_more, drop_all}
 use Rattle.std.proofs.lemmas.Bool.Decides.{nat_tests, Decides-eqb}
-use Rattle.std.specs.Prelude.{◌==◌, ◌≢◌, nat_lt, slice_get}
+use Rattle.std.specs.Prelude.{◌==◌, nat_lt, slice_get}
 use Rattle.qil_checkpoints.specs.declared.poked.KeptPoke.{KeptPoke}
 use Rattle.qil_checkpoints.specs.declared.poked.Poked.{Poked}
 use Rattle.qil_checkpoints.specs.Walk.{HasWidth, poke_at, ArePoked, count_before, part_of, IsPart}
+use Rattle.qil_checkpoints.specs.Hits.{IsNextStand}
 
 -- ---- one poke
 
@@ -129,10 +130,6 @@ part-next pokes q qs from to part poked = λ j ge lt.
     let first : from ≤ q.position = poked.0 in
     part j (omega (arith, first, ge)) lt ∙ poke-past q qs j (λ e. omega (arith, e, ge))
 
--- where none is left
-pub part-end : (pokes : List Poked) (from to : ℕ) → IsPart pokes [] from to → (j : ℕ) → from ≤ j → j < to → poke_at pokes j ≡ None
-part-end pokes from to part j ge lt = part j ge lt
-
 -- ---- in a loop over a part
 
 pub rest-next : (part : List Poked) (i at to : ℕ) (d : Poked) → i < length part → ArePoked at (drop i part) to → ArePoked at (get_or part i d ∷ drop (i + 1) part) to
@@ -204,18 +201,34 @@ some-part pokes (q ∷ qs) at to poke poked some part = λ j ge lt.
     let here : q.position ≡ at = (first_at q qs at to (q.position == at) refl poked poke some).0 in
     part j (omega (arith, ge)) lt ∙ poke-past q qs j (λ e. omega (arith, e, ge, here))
 
-not_first : (q : Poked) (qs : List Poked) (at : ℕ) → poke_at (q ∷ qs) at ≡ None → q.position ≡ at → ⊥
-not_first q qs at none e = no_none q.poke (sym (poke-here q qs at e) ∙ none)
+-- ---- up to the next poke
+
+pub stand-none : (rest : List Poked) (at to : ℕ) → slice_get rest 0 ≡ None → at < to → IsNextStand rest at to to
+stand-none [] at to e lt = record { later = lt; within = omega arith; none = λ j ge under. refl; poked = omega arith }
+stand-none (q ∷ qs) at to e lt = absurd cc
+
+pub stand-some : (rest : List Poked) (q : Poked) (at to : ℕ) → slice_get rest 0 ≡ Some q → ArePoked at rest to → poke_at rest at ≡ None → IsNextStand rest at to q.position
+stand-some [] q at to e poked none = absurd cc
+stand-some (r ∷ rs) q at to e poked none =
+    let same : r ≡ q = same_poke r q e in
+    let below : (r.position ≡ at → ⊥) = λ f. no_some r.poke (sym none ∙ poke-here r rs at f) in
+    let first : at ≤ r.position = poked.0 in
+    let later : at < r.position = elim (cases_lt at r.position) [
+      | inl lt ↦ lt
+      | inr ge ↦ absurd (below (omega (arith, ge, first)))
+    ] in
+    let under : r.position + 1 ≤ to = poked-le (r.position + 1) rs to poked.2 in
+    subst (λ (x : Poked). IsNextStand (r ∷ rs) at to x.position) same (record {
+      later = later;
+      within = omega (arith, under);
+      none = λ j ge lt. none-below r.position (r ∷ rs) to j (omega arith, poked.1, poked.2) lt;
+      poked = (omega arith, poked.1, poked.2);
+    })
   where
-    no_none : (a : KeptPoke) → Some a ≡ None → ⊥
-    no_none a e = cc
+    no_some : (k : KeptPoke) → None ≡ Some k → ⊥
+    no_some k e = cc
 
-pub none-rest : (rest : List Poked) (at to : ℕ) → ArePoked at rest to → poke_at rest at ≡ None → at < to → ArePoked (at + 1) rest to
-none-rest [] at to poked none lt = omega (arith, lt)
-none-rest (q ∷ qs) at to poked none lt =
-    let first : at ≤ q.position = poked.0 in
-    let other : q.position ≢ at = not_first q qs at none in
-    (omega (arith, first, other), poked.1, poked.2)
-
-pub none-part : (pokes rest : List Poked) (at to : ℕ) → IsPart pokes rest at to → IsPart pokes rest (at + 1) to
-none-part pokes rest at to part = λ j ge lt. part j (omega (arith, ge)) lt
+-- from an earlier position on
+pub poked-lower : (low less : ℕ) (pokes : List Poked) (high : ℕ) → ArePoked low pokes high → less ≤ low → ArePoked less pokes high
+poked-lower low less [] high le under = omega (arith, le, under)
+poked-lower low less (q ∷ qs) high poked under = (let first : low ≤ q.position = poked.0 in omega (arith, first, under), poked.1, poked.2)

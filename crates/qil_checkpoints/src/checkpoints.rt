@@ -14,17 +14,18 @@ ghost use Rattle.qil_stops.specs.Named.{named_stops};
 ghost use Rattle.qil_stops.specs.Readings.{AllTell};
 ghost use Rattle.qil_checkpoints.specs.Walk.{after_poke, HasWidth, IsWalk};
 ghost use Rattle.qil_checkpoints.specs.Held.{first_of, Holds, held_timeline};
+ghost use Rattle.qil_checkpoints.specs.Hits.{IsQuiet};
 
 use crate::keeping::keep_copy;
-use crate::looking::{is_over, readings, stopped};
 use crate::poked::{KeptPoke, Poked};
 use crate::replaying::{go_back, jump, poke};
 use crate::searching::{hit_or_lowest, search_back};
 use arrayvec::ArrayVec;
-use qil_code::{Code, Slot};
+use qil_code::Slot;
 use qil_machine::PokeError;
 use qil_meaning::Reason;
-use qil_restorable::{HasCopies, Restorable};
+use qil_readers::HasProgram;
+use qil_restorable::{HasCopies, Restorable, is_over, readings, stopped};
 use qil_stops::NumberedStop;
 use std::alloc::{AllocError, Allocator};
 use std::marker::Model;
@@ -53,15 +54,19 @@ impl<A: Allocator, M: HasCopies<A>> Model for Checkpoints<A, M> {
     ghost invariant = { λ c. Holds (M.present c.machine) (M.kept c.machine) c.positions.items c.pokes.items c.position };
 }
 
-impl<'c, A: Allocator + Copy + 'c, M: Restorable<A, Code<'c, 'c, A>>> Checkpoints<A, M> {
+impl<A: Allocator + Copy, M: HasCopies<A>> Checkpoints<A, M> {
     /// A history that begins at a machine, whose copies may take about so many bytes. Copies that it had are let go.
     ///
     /// # Errors
     ///
     /// Where there is no memory for the first copy.
-    pub fn new(alloc: A, machine: M, budget: usize) -> Result<Checkpoints<A, M>, AllocError>
+    pub fn new<C: HasProgram<A>>(
+        alloc: A,
+        machine: M,
+        budget: usize,
+    ) -> Result<Checkpoints<A, M>, AllocError>
     where
-        M: Drop,
+        M: Restorable<A, C> + Drop,
         ensures program { IfOk result (λ c. (M.present c.machine).program ≡ (M.present machine).program) }
         ensures begun { IfOk result (λ c. held_timeline M.present M.kept c ≡ begun None (state_of (M.present machine))) }
     {
@@ -81,7 +86,9 @@ impl<'c, A: Allocator + Copy + 'c, M: Restorable<A, Code<'c, 'c, A>>> Checkpoint
     }
 
     /// Makes up to so many steps, and fewer only where the run is over. Gives how many.
-    pub(crate) fn run_part(&mut self, count: u64) -> u64
+    pub(crate) fn run_part<C: HasProgram<A>>(&mut self, count: u64) -> u64
+    where
+        M: Restorable<A, C>,
         requires { self.old.position + count ≤ 2 ^ 62 }
         ensures program { (M.present self.new.machine).program ≡ (M.present self.old.machine).program }
         ensures position { self.new.position ≡ self.old.position + result }
@@ -95,8 +102,37 @@ impl<'c, A: Allocator + Copy + 'c, M: Restorable<A, Code<'c, 'c, A>>> Checkpoint
         made
     }
 
+    /// Makes up to so many steps, and fewer only where the run is over or after a step behind which a stop may hold: none holds
+    /// behind those before it. Gives how many. `before` is what each stop reads.
+    pub(crate) fn run_part_quietly<C: HasProgram<A>>(
+        &mut self,
+        stops: &[NumberedStop],
+        before: &[Option<u64>],
+        count: u64,
+    ) -> u64
+    where
+        M: Restorable<A, C>,
+        requires near { self.old.position + count ≤ 2 ^ 62 }
+        requires count { length before.now ≡ length stops.now }
+        requires readable { AreReadable stops.now }
+        ensures program { (M.present self.new.machine).program ≡ (M.present self.old.machine).program }
+        ensures position { self.new.position ≡ self.old.position + result }
+        ensures few { result ≤ count }
+        ensures moved { held_timeline M.present M.kept self.new ≡ moved (M.present self.old.machine).program result (held_timeline M.present M.kept self.old) }
+        ensures running { (j : ℕ) → j < result → at_end (moved (M.present self.old.machine).program j (held_timeline M.present M.kept self.old)) ≡ false }
+        ensures some { result ≡ 0 → (count ≡ 0) ⊎ (at_end (held_timeline M.present M.kept self.new) ≡ true) }
+        ensures quiet { AllTell (M.present self.old.machine).program (held_timeline M.present M.kept self.old).now stops.now before.now
+            → IsQuiet (M.present self.old.machine).program (λ j. (moved (M.present self.old.machine).program j (held_timeline M.present M.kept self.old)).now) stops.now before.now 0 result }
+    {
+        let made = self.machine.run_quietly(stops, before, count);
+        self.position += made;
+        made
+    }
+
     /// Keeps a copy of the state, where the budget allows it and there is memory.
-    pub(crate) fn keep_copy(&mut self)
+    pub(crate) fn keep_copy<C: HasProgram<A>>(&mut self)
+    where
+        M: Restorable<A, C>,
         ensures program { (M.present self.new.machine).program ≡ (M.present self.old.machine).program }
         ensures position { self.new.position ≡ self.old.position }
         ensures same { held_timeline M.present M.kept self.new ≡ held_timeline M.present M.kept self.old }
@@ -110,7 +146,9 @@ impl<'c, A: Allocator + Copy + 'c, M: Restorable<A, Code<'c, 'c, A>>> Checkpoint
     }
 
     /// Goes back to a position. The copies and the pokes behind it are let go.
-    pub(crate) fn go_to(&mut self, position: u64)
+    pub(crate) fn go_to<C: HasProgram<A>>(&mut self, position: u64)
+    where
+        M: Restorable<A, C>,
         requires { position ≤ self.old.position }
         ensures program { (M.present self.new.machine).program ≡ (M.present self.old.machine).program }
         ensures position { self.new.position ≡ position }
@@ -126,7 +164,13 @@ impl<'c, A: Allocator + Copy + 'c, M: Restorable<A, Code<'c, 'c, A>>> Checkpoint
     }
 
     /// Goes back to the first place where there is a reason to stop, and gives the reason and how many moves that is.
-    pub(crate) fn back_to_stop(&mut self, stops: &[NumberedStop], limit: u64) -> (Reason, u64)
+    pub(crate) fn back_to_stop<C: HasProgram<A>>(
+        &mut self,
+        stops: &[NumberedStop],
+        limit: u64,
+    ) -> (Reason, u64)
+    where
+        M: Restorable<A, C>,
         requires few { length stops.now ≤ 64 }
         requires readable { AreReadable stops.now }
         ensures program { (M.present self.new.machine).program ≡ (M.present self.old.machine).program }
@@ -155,7 +199,9 @@ impl<'c, A: Allocator + Copy + 'c, M: Restorable<A, Code<'c, 'c, A>>> Checkpoint
     }
 
     /// Pokes, and keeps that as a move. Where there is no memory for that, a poke that wasn't refused is undone.
-    pub(crate) fn poke(&mut self, made: KeptPoke) -> Result<(), PokeError>
+    pub(crate) fn poke<C: HasProgram<A>>(&mut self, made: KeptPoke) -> Result<(), PokeError>
+    where
+        M: Restorable<A, C>,
         requires before { self.old.position < 2 ^ 62 }
         requires width { HasWidth made }
         ensures program { (M.present self.new.machine).program ≡ (M.present self.old.machine).program }
@@ -179,7 +225,13 @@ impl<'c, A: Allocator + Copy + 'c, M: Restorable<A, Code<'c, 'c, A>>> Checkpoint
     }
 
     /// Pokes a temporary of the innermost frame, and keeps that as a move.
-    pub(crate) fn poke_temp(&mut self, name: &[u8], value: u64) -> Result<(), PokeError>
+    pub(crate) fn poke_temp<C: HasProgram<A>>(
+        &mut self,
+        name: &[u8],
+        value: u64,
+    ) -> Result<(), PokeError>
+    where
+        M: Restorable<A, C>,
         requires { self.old.position < 2 ^ 62 }
         ensures program { (M.present self.new.machine).program ≡ (M.present self.old.machine).program }
         ensures ok { OnOk result (poked (held_timeline M.present M.kept self.old) (poke_temp (M.present self.old.machine).program (held_timeline M.present M.kept self.old).now name.now value) ≡ Ok (held_timeline M.present M.kept self.new)) }
@@ -194,7 +246,12 @@ impl<'c, A: Allocator + Copy + 'c, M: Restorable<A, Code<'c, 'c, A>>> Checkpoint
     }
 
     /// What each stop reads now.
-    pub(crate) fn readings(&self, stops: &[NumberedStop]) -> ArrayVec<Option<u64>, 64>
+    pub(crate) fn readings<C: HasProgram<A>>(
+        &self,
+        stops: &[NumberedStop],
+    ) -> ArrayVec<Option<u64>, 64>
+    where
+        M: Restorable<A, C>,
         requires few { length stops.now ≤ 64 }
         requires readable { AreReadable stops.now }
         ensures count { length result.items ≡ length stops.now }
@@ -204,11 +261,13 @@ impl<'c, A: Allocator + Copy + 'c, M: Restorable<A, Code<'c, 'c, A>>> Checkpoint
     }
 
     /// The stop that holds now, after a move from a state that is reported by what was read there.
-    pub(crate) fn stopped_here(
+    pub(crate) fn stopped_here<C: HasProgram<A>>(
         &self,
         stops: &[NumberedStop],
         before: &[Option<u64>],
     ) -> Option<Reason>
+    where
+        M: Restorable<A, C>,
         requires count { length before.now ≡ length stops.now }
         requires readable { AreReadable stops.now }
         ensures { (old : State) → AllTell (M.present self.now.machine).program old stops.now before.now
@@ -218,7 +277,9 @@ impl<'c, A: Allocator + Copy + 'c, M: Restorable<A, Code<'c, 'c, A>>> Checkpoint
     }
 
     /// Why a run stops: the end comes before each other reason.
-    pub(crate) fn end_or(&self, other: Reason) -> Reason
+    pub(crate) fn end_or<C: HasProgram<A>>(&self, other: Reason) -> Reason
+    where
+        M: Restorable<A, C>,
         ensures { result ≡ cond (at_end (held_timeline M.present M.kept self.now)) Reason.End other }
     {
         if is_over(&self.machine) {
@@ -229,7 +290,9 @@ impl<'c, A: Allocator + Copy + 'c, M: Restorable<A, Code<'c, 'c, A>>> Checkpoint
     }
 
     /// How many moves were made: steps and pokes.
-    pub fn moves(&self) -> u64
+    pub fn moves<C: HasProgram<A>>(&self) -> u64
+    where
+        M: Restorable<A, C>,
         ensures position { result ≡ self.now.position }
         ensures timeline { result ≡ position (held_timeline M.present M.kept self.now) }
         ensures walk { IsWalk (M.present self.now.machine).program (first_of (M.kept self.now.machine)) self.now.pokes result (held_timeline M.present M.kept self.now) }
@@ -238,7 +301,9 @@ impl<'c, A: Allocator + Copy + 'c, M: Restorable<A, Code<'c, 'c, A>>> Checkpoint
     }
 
     /// What is read.
-    pub(crate) fn reader(&self) -> &M
+    pub(crate) fn reader<C: HasProgram<A>>(&self) -> &M
+    where
+        M: Restorable<A, C>,
         ensures now { state_of (M.whole result.now) ≡ (held_timeline M.present M.kept self.now).now }
         ensures program { (M.whole result.now).program ≡ (M.present self.now.machine).program }
     {
@@ -247,7 +312,9 @@ impl<'c, A: Allocator + Copy + 'c, M: Restorable<A, Code<'c, 'c, A>>> Checkpoint
     }
 
     /// The slot of a temporary of the innermost frame.
-    fn slot_named(&self, name: &[u8]) -> Result<Slot, PokeError>
+    fn slot_named<C: HasProgram<A>>(&self, name: &[u8]) -> Result<Slot, PokeError>
+    where
+        M: Restorable<A, C>,
         ensures ok { (value : ℕ) → IfOk result (λ slot. poke_slot (M.present self.now.machine).program (held_timeline M.present M.kept self.now).now slot value
             ≡ poke_temp (M.present self.now.machine).program (held_timeline M.present M.kept self.now).now name.now value) }
         ensures why { (value : ℕ) → IfErr result (Explains (poke_temp (M.present self.now.machine).program (held_timeline M.present M.kept self.now).now name.now value)) }
@@ -258,7 +325,7 @@ impl<'c, A: Allocator + Copy + 'c, M: Restorable<A, Code<'c, 'c, A>>> Checkpoint
 
 /// Why a poke isn't kept as a move where there is no memory for that: what refuses it, or out of memory. The machine, which is
 /// at this position, comes back to it.
-fn refusal<'c, A: Allocator + Copy + 'c, M: Restorable<A, Code<'c, 'c, A>>>(
+fn refusal<A: Allocator + Copy, C: HasProgram<A>, M: Restorable<A, C>>(
     machine: &mut M,
     positions: &[u64],
     pokes: &[Poked],

@@ -5,16 +5,15 @@ ghost use Rattle.qil_checkpoints.specs.Held.{held_timeline};
 
 use crate::checkpoints::Checkpoints;
 use crate::poked::KeptPoke;
-use qil_code::Code;
 use qil_machine::PokeError;
 use qil_meaning::Reason;
+use qil_readers::HasProgram;
 use qil_restorable::Restorable;
 use qil_runs::Runs;
 use qil_stops::NumberedStop;
 use std::alloc::Allocator;
 
-impl<'c, A: Allocator + Copy + 'c, M: Restorable<A, Code<'c, 'c, A>>> Runs<A, Code<'c, 'c, A>>
-    for Checkpoints<A, M> {
+impl<A: Allocator + Copy, C: HasProgram<A>, M: Restorable<A, C>> Runs<A, C> for Checkpoints<A, M> {
     type Machine = M;
 
     ghost program = { λ history. (M.present history.machine).program };

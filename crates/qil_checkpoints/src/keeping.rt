@@ -5,7 +5,7 @@ ghost use Rattle.qil_state.specs.State.{state_of};
 ghost use Rattle.qil_checkpoints.specs.declared.poked.Poked.{Poked};
 ghost use Rattle.qil_checkpoints.specs.Held.{ArePositions, StillHolds, Holds};
 
-use qil_code::Code;
+use qil_readers::HasProgram;
 use qil_restorable::Restorable;
 use std::alloc::Allocator;
 
@@ -21,7 +21,7 @@ fn is_copied(positions: &[u64], position: u64) -> bool
 
 /// Keeps a copy of the state of a machine at a position, if there is memory for one and there is none yet. Copies that are
 /// needed least are let go where all together take more bytes than the budget.
-pub(crate) fn keep_copy<'c, A: Allocator + Copy + 'c, M: Restorable<A, Code<'c, 'c, A>>>(
+pub(crate) fn keep_copy<A: Allocator + Copy, C: HasProgram<A>, M: Restorable<A, C>>(
     machine: &mut M,
     positions: &mut Vec<u64, A>,
     position: u64,
@@ -38,7 +38,7 @@ pub(crate) fn keep_copy<'c, A: Allocator + Copy + 'c, M: Restorable<A, Code<'c, 
 }
 
 /// Adds a copy of the state of a machine at a position, if there is memory for one and there is none yet. Says whether it did.
-fn add_copy<'c, A: Allocator + Copy + 'c, M: Restorable<A, Code<'c, 'c, A>>>(
+fn add_copy<A: Allocator + Copy, C: HasProgram<A>, M: Restorable<A, C>>(
     machine: &mut M,
     positions: &mut Vec<u64, A>,
     position: u64,
@@ -64,7 +64,7 @@ fn add_copy<'c, A: Allocator + Copy + 'c, M: Restorable<A, Code<'c, 'c, A>>>(
 
 /// Lets copies go that are needed least, until the others take no more bytes than the budget or only the first and the latest
 /// are left.
-fn thin<'c, A: Allocator + Copy + 'c, M: Restorable<A, Code<'c, 'c, A>>>(
+fn thin<A: Allocator + Copy, C: HasProgram<A>, M: Restorable<A, C>>(
     machine: &mut M,
     positions: &mut Vec<u64, A>,
     position: u64,
@@ -76,7 +76,7 @@ fn thin<'c, A: Allocator + Copy + 'c, M: Restorable<A, Code<'c, 'c, A>>>(
         → StillHolds (M.present machine.old) (M.kept machine.old) (M.kept machine.new) positions.new.items pokes n }
 {
     for _ in 0..positions.len() {
-        if size_of_copies(machine) <= budget {
+        if machine.kept_bytes() <= budget {
             return;
         }
         match least_needed(positions.as_slice(), position) {
@@ -87,7 +87,7 @@ fn thin<'c, A: Allocator + Copy + 'c, M: Restorable<A, Code<'c, 'c, A>>>(
 }
 
 /// Lets a copy go that isn't the first.
-fn let_go<'c, A: Allocator + Copy + 'c, M: Restorable<A, Code<'c, 'c, A>>>(
+fn let_go<A: Allocator + Copy, C: HasProgram<A>, M: Restorable<A, C>>(
     machine: &mut M,
     positions: &mut Vec<u64, A>,
     index: usize,
@@ -102,17 +102,6 @@ fn let_go<'c, A: Allocator + Copy + 'c, M: Restorable<A, Code<'c, 'c, A>>>(
 {
     machine.forget(index);
     let _ = positions.remove(index);
-}
-
-/// About how many bytes all copies take.
-fn size_of_copies<'c, A: Allocator + Copy + 'c, M: Restorable<A, Code<'c, 'c, A>>>(
-    machine: &M,
-) -> usize {
-    let mut size: usize = 0;
-    for index in 0..machine.kept_count() {
-        size = size.saturating_add(machine.kept_size(index));
-    }
-    size
 }
 
 /// The copy whose absence makes the least difference, if there is one beside the first and the last: that for which the gap

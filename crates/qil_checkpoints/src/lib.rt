@@ -6,7 +6,6 @@ mod checkpoints;
 mod history;
 mod hit;
 mod keeping;
-mod looking;
 mod poked;
 mod replaying;
 mod running;

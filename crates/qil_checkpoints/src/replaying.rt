@@ -10,8 +10,8 @@ ghost use Rattle.qil_checkpoints.specs.Walk.{after_poke, HasWidth, poke_at, AreP
 ghost use Rattle.qil_checkpoints.specs.Held.{first_of, count_to, IsKept, Holds, Reaches};
 
 use crate::poked::{KeptPoke, Poked};
-use qil_code::Code;
 use qil_machine::PokeError;
+use qil_readers::HasProgram;
 use qil_restorable::Restorable;
 use std::alloc::Allocator;
 
@@ -46,7 +46,7 @@ pub(crate) fn count_to(positions: &[u64], position: u64) -> usize
 }
 
 /// Pokes a machine.
-pub(crate) fn poke<'c, A: Allocator + Copy + 'c, M: Restorable<A, Code<'c, 'c, A>>>(
+pub(crate) fn poke<A: Allocator + Copy, C: HasProgram<A>, M: Restorable<A, C>>(
     machine: &mut M,
     poke: KeptPoke,
 ) -> Result<(), PokeError>
@@ -65,7 +65,7 @@ pub(crate) fn poke<'c, A: Allocator + Copy + 'c, M: Restorable<A, Code<'c, 'c, A
 }
 
 /// Makes a poke again: where it was made before it isn't refused.
-pub(crate) fn poke_again<'c, A: Allocator + Copy + 'c, M: Restorable<A, Code<'c, 'c, A>>>(
+pub(crate) fn poke_again<A: Allocator + Copy, C: HasProgram<A>, M: Restorable<A, C>>(
     machine: &mut M,
     made: KeptPoke,
 )
@@ -78,7 +78,7 @@ pub(crate) fn poke_again<'c, A: Allocator + Copy + 'c, M: Restorable<A, Code<'c,
 }
 
 /// Makes steps from a position to a later one, between which no poke was made.
-pub(crate) fn run_again<'c, A: Allocator + Copy + 'c, M: Restorable<A, Code<'c, 'c, A>>>(
+pub(crate) fn run_again<A: Allocator + Copy, C: HasProgram<A>, M: Restorable<A, C>>(
     machine: &mut M,
     from: u64,
     to: u64,
@@ -93,7 +93,7 @@ pub(crate) fn run_again<'c, A: Allocator + Copy + 'c, M: Restorable<A, Code<'c, 
 }
 
 /// Makes the steps from a position up to a poke, and the poke. Gives the position after it.
-fn go_through<'c, A: Allocator + Copy + 'c, M: Restorable<A, Code<'c, 'c, A>>>(
+fn go_through<A: Allocator + Copy, C: HasProgram<A>, M: Restorable<A, C>>(
     machine: &mut M,
     from: u64,
     made: Poked,
@@ -114,7 +114,7 @@ fn go_through<'c, A: Allocator + Copy + 'c, M: Restorable<A, Code<'c, 'c, A>>>(
 }
 
 /// Makes the moves from a position to a later one again, of which these are the pokes.
-pub(crate) fn replay<'c, A: Allocator + Copy + 'c, M: Restorable<A, Code<'c, 'c, A>>>(
+pub(crate) fn replay<A: Allocator + Copy, C: HasProgram<A>, M: Restorable<A, C>>(
     machine: &mut M,
     part: &[Poked],
     from: u64,
@@ -134,7 +134,7 @@ pub(crate) fn replay<'c, A: Allocator + Copy + 'c, M: Restorable<A, Code<'c, 'c,
 }
 
 /// Brings a machine to the state of a position: back to the last copy of a state not after it, and on from there.
-pub(crate) fn jump<'c, A: Allocator + Copy + 'c, M: Restorable<A, Code<'c, 'c, A>>>(
+pub(crate) fn jump<A: Allocator + Copy, C: HasProgram<A>, M: Restorable<A, C>>(
     machine: &mut M,
     positions: &[u64],
     pokes: &[Poked],
@@ -152,7 +152,7 @@ pub(crate) fn jump<'c, A: Allocator + Copy + 'c, M: Restorable<A, Code<'c, 'c, A
 }
 
 /// Goes back to a position: the copies and the pokes behind it are let go.
-pub(crate) fn go_back<'c, A: Allocator + Copy + 'c, M: Restorable<A, Code<'c, 'c, A>>>(
+pub(crate) fn go_back<A: Allocator + Copy, C: HasProgram<A>, M: Restorable<A, C>>(
     machine: &mut M,
     positions: &mut Vec<u64, A>,
     pokes: &mut Vec<Poked, A>,

@@ -8,9 +8,9 @@ ghost use Rattle.qil_stops.specs.Named.{named_stops};
 ghost use Rattle.qil_checkpoints.specs.Held.{held_timeline};
 
 use crate::checkpoints::Checkpoints;
-use qil_code::Code;
 use qil_meaning::Reason;
-use qil_restorable::Restorable;
+use qil_readers::HasProgram;
+use qil_restorable::{HasCopies, Restorable};
 use qil_stops::NumberedStop;
 use std::alloc::Allocator;
 
@@ -27,9 +27,11 @@ fn part_length(position: u64, left: u64) -> u64
     if room < left { room } else { left }
 }
 
-impl<'c, A: Allocator + Copy + 'c, M: Restorable<A, Code<'c, 'c, A>>> Checkpoints<A, M> {
+impl<A: Allocator + Copy, M: HasCopies<A>> Checkpoints<A, M> {
     /// Makes up to so many steps, and fewer only where the run is over. Gives how many.
-    pub(crate) fn run_on(&mut self, count: u64) -> u64
+    pub(crate) fn run_on<C: HasProgram<A>>(&mut self, count: u64) -> u64
+    where
+        M: Restorable<A, C>,
         requires { self.old.position + count ≤ 2 ^ 62 }
         ensures program { (M.present self.new.machine).program ≡ (M.present self.old.machine).program }
         ensures position { self.new.position ≡ self.old.position + result }
@@ -52,7 +54,9 @@ impl<'c, A: Allocator + Copy + 'c, M: Restorable<A, Code<'c, 'c, A>>> Checkpoint
     }
 
     /// Keeps a copy where one is to be kept.
-    fn keep_between(&mut self)
+    fn keep_between<C: HasProgram<A>>(&mut self)
+    where
+        M: Restorable<A, C>,
         ensures program { (M.present self.new.machine).program ≡ (M.present self.old.machine).program }
         ensures position { self.new.position ≡ self.old.position }
         ensures same { held_timeline M.present M.kept self.new ≡ held_timeline M.present M.kept self.old }
@@ -63,7 +67,9 @@ impl<'c, A: Allocator + Copy + 'c, M: Restorable<A, Code<'c, 'c, A>>> Checkpoint
     }
 
     /// Moves forward where there are no stops.
-    pub(crate) fn run_freely(&mut self, limit: u64) -> (Reason, u64)
+    pub(crate) fn run_freely<C: HasProgram<A>>(&mut self, limit: u64) -> (Reason, u64)
+    where
+        M: Restorable<A, C>,
         requires { self.old.position + limit ≤ 2 ^ 62 }
         ensures program { (M.present self.new.machine).program ≡ (M.present self.old.machine).program }
         ensures run { RunsOn (M.present self.old.machine).program [] limit (held_timeline M.present M.kept self.old) result.0 result.1 (held_timeline M.present M.kept self.new) }
@@ -72,23 +78,35 @@ impl<'c, A: Allocator + Copy + 'c, M: Restorable<A, Code<'c, 'c, A>>> Checkpoint
         (self.end_or(Reason::Limit), made)
     }
 
-    /// Moves forward, and looks for a stop after each move.
-    pub(crate) fn run_watching(&mut self, stops: &[NumberedStop], limit: u64) -> (Reason, u64)
+    /// Moves forward, and looks for a stop wherever one may hold.
+    pub(crate) fn run_watching<C: HasProgram<A>>(
+        &mut self,
+        stops: &[NumberedStop],
+        limit: u64,
+    ) -> (Reason, u64)
+    where
+        M: Restorable<A, C>,
         requires near { self.old.position + limit ≤ 2 ^ 62 }
         requires few { length stops.now ≤ 64 }
         requires readable { AreReadable stops.now }
         ensures program { (M.present self.new.machine).program ≡ (M.present self.old.machine).program }
         ensures run { RunsOn (M.present self.old.machine).program (named_stops (M.present self.old.machine).program stops.now) limit (held_timeline M.present M.kept self.old) result.0 result.1 (held_timeline M.present M.kept self.new) }
     {
-        let before = self.readings(stops);
-        for moves in 0..limit {
-            if self.run_on(1) == 0 {
-                return (Reason::End, moves);
+        let readings = self.readings(stops);
+        let before = readings.as_slice();
+        let mut made = 0;
+        while made < limit {
+            let part = part_length(self.moves(), limit - made);
+            let done = self.run_part_quietly(stops, before, part);
+            if done == 0 {
+                return (Reason::End, made);
             }
-            if let Some(reason) = self.stopped_here(stops, before.as_slice()) {
-                return (self.end_or(reason), moves + 1);
+            made += done;
+            if let Some(reason) = self.stopped_here(stops, before) {
+                return (self.end_or(reason), made);
             }
+            self.keep_between();
         }
-        (self.end_or(Reason::Limit), limit)
+        (self.end_or(Reason::Limit), made)
     }
 }

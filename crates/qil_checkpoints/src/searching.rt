@@ -1,23 +1,23 @@
 //! Looks through the walk backwards for the last position at which a stop holds: part after part from the newest on, each of which
 //! is run through forward once.
 
-ghost use Rattle.std.specs.Prelude.{◌≡◌, ◌≤◌, ◌<◌, ◌+◌, ◌^◌, ℕ, List, Some, None, length};
+ghost use Rattle.std.specs.Prelude.{◌≡◌, ◌≤◌, ◌<◌, ◌+◌, ◌-◌, ℕ, List, None, length, option_map};
 ghost use Rattle.qil_meaning.specs.State.{State};
 ghost use Rattle.qil_state.specs.State.{state_of};
 ghost use Rattle.qil_stops.specs.Listed.{AreReadable};
 ghost use Rattle.qil_stops.specs.Named.{named_stops};
+ghost use Rattle.qil_stops.specs.Readings.{AllTell};
 ghost use Rattle.qil_checkpoints.specs.declared.poked.Poked.{Poked};
 ghost use Rattle.qil_checkpoints.specs.Walk.{poke_at, ArePoked, IsPart, walk, AreMoves};
 ghost use Rattle.qil_checkpoints.specs.Held.{first_of, ArePositions, Reaches};
-ghost use Rattle.qil_checkpoints.specs.Hits.{stop_at, IsLastHit, hit_or_lowest, later_hit};
+ghost use Rattle.qil_checkpoints.specs.Hits.{stop_at, IsLastHit, IsNextStand, IsQuiet, hit_or_lowest, later_hit};
 
 use crate::hit::Hit;
-use crate::looking::{first_break, readings, stopped_behind};
 use crate::poked::{KeptPoke, Poked};
-use crate::replaying::{count_to, jump, part_of, poke_again, run_again};
-use qil_code::Code;
+use crate::replaying::{count_to, jump, part_of, poke_again};
 use qil_meaning::Reason;
-use qil_restorable::Restorable;
+use qil_readers::HasProgram;
+use qil_restorable::{Restorable, first_break, read_again, readings};
 use qil_stops::NumberedStop;
 use std::alloc::Allocator;
 
@@ -36,47 +36,88 @@ fn poke_now(rest: &[Poked], at: u64) -> Option<KeptPoke>
     Some(made.poke)
 }
 
-/// Makes the move at a position again, of which these are the pokes from there on. Gives those that are left.
-fn move_again<'c, 'p, A: Allocator + Copy + 'c, M: Restorable<A, Code<'c, 'c, A>>>(
-    machine: &mut M,
-    rest: &'p [Poked],
-    at: u64,
-) -> &'p [Poked]
-    requires below { at + 1 < 2 ^ 64 }
-    requires poked { (to : ℕ) × ArePoked at rest.now to }
-    ensures program { (M.present machine.new).program ≡ (M.present machine.old).program }
-    ensures kept { M.kept machine.new ≡ M.kept machine.old }
-    ensures poked { (to : ℕ) → at < to → ArePoked at rest.now to → ArePoked (at + 1) result.now to }
-    ensures part { (pokes : List Poked) (to : ℕ) → at < to → ArePoked at rest.now to → IsPart pokes rest.now at to → IsPart pokes result.now (at + 1) to }
-    ensures state { (s : State) (pokes : List Poked) (to : ℕ) → at < to → ArePoked at rest.now to → IsPart pokes rest.now at to → AreMoves (M.present machine.old).program s pokes to
-        → state_of (M.present machine.old) ≡ walk (M.present machine.old).program s pokes at → state_of (M.present machine.new) ≡ walk (M.present machine.old).program s pokes (at + 1) }
+/// Where the steps from a position end: at the next poke, or at the end of the part.
+fn next_stand(rest: &[Poked], to: u64) -> u64
+    ensures { (at : ℕ) → ArePoked at rest.now to → poke_at rest.now at ≡ None → at < to → IsNextStand rest.now at to result }
 {
-    let made = match poke_now(rest, at) {
-        Some(made) => made,
-        None => {
-            run_again(machine, at, at + 1);
-            return rest;
-        }
-    };
-    poke_again(machine, made);
-    &rest[1..]
+    match rest.first() {
+        Some(made) => made.position,
+        None => to,
+    }
 }
 
-/// The hit of a position, or else the one before.
-#[inline(always)]
-fn later_hit(last: Option<Hit>, position: u64, found: Option<Reason>) -> Option<Hit>
-    ensures { result ≡ later_hit last position found }
+/// Makes moves of a part again from a position on, of which these are the pokes from there on: the poke that was made there;
+/// or steps, up to the next poke, and no further than where a stop may hold. Gives how many moves, and the pokes that are left.
+fn go_on<'p, A: Allocator + Copy, C: HasProgram<A>, M: Restorable<A, C>>(
+    machine: &mut M,
+    stops: &[NumberedStop],
+    before: &[Option<u64>],
+    rest: &'p [Poked],
+    at: u64,
+    to: u64,
+) -> (u64, &'p [Poked])
+    requires order { at < to }
+    requires count { length before.now ≡ length stops.now }
+    requires readable { AreReadable stops.now }
+    requires poked { ArePoked at rest.now to }
+    ensures program { (M.present machine.new).program ≡ (M.present machine.old).program }
+    ensures kept { M.kept machine.new ≡ M.kept machine.old }
+    ensures some { 0 < result.0 }
+    ensures within { at + result.0 ≤ to }
+    ensures poked { ArePoked (at + result.0) result.1.now to }
+    ensures part { (pokes : List Poked) → IsPart pokes rest.now at to → IsPart pokes result.1.now (at + result.0) to }
+    ensures state { (s : State) (pokes : List Poked) → IsPart pokes rest.now at to → AreMoves (M.present machine.old).program s pokes to
+        → state_of (M.present machine.old) ≡ walk (M.present machine.old).program s pokes at → state_of (M.present machine.new) ≡ walk (M.present machine.old).program s pokes (at + result.0) }
+    ensures quiet { (s : State) (pokes : List Poked) → IsPart pokes rest.now at to → AreMoves (M.present machine.old).program s pokes to
+        → state_of (M.present machine.old) ≡ walk (M.present machine.old).program s pokes at → AllTell (M.present machine.old).program (state_of (M.present machine.old)) stops.now before.now
+        → IsQuiet (M.present machine.old).program (walk (M.present machine.old).program s pokes) stops.now before.now at result.0 }
 {
-    let reason = match found {
-        Some(reason) => reason,
+    match poke_now(rest, at) {
+        Some(made) => {
+            poke_again(machine, made);
+            (1, &rest[1..])
+        }
+        None => {
+            let made = machine.run_quietly(stops, before, next_stand(rest, to) - at);
+            // The steps up to there were made before, so there is one.
+            (made.max(1), rest)
+        }
+    }
+}
+
+/// The hit of a breakpoint that holds at a position, or else the one before.
+#[inline(always)]
+fn later_break(last: Option<Hit>, position: u64, number: Option<u64>) -> Option<Hit>
+    ensures { result ≡ later_hit last position (option_map Reason.Break number) }
+{
+    let number = match number {
+        Some(number) => number,
         None => return last,
     };
-    Some(Hit { position, reason })
+    Some(Hit {
+        position,
+        reason: Reason::Break(number),
+    })
+}
+
+/// The hit of a watch that reads otherwise at a position than behind it, or else the one before.
+#[inline(always)]
+fn later_watch(last: Option<Hit>, position: u64, number: Option<u64>) -> Option<Hit>
+    ensures { result ≡ later_hit last position (option_map Reason.Watch number) }
+{
+    let number = match number {
+        Some(number) => number,
+        None => return last,
+    };
+    Some(Hit {
+        position,
+        reason: Reason::Watch(number),
+    })
 }
 
 /// The last position of a part of the walk at which a stop holds in going back, from the machine's state on. These are the part's
 /// pokes.
-fn last_hit<'c, A: Allocator + Copy + 'c, M: Restorable<A, Code<'c, 'c, A>>>(
+fn last_hit<A: Allocator + Copy, C: HasProgram<A>, M: Restorable<A, C>>(
     machine: &mut M,
     stops: &[NumberedStop],
     part: &[Poked],
@@ -95,11 +136,13 @@ fn last_hit<'c, A: Allocator + Copy + 'c, M: Restorable<A, Code<'c, 'c, A>>>(
     let mut rest = part;
     let mut last = None;
     let mut before = readings(stops, machine);
-    for at in from..to {
-        let held = first_break(stops, machine);
-        rest = move_again(machine, rest, at);
-        let found = stopped_behind(stops, &mut before, held, machine);
-        last = later_hit(last, at, found);
+    let mut at = from;
+    while at < to {
+        last = later_break(last, at, first_break(stops, machine));
+        let (made, left) = go_on(machine, stops, before.as_slice(), rest, at, to);
+        at += made;
+        rest = left;
+        last = later_watch(last, at - 1, read_again(stops, &mut before, machine));
     }
     last
 }
@@ -119,7 +162,7 @@ fn part_start(positions: &[u64], lowest: u64, end: u64) -> u64
 
 /// The last position before one, and not before a lowest one, at which a stop holds in going back. The machine is then
 /// anywhere.
-pub(crate) fn search_back<'c, A: Allocator + Copy + 'c, M: Restorable<A, Code<'c, 'c, A>>>(
+pub(crate) fn search_back<A: Allocator + Copy, C: HasProgram<A>, M: Restorable<A, C>>(
     machine: &mut M,
     positions: &[u64],
     pokes: &[Poked],

@@ -10,6 +10,7 @@ pub mod Failing
 pub mod Unwritten
 pub mod Fetching
 pub mod Going
+pub mod Quietly
 pub mod Viewing
 pub mod Replacing
 pub mod Setting

@@ -3,6 +3,7 @@
 
 mod advance;
 mod call;
+mod copied;
 mod jump;
 mod kept;
 mod machine;
@@ -12,8 +13,10 @@ mod readers;
 mod restorable;
 mod start;
 mod step;
+mod stopping;
 mod widths;
 
+pub use copied::{CopiedMachine, Replaying};
 pub use kept::KeptState;
 pub use machine::FlatMachine;
 pub use restorable::RestorableMachine;

@@ -1,23 +1,24 @@
 //! A machine with copies of some of its states, each of which it can be brought back to.
 
-ghost use Rattle.std.specs.Prelude.{◌≡◌, []};
+ghost use Rattle.std.specs.Prelude.{◌≡◌, [], IfOk};
 ghost use Rattle.qil_flatmachine.specs.Kept.{states_of};
 
+use crate::copied::CopiedMachine;
 use crate::kept::KeptState;
 use crate::machine::FlatMachine;
-use qil_code::{BlockId, Code, Slot};
-use qil_layout::FuncId;
+use qil_code::Slot;
 use qil_machine::PokeError;
 use qil_readers::{FrameView, Readers};
-use qil_restorable::{HasCopies, Restorable};
-use qil_state::Status;
+use qil_restorable::HasCopies;
+use qil_stops::NumberedStop;
 use std::alloc::{AllocError, Allocator};
 use std::marker::Model;
 
 /// A flat machine, and copies of states that it had.
 #[derive(Drop)]
 pub struct RestorableMachine<'c, 'a, A: Allocator> {
-    present: FlatMachine<'c, 'a, A>,
+    /// Behind a pointer, so that this type is of few words wherever it is moved.
+    present: Box<FlatMachine<'c, 'a, A>, A>,
     copies: Vec<KeptState<'c, 'a, A>, A>,
 }
 
@@ -26,20 +27,27 @@ impl<'c, 'a, A: Allocator> Model for RestorableMachine<'c, 'a, A> {
 
     ghost Value = { WithCopies A };
 
-    ghost view = { λ m. record { present = m.present; copies = m.copies.items } };
+    ghost view = { λ m. record { present = m.present.value; copies = m.copies.items } };
 
-    ghost invariant = { λ m. AreOf m.present.base m.copies.items };
+    ghost invariant = { λ m. AreOf m.present.value.base m.copies.items };
 }
 
 impl<'c, 'a, A: Allocator + Copy> RestorableMachine<'c, 'a, A> {
     /// A machine with no copies yet.
-    pub fn new(alloc: A, machine: FlatMachine<'c, 'a, A>) -> RestorableMachine<'c, 'a, A>
-        ensures { result ≡ record { present = machine.entry; copies = [] } }
+    ///
+    /// # Errors
+    ///
+    /// Where there is no memory for it.
+    pub fn new(
+        alloc: A,
+        machine: FlatMachine<'c, 'a, A>,
+    ) -> Result<RestorableMachine<'c, 'a, A>, AllocError>
+        ensures { IfOk result (λ m. m ≡ record { present = machine.entry; copies = [] }) }
     {
-        RestorableMachine {
-            present: machine,
+        Ok(RestorableMachine {
+            present: Box::new(alloc, machine)?,
             copies: Vec::new(alloc),
-        }
+        })
     }
 }
 
@@ -49,23 +57,10 @@ impl<'c, 'a, A: Allocator> HasCopies<A> for RestorableMachine<'c, 'a, A> {
     ghost kept = { λ m. states_of m.copies };
 }
 
-impl<'c, 'a, A: Allocator + Copy> Readers<A, Code<'c, 'a, A>> for RestorableMachine<'c, 'a, A> {
-    ghost whole = { λ m. m.present.whole };
-
-    fn code(&self) -> &Code<'c, 'a, A> {
-        self.present.code()
-    }
-
-    fn status(&self) -> Status {
-        self.present.status()
-    }
-
-    fn is_final(&self) -> bool {
-        self.present.is_final()
-    }
-
-    fn depth(&self) -> usize {
-        self.present.depth()
+impl<'c, 'a, A: Allocator + Copy> CopiedMachine<A, FlatMachine<'c, 'a, A>>
+    for RestorableMachine<'c, 'a, A> {
+    fn machine(&self) -> &FlatMachine<'c, 'a, A> {
+        &self.present
     }
 
     fn frame(&self, inner: usize) -> Option<FrameView<'_>> {
@@ -76,28 +71,11 @@ impl<'c, 'a, A: Allocator + Copy> Readers<A, Code<'c, 'a, A>> for RestorableMach
         self.present.output()
     }
 
-    fn byte(&self, address: u64) -> Option<u8> {
-        self.present.byte(address)
-    }
-
-    fn byte_after(&self, address: u64, offset: u64) -> Option<u8> {
-        self.present.byte_after(address, offset)
-    }
-
-    fn value(&self, slot: Slot) -> Option<u64> {
-        self.present.value(slot)
-    }
-}
-
-impl<'c, 'a, A: Allocator + Copy> Restorable<A, Code<'c, 'a, A>> for RestorableMachine<'c, 'a, A> {
-    fn is_read(&self) {}
-
-    fn run(&mut self, count: u64) -> u64 {
-        self.present.run(count)
-    }
-
-    fn slot_named(&self, name: &[u8]) -> Result<Slot, PokeError> {
-        self.present.slot_named(name)
+    fn run_quietly(&mut self, stops: &[NumberedStop], before: &[Option<u64>], count: u64) -> u64 {
+        if stops.is_empty() {
+            return self.present.run(count);
+        }
+        self.present.run_quietly(stops, before, count)
     }
 
     fn poke_slot(&mut self, slot: Slot, value: u64) -> Result<(), PokeError> {
@@ -108,24 +86,12 @@ impl<'c, 'a, A: Allocator + Copy> Restorable<A, Code<'c, 'a, A>> for RestorableM
         self.present.poke_memory(address, width, number)
     }
 
-    fn memory_reading(&self, address: u64, width: u64) -> Option<u64> {
-        self.present.memory_reading(address, width)
-    }
-
-    fn temp_reading(&self, func: FuncId, slot: Slot) -> Option<u64> {
-        self.present.temp_reading(func, slot)
-    }
-
-    fn is_at(&self, func: FuncId, block: BlockId, index: u64) -> bool {
-        self.present.is_at(func, block, index)
-    }
-
-    fn kept_count(&self) -> usize {
-        self.copies.len()
-    }
-
-    fn kept_size(&self, index: usize) -> usize {
-        self.copies[index].size()
+    fn kept_bytes(&self) -> usize {
+        let mut bytes: usize = 0;
+        for copy in self.copies.as_slice() {
+            bytes = bytes.saturating_add(copy.size());
+        }
+        bytes
     }
 
     fn keep(&mut self) -> Result<(), AllocError> {

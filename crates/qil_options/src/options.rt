@@ -1,11 +1,11 @@
 //! The command line: what it may say, and what it says.
 
-ghost use Rattle.std.specs.Prelude.{◌≤◌, IfSome};
+ghost use Rattle.std.specs.Prelude.{◌≤◌, ◌^◌, IfSome};
 
 use crate::failure::Failure;
 use clap::error::ErrorKind;
 use clap::{Arg, ArgAction, ArgMatches, Command, value_parser};
-use std::alloc::Global;
+use std::alloc::{AllocError, Global};
 use std::io;
 use std::rt::Env;
 
@@ -20,6 +20,8 @@ pub struct Options<'a> {
     pub limit: u32,
     /// The most moves that can be undone, where not all can.
     pub history: Option<u64>,
+    /// How many MiB the copies of states may take, where going back runs again from them.
+    pub replay: Option<u64>,
     /// The arguments of that function.
     pub args: Vec<u64>,
 }
@@ -31,6 +33,17 @@ impl<'a> Options<'a> {
     {
         match self.history {
             Some(number) => Some(number.clamp(1, 1_000_000)),
+            None => None,
+        }
+    }
+
+    /// How many bytes the copies may take, where there are to be some. `clap` has refused every number of MiB that isn't from 1
+    /// to 65,536.
+    pub fn budget(&self) -> Option<u64>
+        ensures { IfSome result (λ n. (2 ^ 20 ≤ n) × (n ≤ 2 ^ 36)) }
+    {
+        match self.replay {
+            Some(number) => Some(number.clamp(1, 65_536) * 1_048_576),
             None => None,
         }
     }
@@ -104,6 +117,19 @@ fn history_arg<'a>(alloc: Global) -> Arg<'a> {
         .value_parser(value_parser!(u64).range(1..1_000_001))
 }
 
+fn replay_arg<'a>(alloc: Global) -> Result<Arg<'a>, AllocError> {
+    Arg::new(alloc, "replay")
+        .help(
+            "For very long runs: going back runs again from copies of states, which take MIB MiB at most, 1 to 65536, and 64 where that isn't given",
+        )
+        .long("replay")
+        .value_name("MIB")
+        .num_args(0..2)
+        .default_missing_value("64")
+        .value_parser(value_parser!(u64).range(1..65_537))
+        .conflicts_with("history")
+}
+
 fn make_command<'a>(alloc: Global) -> Result<Command<'a>, clap::Error> {
     let command = Command::new(alloc, "qrev")
         .about("Runs a program in QBE IL forward and back, by the commands on standard input")
@@ -111,7 +137,8 @@ fn make_command<'a>(alloc: Global) -> Result<Command<'a>, clap::Error> {
         .arg(args_arg(alloc))?
         .arg(entry_arg(alloc))?
         .arg(limit_arg(alloc))?
-        .arg(history_arg(alloc))?;
+        .arg(history_arg(alloc))?
+        .arg(replay_arg(alloc)?)?;
     Ok(command)
 }
 
@@ -162,6 +189,7 @@ fn read_options<'a>(alloc: Global, matches: &ArgMatches<'a>) -> Result<Options<'
         entry: matches.get_str("entry").unwrap_or("main"),
         limit: u32::try_from(limit).unwrap_or(u32::MAX),
         history: matches.get_one::<u64>("history"),
+        replay: matches.get_one::<u64>("replay"),
         args,
     })
 }

@@ -2,6 +2,10 @@
 //! it is brought back.
 #![tactic(auto)]
 
+mod looking;
 mod restorable;
+mod watchable;
 
-pub use restorable::{HasCopies, Restorable};
+pub use looking::{first_break, first_watch, is_over, read_again, readings, stopped};
+pub use restorable::Restorable;
+pub use watchable::{HasCopies, Watchable};

@@ -1,43 +1,29 @@
 //! A machine that keeps copies of its state, and is brought back to them.
 
-ghost use Rattle.std.specs.Prelude.{◌≡◌, ◌+◌, ◌<◌, ◌≤◌, ◌⊎◌, ◌∷◌, ◌++◌, ℕ, List, [], true, false, length, take, drop, option_map, slice_get, Some, Ok, Err, IfOk, IfErr, OnOk, OnErr, None};
-ghost use Rattle.qil_tree.specs.declared.tree.Block.{Block};
-ghost use Rattle.qil_tree.specs.declared.tree.Func.{Func};
-ghost use Rattle.qil_layout.specs.Layout.{low_bytes};
-ghost use Rattle.qil_memory.specs.Bytes.{number};
+ghost use Rattle.std.specs.Prelude.{◌≡◌, ◌+◌, ◌<◌, ◌≤◌, ◌⊎◌, ◌∷◌, ◌++◌, ℕ, [], true, false, length, take, drop, slice_get, Some, Ok, Err, IfOk, IfErr, OnOk, OnErr, None};
 ghost use Rattle.qil_memory.specs.Calls.{IsWidth};
-ghost use Rattle.qil_memory.specs.Live.{live, read};
-ghost use Rattle.qil_meaning.specs.State.{State, is_final};
+ghost use Rattle.qil_meaning.specs.State.{is_final};
 ghost use Rattle.qil_meaning.specs.Poke.{poke_temp, poke_memory, dead_bytes};
-ghost use Rattle.qil_meaning.specs.Stops.{is_at, reading, temp_in, value_reading};
+ghost use Rattle.qil_meaning.specs.Stops.{first_break};
 ghost use Rattle.qil_meaning.specs.Targets.{after};
-ghost use Rattle.qil_code.specs.Numbered.{func_at, block_at, names_of};
-ghost use Rattle.qil_state.specs.State.{Whole, state_of};
+ghost use Rattle.qil_state.specs.State.{state_of};
 ghost use Rattle.qil_machine.specs.Pokes.{poke_slot, RefusesName, RefusesSlot};
+ghost use Rattle.qil_stops.specs.Listed.{AreReadable};
+ghost use Rattle.qil_stops.specs.Named.{named_stops};
+ghost use Rattle.qil_stops.specs.Readings.{AllTell};
 
-use qil_code::{BlockId, Slot};
-use qil_layout::FuncId;
+use crate::watchable::Watchable;
+use qil_code::Slot;
 use qil_machine::PokeError;
-use qil_readers::{HasProgram, Readers};
+use qil_readers::HasProgram;
+use qil_stops::NumberedStop;
 use std::alloc::{AllocError, Allocator};
-
-/// What a machine with copies holds, seen whole: a struct over such machines can't name their code.
-pub trait HasCopies<A: Allocator> {
-    ghost present: { Self → Whole A };
-
-    /// The states that copies are kept of, in the order in which they were made.
-    ghost kept: { Self → List State };
-}
 
 /// A machine with copies of some of its states, each of which it can be brought back to. Only `keep` takes memory: a run is
 /// never out of memory, and neither is the way back.
 ///
-/// A user is generic in `M: Restorable<A, Code<'c, 'c, A>>`, under `A: Allocator + 'c`.
-pub trait Restorable<A: Allocator, C: HasProgram<A>>: HasCopies<A> + Readers<A, C> {
-    /// Does nothing, and tells that what is read is the state that it has.
-    fn is_read(&self)
-        ensures { Self.whole self.now ≡ Self.present self.now };
-
+/// A user is generic in `C: HasProgram<A>` and `M: Restorable<A, C>`: so it names no lifetime.
+pub trait Restorable<A: Allocator, C: HasProgram<A>>: Watchable<A, C> {
     /// Makes so many steps, and fewer only where the run is over. Gives how many.
     fn run(&mut self, count: u64) -> u64
         ensures program { (Self.present self.new).program ≡ (Self.present self.old).program }
@@ -46,6 +32,22 @@ pub trait Restorable<A: Allocator, C: HasProgram<A>>: HasCopies<A> + Readers<A, 
         ensures steps { state_of (Self.present self.new) ≡ after (Self.present self.old).program (state_of (Self.present self.old)) result }
         ensures running { (j : ℕ) → j < result → is_final (after (Self.present self.old).program (state_of (Self.present self.old)) j).status ≡ false }
         ensures over { (result ≡ count) ⊎ (is_final (state_of (Self.present self.new)).status ≡ true) };
+
+    /// Makes so many steps, and fewer only where the run is over or after a step behind which a stop may hold: none holds behind
+    /// those before it. Gives how many. `before` is what each stop reads at the start.
+    fn run_quietly(&mut self, stops: &[NumberedStop], before: &[Option<u64>], count: u64) -> u64
+        requires count { length before.now ≡ length stops.now }
+        requires readable { AreReadable stops.now }
+        ensures program { (Self.present self.new).program ≡ (Self.present self.old).program }
+        ensures kept { Self.kept self.new ≡ Self.kept self.old }
+        ensures few { result ≤ count }
+        ensures some { result ≡ 0 → (count ≡ 0) ⊎ (is_final (state_of (Self.present self.new)).status ≡ true) }
+        ensures steps { state_of (Self.present self.new) ≡ after (Self.present self.old).program (state_of (Self.present self.old)) result }
+        ensures running { (j : ℕ) → j < result → is_final (after (Self.present self.old).program (state_of (Self.present self.old)) j).status ≡ false }
+        ensures quiet { AllTell (Self.present self.old).program (state_of (Self.present self.old)) stops.now before.now
+            → (j : ℕ) → j < result → AllTell (Self.present self.old).program (after (Self.present self.old).program (state_of (Self.present self.old)) j) stops.now before.now }
+        ensures unbroken { (j : ℕ) → 0 < j → j < result
+            → first_break (after (Self.present self.old).program (state_of (Self.present self.old)) j) (named_stops (Self.present self.old).program stops.now) ≡ None };
 
     /// The slot of a temporary of the innermost frame, whose name is without its sigil: a poke of the slot is one of the
     /// temporary.
@@ -82,32 +84,8 @@ pub trait Restorable<A: Allocator, C: HasProgram<A>>: HasCopies<A> + Readers<A, 
         ensures why { IfErr result (λ e. (e ≡ PokeError.DeadAddress) × (poke_memory (state_of (Self.present self.old)) address width number ≡ Err dead_bytes)) }
         ensures err { OnErr result (Self.present self.new ≡ Self.present self.old) };
 
-    /// What a watch reads of memory: the number in 1, 2, 4 or 8 bytes from an address on, if all are live.
-    fn memory_reading(&self, address: u64, width: u64) -> Option<u64>
-        requires { IsWidth width }
-        ensures number { result ≡ option_map number (read (live (Self.present self.now).memory) address width) }
-        ensures bytes { option_map (low_bytes width) result ≡ read (live (Self.present self.now).memory) address width };
-
-    /// What a watch reads of a temporary: its value in the innermost frame of the function. Nothing where it is unset, and
-    /// where the function has no frame.
-    fn temp_reading(&self, func: FuncId, slot: Slot) -> Option<u64>
-        ensures named { (source : Func A) (name : List ℕ) → func_at (Self.present self.now).program func.index ≡ Some source → slice_get (names_of (Self.present self.now).program func.index) slot.index ≡ Some name
-            → value_reading result ≡ reading (temp_in source.name name) (state_of (Self.present self.now)) }
-        ensures unknown { slice_get (names_of (Self.present self.now).program func.index) slot.index ≡ None → result ≡ None };
-
-    /// Whether the run goes on, and its innermost frame is in a block with so many instructions done.
-    fn is_at(&self, func: FuncId, block: BlockId, index: u64) -> bool
-        ensures named { (source : Func A) (target : Block A) → func_at (Self.present self.now).program func.index ≡ Some source → block_at (Self.present self.now).program func.index block.index ≡ Some target
-            → result ≡ is_at (record { func = source.name; label = target.label; index = index }) (state_of (Self.present self.now)) }
-        ensures unknown { block_at (Self.present self.now).program func.index block.index ≡ None → result ≡ false };
-
-    /// How many copies are kept.
-    fn kept_count(&self) -> usize
-        ensures { result ≡ length (Self.kept self.now) };
-
-    /// About how many bytes a copy takes. No promise rests on it.
-    fn kept_size(&self, index: usize) -> usize
-        requires { index < length (Self.kept self.now) };
+    /// About how many bytes all copies take. No promise rests on it.
+    fn kept_bytes(&self) -> usize;
 
     /// Keeps a copy of the state.
     ///

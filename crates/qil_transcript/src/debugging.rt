@@ -21,8 +21,11 @@ ghost use Rattle.qil_transcript.specs.Handed.{IsRefused, of_start, setup_of};
 
 use crate::outcome::Outcome;
 use crate::serving::{IoFault, serve_lines};
+use qil_checkpoints::Checkpoints;
 use qil_code::Code;
 use qil_deltas::{Deltas, Ring};
+use qil_flat::{FlatCode, flatten};
+use qil_flatmachine::{CopiedMachine, FlatMachine, Replaying, RestorableMachine};
 use qil_history::History;
 use qil_layout::layout;
 use qil_loading::{LoadError, Loaded, Refusal, check_text, put_loaded_line, put_refusal_line};
@@ -46,6 +49,9 @@ pub struct Request<'r> {
     pub limit: u64,
     /// The most moves that can be undone, if there is a bound.
     pub bound: Option<u64>,
+    /// How many bytes the copies of states may take from which going back runs again, where it does that and no undo records
+    /// are kept. Then there is no bound.
+    pub replay: Option<u64>,
 }
 
 /// What a start that failed is to the load.
@@ -123,6 +129,43 @@ fn run<'c, A: Allocator + Copy + 'c, H: Runs<A, Code<'c, 'c, A>> + Drop, S: Sour
     }
 }
 
+/// Debugs over the states of a run, of which no move was made. `code` is of a type that names the lifetime of the code, if that of
+/// the history doesn't: so a caller knows that the allocator outlives it.
+fn debug_runs<
+    'c,
+    A: Allocator + Copy + 'c,
+    H: Runs<A, Code<'c, 'c, A>> + Drop,
+    K,
+    S: Source,
+    P: Put,
+>(
+    alloc: A,
+    history: H,
+    _code: Option<&K>,
+    loaded: &Loaded<'_>,
+    limit: u64,
+    source: &mut S,
+    out: &mut P,
+) -> Outcome
+    requires reads { S.failures source.old < 2 ^ 64 - 1 }
+    requires writes { P.stops out.old < 2 ^ 64 - 1 }
+    requires before { position (H.timeline history) < 2 ^ 60 }
+    requires limit { limit ≤ 4294967295 }
+    ensures written { (s : Setup) (verdict : Verdict A) (start : State) → Begins s verdict start → IsLoaded loaded.now verdict → s.limit ≡ limit
+        → H.program history ≡ verdict.program → H.timeline history ≡ begun s.keeps start
+        → Written A result s (S.remaining source.old) (S.remaining source.new) (P.written out.old) (P.written out.new) }
+    ensures served { result ≢ Outcome.Refused }
+    ensures untouched { IsUntouched result source.old source.new }
+    ensures few { IfSome (S.remaining source.old) (λ script. TakesFew script (S.remaining source.new)) }
+    ensures counted { CountsDebug result (S.failures source.old) (S.failures source.new) (P.stops out.old) (P.stops out.new) }
+    ensures device { P.device out.new ≡ P.device out.old }
+{
+    match Session::new(alloc, history, limit) {
+        Ok(session) => run(session, loaded, source, out),
+        Err(_) => Outcome::Memory,
+    }
+}
+
 /// Debugs over a history that has made no move.
 fn debug_history<
     'c,
@@ -144,10 +187,7 @@ fn debug_history<
     ensures counted { CountsDebug result (S.failures source.old) (S.failures source.new) (P.stops out.old) (P.stops out.new) }
     ensures device { P.device out.new ≡ P.device out.old }
 {
-    match Session::new(alloc, history, limit) {
-        Ok(session) => run(session, loaded, source, out),
-        Err(_) => Outcome::Memory,
-    }
+    debug_runs(alloc, history, None::<&()>, loaded, limit, source, out)
 }
 
 /// Debugs from a machine at its start: over all its deltas, or over the newest where there is a bound.
@@ -184,8 +224,76 @@ fn debug_machine<'c, A: Allocator + Copy + 'c, S: Source, P: Put>(
     }
 }
 
-/// Debugs a program that is numbered.
-fn debug_code<'c, A: Allocator + Copy + 'c, S: Source, P: Put>(
+/// Debugs from a machine at its start, over copies of its states.
+fn debug_copies<
+    'c,
+    A: Allocator + Copy + 'c,
+    M: CopiedMachine<A, FlatMachine<'c, 'c, A>> + Drop,
+    S: Source,
+    P: Put,
+>(
+    alloc: A,
+    machine: M,
+    loaded: &Loaded<'_>,
+    request: &Request<'_>,
+    budget: u64,
+    source: &mut S,
+    out: &mut P,
+) -> Outcome
+    requires reads { S.failures source.old < 2 ^ 64 - 1 }
+    requires writes { P.stops out.old < 2 ^ 64 - 1 }
+    requires limit { request.now.limit ≤ 4294967295 }
+    requires bound { request.now.bound ≡ None }
+    ensures written { (text : List ℕ) (verdict : Verdict A) → Begins (setup_of text request.now) verdict (state_of (M.present machine))
+        → IsLoaded loaded.now verdict → (M.present machine).program ≡ verdict.program
+        → Written A result (setup_of text request.now) (S.remaining source.old) (S.remaining source.new) (P.written out.old) (P.written out.new) }
+    ensures served { result ≢ Outcome.Refused }
+    ensures untouched { IsUntouched result source.old source.new }
+    ensures few { IfSome (S.remaining source.old) (λ script. TakesFew script (S.remaining source.new)) }
+    ensures counted { CountsDebug result (S.failures source.old) (S.failures source.new) (P.stops out.old) (P.stops out.new) }
+    ensures device { P.device out.new ≡ P.device out.old }
+{
+    let code: Option<&'c Code<'c, 'c, A>> = None;
+    match Checkpoints::new(alloc, Replaying { machine }, budget as usize) {
+        Ok(history) => debug_runs(alloc, history, code, loaded, request.limit, source, out),
+        Err(_) => Outcome::Memory,
+    }
+}
+
+/// Debugs a program whose code is flat.
+fn debug_flat<'c, A: Allocator + Copy + 'c, S: Source, P: Put>(
+    alloc: A,
+    code: &'c FlatCode<'c, 'c, A>,
+    loaded: &Loaded<'_>,
+    request: &Request<'_>,
+    budget: u64,
+    source: &mut S,
+    out: &mut P,
+) -> Outcome
+    requires reads { S.failures source.old < 2 ^ 64 - 1 }
+    requires writes { P.stops out.old < 2 ^ 64 - 1 }
+    requires limit { request.now.limit ≤ 4294967295 }
+    requires bound { request.now.bound ≡ None }
+    ensures written { (text : List ℕ) (verdict : Verdict A) → Accepts text verdict → IsLoaded loaded.now verdict → code.entry.now.program ≡ verdict.program
+        → Written A result (setup_of text request.now) (S.remaining source.old) (S.remaining source.new) (P.written out.old) (P.written out.new) }
+    ensures only_started { (start : State) → start_of code.entry.now.program request.now.func.now request.now.args.now ≡ Ok start → result ≢ Outcome.Refused }
+    ensures only_refused { (fault : StartFault) → start_of code.entry.now.program request.now.func.now request.now.args.now ≡ Err fault → IsNoSession result }
+    ensures untouched { IsUntouched result source.old source.new }
+    ensures few { IfSome (S.remaining source.old) (λ script. TakesFew script (S.remaining source.new)) }
+    ensures counted { CountsDebug result (S.failures source.old) (S.failures source.new) (P.stops out.old) (P.stops out.new) }
+    ensures device { P.device out.new ≡ P.device out.old }
+{
+    match FlatMachine::start(alloc, code, request.func, request.args) {
+        Ok(machine) => match RestorableMachine::new(alloc, machine) {
+            Ok(machine) => debug_copies(alloc, machine, loaded, request, budget, source, out),
+            Err(_) => Outcome::Memory,
+        },
+        Err(error) => refuse(out, start_error(error)),
+    }
+}
+
+/// Debugs a program that is numbered, over undo records.
+fn debug_records<'c, A: Allocator + Copy + 'c, S: Source, P: Put>(
     alloc: A,
     code: &'c Code<'c, 'c, A>,
     loaded: &Loaded<'_>,
@@ -212,6 +320,38 @@ fn debug_code<'c, A: Allocator + Copy + 'c, S: Source, P: Put>(
     }
 }
 
+/// Debugs a program that is numbered.
+fn debug_code<'c, A: Allocator + Copy + 'c, S: Source, P: Put>(
+    alloc: A,
+    code: &'c Code<'c, 'c, A>,
+    loaded: &Loaded<'_>,
+    request: &Request<'_>,
+    source: &mut S,
+    out: &mut P,
+) -> Outcome
+    requires reads { S.failures source.old < 2 ^ 64 - 1 }
+    requires writes { P.stops out.old < 2 ^ 64 - 1 }
+    requires limit { request.now.limit ≤ 4294967295 }
+    requires bound { IfSome request.now.bound (λ n. (1 ≤ n) × (n ≤ 1000000)) }
+    requires replay { IfSome request.now.replay (λ _. request.now.bound ≡ None) }
+    ensures written { (text : List ℕ) (verdict : Verdict A) → Accepts text verdict → IsLoaded loaded.now verdict → code.entry.now ≡ verdict.program
+        → Written A result (setup_of text request.now) (S.remaining source.old) (S.remaining source.new) (P.written out.old) (P.written out.new) }
+    ensures only_started { (start : State) → start_of code.entry.now request.now.func.now request.now.args.now ≡ Ok start → result ≢ Outcome.Refused }
+    ensures only_refused { (fault : StartFault) → start_of code.entry.now request.now.func.now request.now.args.now ≡ Err fault → IsNoSession result }
+    ensures untouched { IsUntouched result source.old source.new }
+    ensures few { IfSome (S.remaining source.old) (λ script. TakesFew script (S.remaining source.new)) }
+    ensures counted { CountsDebug result (S.failures source.old) (S.failures source.new) (P.stops out.old) (P.stops out.new) }
+    ensures device { P.device out.new ≡ P.device out.old }
+{
+    let Some(budget) = request.replay else {
+        return debug_records(alloc, code, loaded, request, source, out);
+    };
+    match flatten(alloc, code) {
+        Ok(flat) => debug_flat(alloc, &flat, loaded, request, budget, source, out),
+        Err(_) => Outcome::Memory,
+    }
+}
+
 /// Debugs a program that is checked.
 fn debug_checked<'a, A: Allocator + Copy, S: Source, P: Put>(
     alloc: A,
@@ -225,6 +365,7 @@ fn debug_checked<'a, A: Allocator + Copy, S: Source, P: Put>(
     requires writes { P.stops out.old < 2 ^ 64 - 1 }
     requires limit { request.now.limit ≤ 4294967295 }
     requires bound { IfSome request.now.bound (λ n. (1 ≤ n) × (n ≤ 1000000)) }
+    requires replay { IfSome request.now.replay (λ _. request.now.bound ≡ None) }
     ensures written { (text : List ℕ) → Checks text checked.now
         → Written A result (setup_of text request.now) (S.remaining source.old) (S.remaining source.new) (P.written out.old) (P.written out.new) }
     ensures only_started { (start : State) → fault_of checked.now.program ≡ None
@@ -261,6 +402,7 @@ fn debug_into<A: Allocator + Copy, S: Source, P: Put>(
     requires writes { P.stops out.old < 2 ^ 64 - 1 }
     requires limit { request.now.limit ≤ 4294967295 }
     requires bound { IfSome request.now.bound (λ n. (1 ≤ n) × (n ≤ 1000000)) }
+    requires replay { IfSome request.now.replay (λ _. request.now.bound ≡ None) }
     ensures written { Written A result (setup_of text.now request.now) (S.remaining source.old) (S.remaining source.new) (P.written out.old) (P.written out.new) }
     ensures only_begun { (verdict : Verdict A) (start : State) → Begins (setup_of text.now request.now) verdict start → result ≢ Outcome.Refused }
     ensures only_refused { (refusal : Refusal) → Refuses A text.now request.now.func.now request.now.args.now refusal → IsNoSession result }
@@ -325,6 +467,59 @@ pub fn debug<A: Allocator + Copy, S: Source, W: Sink>(
         args,
         limit,
         bound: history,
+        replay: None,
+    };
+    let mut out = Outlet { sink };
+    let outcome = debug_into(alloc, keys, text, &request, source, &mut out);
+    let Outlet { sink: _ } = out;
+    outcome
+}
+
+/// As `debug`, for runs that are too long for a record of each move: going back runs forward again from a copy of an earlier
+/// state. Nothing is forgotten, and no transcript differs. `budget` is how many bytes the copies may take, which is kept as
+/// long as more than the first is there; with less it goes slower.
+///
+/// Loading takes memory, and more than `debug` does, since all that a run may want is taken at its start: the answer is
+/// `Memory` then. No move is ever refused memory; a poke may be.
+pub fn debug_replaying<A: Allocator + Copy, S: Source, W: Sink>(
+    alloc: A,
+    keys: RandomState,
+    text: &[u8],
+    entry: &[u8],
+    args: &[u64],
+    limit: u64,
+    budget: u64,
+    source: &mut S,
+    sink: &mut W,
+) -> Outcome
+    requires reads { S.failures source.old < 2 ^ 64 - 1 }
+    requires writes { W.failures sink.old < 2 ^ 64 - 1 }
+    requires limit { limit ≤ 4294967295 }
+
+    // Where the source tells its bytes, what was written is the transcript, up to what stopped it.
+    ensures written { Written A result (record { text = text.now; entry = entry.now; args = args.now; limit = limit; keeps = None })
+        (S.remaining source.old) (S.remaining source.new) (W.contents sink.old) (W.contents sink.new) }
+
+    // An accepted text is not refused, and a refused one has no session.
+    ensures only_begun { (verdict : Verdict A) (start : State)
+        → Begins (record { text = text.now; entry = entry.now; args = args.now; limit = limit; keeps = None }) verdict start → result ≢ Outcome.Refused }
+    ensures only_refused { (refusal : Refusal) → Refuses A text.now entry.now args.now refusal → IsNoSession result }
+
+    // Without a session the source is as it was; else at most 2^24 + 1 bytes are taken of it.
+    ensures untouched { IsUntouched result source.old source.new }
+    ensures few { IfSome (S.remaining source.old) (λ script. TakesFew script (S.remaining source.new)) }
+
+    // A fault is answered exactly where a device's faults rose, by the one call that failed.
+    ensures read_fault { (result ≡ Outcome.ReadFault) ↔ (S.failures source.old < S.failures source.new) }
+    ensures write_fault { (result ≡ Outcome.WriteFault) ↔ (W.failures sink.old < W.failures sink.new) }
+    ensures counted { CountsDebug result (S.failures source.old) (S.failures source.new) (W.failures sink.old) (W.failures sink.new) }
+{
+    let request = Request {
+        func: entry,
+        args,
+        limit,
+        bound: None,
+        replay: Some(budget),
     };
     let mut out = Outlet { sink };
     let outcome = debug_into(alloc, keys, text, &request, source, &mut out);

@@ -8,7 +8,7 @@ mod debugging;
 mod outcome;
 mod serving;
 
-pub use debugging::debug;
+pub use debugging::{debug, debug_replaying};
 pub use outcome::Outcome;
 pub use qil_loading::Refusal;
 pub use qil_session::{Next, Session};

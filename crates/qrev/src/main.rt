@@ -1,12 +1,12 @@
 //! `qrev`: runs a program in QBE IL and steps through it, forward and back, by the commands on standard input.
 #![tactic(auto)]
 
-ghost use Rattle.std.specs.Prelude.{◌≡◌};
+ghost use Rattle.std.specs.Prelude.{◌≡◌, ◌<◌, ◌-◌, ◌^◌};
 ghost use Rattle.qrev.specs.Status.{outcome_status};
 
 use qil_options::{Failure, Given, read_given, read_words};
-use qil_streams::{FromReader, IntoWriter};
-use qil_transcript::{Outcome, debug};
+use qil_streams::{FromReader, IntoWriter, Sink, Source};
+use qil_transcript::{Outcome, debug, debug_replaying};
 use std::alloc::Global;
 use std::hash::RandomState;
 use std::io;
@@ -30,17 +30,40 @@ fn run_session<R: Input + Print + RandomSource>(
     };
     let mut source = FromReader::new(rt.reader());
     let mut sink = IntoWriter::new(writer);
-    Ok(debug(
-        alloc,
-        keys,
-        given.program.as_slice(),
-        given.options.entry.as_bytes(),
-        given.options.args.as_slice(),
-        u64::from(given.options.limit),
-        given.options.bound(),
-        &mut source,
-        &mut sink,
-    ))
+    Ok(debug_given(alloc, keys, given, &mut source, &mut sink))
+}
+
+/// Debugs what is given: over copies of states where that was asked for, and else over undo records.
+fn debug_given<S: Source, W: Sink>(
+    alloc: Global,
+    keys: RandomState,
+    given: &Given<'_>,
+    source: &mut S,
+    sink: &mut W,
+) -> Outcome
+    requires reads { S.failures source.old < 2 ^ 64 - 1 }
+    requires writes { W.failures sink.old < 2 ^ 64 - 1 }
+{
+    let text = given.program.as_slice();
+    let entry = given.options.entry.as_bytes();
+    let args = given.options.args.as_slice();
+    let limit = u64::from(given.options.limit);
+    match given.options.budget() {
+        Some(budget) => {
+            debug_replaying(alloc, keys, text, entry, args, limit, budget, source, sink)
+        }
+        None => debug(
+            alloc,
+            keys,
+            text,
+            entry,
+            args,
+            limit,
+            given.options.bound(),
+            source,
+            sink,
+        ),
+    }
 }
 
 /// What the words ask for.

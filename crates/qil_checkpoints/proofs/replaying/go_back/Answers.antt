@@ -1,5 +1,5 @@
 -- Fewer copies and pokes, and the earlier state.
-use Rattle.std.proofs.Common.{refl, ap, ◌∙◌, take, List, ℕ}
+use Rattle.std.proofs.Common.{ap, ◌∙◌, take, List, ℕ}
 use Rattle.qil_meaning.specs.State.{State}
 use Rattle.qil_state.specs.State.{Whole, state_of}
 use Rattle.qil_checkpoints.specs.declared.poked.Poked.{Poked}
@@ -9,11 +9,8 @@ use Rattle.qil_checkpoints.proofs.HeldLemmas.{reaches-as, held-cut, timeline-cut
 use Rattle.qil_checkpoints.proofs.replaying.go_back.Goals as goal
 
 pub jump-requires : goal.jump-requires
-jump-requires g c = λ lifetimes. (
-  (refl, tt),
-  reaches-as (g.M.HasCopies.present c.args.machine.now).program (g.M.HasCopies.kept c.args.machine.now) c.args.positions.now.items c.as_slice.result.now c.args.pokes.now.items c.as_slice-2.result.now c.args.position
-      c.as_slice.ensures.value c.as_slice-2.ensures.value c.requires,
-)
+jump-requires g c = reaches-as (g.M.HasCopies.present c.args.machine.now).program (g.M.HasCopies.kept c.args.machine.now) c.args.positions.now.items c.as_slice.result.now c.args.pokes.now.items c.as_slice-2.result.now c.args.position
+    c.as_slice.ensures.value c.as_slice-2.ensures.value c.requires
 
 pub returns-clause-holds : goal.returns-clause-holds
 returns-clause-holds g c =

@@ -1,5 +1,5 @@
 -- From the last copy that isn't of a later state, by the pokes between.
-use Rattle.std.proofs.Common.{refl, sym, subst, ◌-◌, List, get_or}
+use Rattle.std.proofs.Common.{sym, subst, ◌-◌, List, get_or}
 use Rattle.qil_state.specs.State.{state_of}
 use Rattle.qil_checkpoints.specs.declared.poked.Poked.{Poked}
 use Rattle.qil_checkpoints.specs.Walk.{ArePoked, IsPart}
@@ -15,12 +15,9 @@ restore-requires g c =
     kept-inside (g.M.HasCopies.present c.args.machine.now).program (g.M.HasCopies.kept c.args.machine.now) c.args.positions.now c.args.pokes.now c.requires.0 c.args.position c.count_to-index.result kept c.count_to-index.ensures.count
 
 pub replay-requires : goal.replay-requires
-replay-requires g c = λ lifetimes. (
-  (refl, tt),
-  subst (λ (qs : List Poked). ArePoked (get_or c.args.positions.now (c.count_to-index.result - 1) 0) qs c.args.position) (sym c.part_of.ensures)
-      (part-poked c.args.pokes.now c.requires.0 (get_or c.args.positions.now (c.count_to-index.result - 1) 0) c.args.position c.requires.2.poked
-      (position-le c.args.positions.now c.requires.0 c.args.position c.count_to-index.result 0 c.requires.2.rising c.count_to-index.ensures.count) c.requires.1),
-)
+replay-requires g c = subst (λ (qs : List Poked). ArePoked (get_or c.args.positions.now (c.count_to-index.result - 1) 0) qs c.args.position) (sym c.part_of.ensures)
+    (part-poked c.args.pokes.now c.requires.0 (get_or c.args.positions.now (c.count_to-index.result - 1) 0) c.args.position c.requires.2.poked
+    (position-le c.args.positions.now c.requires.0 c.args.position c.count_to-index.result 0 c.requires.2.rising c.count_to-index.ensures.count) c.requires.1)
 
 pub returns-clause-state : goal.returns-clause-state
 returns-clause-state g c =

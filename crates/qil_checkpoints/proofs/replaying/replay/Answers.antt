@@ -11,16 +11,8 @@ loop-made-init g c = record { program = refl; kept = refl; poked = c.requires; s
 pub go_through-at-requires : goal.go_through-at-requires
 go_through-at-requires g c =
     let fits : c.args.to < 18446744073709551616 = omega arith in
-    λ lifetimes. (
-      (refl, tt),
-      (
-        (next-made c.args.part.now c.loop-made.made-index c.loop-made.at c.args.to 18446744073709551616 _ c.loop-made-test.true c.loop-made.invariant.poked fits).0,
-        (
-          (next-made c.args.part.now c.loop-made.made-index c.loop-made.at c.args.to 18446744073709551616 _ c.loop-made-test.true c.loop-made.invariant.poked fits).1,
-          (next-made c.args.part.now c.loop-made.made-index c.loop-made.at c.args.to 18446744073709551616 _ c.loop-made-test.true c.loop-made.invariant.poked fits).2,
-        ),
-      ),
-    )
+    let next = next-made c.args.part.now c.loop-made.made-index c.loop-made.at c.args.to 18446744073709551616 _ c.loop-made-test.true c.loop-made.invariant.poked fits in
+    record { order = next.0; below = next.1; width = next.2 }
 
 pub loop-made-preserved : goal.loop-made-preserved
 loop-made-preserved g c =
@@ -37,7 +29,7 @@ loop-made-preserved g c =
     }
 
 pub run_again-requires : goal.run_again-requires
-run_again-requires g c = λ lifetimes. ((refl, tt), poked-le c.loop-made.at (drop c.loop-made.made-index c.args.part.now) c.args.to c.loop-made.invariant.poked)
+run_again-requires g c = poked-le c.loop-made.at (drop c.loop-made.made-index c.args.part.now) c.args.to c.loop-made.invariant.poked
 
 pub returns-clause-state : goal.returns-clause-state
 returns-clause-state g c = λ s pokes part moves at.

@@ -1,14 +1,16 @@
--- Position after position.
-use Rattle.std.proofs.Common.{◌≡◌, ◌∙◌, sym, ap, refl, subst, ℕ, ◌+◌, arith}
-use Rattle.qil_tree.specs.declared.tree.Program.{Program}
-use Rattle.qil_meaning.specs.Stops.{stopped, first_break}
+-- Part after part: up to the next poke, or to where a stop may hold.
+use Rattle.std.proofs.Common.{◌≡◌, ◌∙◌, sym, ap, refl, length, ◌+◌, arith}
 use Rattle.qil_state.specs.State.{state_of}
 use Rattle.qil_stops.specs.Named.{named_stops}
+use Rattle.qil_stops.specs.Readings.{AllTell}
 use Rattle.qil_stops.proofs.Telling.{reported-at}
-use Rattle.qil_checkpoints.specs.Hits.{stop_at, IsLastHit}
+use Rattle.qil_restorable.proofs.Told.{told-as}
+use Rattle.qil_meaning.specs.State.{State}
+use Rattle.qil_checkpoints.specs.Hits.{stop_at}
 use Rattle.qil_checkpoints.proofs.Parts.{poked-le}
 use Rattle.qil_checkpoints.proofs.AlongWalks.{by-program-to}
-use Rattle.qil_checkpoints.proofs.Hitting.{hit-begun, hit-step}
+use Rattle.qil_checkpoints.proofs.Hitting.{hit-begun}
+use Rattle.qil_checkpoints.proofs.Quiet.{hits-more, quiet-by, seen-by, held-by}
 use Rattle.qil_checkpoints.proofs.searching.last_hit.Goals as goal
 
 pub loop-at-init : goal.loop-at-init
@@ -17,6 +19,8 @@ loop-at-init g c =
     record {
       program = refl;
       kept = refl;
+      order = omega arith;
+      within = poked-le c.args.from c.args.part.now c.args.to c.requires.poked;
       poked = c.requires.poked;
       count = c.readings-before.ensures.count;
       reported = c.readings-before.ensures.reported;
@@ -28,30 +32,31 @@ loop-at-preserved g c =
     let i = c.loop-at.invariant in
     let p = (g.M.HasCopies.present c.args.machine.now).program in
     let was = g.M.HasCopies.present c.loop-at.machine in
-    let mid = g.M.HasCopies.present c.move_again-rest.new.machine in
-    let same = c.move_again-rest.ensures.program ∙ i.program in
-    let told = reported-at p mid.program (state_of was) (state_of was) c.args.stops.now c.loop-at.before.items (sym same) refl i.reported in
-    let held = c.first_break-held.ensures ∙ ap (λ (r : Program g.row.A.Denot). first_break (state_of was) (named_stops r c.args.stops.now)) (sym c.move_again-rest.ensures.program) in
+    let mid = g.M.HasCopies.present c.go_on-made.new.machine in
+    let same = c.go_on-made.ensures.program ∙ i.program in
+    let stops = c.args.stops.now in
+    let values = c.as_slice.result.now in
+    let n = c.go_on-made.result.0 in
+    let at = c.loop-at.at in
+    let told = told-as p (state_of was) stops c.loop-at.before.items values c.as_slice.ensures.value i.reported in
+    let count : length values ≡ length stops = ap length c.as_slice.ensures.value ∙ i.count in
     record {
       program = same;
-      kept = c.move_again-rest.ensures.kept ∙ i.kept;
-      poked = c.move_again-rest.ensures.poked c.args.to c.loop-at-test.true i.poked;
-      count = c.stopped_behind-found.ensures.count;
-      reported = reported-at mid.program p (state_of mid) (state_of mid) c.args.stops.now c.stopped_behind-found.new.before.items same refl (c.stopped_behind-found.ensures.reported (state_of was) told);
-      ran = λ s pokes part moves at.
-          (let there = by-program-to was.program p s (state_of was) (state_of mid) pokes c.loop-at.at (c.loop-at.at + 1) c.args.to i.program
-          (c.move_again-rest.ensures.state s pokes c.args.to c.loop-at-test.true i.poked (i.ran s pokes part moves at).0) moves (i.ran s pokes part moves at).1 in (
-            c.move_again-rest.ensures.part pokes c.args.to c.loop-at-test.true i.poked (i.ran s pokes part moves at).0,
+      kept = c.go_on-made.ensures.kept ∙ i.kept;
+      order = omega (arith, i.order);
+      within = c.go_on-made.ensures.within;
+      poked = c.go_on-made.ensures.poked;
+      count = c.read_again.ensures.count;
+      reported = reported-at mid.program p (state_of mid) (state_of mid) stops c.read_again.new.before.items same refl c.read_again.ensures.reported;
+      ran = λ s pokes part moves from.
+          (let before = i.ran s pokes part moves from in
+          let there = by-program-to was.program p s (state_of was) (state_of mid) pokes at (at + n) c.args.to i.program (c.go_on-made.ensures.state s pokes before.0) moves before.1 in
+          let quiet = quiet-by was.program p s (state_of was) pokes stops values at n c.args.to i.program (c.go_on-made.ensures.quiet s pokes before.0) moves before.1 told in
+          let by_name = λ (old : State) (now : AllTell mid.program old stops values). c.read_again.ensures.first old (told-as mid.program old stops values c.loop-at.before.items (sym c.as_slice.ensures.value) now) in (
+            c.go_on-made.ensures.part pokes before.0,
             there,
-            hit-step p (named_stops p c.args.stops.now) s (state_of was) (state_of mid) pokes c.args.from c.loop-at.at c.loop-at.last c.later_hit-last.result c.stopped_behind-found.result c.loop-at.auto.at
-                (i.ran s pokes part moves at).1 there (i.ran s pokes part moves at).2
-                (c.stopped_behind-found.ensures.stopped (state_of was) told held ∙ ap (λ (r : Program g.row.A.Denot). stopped (named_stops r c.args.stops.now) (state_of mid) (state_of was)) same) c.later_hit-last.ensures,
+            hits-more p stops values s pokes c.args.from at n (at + n) c.loop-at.last c.later_break-last.result c.later_watch-last.result c.first_break.result c.read_again.result count c.go_on-made.ensures.some i.order refl before.2 quiet
+                (held-by was.program p s (state_of was) pokes stops at c.first_break.result i.program before.1 c.first_break.ensures)
+                (seen-by mid.program p s (state_of mid) pokes stops values at n (at + n) c.read_again.result same c.go_on-made.ensures.some refl quiet there by_name) c.later_break-last.ensures c.later_watch-last.ensures,
           ));
     }
-
-pub returns-clause-hit : goal.returns-clause-hit
-returns-clause-hit g c = λ s pokes part moves at.
-    let p = (g.M.HasCopies.present c.args.machine.now).program in
-    let order = poked-le c.args.from c.args.part.now c.args.to c.requires.poked in
-    let end : c.loop-at.at ≡ c.args.to = omega (arith, order, c.loop-at.auto.at-end, c.loop-at-test.false) in
-    subst (λ (n : ℕ). IsLastHit (stop_at p (named_stops p c.args.stops.now) s pokes) c.args.from n c.loop-at.last) end (c.loop-at.invariant.ran s pokes part moves at).2

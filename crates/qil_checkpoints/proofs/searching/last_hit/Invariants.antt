@@ -1,5 +1,5 @@
--- The part so far was run through, and its last hit is known.
-use Rattle.std.proofs.Common.{◌≡◌, List, length}
+-- The part so far was run through, and its last hit is known; what is left gets less.
+use Rattle.std.proofs.Common.{◌≡◌, ◌-◌, ◌≤◌, List, length}
 use Rattle.qil_meaning.specs.State.{State}
 use Rattle.qil_state.specs.State.{state_of}
 use Rattle.qil_stops.specs.Named.{named_stops}
@@ -13,6 +13,8 @@ abbrev pub invariant-loop-at : goal.invariant-loop-at
 invariant-loop-at g l = record {
   program : (g.M.HasCopies.present l.machine).program ≡ (g.M.HasCopies.present l.fn.machine).program;
   kept : g.M.HasCopies.kept l.machine ≡ g.M.HasCopies.kept l.fn.machine;
+  order : l.from ≤ l.at;
+  within : l.at ≤ l.to;
   poked : ArePoked l.at l.rest l.to;
   count : length l.before.items ≡ length l.stops;
   reported : AllTell (g.M.HasCopies.present l.fn.machine).program (state_of (g.M.HasCopies.present l.machine)) l.stops l.before.items;
@@ -21,3 +23,6 @@ invariant-loop-at g l = record {
       → IsPart pokes l.rest l.at l.to × (state_of (g.M.HasCopies.present l.machine) ≡ walk (g.M.HasCopies.present l.fn.machine).program s pokes l.at)
       × IsLastHit (stop_at (g.M.HasCopies.present l.fn.machine).program (named_stops (g.M.HasCopies.present l.fn.machine).program l.stops) s pokes) l.from l.at l.last;
 }
+
+abbrev pub decreases-loop-at : goal.decreases-loop-at
+decreases-loop-at g l = l.to - l.at

@@ -1,5 +1,5 @@
 -- Part after part.
-use Rattle.std.proofs.Common.{◌∙◌, sym, refl, subst, ◌≤◌, List, arith}
+use Rattle.std.proofs.Common.{◌∙◌, sym, subst, ◌≤◌, List, arith}
 use Rattle.qil_state.specs.State.{state_of}
 use Rattle.qil_stops.specs.Named.{named_stops}
 use Rattle.qil_stops.proofs.Naming.{named-none, no_length}
@@ -23,10 +23,7 @@ pub last_hit-found-requires : goal.last_hit-found-requires
 last_hit-found-requires g c =
     let i = c.loop-end.invariant in
     let poked = part-poked c.args.pokes.now c.requires.kept.0 c.part_start-from.result c.loop-end.end c.requires.kept.2.poked (omega (arith, c.part_start-from.ensures.high)) (omega (arith, i.under, c.requires.kept.1)) in
-    λ lifetimes. (
-      (refl, tt),
-      (c.requires.few, (c.requires.readable, subst (λ (qs : List Poked). ArePoked c.part_start-from.result qs c.loop-end.end) (sym c.part_of.ensures) poked)),
-    )
+    record { few = c.requires.few; readable = c.requires.readable; poked = subst (λ (qs : List Poked). ArePoked c.part_start-from.result qs c.loop-end.end) (sym c.part_of.ensures) poked }
 
 pub returns-then-is_some-clause-hit : goal.returns-then-is_some-clause-hit
 returns-then-is_some-clause-hit g c =

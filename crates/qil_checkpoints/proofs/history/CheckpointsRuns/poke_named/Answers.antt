@@ -1,0 +1,10 @@
+-- There is room for one more position.
+use Rattle.std.proofs.Common.{◌<◌, arith}
+use Rattle.qil_checkpoints.proofs.HeldLemmas.{held-position}
+use Rattle.qil_checkpoints.proofs.history.CheckpointsRuns.poke_named.Goals as goal
+
+pub poke_temp-requires : goal.poke_temp-requires
+poke_temp-requires g c =
+    let at = held-position g.M.HasCopies.present g.M.HasCopies.kept c.args.self.now in
+    let fits : c.args.self.now.position < 4611686018427387904 = omega (arith, at, c.requires) in
+    fits

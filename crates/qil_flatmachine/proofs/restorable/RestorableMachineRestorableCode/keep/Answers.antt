@@ -1,5 +1,0 @@
-use Rattle.qil_flatmachine.proofs.Copying.{copy_added}
-use Rattle.qil_flatmachine.proofs.restorable.RestorableMachineRestorableCode.keep.Goals as goal
-
-pub invariant_of-self-2 : goal.invariant_of-self-2
-invariant_of-self-2 g c = copy_added _ _ _ _ _ c.reserve.ensures.items c.push_reserved.ensures.items c.self.invariant c.in_ok-copy.ensures.of

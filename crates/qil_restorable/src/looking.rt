@@ -1,0 +1,165 @@
+//! Looks at the state that a machine is in: what stops read there, and which of them hold.
+
+ghost use Rattle.std.specs.Prelude.{◌≡◌, ◌≤◌, length};
+ghost use Rattle.qil_meaning.specs.State.{State, is_final};
+ghost use Rattle.qil_meaning.specs.Stops.{is_held, first_watch, first_break, stopped};
+ghost use Rattle.qil_state.specs.State.{state_of};
+ghost use Rattle.qil_stops.specs.Listed.{HasWidth, IsReadable, AreReadable};
+ghost use Rattle.qil_stops.specs.Named.{named_kind, named_stops, passes};
+ghost use Rattle.qil_stops.specs.Readings.{TellsWatched, Tells, AllTell};
+
+use crate::watchable::Watchable;
+use arrayvec::ArrayVec;
+use qil_meaning::Reason;
+use qil_readers::{HasProgram, Readers};
+use qil_stops::{NumberedStop, StopKind, Watched};
+use std::alloc::Allocator;
+
+/// Whether the run is over.
+#[inline(always)]
+pub fn is_over<A: Allocator + Copy, C: HasProgram<A>, M: Watchable<A, C>>(machine: &M) -> bool
+    ensures { result ≡ is_final (state_of (M.present machine.now)).status }
+{
+    machine.is_read();
+    machine.is_final()
+}
+
+/// What a watch reads: the number in the bytes, or the value of the temporary. Nothing where the bytes are dead, or the
+/// temporary is unset or isn't there.
+#[inline(always)]
+fn watched_reading<A: Allocator + Copy, C: HasProgram<A>, M: Watchable<A, C>>(
+    watched: Watched,
+    machine: &M,
+) -> Option<u64>
+    requires { HasWidth watched }
+    ensures { TellsWatched (M.present machine.now).program (state_of (M.present machine.now)) watched result }
+{
+    match watched {
+        Watched::Bytes { address, width } => machine.memory_reading(address, width),
+        Watched::Temp { func, slot } => machine.temp_reading(func, slot),
+    }
+}
+
+/// What a stop reads; a breakpoint reads nothing.
+#[inline(always)]
+fn reading<A: Allocator + Copy, C: HasProgram<A>, M: Watchable<A, C>>(
+    kind: StopKind,
+    machine: &M,
+) -> Option<u64>
+    requires { IsReadable kind }
+    ensures { Tells (M.present machine.now).program (state_of (M.present machine.now)) kind result }
+{
+    match kind {
+        StopKind::Break(_) => None,
+        StopKind::Watch(watched) => watched_reading(watched, machine),
+    }
+}
+
+/// Whether a stop is a breakpoint, and the run stands there.
+#[inline(always)]
+fn is_held<A: Allocator + Copy, C: HasProgram<A>, M: Watchable<A, C>>(
+    kind: StopKind,
+    machine: &M,
+) -> bool
+    ensures { result ≡ passes (is_held (state_of (M.present machine.now))) (named_kind (M.present machine.now).program kind) }
+{
+    match kind {
+        StopKind::Break(place) => machine.is_at(place.func, place.block, place.index),
+        StopKind::Watch(_) => false,
+    }
+}
+
+/// What each stop reads now.
+pub fn readings<A: Allocator + Copy, C: HasProgram<A>, M: Watchable<A, C>>(
+    stops: &[NumberedStop],
+    machine: &M,
+) -> ArrayVec<Option<u64>, 64>
+    requires few { length stops.now ≤ 64 }
+    requires readable { AreReadable stops.now }
+    ensures count { length result.items ≡ length stops.now }
+    ensures reported { AllTell (M.present machine.now).program (state_of (M.present machine.now)) stops.now result.items }
+{
+    let mut all = ArrayVec::new();
+    for stop in stops {
+        all.push(reading(stop.kind, machine));
+    }
+    all
+}
+
+/// The number of the first watch that reads otherwise than before. If none does, what was read before is what is read now.
+#[inline(always)]
+pub fn first_watch<A: Allocator + Copy, C: HasProgram<A>, M: Watchable<A, C>>(
+    stops: &[NumberedStop],
+    before: &[Option<u64>],
+    machine: &M,
+) -> Option<u64>
+    requires count { length before.now ≡ length stops.now }
+    requires readable { AreReadable stops.now }
+    ensures first { (old : State) → AllTell (M.present machine.now).program old stops.now before.now → result ≡ first_watch old (state_of (M.present machine.now)) (named_stops (M.present machine.now).program stops.now) }
+    ensures same { result ≡ None → AllTell (M.present machine.now).program (state_of (M.present machine.now)) stops.now before.now }
+{
+    for (index, stop) in stops.iter().enumerate() {
+        if reading(stop.kind, machine) != before[index] {
+            return Some(stop.number);
+        }
+    }
+    None
+}
+
+/// The number of the first breakpoint that holds.
+#[inline(always)]
+pub fn first_break<A: Allocator + Copy, C: HasProgram<A>, M: Watchable<A, C>>(
+    stops: &[NumberedStop],
+    machine: &M,
+) -> Option<u64>
+    ensures { result ≡ first_break (state_of (M.present machine.now)) (named_stops (M.present machine.now).program stops.now) }
+{
+    for stop in stops {
+        if is_held(stop.kind, machine) {
+            return Some(stop.number);
+        }
+    }
+    None
+}
+
+/// Which stop holds now, after a move from a state that is reported by what was read there: a watch before a breakpoint, and
+/// of each kind the one with the lowest number.
+#[inline(always)]
+pub fn stopped<A: Allocator + Copy, C: HasProgram<A>, M: Watchable<A, C>>(
+    stops: &[NumberedStop],
+    before: &[Option<u64>],
+    machine: &M,
+) -> Option<Reason>
+    requires count { length before.now ≡ length stops.now }
+    requires readable { AreReadable stops.now }
+    ensures { (old : State) → AllTell (M.present machine.now).program old stops.now before.now → result ≡ stopped (named_stops (M.present machine.now).program stops.now) old (state_of (M.present machine.now)) }
+{
+    if let Some(number) = first_watch(stops, before, machine) {
+        return Some(Reason::Watch(number));
+    }
+    if let Some(number) = first_break(stops, machine) {
+        return Some(Reason::Break(number));
+    }
+    None
+}
+
+/// The number of the first watch that reads otherwise than before. What was read before is then what is read now.
+#[inline(always)]
+pub fn read_again<A: Allocator + Copy, C: HasProgram<A>, M: Watchable<A, C>>(
+    stops: &[NumberedStop],
+    before: &mut ArrayVec<Option<u64>, 64>,
+    machine: &M,
+) -> Option<u64>
+    requires count { length before.old.items ≡ length stops.now }
+    requires few { length stops.now ≤ 64 }
+    requires readable { AreReadable stops.now }
+    ensures count { length before.new.items ≡ length stops.now }
+    ensures first { (old : State) → AllTell (M.present machine.now).program old stops.now before.old.items → result ≡ first_watch old (state_of (M.present machine.now)) (named_stops (M.present machine.now).program stops.now) }
+    ensures reported { AllTell (M.present machine.now).program (state_of (M.present machine.now)) stops.now before.new.items }
+{
+    let found = first_watch(stops, before.as_slice(), machine);
+    if found.is_some() {
+        *before = readings(stops, machine);
+    }
+    found
+}

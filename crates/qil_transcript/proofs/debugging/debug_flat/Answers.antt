@@ -1,0 +1,28 @@
+-- Answers to the goals of `debug_flat`.
+use Rattle.std.proofs.Common.{◌∙◌, sym, ap, Ok}
+use Rattle.qil_tree.specs.declared.tree.Program.{Program}
+use Rattle.qil_meaning.specs.Start.{start_of}
+use Rattle.qil_state.specs.State.{state_of}
+use Rattle.qil_flatmachine.specs.Kept.{WithCopies}
+use Rattle.qil_transcript.specs.Handed.{setup_of}
+use Rattle.qil_transcript.proofs.DebugLemmas.{Written-refuse, refused-no_session, shortage-not_refused, start-explained, start-shortage}
+use Rattle.qil_transcript.proofs.debugging.debug_flat.Goals as goal
+
+pub returns-in-Ok-new-clause-written : goal.returns-in-Ok-new-clause-written
+returns-in-Ok-new-clause-written g c = λ text verdict accepts loaded same.
+    c.debug_copies.ensures.written text verdict
+    (record { accepts = accepts; starts = ap (λ (p : Program g.row.A.Denot). start_of p c.args.request.now.func.now c.args.request.now.args.now) (sym same) ∙ c.in-Ok.ensures.ok ∙ ap (λ (m : WithCopies g.row.A.Denot). Ok (state_of m.present.whole)) (sym c.in-Ok-new.ensures) })
+    loaded (ap (λ (m : WithCopies g.row.A.Denot). m.present.whole.program) c.in-Ok-new.ensures ∙ c.in-Ok.ensures.program ∙ same)
+
+pub returns-in-Err-clause-written : goal.returns-in-Err-clause-written
+returns-in-Err-clause-written g c = λ text verdict accepts loaded same.
+    Written-refuse g.row.A.Denot c.refuse.result (setup_of text c.args.request.now) c.start_error.result _ _ _ _
+    (start-explained (setup_of text c.args.request.now) verdict c.args.code.now.program c.in-Err.error c.start_error.result accepts same c.in-Err.ensures.fault c.start_error.ensures) c.refuse.ensures.refused
+
+pub returns-in-Err-clause-only_started : goal.returns-in-Err-clause-only_started
+returns-in-Err-clause-only_started g c = λ start ok.
+    shortage-not_refused c.refuse.result c.start_error.result _ _ c.refuse.ensures.refused
+    (start-shortage c.args.code.now.program c.args.request.now.func.now c.args.request.now.args.now start c.in-Err.error c.start_error.result ok c.in-Err.ensures.fault c.start_error.ensures)
+
+pub returns-in-Err-clause-only_refused : goal.returns-in-Err-clause-only_refused
+returns-in-Err-clause-only_refused g c = λ fault e. refused-no_session c.refuse.result c.start_error.result _ _ c.refuse.ensures.refused

@@ -1,0 +1,179 @@
+"""Long runs under `--replay`, at the edges of the parts between the copies of states, which are made every 2^20 moves: forward,
+back, pokes and watches there. Places and values are worked out from the position alone; what stops say is asked of a session
+without the option besides, whose transcript it must be."""
+from harness.running import Case
+
+PART = 1 << 20
+EDGES = (PART - 1, PART, PART + 1)
+
+# Three moves a round: an addition, a comparison and the jump. `@start` has two, the copy and the jump that isn't written.
+TEXT = b"""export function w $main() {
+@start
+	%i =w copy 0
+@loop
+	%i =w add %i, 1
+	%c =w csltw %i, 2000000000
+	jnz %c, @loop, @end
+@end
+	ret %i
+}
+"""
+
+# One megabyte of data, and as much of the stack, so that a copy takes more than all copies may under `--replay 1`.
+WIDE = b"""data $d = { z 1048576 }
+export function w $main() {
+@start
+	%p =l alloc16 1048576
+	%q =l add %p, 1048568
+	%e =l add $d, 1048568
+	%i =w copy 0
+@loop
+	%i =w add %i, 1
+	storew %i, %q
+	storew %i, %e
+	%c =w csltw %i, 2000000000
+	jnz %c, @loop, @end
+@end
+	ret %i
+}
+"""
+
+
+class Stand:
+    """A state of TEXT's run: how many instructions of `@loop` are done, and what `%i` is; or one of the two of `@start`."""
+
+    def __init__(self, position, block, index, count):
+        self.position, self.block, self.index, self.count = position, block, index, count
+
+    def after(self, moves):
+        """The state so many moves on."""
+        position, block, index, count = self.position + moves, self.block, self.index, self.count
+        if block == "start":
+            if moves < 2 - index:
+                return Stand(position, "start", index + moves, 0 if index + moves else None)
+            moves, block, index, count = moves - (2 - index), "loop", 0, 0
+        rounds, index = divmod(index + moves, 3)
+        started = self.index > 0 and self.block == "loop"
+        count += rounds - started + (index > 0)
+        return Stand(position, block, index, count % (1 << 32))
+
+    def poked(self, value):
+        """The state that a poke of `%i` leads to: the place stays, and the position rises by one."""
+        return Stand(self.position + 1, self.block, self.index, value)
+
+    def line(self):
+        return f"#{self.position} $main @{self.block} {self.index}\n"
+
+    def value(self):
+        return f"%i = {self.count}\n"
+
+
+START = Stand(0, "start", 0, None)
+
+
+def at(position):
+    return START.after(position)
+
+
+def to_and_fro(edge):
+    """Forward over an edge and back, by one and by all."""
+    script, wanted = [], []
+
+    def ask(line, answer):
+        script.append(line)
+        wanted.append(answer)
+
+    def look(stand):
+        ask("print %i", stand.value())
+
+    ask(f"step {edge}", at(edge).line())
+    look(at(edge))
+    ask("step", at(edge + 1).line())
+    look(at(edge + 1))
+    ask("back", at(edge).line())
+    ask("back", at(edge - 1).line())
+    look(at(edge - 1))
+    ask(f"back {edge - 3}", at(2).line())
+    look(at(2))
+    ask(f"step {2 * edge}", at(2 + 2 * edge).line())
+    look(at(2 + 2 * edge))
+    ask(f"back {edge}", at(2 + edge).line())
+    look(at(2 + edge))
+    ask("back 4294967295", at(0).line())
+    ask("back", "no: at start\n")
+    return script, wanted
+
+
+def poked_there(edge):
+    """A poke at an edge, and others next to it: gone back over, run over again, and made anew."""
+    script, wanted = [], []
+
+    def ask(line, answer):
+        script.append(line)
+        wanted.append(answer)
+
+    def look(stand):
+        ask("print %i", stand.value())
+
+    before = at(edge)
+    poked = before.poked(7)
+    ask(f"step {edge}", before.line())
+    ask("set %i 7", poked.line())
+    look(poked)
+    ask("step 5", poked.after(5).line())
+    look(poked.after(5))
+    ask("back 5", poked.line())
+    look(poked)
+    ask("back", before.line())
+    look(before)
+    ask("step", before.after(1).line())
+    again = before.after(1).poked(1_000_000)
+    ask("set %i 1000000", again.line())
+    twice = again.poked(20)
+    ask("set %i 20", twice.line())
+    ask(f"step {PART}", twice.after(PART).line())
+    look(twice.after(PART))
+    ask(f"back {PART}", twice.line())
+    look(twice)
+    ask("back", again.line())
+    look(again)
+    ask("step 2", again.after(2).line())
+    look(again.after(2))
+    ask(f"back {again.position + 1}", at(1).line())
+    look(at(1))
+    return script, wanted
+
+
+def computed(running, made, edge, most):
+    script, wanted = made(edge)
+    head = "loaded 1 functions 0 data bytes ssa no $main %i\n" + START.line()
+    return running.fault(TEXT, ("\n".join(script) + "\n").encode(), ["--replay", most], (head + "".join(wanted)).encode(), 0)
+
+
+def stops_there(edge):
+    """Watches and breakpoints around an edge, forward and back, with pokes between."""
+    return "\n".join([
+        f"step {edge - 4}", "watch %i", "continue", "continue", "continue", "where", "print %i", "reverse", "where", "reverse",
+        "reverse", "reverse", "print %i", "delete 1", "break @loop 1", "continue", "continue", "continue", "where", "reverse", "where",
+        "set %i 5", "where", "reverse", "where", "continue", "print %i", "delete 2", "watch %c", "continue", "where", "reverse", "where",
+        "stops", f"step {PART}", "where", "print %i", "delete 3", "watch %i", "back", "reverse", "where", "print %i", "delete 4",
+        f"back {PART}", "where", "print %i", "reverse", "where", ""]).encode()
+
+
+def as_without(running, text, script, most, limit):
+    """The transcript under `--replay` is that of a session without it."""
+    plain = running.run(text, script, ["--limit", limit])
+    if plain is None or plain[2] != 0:
+        return "no session without the option"
+    return running.fault(text, script, ["--limit", limit, "--replay", most], plain[0], 0)
+
+
+def cases():
+    for edge in EDGES:
+        for most in ("1", "64"):
+            yield Case(f"to and fro over {edge}, --replay {most}", computed, (to_and_fro, edge, most))
+            yield Case(f"pokes at {edge}, --replay {most}", computed, (poked_there, edge, most))
+            yield Case(f"stops around {edge}, --replay {most}", as_without, (TEXT, stops_there(edge), most, "5000000"))
+    wide = b"step 1048580\nmem 65528 16\nprint %i\nstep 1048576\nback 1048577\nprint %i\nwatch %i\nreverse\nwhere\nreverse\nback 100000\nprint %i\nback 948575\nwhere\n"
+    for most in ("1", "2", "64"):
+        yield Case(f"copies of 2 MB, --replay {most}", as_without, (WIDE, wide, most, "3000000"))
