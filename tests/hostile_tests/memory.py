@@ -247,8 +247,8 @@ def as_stated(running, name, history):
     is set."""
     text, script, plain, wants = STATED[name]
     words = words_of(history)
-    if history == REPLAY and (script.startswith(b"step")) or history not in (None, REPLAY) and text != HELLO:
-        wants = []
+    may_want = not script.startswith(b"step") if history == REPLAY else history is None or text == HELLO
+    wants = wants if may_want else []
     seen = set()
 
     def judge(run):

@@ -75,17 +75,24 @@ def at(position):
     return START.after(position)
 
 
+class Asked:
+    """A script with what each of its lines is to be answered."""
+
+    def __init__(self):
+        self.lines, self.answers = [], []
+
+    def ask(self, line, answer):
+        self.lines.append(line)
+        self.answers.append(answer)
+
+    def look(self, stand):
+        self.ask("print %i", stand.value())
+
+
 def to_and_fro(edge):
     """Forward over an edge and back, by one and by all."""
-    script, wanted = [], []
-
-    def ask(line, answer):
-        script.append(line)
-        wanted.append(answer)
-
-    def look(stand):
-        ask("print %i", stand.value())
-
+    asked = Asked()
+    ask, look = asked.ask, asked.look
     ask(f"step {edge}", at(edge).line())
     look(at(edge))
     ask("step", at(edge + 1).line())
@@ -101,20 +108,13 @@ def to_and_fro(edge):
     look(at(2 + edge))
     ask("back 4294967295", at(0).line())
     ask("back", "no: at start\n")
-    return script, wanted
+    return asked
 
 
 def poked_there(edge):
     """A poke at an edge, and others next to it: gone back over, run over again, and made anew."""
-    script, wanted = [], []
-
-    def ask(line, answer):
-        script.append(line)
-        wanted.append(answer)
-
-    def look(stand):
-        ask("print %i", stand.value())
-
+    asked = Asked()
+    ask, look = asked.ask, asked.look
     before = at(edge)
     poked = before.poked(7)
     ask(f"step {edge}", before.line())
@@ -141,13 +141,14 @@ def poked_there(edge):
     look(again.after(2))
     ask(f"back {again.position + 1}", at(1).line())
     look(at(1))
-    return script, wanted
+    return asked
 
 
 def computed(running, made, edge, most):
-    script, wanted = made(edge)
+    asked = made(edge)
     head = "loaded 1 functions 0 data bytes ssa no $main %i\n" + START.line()
-    return running.fault(TEXT, ("\n".join(script) + "\n").encode(), ["--replay", most], (head + "".join(wanted)).encode(), 0)
+    script, wanted = "".join(f"{line}\n" for line in asked.lines), head + "".join(asked.answers)
+    return running.fault(TEXT, script.encode(), ["--replay", most], wanted.encode(), 0)
 
 
 def stops_there(edge):
