@@ -4,7 +4,7 @@ ghost use Rattle.std.specs.Prelude.{◌≡◌, ◌≢◌, [], ℕ, ◌-◌, ◌^
 ghost use Rattle.std.specs.Io.KnownBytes.{Appends};
 ghost use Rattle.qil_meaning.specs.Timeline.{position};
 ghost use Rattle.qil_replies.specs.SessionState.{session_at};
-ghost use Rattle.qil_transcript.specs.Serve.{TakesFew};
+ghost use Rattle.qil_serving.specs.Serve.{TakesFew};
 ghost use Rattle.qil_comparison.specs.Compared.{CountsFaults, IsUntouched};
 ghost use Rattle.qil_comparison.specs.Handed.{IsServedBy, served_outcome};
 
@@ -13,8 +13,8 @@ use qil_compare::Verdict;
 use qil_history::History;
 use qil_machine::Machine;
 use qil_runs::Stepwise;
+use qil_serving::{IoFault, Session, serve};
 use qil_streams::{Sink, Source};
-use qil_transcript::{IoFault, Session, serve};
 use std::alloc::Allocator;
 
 /// What is answered of a comparison, once a script was served.

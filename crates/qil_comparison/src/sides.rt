@@ -6,7 +6,7 @@ ghost use Rattle.qil_meaning.specs.State.{State};
 ghost use Rattle.qil_meaning.specs.Timeline.{position};
 ghost use Rattle.qil_state.specs.State.{state_of};
 ghost use Rattle.qil_streams.specs.Device.{Counts, Puts};
-ghost use Rattle.qil_transcript.specs.Serve.{TakesFew};
+ghost use Rattle.qil_serving.specs.Serve.{TakesFew};
 ghost use Rattle.qil_compare.specs.Coded.{AreSides};
 ghost use Rattle.qil_comparison.specs.declared.request.Text.{Text};
 ghost use Rattle.qil_comparison.specs.declared.request.SideName.TheVariants.{Good, Bad};

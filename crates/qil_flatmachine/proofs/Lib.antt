@@ -9,6 +9,7 @@ pub mod Written
 pub mod Failing
 pub mod Unwritten
 pub mod Fetching
+pub mod Assigning
 pub mod Going
 pub mod Quietly
 pub mod Viewing

@@ -2,6 +2,7 @@
 #![tactic(auto)]
 
 mod advance;
+mod assignments;
 mod call;
 mod copied;
 mod jump;

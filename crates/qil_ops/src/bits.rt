@@ -6,6 +6,7 @@ ghost use Rattle.qil_ops.specs.Values.{width, low_bits, as_signed, as_bits};
 use qil_tree::Class;
 
 /// The low bits that a value of the class keeps.
+#[inline(always)]
 pub fn low(class: Class, v: u64) -> u64
     ensures value { result ≡ low_bits (width class) v }
     ensures fits { result < 2 ^ width class }
@@ -17,6 +18,7 @@ pub fn low(class: Class, v: u64) -> u64
 }
 
 /// The low bits in two's complement.
+#[inline(always)]
 pub fn signed(class: Class, v: u64) -> i64
     ensures { result ≡ as_signed (width class) v }
 {
@@ -27,6 +29,7 @@ pub fn signed(class: Class, v: u64) -> i64
 }
 
 /// A whole number in the bits of a class.
+#[inline(always)]
 pub fn cut(class: Class, v: i64) -> u64
     ensures value { result ≡ as_bits (width class) v }
     ensures fits { result < 2 ^ width class }
@@ -35,6 +38,7 @@ pub fn cut(class: Class, v: i64) -> u64
 }
 
 /// The number of bits that a shift moves by.
+#[inline(always)]
 pub fn places(class: Class, amount: u64) -> u32
     ensures { result ≡ amount % width class }
 {

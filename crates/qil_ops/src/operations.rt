@@ -10,6 +10,7 @@ use qil_tree::{BinaryOp, Class, CompareOp, Extension, UnaryOp};
 
 /// What an operation on one value of a class gives, as a value of that class. Bits of the operand above the class don't
 /// count.
+#[inline(always)]
 pub fn unary(op: UnaryOp, class: Class, a: u64) -> u64
     ensures value { result ≡ unary_of op class a }
     ensures fits { result < 2 ^ width class }
@@ -27,6 +28,7 @@ pub fn unary(op: UnaryOp, class: Class, a: u64) -> u64
 ///
 /// Only of `div`, `rem`, `udiv` and `urem`: `Zero` where the divisor is 0; of `div` and `rem` alone, `Overflow` where the
 /// least signed value of the class is divided by -1.
+#[inline(always)]
 pub fn binary(op: BinaryOp, class: Class, a: u64, b: u64) -> Result<u64, DivFault>
     ensures value { result ≡ binary_of op class a b }
     ensures fits { IfOk result (λ v. v < 2 ^ width class) }
@@ -49,6 +51,7 @@ pub fn binary(op: BinaryOp, class: Class, a: u64, b: u64) -> Result<u64, DivFaul
 }
 
 /// Whether a comparison of two values of a class holds (QBE IL, Comparisons). Bits above the class don't count.
+#[inline(always)]
 pub fn compare(op: CompareOp, class: Class, a: u64, b: u64) -> bool
     ensures { result ≡ holds op class a b }
 {
@@ -68,6 +71,7 @@ pub fn compare(op: CompareOp, class: Class, a: u64, b: u64) -> bool
 
 /// The low 32, 16 or 8 bits as a number of 64 bits, by the sign or by zeros (QBE IL, Conversions). A result of class `w`
 /// is its low 32 bits.
+#[inline(always)]
 pub fn extend(kind: Extension, v: u64) -> u64
     ensures { result ≡ extended kind v }
 {

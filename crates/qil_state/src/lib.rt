@@ -7,4 +7,7 @@ mod values;
 
 pub use arguments::{argument, check_arguments, is_in_shape};
 pub use status::{Fault, Status};
-pub use values::{evaluate, fitted, taken_by, value};
+pub use values::{
+    binary_value, compare_value, evaluate, extend_value, fitted, load_value, taken_by, unary_value,
+    value,
+};

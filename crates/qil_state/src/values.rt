@@ -6,11 +6,12 @@
 ghost use Rattle.std.specs.Prelude.{◌≡◌, List, length, option_map};
 ghost use Rattle.qil_tree.specs.declared.tree.Program.{Program};
 ghost use Rattle.qil_rules.specs.Operands.{right_class as second_class};
-ghost use Rattle.qil_memory.specs.Live.{live};
+ghost use Rattle.qil_memory.specs.Live.{Live, live};
 ghost use Rattle.qil_meaning.specs.State.{Name};
 ghost use Rattle.qil_meaning.specs.Slots.{temps_of};
 ghost use Rattle.qil_meaning.specs.Values.{val, load_of, fit};
 ghost use Rattle.qil_meaning.specs.Calls.{taken};
+ghost use Rattle.qil_code.specs.declared.numbered.NumberedExpr.{NumberedExpr};
 ghost use Rattle.qil_code.specs.Named.{named_operand, named_expr};
 ghost use Rattle.qil_code.specs.Ranges.{InRange, ExprInRange};
 ghost use Rattle.qil_state.specs.Faults.{reported};
@@ -20,7 +21,7 @@ use crate::status::Fault;
 use qil_code::{NumberedExpr, NumberedOperand};
 use qil_memory::Memory;
 use qil_ops::{binary, compare, extend, unary};
-use qil_tree::{AbiType, BinaryOp, Class, Extension, LoadOp, UnaryOp};
+use qil_tree::{AbiType, BinaryOp, Class, CompareOp, Extension, LoadOp, UnaryOp};
 use std::alloc::Allocator;
 
 /// The value of an operand in a class.
@@ -72,6 +73,101 @@ fn load<A: Allocator + Copy>(memory: &Memory<A>, op: LoadOp, address: u64) -> Re
     })
 }
 
+/// The value of an operation on one operand.
+///
+/// # Errors
+///
+/// The operand, where it is unset.
+#[inline(always)]
+pub fn unary_value<A: Allocator>(
+    slots: &[Option<u64>],
+    op: UnaryOp,
+    class: Class,
+    a: NumberedOperand,
+) -> Result<u64, Fault>
+    requires { ExprInRange (length slots.now) (NumberedExpr.Unary op a) }
+    ensures { (p : Program A) (m : Live) (ns : List Name) → AreSlots ns slots.now → reported ns result ≡ evaluated p m (temps_of ns slots.now) class (named_expr ns (NumberedExpr.Unary op a)) }
+{
+    Ok(unary(op, class, value::<A>(slots, class, a)?))
+}
+
+/// The value of an operation on two operands.
+///
+/// # Errors
+///
+/// The first operand that is unset, or a division with no result.
+#[inline(always)]
+pub fn binary_value<A: Allocator>(
+    slots: &[Option<u64>],
+    op: BinaryOp,
+    class: Class,
+    a: NumberedOperand,
+    b: NumberedOperand,
+) -> Result<u64, Fault>
+    requires { ExprInRange (length slots.now) (NumberedExpr.Binary op a b) }
+    ensures { (p : Program A) (m : Live) (ns : List Name) → AreSlots ns slots.now → reported ns result ≡ evaluated p m (temps_of ns slots.now) class (named_expr ns (NumberedExpr.Binary op a b)) }
+{
+    let left = value::<A>(slots, class, a)?;
+    let right = value::<A>(slots, right_class(op, class), b)?;
+    Ok(binary(op, class, left, right)?)
+}
+
+/// 1 where a comparison of two operands of the class `of` holds, else 0.
+///
+/// # Errors
+///
+/// The first operand that is unset.
+#[inline(always)]
+pub fn compare_value<A: Allocator>(
+    slots: &[Option<u64>],
+    op: CompareOp,
+    of: Class,
+    a: NumberedOperand,
+    b: NumberedOperand,
+) -> Result<u64, Fault>
+    requires { ExprInRange (length slots.now) (NumberedExpr.Compare op of a b) }
+    ensures { (p : Program A) (m : Live) (c : Class) (ns : List Name) → AreSlots ns slots.now → reported ns result ≡ evaluated p m (temps_of ns slots.now) c (named_expr ns (NumberedExpr.Compare op of a b)) }
+{
+    let left = value::<A>(slots, of, a)?;
+    let right = value::<A>(slots, of, b)?;
+    Ok(u64::from(compare(op, of, left, right)))
+}
+
+/// The extension of an operand.
+///
+/// # Errors
+///
+/// The operand, where it is unset.
+#[inline(always)]
+pub fn extend_value<A: Allocator>(
+    slots: &[Option<u64>],
+    op: Extension,
+    a: NumberedOperand,
+) -> Result<u64, Fault>
+    requires { ExprInRange (length slots.now) (NumberedExpr.Extend op a) }
+    ensures { (p : Program A) (m : Live) (c : Class) (ns : List Name) → AreSlots ns slots.now → reported ns result ≡ evaluated p m (temps_of ns slots.now) c (named_expr ns (NumberedExpr.Extend op a)) }
+{
+    Ok(extend(op, value::<A>(slots, Class::W, a)?))
+}
+
+/// What is read from memory at the address that an operand holds.
+///
+/// # Errors
+///
+/// The operand, where it is unset, or the first address of those that is dead.
+#[inline(always)]
+pub fn load_value<A: Allocator + Copy>(
+    memory: &Memory<A>,
+    slots: &[Option<u64>],
+    op: LoadOp,
+    a: NumberedOperand,
+) -> Result<u64, Fault>
+    requires { ExprInRange (length slots.now) (NumberedExpr.Load op a) }
+    ensures { (p : Program A) (c : Class) (ns : List Name) → AreSlots ns slots.now → reported ns result ≡ evaluated p (live memory.now) (temps_of ns slots.now) c (named_expr ns (NumberedExpr.Load op a)) }
+{
+    load(memory, op, value::<A>(slots, Class::L, a)?)
+}
+
 /// The value of an expression whose result has a class.
 ///
 /// # Errors
@@ -88,19 +184,11 @@ pub fn evaluate<A: Allocator + Copy>(
     ensures { (p : Program A) (ns : List Name) → AreSlots ns slots.now → reported ns result ≡ evaluated p (live memory.now) (temps_of ns slots.now) class (named_expr ns expr) }
 {
     match expr {
-        NumberedExpr::Unary(op, a) => Ok(unary(op, class, value::<A>(slots, class, a)?)),
-        NumberedExpr::Binary(op, a, b) => {
-            let left = value::<A>(slots, class, a)?;
-            let right = value::<A>(slots, right_class(op, class), b)?;
-            Ok(binary(op, class, left, right)?)
-        }
-        NumberedExpr::Compare(op, of, a, b) => {
-            let left = value::<A>(slots, of, a)?;
-            let right = value::<A>(slots, of, b)?;
-            Ok(u64::from(compare(op, of, left, right)))
-        }
-        NumberedExpr::Extend(op, a) => Ok(extend(op, value::<A>(slots, Class::W, a)?)),
-        NumberedExpr::Load(op, a) => load(memory, op, value::<A>(slots, Class::L, a)?),
+        NumberedExpr::Unary(op, a) => unary_value::<A>(slots, op, class, a),
+        NumberedExpr::Binary(op, a, b) => binary_value::<A>(slots, op, class, a, b),
+        NumberedExpr::Compare(op, of, a, b) => compare_value::<A>(slots, op, of, a, b),
+        NumberedExpr::Extend(op, a) => extend_value::<A>(slots, op, a),
+        NumberedExpr::Load(op, a) => load_value(memory, slots, op, a),
     }
 }
 

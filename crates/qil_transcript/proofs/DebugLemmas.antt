@@ -23,7 +23,7 @@ use Rattle.qil_meaning.specs.Timeline.{begun}
 use Rattle.qil_meaning.specs.declared.start.StartFault.{StartFault}
 use Rattle.qil_replies.specs.SessionState.{SessionState}
 use Rattle.qil_replies.specs.Answers.{IsAnswered, answers}
-use Rattle.qil_transcript.specs.declared.serving.IoFault.TheVariants.{Read, Write, TooLong}
+use Rattle.qil_serving.specs.declared.serving.IoFault.TheVariants.{Read, Write, TooLong}
 use Rattle.qil_transcript.specs.declared.outcome.Outcome.{Outcome}
 use Rattle.qil_transcript.specs.declared.outcome.Outcome.TheVariants as outcomes
 use Rattle.qil_loading.specs.declared.load.LoadError.{LoadError}
@@ -37,7 +37,8 @@ use Rattle.qil_script.specs.Transcript.{Setup, Begins, IsSession, load_lines, op
 use Rattle.qil_transcript.specs.Debug.{IsNoSession, Written}
 use Rattle.qil_transcript.specs.Handed.{IsRefused, of_start}
 use Rattle.qil_script.proofs.ReachedLemmas.{ample}
-use Rattle.qil_transcript.proofs.ServeLemmas.{Promise}
+use Rattle.qil_serving.proofs.Explaining.{Explained}
+use Rattle.qil_serving.proofs.ServeLemmas.{Promise}
 
 -- the load lines of a program
 abbrev pub heading : {A : Type 0} → Setup → Verdict A → State → List ℕ
@@ -167,11 +168,6 @@ Written-refusal_stopped A s refusal None left w0 w1 refuses p = tt
 Written-refusal_stopped A s refusal (Some script) left w0 w1 refuses p =
     (p.0, p.2, (refused_line refusal, inl (record { refusal = refusal; refuses = refuses; written_is = refl }), p.1))
 
--- the text is refused for that, or memory ran out
-abbrev pub Explained : Type 0 → Setup → LoadError → Type 0
-Explained A s (errors.Refused refusal) = Refuses A s.text s.entry s.args refusal
-Explained A s errors.OutOfMemory = Unit {0}
-
 -- what was refused and how that was put
 pub Written-refuse : (A : Type 0) (outcome : Outcome) (s : Setup) (error : LoadError) (known left w0 w1 : Option (List ℕ))
     → Explained A s error → IsRefused outcome error w0 w1 → Written A outcome s known left w0 w1
@@ -207,20 +203,6 @@ shortage-not_refused outcome error w0 w1 p e r =
 
 -- ---- why each part refuses
 
-pub check-explained : (A : Type 0) (s : Setup) (error : LoadError) → IsCheckFault A s.text error → Explained A s error
-check-explained A s (errors.Refused (refusals.Text code line)) h = h
-check-explained A s (errors.Refused (refusals.Tokens code line)) h = h
-check-explained A s (errors.Refused (refusals.Rule rule line)) h = h
-check-explained A s (errors.Refused (refusals.Layout code line)) h = absurd h
-check-explained A s (errors.Refused (refusals.Start fault)) h = absurd h
-check-explained A s errors.OutOfMemory h = tt
-
-pub layout-explained : {A : Type 0} (s : Setup) (verdict : Verdict A) (error : LayoutError) (load : LoadError) → Checks s.text verdict
-    → IsFault (fault_of verdict.program) error → load ≡ of_layout error → Explained A s load
-layout-explained {A} s verdict (layout.Refused code line) load checks fault e =
-    subst (λ (x : LoadError). Explained A s x) (sym e) (verdict, checks, fault)
-layout-explained {A} s verdict layout.OutOfMemory load checks fault e = subst (λ (x : LoadError). Explained A s x) (sym e) tt
-
 pub start-explained : {A : Type 0} (s : Setup) (verdict : Verdict A) (p : Program A) (error : StartError) (load : LoadError) → Accepts s.text verdict → p ≡ verdict.program
     → StartExplains (start_of p s.entry s.args) error → load ≡ of_start error → Explained A s load
 start-explained {A} s verdict p start.NoEntry load accepts same why e =
@@ -228,11 +210,6 @@ start-explained {A} s verdict p start.NoEntry load accepts same why e =
 start-explained {A} s verdict p start.ArgumentCount load accepts same why e =
     subst (λ (x : LoadError). Explained A s x) (sym e) (verdict, accepts, ap (λ (q : Program A). start_of q s.entry s.args) (sym same) ∙ why)
 start-explained {A} s verdict p start.OutOfMemory load accepts same why e = subst (λ (x : LoadError). Explained A s x) (sym e) tt
-
--- a program without a fault of layout isn't refused for one
-pub layout-shortage : {A : Type 0} (p : Program A) (error : LayoutError) (load : LoadError) → fault_of p ≡ None → IsFault (fault_of p) error → load ≡ of_layout error → load ≡ errors.OutOfMemory
-layout-shortage p (layout.Refused code line) load none fault e = absurd cc
-layout-shortage p layout.OutOfMemory load none fault e = e
 
 -- a program that starts isn't refused its start
 pub start-shortage : {A : Type 0} (p : Program A) (entry args : List ℕ) (state : State) (error : StartError) (load : LoadError) → start_of p entry args ≡ Ok state

@@ -1,6 +1,3 @@
--- The lemmas of this crate, from the lines of a script up to whole transcripts.
-pub mod KeptLemmas
-pub mod ServeLemmas
-pub mod FewLemmas
+-- The lemmas of this crate, from a session that was just opened up to whole transcripts.
 pub mod DebugLemmas
 pub mod OpenedLemmas

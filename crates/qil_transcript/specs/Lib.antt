@@ -1,4 +1,4 @@
--- What `debug` writes: serving, and whole transcripts.
-pub mod Serve
+-- What `debug` writes.
+pub use Rattle.qil_serving.specs.Serve
 pub mod Debug
 pub mod Handed

@@ -5,7 +5,9 @@
 #![tactic(auto)]
 
 mod opening;
+mod requests;
 mod serving;
+mod session;
 
 pub use qrev_notices::{Ended, Files};
 pub use qrev_recorder::{Opening, Record};

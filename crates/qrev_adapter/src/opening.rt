@@ -5,6 +5,7 @@ ghost use Rattle.qil_loading.specs.Load.{Checks};
 ghost use Rattle.qrev_recorder.specs.Record.{setup_of, IsBeginning};
 ghost use Rattle.qrev_adapter.specs.Opened.{HasStarted, IsAccepted};
 
+use crate::session::serve_session;
 use qil_code::Code;
 use qil_deltas::{Deltas, Ring};
 use qil_layout::layout;
@@ -14,7 +15,6 @@ use qil_numbering::number;
 use qil_rules::Checked;
 use qil_streams::{Sink, Source};
 use qil_tree::Program;
-use qrev_conversation::serve_session;
 use qrev_debuggee::Debuggee;
 use qrev_notices::{
     Closed, Ended, Files, Line, read_sources, refuse_load, refuse_map, refuse_start, refuse_unread,

@@ -1,5 +1,6 @@
 -- One step more, behind which no stop may hold.
-use Rattle.std.proofs.Common.{◌∙◌, rules}
+use Rattle.std.proofs.Common.{◌∙◌, rules, sym}
+use Rattle.std.proofs.lemmas.Bool.{true≢false}
 use Rattle.qil_state.specs.State.{state_of}
 use Rattle.qil_flatmachine.proofs.Going.{ran_more, runs_more}
 use Rattle.qil_flatmachine.proofs.Quietly.{quiet_more, unbroken_more}
@@ -21,3 +22,7 @@ loop-made-preserved g c =
       quiet = λ told. quiet_more p new.program s (state_of new) c.args.stops.now c.args.before.now c.loop-made.made same steps (i.quiet told) (c.may_stop.ensures.quiet c.if-may_stop.false);
       unbroken = unbroken_more p new.program s (state_of new) c.args.stops.now c.loop-made.made same steps i.unbroken (c.may_stop.ensures.unbroken c.if-may_stop.false);
     }
+
+-- with no stops it goes on behind each step
+pub returns-then-may_stop-clause-over : goal.returns-then-may_stop-clause-over
+returns-then-may_stop-clause-over g c none = absurd (true≢false (sym c.if-may_stop.true ∙ c.may_stop.ensures.none none))

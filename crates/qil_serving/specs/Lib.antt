@@ -1,0 +1,2 @@
+-- What is written of a script that is served.
+pub mod Serve
