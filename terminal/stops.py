@@ -99,9 +99,11 @@ class Answered:
     def temporary(self, name: str) -> tuple[int, str]:
         answer = self.answers[f"print {name}"][0]
         value = None if answer.startswith("no: ") else read_value(answer)
-        if value is None:
+        # Behind the end of a run there is a value to print, and no function that the place is in.
+        function = self.program.functions.get(self.place.function)
+        if value is None or function is None:
             raise Unset(name)
-        return value, self.program.functions[self.place.function].temporaries[name]
+        return value, function.temporaries[name]
 
     def bytes(self, address: int, count: int) -> int:
         line = f"mem {address} {count}"

@@ -1,6 +1,7 @@
 """Random sessions: any command in any state; the saved lines must lead the plain debugger to where the session stands."""
 from __future__ import annotations
 
+import os
 import random
 import subprocess
 
@@ -75,7 +76,8 @@ def session_fault(debugger: str, file: str, seed: int, lines: int, history: int 
     """What breaks in a session of so many lines, or what its saved lines lead to otherwise; or None."""
     with open(file, "rb") as opened:
         source = opened.read()
-    chosen = random.Random(f"{seed} {file}")
+    # By the name alone, so that every checkout types the same.
+    chosen = random.Random(f"{seed} {os.path.basename(file)}")
     shell = QuietShell(Launch(debugger, file, (), LIMIT, history), file, source, Waiting(), budget=LIMIT)
     if shell.session.pipe.refused:
         return None
