@@ -173,23 +173,6 @@ jump_due {A} p kinds f fs block id ahead finds knows ef eb en writes value =
       };
     }
 
--- ---- where nothing that is compared can be due
-
-pub unasked_due : {A : Type 0} (p : Program A) (kinds : Kinds) (f : SlotFrame) (fs : List SlotFrame) (id : FuncId) (ahead : Ahead) → Finds p → FrameFits p f → id.index ≡ f.func → kinds.writes ≡ false → kinds.calls ≡ false
-    → IsDue p kinds (due_of p (frames_state p (f ∷ fs))) id ahead
-unasked_due {A} p kinds f fs id ahead finds fits ef nw nc =
-    let at : InBlock p f = in_block p f fits in
-    let F : meaning.Frame = frame_state p fs f in
-    record {
-      due = due_in p F at.func at.block;
-      due_is = due_here p f fs at.func at.block finds at.func_is at.block_is;
-      in_func = func_of_due p F at.func at.block id f.func ef at.func_is;
-      is_ahead = record {
-        writes = λ w. absurd (true≢false (sym w ∙ nw));
-        value = λ c. absurd (true≢false (sym c ∙ nc));
-      };
-    }
-
 -- a frame that fits has a block
 pub has_block : {A : Type 0} {X : Type 0} (p : Program A) (f : SlotFrame) → FrameFits p f → block_code_at p f.func f.block ≡ None → X
 has_block {A} p f fits none =

@@ -3,6 +3,7 @@ pub mod Due
 pub mod Places
 pub mod Happening
 pub mod Calling
+pub mod Likeness
 pub mod Walking
 pub mod Sameness
 pub mod Fronts

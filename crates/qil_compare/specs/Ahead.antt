@@ -24,7 +24,7 @@ writes_ahead aheads.Other = None
 
 abbrev pub value_ahead : Ahead → Option ℕ
 value_ahead (aheads.Write a n) = None
-value_ahead (aheads.Return value) = value
+value_ahead (aheads.Return value) = Some value
 value_ahead aheads.Other = None
 
 -- what is read, if it is

@@ -1,5 +1,8 @@
 -- What values and places in code are.
-use Rattle.std.specs.Prelude.{◌≡◌, ℕ, List, Option, Some, None, unwrap_or, slice_get}
+use Rattle.std.specs.Prelude.{◌≡◌, ℕ, ◌<◌, List, Option, Some, None, option_map, unwrap_or, slice_get}
+use Rattle.qil_tree.specs.declared.tree.Program.{Program}
+use Rattle.qil_meaning.specs.State.{Name}
+use Rattle.qil_code.specs.Numbered.{func_at}
 use Rattle.qil_code.specs.declared.numbered.Slot.{Slot}
 use Rattle.qil_compare.specs.declared.happened.Side.{Side}
 use Rattle.qil_compare.specs.declared.same.Stand.{Stand}
@@ -26,6 +29,14 @@ pub record AreSides {A : Type 0} (good bad : Side A) : Type 0 where
   pub kinds : good.kinds ≡ bad.kinds
   pub good_other : good.other.now ≡ bad.program.now
   pub bad_other : bad.other.now ≡ good.program.now
+
+-- the name of the function of a number
+abbrev pub name_at : {A : Type 0} → Program A → ℕ → Option Name
+name_at p i = option_map (λ f. f.name) (func_at p i)
+
+-- two programs have functions of the same names at the first n numbers
+abbrev pub AreNamedAlike : {A : Type 0} → Program A → Program A → ℕ → Type 0
+AreNamedAlike p q n = (i : ℕ) → i < n → (name : Name) × (name_at p i ≡ Some name) × (name_at q i ≡ Some name)
 
 -- what a slot holds, or 0
 abbrev pub value_or_zero : Option (Option ℕ) → ℕ

@@ -1,6 +1,6 @@
 //! What a machine is about to do that an event comes of. Nothing here takes memory.
 
-ghost use Rattle.std.specs.Prelude.{◌≡◌, IsTrue, false, List, ◌∷◌, None, length, slice_get, option_map};
+ghost use Rattle.std.specs.Prelude.{◌≡◌, false, List, ◌∷◌, None, length, slice_get, option_map};
 ghost use Rattle.std.specs.Option.{option_copied};
 ghost use Rattle.qil_tree.specs.declared.ops.Class.TheVariants as classes;
 ghost use Rattle.qil_tree.specs.declared.tree.JumpKind.TheVariants as jumps;
@@ -8,7 +8,7 @@ ghost use Rattle.qil_tree.specs.declared.tree.Program.{Program};
 ghost use Rattle.qil_rules.specs.Mentions.{returned_class};
 ghost use Rattle.qil_layout.specs.declared.callee.FuncId.{FuncId};
 ghost use Rattle.qil_layout.specs.Layout.{width_bytes};
-ghost use Rattle.qil_meaning.specs.State.{Name};
+ghost use Rattle.qil_meaning.specs.State.{Name, is_final};
 ghost use Rattle.qil_meaning.specs.Slots.{temps_of};
 ghost use Rattle.qil_meaning.specs.Values.{val};
 ghost use Rattle.qil_code.specs.Facts.{Finds};
@@ -36,8 +36,8 @@ pub enum Ahead {
     Other,
     /// So many bytes are written to memory, from an address on.
     Write(u64, u64),
-    /// The value that is returned, if there is one.
-    Return(Option<u64>),
+    /// The value that is returned.
+    Return(u64),
 }
 
 /// What is kept of a machine over a step.
@@ -153,30 +153,21 @@ fn returned_ahead<A: Allocator + Copy>(
     };
     let returns = code.returns(frame.func());
     match value_in(frame, class_returned(returns), source) {
-        Some(value) => Ahead::Return(Some(fitted(returns.unwrap_or(AbiType::W), value))),
+        Some(value) => Ahead::Return(fitted(returns.unwrap_or(AbiType::W), value)),
         None => Ahead::Other,
     }
 }
 
-/// Whether no event is compared that shows in no count.
-fn asks_nothing(kinds: Kinds) -> bool
-    ensures { IsTrue result → (kinds.writes ≡ false) × (kinds.calls ≡ false) }
-{
-    !kinds.writes && !kinds.calls
-}
-
 /// What the step of a frame may do, as far as an event of these kinds comes of it.
+// The place is looked for whatever is asked, and there is no way on without one: so the step behind finds it again at no cost.
 #[inline(always)]
 fn look_ahead<A: Allocator + Copy>(code: &Code<'_, '_, A>, frame: &Frame<A>, kinds: Kinds) -> Ahead
     requires fits { FrameFits code.now frame.now }
     requires finds { Finds code.now }
     ensures { (fs : List SlotFrame) (func : FuncId) → func.index ≡ frame.now.func → IsDue code.now kinds (due_of code.now (frames_state code.now (frame.now ∷ fs))) func result }
 {
-    if asks_nothing(kinds) {
-        return Ahead::Other;
-    }
     let Some(block) = code.block(frame.func(), frame.block()) else {
-        return Ahead::Other;
+        unreachable!()
     };
     let Some(inst) = block.insts.as_slice().get(frame.index() as usize) else {
         return return_ahead(code, frame, &block.jump);
@@ -202,9 +193,10 @@ pub fn depth<A: Allocator + Copy>(machine: &Machine<'_, '_, A>) -> usize
     machine.frames().len()
 }
 
-/// What is kept of a machine before a step.
+/// What is kept of a machine before a step of its run, which isn't over.
 #[inline(always)]
 pub fn kept_before<A: Allocator + Copy>(machine: &Machine<'_, '_, A>, kinds: Kinds) -> Before
+    requires { is_final (state_of machine.now).status ≡ false }
     ensures { IsKept machine.now.program kinds (state_of machine.now) result }
 {
     let code = machine.code();
@@ -212,12 +204,7 @@ pub fn kept_before<A: Allocator + Copy>(machine: &Machine<'_, '_, A>, kinds: Kin
     let written = machine.output().len();
     let depth = depth(machine);
     let Some(frame) = innermost(machine) else {
-        return Before {
-            func: FuncId { index: 0 },
-            depth,
-            written,
-            ahead: Ahead::Other,
-        };
+        unreachable!()
     };
     Before {
         func: frame.func(),

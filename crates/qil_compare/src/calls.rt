@@ -1,28 +1,18 @@
 //! The call that the innermost frame is of: its name, and the values of its parameters. Nothing here takes memory.
 
-ghost use Rattle.std.specs.Prelude.{◌≡◌, ◌<◌, length, slice_get, Some, IfSome};
+ghost use Rattle.std.specs.Prelude.{◌≡◌, ◌<◌, length, slice_get, Some};
 ghost use Rattle.qil_state.specs.State.{state_of};
 ghost use Rattle.qil_compare.specs.Coded.{held_or_zero, value_of};
+ghost use Rattle.qil_compare.specs.Seen.{seen};
 ghost use Rattle.qil_compare.specs.Events.{call_name, call_params};
 
 use crate::ahead::innermost;
 use crate::seen::{Seen, func_name, value_seen};
 use qil_code::Slot;
 use qil_frames::Frame;
-use qil_layout::FuncId;
 use qil_machine::Machine;
-use qil_tree::Program;
+use qil_tree::{AbiType, Program};
 use std::alloc::Allocator;
-
-/// The number of the function that was called.
-pub fn call_func<A: Allocator + Copy>(machine: &Machine<'_, '_, A>) -> FuncId
-    ensures { IfSome (slice_get machine.now.frames 0) (λ frame. result.index ≡ frame.func) }
-{
-    match innermost(machine) {
-        Some(frame) => frame.func(),
-        None => FuncId { index: 0 },
-    }
-}
 
 /// The name of the function that was called, without its sigil.
 pub fn call_name<'c, A: Allocator + Copy>(machine: &Machine<'c, 'c, A>) -> &'c [u8]
@@ -56,6 +46,23 @@ fn held_or_zero<A: Allocator + Copy>(frame: &Frame<A>, slot: Slot) -> u64
     }
 }
 
+/// The type of one of its parameters, counted from 0, and the value that its slot holds.
+#[inline(always)]
+pub fn param_held<A: Allocator + Copy>(machine: &Machine<'_, '_, A>, index: usize) -> (AbiType, u64)
+    requires { index < length (call_params machine.now.program (state_of machine.now).frames) }
+    ensures { Some (seen machine.now.program result.0 result.1) ≡ slice_get (call_params machine.now.program (state_of machine.now).frames) index }
+{
+    let code = machine.code();
+    code.names_are_distinct();
+    let Some(frame) = innermost(machine) else {
+        unreachable!()
+    };
+    match code.params(frame.func()).get(index) {
+        Some(param) => (param.1, held_or_zero(frame, param.0)),
+        None => unreachable!(),
+    }
+}
+
 /// What one of its parameters is, counted from 0.
 pub fn param_seen<'c, A: Allocator + Copy>(
     program: &'c Program<'c, A>,
@@ -66,13 +73,6 @@ pub fn param_seen<'c, A: Allocator + Copy>(
     requires range { index < length (call_params machine.now.program (state_of machine.now).frames) }
     ensures { Some (value_of result) ≡ slice_get (call_params machine.now.program (state_of machine.now).frames) index }
 {
-    let code = machine.code();
-    code.names_are_distinct();
-    let Some(frame) = innermost(machine) else {
-        return Seen::Number(0);
-    };
-    match code.params(frame.func()).get(index) {
-        Some(param) => value_seen(program, code.image(), param.1, held_or_zero(frame, param.0)),
-        None => Seen::Number(0),
-    }
+    let (abi_type, value) = param_held(machine, index);
+    value_seen(program, machine.code().image(), abi_type, value)
 }

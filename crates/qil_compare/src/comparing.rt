@@ -4,9 +4,10 @@ ghost use Rattle.std.specs.Prelude.{◌≡◌, ◌↔◌, ◌<◌, ◌≤◌, �
 ghost use Rattle.qil_meaning.specs.Timeline.{position};
 ghost use Rattle.qil_state.specs.State.{state_of};
 ghost use Rattle.qil_compare.specs.declared.event.Found.TheVariants as founds;
-ghost use Rattle.qil_compare.specs.Coded.{AreSides, StandsIn};
+ghost use Rattle.qil_compare.specs.Coded.{AreSides, AreNamedAlike, StandsIn};
 ghost use Rattle.qil_compare.specs.Answer.{Agrees, Judges, IsAnswered};
 
+use crate::alike::named_alike;
 use crate::event::Found;
 use crate::happened::Side;
 use crate::running::{next_event, written};
@@ -61,19 +62,22 @@ fn is_out_of_memory(found: Found) -> bool
 }
 
 /// Whether two runs agree in what comes next: in an event, or in that there is none.
+#[inline(always)]
 fn agree<'c, A: Allocator + Copy>(
     left: &Stand<'_, 'c, A>,
     right: &Stand<'_, 'c, A>,
     one: Found,
     other: Found,
+    alike: u16,
 ) -> bool
     requires good { StandsIn left.now }
     requires bad { StandsIn right.now }
+    requires alike { AreNamedAlike left.now.machine.now.program right.now.machine.now.program alike }
     ensures { IsTrue result ↔ Agrees left.now.machine.now.program right.now.machine.now.program (state_of left.now.machine.now) (state_of right.now.machine.now) one other }
 {
     match one {
         Found::Event(event) => match other {
-            Found::Event(second) => same_event(left, right, event, second),
+            Found::Event(second) => same_event(left, right, event, second, alike),
             Found::Over | Found::Limit | Found::OutOfMemory => false,
         },
         Found::Over => match other {
@@ -85,14 +89,17 @@ fn agree<'c, A: Allocator + Copy>(
 }
 
 /// What comes of two runs that found these, or nothing where they found the same event.
+#[inline(always)]
 fn judge<'c, A: Allocator + Copy>(
     left: &Stand<'_, 'c, A>,
     right: &Stand<'_, 'c, A>,
     one: Found,
     other: Found,
+    alike: u16,
 ) -> Option<Verdict>
     requires good { StandsIn left.now }
     requires bad { StandsIn right.now }
+    requires alike { AreNamedAlike left.now.machine.now.program right.now.machine.now.program alike }
     ensures { Judges left.now.machine.now.program right.now.machine.now.program (state_of left.now.machine.now) (state_of right.now.machine.now) one other result }
 {
     if is_out_of_memory(one) || is_out_of_memory(other) {
@@ -101,7 +108,7 @@ fn judge<'c, A: Allocator + Copy>(
     if is_limit(one) || is_limit(other) {
         return Some(Verdict::Limit);
     }
-    if !agree(left, right, one, other) {
+    if !agree(left, right, one, other, alike) {
         return Some(Verdict::Part);
     }
     match one {
@@ -111,6 +118,7 @@ fn judge<'c, A: Allocator + Copy>(
 }
 
 /// What comes of two runs where they stand, or nothing where they found the same event.
+#[inline(always)]
 fn judge_here<
     'c,
     A: Allocator + Copy + 'c,
@@ -123,9 +131,11 @@ fn judge_here<
     bad_side: &Side<'c, A>,
     one: Found,
     other: Found,
+    alike: u16,
 ) -> Option<Verdict>
     requires good { good_side.now.program.now ≡ H.program good.now }
     requires bad { bad_side.now.program.now ≡ K.program bad.now }
+    requires alike { AreNamedAlike (H.program good.now) (K.program bad.now) alike }
     ensures { Judges (H.program good.now) (K.program bad.now) (H.timeline good.now).now (K.timeline bad.now).now one other result }
 {
     let left = Stand {
@@ -136,7 +146,7 @@ fn judge_here<
         side: bad_side,
         machine: bad.machine(),
     };
-    judge(&left, &right, one, other)
+    judge(&left, &right, one, other, alike)
 }
 
 /// Whether one of two runs has made so many moves that no further event is looked for.
@@ -188,15 +198,17 @@ pub fn compare<
     ensures near { (position (H.timeline good.new) < 2 ^ 60) × (position (K.timeline bad.new) < 2 ^ 60) }
     ensures answer { IsAnswered good_side.now.kinds (H.program good.old) (K.program bad.old) (H.timeline good.old) (H.timeline good.new) (K.timeline bad.old) (K.timeline bad.new) result }
 {
+    let alike = named_alike(good.machine().code().image(), bad.machine().code().image());
     let mut good_told = written(good);
     let mut bad_told = written(bad);
     for events in 0..u64::MAX {
         if is_far(good, bad) {
             return limited(events);
         }
-        let one = next_event(good, good_side, &mut good_told, limit);
-        let other = next_event(bad, bad_side, &mut bad_told, limit);
-        if let Some(verdict) = judge_here(good, bad, good_side, bad_side, one, other) {
+        let one = next_event(good, good_side, alike, &mut good_told, limit);
+        let other = next_event(bad, bad_side, alike, &mut bad_told, limit);
+        let judged = judge_here(good, bad, good_side, bad_side, one, other, alike);
+        if let Some(verdict) = judged {
             return told_of(events, verdict, one, other);
         }
     }

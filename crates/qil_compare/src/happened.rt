@@ -1,17 +1,18 @@
 //! Which event a step had, by the machine before and after it. Nothing here takes memory.
 
-ghost use Rattle.std.specs.Prelude.{◌≡◌, [], ◌∷◌, IsTrue, Some, drop, option_map, slice_get};
+ghost use Rattle.std.specs.Prelude.{◌≡◌, [], ◌∷◌, drop, option_map};
 ghost use Rattle.qil_meaning.specs.State.{is_final};
 ghost use Rattle.qil_state.specs.State.{state_of};
-ghost use Rattle.qil_compare.specs.Events.{Due, has_func, has_data, bytes_out, write_in, write_by, call_by, return_by, one_if, ended, end_of};
+ghost use Rattle.qil_compare.specs.Events.{Due, has_data, bytes_out, write_in, write_by, call_by, return_by, one_if, ended, end_of};
 ghost use Rattle.qil_compare.specs.Seen.{data_place};
+ghost use Rattle.qil_compare.specs.Coded.{AreNamedAlike};
 ghost use Rattle.qil_compare.specs.Next.{event_at, AreTold};
 ghost use Rattle.qil_compare.specs.Ahead.{value_ahead, writes_ahead, IsAhead, IsFuncOf, HasHappened};
 
 use crate::ahead::{Ahead, Before, depth};
-use crate::calls::{call_func, call_name};
+use crate::alike::{has_called, has_like};
 use crate::event::{Event, Kinds, Told};
-use crate::seen::{data_place, func_name};
+use crate::seen::data_place;
 use qil_code::Code;
 use qil_layout::{DATA_BASE, FuncId, Image};
 use qil_machine::Machine;
@@ -35,27 +36,6 @@ fn has_data<A: Allocator + Copy>(image: &Image<'_, '_, A>, name: &[u8]) -> bool
         Some(address) => DATA_BASE <= address,
         None => false,
     }
-}
-
-/// Whether a function of a program has a name.
-fn is_named<A: Allocator + Copy>(image: &Image<'_, '_, A>, func: FuncId, name: &[u8]) -> bool
-    ensures { IsTrue result → option_map (λ f. f.name) (slice_get image.now.funcs func.index) ≡ Some name.now }
-{
-    match image.name_of(func) {
-        Some(other) => other.bytes() == name,
-        None => false,
-    }
-}
-
-/// Whether a program defines a function of a name. It is looked for at a number first: two compilations of a program mostly
-/// have their functions in one order, and to find a name in a table takes much longer.
-fn has_func<A: Allocator + Copy>(code: &Code<'_, '_, A>, func: FuncId, name: &[u8]) -> bool
-    ensures { result ≡ has_func code.now name.now }
-{
-    if is_named(code.image(), func, name) {
-        return true;
-    }
-    code.func_named(name).is_some()
 }
 
 /// Whether the run is over.
@@ -91,13 +71,18 @@ fn ended<A: Allocator + Copy>(
 }
 
 /// A call, if it is one of both programs.
-fn called<'c, A: Allocator + Copy>(side: &Side<'c, A>, machine: &Machine<'c, 'c, A>) -> Option<Told>
+fn called<'c, A: Allocator + Copy>(
+    side: &Side<'c, A>,
+    machine: &Machine<'c, 'c, A>,
+    alike: u16,
+) -> Option<Told>
+    requires { AreNamedAlike machine.now.program side.now.other.now alike }
     ensures { AreTold machine.now.program side.now.kinds (state_of machine.now) (call_by machine.now.program side.now.other.now side.now.kinds (state_of machine.now).frames) result }
 {
     if !side.kinds.calls {
         return None;
     }
-    if !has_func(side.other, call_func(machine), call_name(machine)) {
+    if !has_called(side.other, machine, alike) {
         return None;
     }
     told(machine, Event::Call)
@@ -108,15 +93,16 @@ fn returned<'c, A: Allocator + Copy>(
     side: &Side<'c, A>,
     machine: &Machine<'c, 'c, A>,
     before: Before,
+    alike: u16,
 ) -> Option<Told>
+    requires { AreNamedAlike machine.now.program side.now.other.now alike }
     ensures { (due : Due) → IsFuncOf machine.now.program due before.func → IsAhead side.now.kinds due before.ahead
         → AreTold machine.now.program side.now.kinds (state_of machine.now) (return_by machine.now.program side.now.other.now side.now.kinds due) result }
 {
     if !side.kinds.calls {
         return None;
     }
-    let name = func_name(machine.code().image(), before.func);
-    if !has_func(side.other, before.func, name) {
+    if !has_like(side.other, machine.code().image(), before.func, alike) {
         return None;
     }
     told(
@@ -130,7 +116,7 @@ fn returned_value(ahead: Ahead) -> Option<u64>
     ensures { result ≡ value_ahead ahead }
 {
     match ahead {
-        Ahead::Return(value) => value,
+        Ahead::Return(value) => Some(value),
         Ahead::Write(_, _) | Ahead::Other => None,
     }
 }
@@ -211,8 +197,10 @@ pub fn happened<'c, A: Allocator + Copy>(
     side: &Side<'c, A>,
     machine: &Machine<'c, 'c, A>,
     before: Before,
+    alike: u16,
 ) -> Option<Told>
-    requires { side.now.program.now ≡ machine.now.program }
+    requires program { side.now.program.now ≡ machine.now.program }
+    requires alike { AreNamedAlike machine.now.program side.now.other.now alike }
     ensures { HasHappened machine.now.program side.now.other.now side.now.kinds before (state_of machine.now) result }
 {
     if is_over(machine) {
@@ -220,10 +208,10 @@ pub fn happened<'c, A: Allocator + Copy>(
     }
     let depth = depth(machine);
     if before.depth < depth {
-        return called(side, machine);
+        return called(side, machine, alike);
     }
     if depth < before.depth {
-        return returned(side, machine, before);
+        return returned(side, machine, before, alike);
     }
     if before.written < machine.output().len() {
         return byte_out(machine, side.kinds, before.written);

@@ -5,6 +5,7 @@
 #![tactic(auto)]
 
 mod ahead;
+mod alike;
 mod calls;
 mod comparing;
 mod event;

@@ -3,6 +3,7 @@
 ghost use Rattle.std.specs.Prelude.{◌≡◌, ◌+◌, ◌≤◌, ◌^◌, cond, length};
 ghost use Rattle.qil_meaning.specs.Timeline.{position, at_end};
 ghost use Rattle.qil_compare.specs.declared.event.Found.TheVariants as founds;
+ghost use Rattle.qil_compare.specs.Coded.{AreNamedAlike};
 ghost use Rattle.qil_compare.specs.Next.{IsNext, RunsToEvent};
 
 use crate::ahead::kept_before;
@@ -40,21 +41,26 @@ fn over_or_limit<'c, A: Allocator + Copy + 'c, H: History<A, Machine<'c, 'c, A>>
 fn run_to_event<'c, A: Allocator + Copy + 'c, H: History<A, Machine<'c, 'c, A>>>(
     history: &mut H,
     side: &Side<'c, A>,
+    alike: u16,
     limit: u64,
 ) -> (Found, usize)
     requires near { position (H.timeline history.old) + limit ≤ 2 ^ 62 }
     requires side { side.now.program.now ≡ H.program history.old }
+    requires alike { AreNamedAlike (H.program history.old) side.now.other.now alike }
     ensures program { H.program history.new ≡ H.program history.old }
     ensures run { RunsToEvent (H.program history.old) side.now.other.now side.now.kinds limit (H.timeline history.old) (H.timeline history.new) result.1 result.0 }
 {
     for _ in 0..limit {
+        if is_over(history.machine()) {
+            return (Found::Over, written(history));
+        }
         let before = kept_before(history.machine(), side.kinds);
         match history.forward() {
             Ok(()) => {}
             Err(MoveError::AtEnd) => return (Found::Over, before.written),
             Err(MoveError::OutOfMemory) => return (Found::OutOfMemory, before.written),
         }
-        if let Some(first) = happened(side, history.machine(), before) {
+        if let Some(first) = happened(side, history.machine(), before, alike) {
             return (Found::Event(first.event), first.told);
         }
     }
@@ -66,11 +72,13 @@ fn run_to_event<'c, A: Allocator + Copy + 'c, H: History<A, Machine<'c, 'c, A>>>
 pub fn next_event<'c, A: Allocator + Copy + 'c, H: History<A, Machine<'c, 'c, A>>>(
     history: &mut H,
     side: &Side<'c, A>,
+    alike: u16,
     told: &mut usize,
     limit: u64,
 ) -> Found
     requires near { position (H.timeline history.old) + limit ≤ 2 ^ 62 }
     requires side { side.now.program.now ≡ H.program history.old }
+    requires alike { AreNamedAlike (H.program history.old) side.now.other.now alike }
     ensures program { H.program history.new ≡ H.program history.old }
     ensures next { IsNext (H.program history.old) side.now.other.now side.now.kinds limit (H.timeline history.old) (H.timeline history.new) told.old told.new result }
     ensures near { position (H.timeline history.new) ≤ position (H.timeline history.old) + limit }
@@ -79,7 +87,7 @@ pub fn next_event<'c, A: Allocator + Copy + 'c, H: History<A, Machine<'c, 'c, A>
         *told = first.told;
         return Found::Event(first.event);
     }
-    let (found, now_told) = run_to_event(history, side, limit);
+    let (found, now_told) = run_to_event(history, side, alike, limit);
     *told = now_told;
     found
 }

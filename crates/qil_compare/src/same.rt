@@ -1,6 +1,7 @@
 //! Whether two events are the same, each read of the machine that stands behind it. Nothing here takes memory.
 
-ghost use Rattle.std.specs.Prelude.{◌≡◌, ◌↔◌, ◌+◌, List, IsTrue, option_map, unwrap_or};
+ghost use Rattle.std.specs.Prelude.{◌≡◌, ◌≢◌, ◌↔◌, ◌+◌, List, IsTrue, option_map, unwrap_or};
+ghost use Rattle.qil_tree.specs.declared.ops.AbiType.TheVariants as types;
 ghost use Rattle.qil_memory.specs.Live.{live};
 ghost use Rattle.qil_meaning.specs.State.{Name};
 ghost use Rattle.qil_code.specs.Numbered.{func_at};
@@ -8,11 +9,12 @@ ghost use Rattle.qil_state.specs.Faults.{fault_of};
 ghost use Rattle.qil_state.specs.State.{func_name, state_of};
 ghost use Rattle.qil_compare.specs.declared.event.Event.TheVariants as coded;
 ghost use Rattle.qil_compare.specs.Seen.{data_place, address_seen, seen};
-ghost use Rattle.qil_compare.specs.Coded.{StandsIn, offset_of, value_of};
+ghost use Rattle.qil_compare.specs.Coded.{StandsIn, AreNamedAlike, offset_of, value_of};
 ghost use Rattle.qil_compare.specs.Events.{bytes_from, call_params, cause_of};
 ghost use Rattle.qil_compare.specs.Next.{nowhere, returns_of, event_at};
 
-use crate::calls::{call_name, param_count, param_seen};
+use crate::alike::{same_call_names, same_names};
+use crate::calls::{param_count, param_held};
 use crate::event::Event;
 use crate::happened::Side;
 use crate::seen::{
@@ -88,33 +90,82 @@ impl<'s, 'c, A: Allocator + Copy> Stand<'s, 'c, A> {
     {
         self.machine.code().returns(func).unwrap_or(AbiType::W)
     }
+}
 
-    /// What a function returned, if it is a value.
-    fn returned(&self, func: FuncId, value: Option<u64>) -> Option<Seen<'c>>
-        requires { StandsIn self.now }
-        ensures { option_map value_of result ≡ option_map (seen self.now.machine.now.program (returns_of self.now.machine.now.program func)) value }
-    {
-        match value {
-            Some(value) => Some(self.seen(self.returns(func), value)),
-            None => None,
-        }
+/// Whether a value of a type is a number, whatever the compilation.
+#[inline(always)]
+fn is_plain(abi_type: AbiType) -> bool
+    ensures { IsTrue result → abi_type ≢ types.L }
+{
+    match abi_type {
+        AbiType::L => false,
+        AbiType::W | AbiType::Sb | AbiType::Ub | AbiType::Sh | AbiType::Uh => true,
     }
 }
 
-/// Whether two values that may be missing are the same.
-fn same_values(left: Option<Seen<'_>>, right: Option<Seen<'_>>) -> bool
-    ensures { IsTrue result ↔ (option_map value_of left.entry ≡ option_map value_of right.entry) }
+/// Whether two values of types are the same, of which one may be an address.
+#[inline(never)]
+fn same_addressed<'c, A: Allocator + Copy>(
+    left: &Stand<'_, 'c, A>,
+    right: &Stand<'_, 'c, A>,
+    one: (AbiType, u64),
+    other: (AbiType, u64),
+) -> bool
+    requires good { StandsIn left.now }
+    requires bad { StandsIn right.now }
+    ensures { IsTrue result ↔ (seen left.now.machine.now.program one.0 one.1 ≡ seen right.now.machine.now.program other.0 other.1) }
 {
-    match left {
-        Some(one) => match right {
-            Some(other) => same_seen(one, other),
+    same_seen(left.seen(one.0, one.1), right.seen(other.0, other.1))
+}
+
+/// Whether two values of types are the same. Nearly all are numbers.
+#[inline(always)]
+fn same_typed<'c, A: Allocator + Copy>(
+    left: &Stand<'_, 'c, A>,
+    right: &Stand<'_, 'c, A>,
+    one: (AbiType, u64),
+    other: (AbiType, u64),
+) -> bool
+    requires good { StandsIn left.now }
+    requires bad { StandsIn right.now }
+    ensures { IsTrue result ↔ (seen left.now.machine.now.program one.0 one.1 ≡ seen right.now.machine.now.program other.0 other.1) }
+{
+    if is_plain(one.0) && is_plain(other.0) {
+        return one.1 == other.1;
+    }
+    same_addressed(left, right, one, other)
+}
+
+/// Whether what two functions returned is the same: a value, or none.
+#[inline(always)]
+fn same_returned<'c, A: Allocator + Copy>(
+    left: &Stand<'_, 'c, A>,
+    right: &Stand<'_, 'c, A>,
+    func: FuncId,
+    second: FuncId,
+    value: Option<u64>,
+    returned: Option<u64>,
+) -> bool
+    requires good { StandsIn left.now }
+    requires bad { StandsIn right.now }
+    ensures { IsTrue result ↔ (option_map (seen left.now.machine.now.program (returns_of left.now.machine.now.program func)) value ≡ option_map (seen right.now.machine.now.program (returns_of right.now.machine.now.program second)) returned) }
+{
+    match value {
+        Some(one) => match returned {
+            Some(other) => same_typed(
+                left,
+                right,
+                (left.returns(func), one),
+                (right.returns(second), other),
+            ),
             None => false,
         },
-        None => right.is_none(),
+        None => returned.is_none(),
     }
 }
 
 /// Whether the parameters of the innermost frames of two machines have the same values.
+#[inline(always)]
 fn same_params<'c, A: Allocator + Copy>(left: &Stand<'_, 'c, A>, right: &Stand<'_, 'c, A>) -> bool
     requires good { StandsIn left.now }
     requires bad { StandsIn right.now }
@@ -125,9 +176,9 @@ fn same_params<'c, A: Allocator + Copy>(left: &Stand<'_, 'c, A>, right: &Stand<'
         return false;
     }
     for i in 0..count {
-        let value = param_seen(left.side.program, left.machine, i);
-        let second = param_seen(right.side.program, right.machine, i);
-        if !same_seen(value, second) {
+        let value = param_held(left.machine, i);
+        let second = param_held(right.machine, i);
+        if !same_typed(left, right, value, second) {
             return false;
         }
     }
@@ -135,12 +186,18 @@ fn same_params<'c, A: Allocator + Copy>(left: &Stand<'_, 'c, A>, right: &Stand<'
 }
 
 /// Whether two calls are the same: of one function, with the same values.
-fn same_calls<'c, A: Allocator + Copy>(left: &Stand<'_, 'c, A>, right: &Stand<'_, 'c, A>) -> bool
+#[inline(always)]
+fn same_calls<'c, A: Allocator + Copy>(
+    left: &Stand<'_, 'c, A>,
+    right: &Stand<'_, 'c, A>,
+    alike: u16,
+) -> bool
     requires good { StandsIn left.now }
     requires bad { StandsIn right.now }
+    requires alike { AreNamedAlike left.now.machine.now.program right.now.machine.now.program alike }
     ensures { IsTrue result ↔ (event_at left.now.machine.now.program (state_of left.now.machine.now) coded.Call ≡ event_at right.now.machine.now.program (state_of right.now.machine.now) coded.Call) }
 {
-    call_name(left.machine) == call_name(right.machine) && same_params(left, right)
+    same_call_names(left.machine, right.machine, alike) && same_params(left, right)
 }
 
 /// The byte so far after an address, if it is live. After the last address there is none.
@@ -177,6 +234,7 @@ fn same_bytes<'c, A: Allocator + Copy>(
 }
 
 /// Whether two writes are the same: to one place of the data, of the same bytes.
+#[inline(never)]
 fn same_writes<'c, A: Allocator + Copy>(
     left: &Stand<'_, 'c, A>,
     right: &Stand<'_, 'c, A>,
@@ -199,6 +257,7 @@ fn same_writes<'c, A: Allocator + Copy>(
 }
 
 /// Whether two returns are the same: of one function, with one value or none.
+#[inline(always)]
 fn same_returns<'c, A: Allocator + Copy>(
     left: &Stand<'_, 'c, A>,
     right: &Stand<'_, 'c, A>,
@@ -206,13 +265,17 @@ fn same_returns<'c, A: Allocator + Copy>(
     second: FuncId,
     value: Option<u64>,
     returned: Option<u64>,
+    alike: u16,
 ) -> bool
     requires good { StandsIn left.now }
     requires bad { StandsIn right.now }
+    requires alike { AreNamedAlike left.now.machine.now.program right.now.machine.now.program alike }
     ensures { IsTrue result ↔ (event_at left.now.machine.now.program (state_of left.now.machine.now) (coded.Return func value) ≡ event_at right.now.machine.now.program (state_of right.now.machine.now) (coded.Return second returned)) }
 {
-    left.func_name(func) == right.func_name(second)
-        && same_values(left.returned(func, value), right.returned(second, returned))
+    let image = left.machine.code().image();
+    let other = right.machine.code().image();
+    same_names(image, other, func, second, alike)
+        && same_returned(left, right, func, second, value, returned)
 }
 
 /// Whether two addresses that faults tell count as the same.
@@ -258,6 +321,7 @@ fn same_faults<'c, A: Allocator + Copy>(
 }
 
 /// Whether two runs ended the same, each in a function.
+#[inline(never)]
 fn same_ends<'c, A: Allocator + Copy>(
     left: &Stand<'_, 'c, A>,
     right: &Stand<'_, 'c, A>,
@@ -271,9 +335,7 @@ fn same_ends<'c, A: Allocator + Copy>(
     match left.machine.status() {
         Status::Running => right.machine.status() == Status::Running,
         Status::Done(value) => match right.machine.status() {
-            Status::Done(other) => {
-                same_values(left.returned(func, value), right.returned(second, other))
-            }
+            Status::Done(other) => same_returned(left, right, func, second, value, other),
             _ => false,
         },
         Status::Exited(word) => right.machine.status() == Status::Exited(word),
@@ -285,14 +347,17 @@ fn same_ends<'c, A: Allocator + Copy>(
 }
 
 /// Whether two events are the same.
+#[inline(always)]
 pub fn same_event<'c, A: Allocator + Copy>(
     left: &Stand<'_, 'c, A>,
     right: &Stand<'_, 'c, A>,
     one: Event,
     other: Event,
+    alike: u16,
 ) -> bool
     requires good { StandsIn left.now }
     requires bad { StandsIn right.now }
+    requires alike { AreNamedAlike left.now.machine.now.program right.now.machine.now.program alike }
     ensures { IsTrue result ↔ (event_at left.now.machine.now.program (state_of left.now.machine.now) one ≡ event_at right.now.machine.now.program (state_of right.now.machine.now) other) }
 {
     match one {
@@ -305,12 +370,12 @@ pub fn same_event<'c, A: Allocator + Copy>(
             _ => false,
         },
         Event::Call => match other {
-            Event::Call => same_calls(left, right),
+            Event::Call => same_calls(left, right, alike),
             _ => false,
         },
         Event::Return(func, value) => match other {
             Event::Return(second, result) => {
-                same_returns(left, right, func, second, value, result)
+                same_returns(left, right, func, second, value, result, alike)
             }
             _ => false,
         },

@@ -2,5 +2,6 @@
 pub mod Found
 pub mod Laying
 pub mod Doing
+pub mod Known
 pub mod Stepping
 pub mod Rows

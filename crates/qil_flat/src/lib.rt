@@ -4,6 +4,7 @@
 //! it: `specs/Flat.antt` says what that is.
 #![tactic(auto)]
 
+mod calls;
 mod code;
 mod flattening;
 mod inst;
@@ -13,4 +14,4 @@ mod places;
 
 pub use code::FlatCode;
 pub use flattening::flatten;
-pub use inst::{FlatEdge, FlatInst, FlatPlace};
+pub use inst::{FlatCall, FlatEdge, FlatInst, FlatPlace};

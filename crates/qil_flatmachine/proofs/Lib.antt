@@ -5,6 +5,7 @@ pub mod Growing
 pub mod Operands
 pub mod Beginning
 pub mod Passed
+pub mod Knowing
 pub mod Written
 pub mod Failing
 pub mod Unwritten

@@ -7,6 +7,7 @@ mod call;
 mod copied;
 mod jump;
 mod kept;
+mod known;
 mod machine;
 mod output;
 mod poke;

@@ -72,6 +72,7 @@ impl<'c, 'a, A: Allocator + Copy> FlatMachine<'c, 'a, A> {
 
     /// What a watch reads of a temporary: its value in the innermost frame of the function. Nothing where it is unset, and
     /// where the function has no frame.
+    #[inline(never)]
     pub fn temp_reading(&self, func: FuncId, slot: Slot) -> Option<u64>
         ensures named { (source : Func A) (name : List ℕ) → func_at self.now.whole.program func.index ≡ Some source → slice_get (names_of self.now.whole.program func.index) slot.index ≡ Some name
             → value_reading result ≡ reading (temp_in source.name name) (state_of self.now.whole) }
@@ -106,7 +107,8 @@ impl<'c, 'a, A: Allocator + Copy> FlatMachine<'c, 'a, A> {
     }
 
     /// Whether the run goes on, and its innermost frame is in a block with so many instructions done.
-    #[inline(always)]
+    // A function of its own, as `temp_reading`: what a watch of memory reads then needs few registers in the loop of a run.
+    #[inline(never)]
     pub fn is_at(&self, func: FuncId, block: BlockId, index: u64) -> bool
         ensures named { (source : Func A) (target : Block A) → func_at self.now.whole.program func.index ≡ Some source → block_at self.now.whole.program func.index block.index ≡ Some target
             → result ≡ is_at (record { func = source.name; label = target.label; index = index }) (state_of self.now.whole) }

@@ -12,28 +12,11 @@ use Rattle.std.specs.declared.vec.Vec.{Vec}
 use Rattle.arrayvec.specs.ArrayVec.{ArrayVec}
 
 -- a kind that is another has its move
-same_move : {A : Type 0} (k v : DeltaKind A) (d e : Move) → move_of k ≡ d → k ≡ v → e ≡ move_of v → e ≡ d
+pub same_move : {A : Type 0} (k v : DeltaKind A) (d e : Move) → move_of k ≡ d → k ≡ v → e ≡ move_of v → e ≡ d
 same_move k v d e view is made = made ∙ ap move_of (sym is) ∙ view
-
-pub kind_fits : {A : Type 0} (k v : DeltaKind A) (d e : Move) (m : Whole A) (b : Bool) → move_of k ≡ d → k ≡ v → e ≡ move_of v → (IsTrue b ↔ Fits e m) → (IsTrue b ↔ Fits d m)
-kind_fits k v d e m b view is made h = subst (λ x. IsTrue b ↔ Fits x m) (same_move k v d e view is made) h
 
 pub fits_kind : {A : Type 0} (k v : DeltaKind A) (d e : Move) (m : Whole A) → move_of k ≡ d → k ≡ v → e ≡ move_of v → Fits d m → Fits e m
 fits_kind k v d e m view is made h = subst (λ x. Fits x m) (sym (same_move k v d e view is made)) h
 
 pub kind_undone : {A : Type 0} (k v : DeltaKind A) (d e : Move) (m w : Whole A) → move_of k ≡ d → k ≡ v → e ≡ move_of v → w ≡ undone e m → w ≡ undone d m
 kind_undone k v d e m w view is made h = h ∙ ap (λ x. undone x m) (same_move k v d e view is made)
-
--- ---- what a box lends
-
-pub kept_items : {X A : Type 0} (a b : Vec X A) → a ≡ b → a.items ≡ b.items
-kept_items a b e = ap (λ v. v.items) e
-
-pub short_items : {X : Type 0} (a b : ArrayVec X) → a ≡ b → a.items ≡ b.items
-short_items a b e = ap (λ v. v.items) e
-
-pub grown_same : {A : Type 0} (a b : Grown A) → a ≡ b → grown_move a.index a.slot a.value a.saved ≡ grown_move b.index b.slot b.value b.saved
-grown_same a b e = ap (λ k. grown_move k.index k.slot k.value k.saved) e
-
-pub copied_same : {A : Type 0} (a b c : Copied A) → a ≡ c → b ≡ c → copied_move a.index b.saved ≡ copied_move c.index c.saved
-copied_same a b c e f = ap (λ k. copied_move k.index b.saved) e ∙ ap (λ k. copied_move c.index k.saved) f

@@ -3,7 +3,6 @@ pub mod Made
 pub mod Does
 pub mod KindsMade
 pub mod Undoing
-pub mod Fitting
 pub mod Steps
 pub mod Jumps
 pub mod Advancing

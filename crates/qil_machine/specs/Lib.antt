@@ -2,7 +2,6 @@
 pub mod Moves
 pub mod Kinds
 pub mod Deltas
-pub mod Fitting
 pub mod Places
 pub mod Results
 pub mod Steps

@@ -321,6 +321,13 @@ impl<A: Allocator> Delta<A> {
         kind
     }
 
+    /// The same, to be looked at.
+    pub fn kind(&self) -> &DeltaKind<A>
+        ensures { move_of result.now ≡ self.now }
+    {
+        &self.kind
+    }
+
     /// How much this keeps: 4, and 2 for each value of a slot, 1 for each byte, 1 for each slot of a frame.
     pub fn weight(&self) -> u64
         ensures { result ≡ weight self.now }

@@ -14,9 +14,9 @@ ghost use Rattle.qil_machine.specs.Readings.{frame_of, temp_here};
 
 use crate::machine::Machine;
 use qil_code::{Code, Slot};
-use qil_frames::Frame;
+use qil_frames::{Frame, Frames};
 use qil_layout::FuncId;
-use qil_memory::Dead;
+use qil_memory::{Dead, Memory};
 use qil_state::Status;
 use std::alloc::Allocator;
 
@@ -48,6 +48,21 @@ impl<'c, 'a, A: Allocator + Copy> Machine<'c, 'a, A> {
         ensures machine { IsMachine self.now }
     {
         self.frames.frames()
+    }
+
+    /// The same with the slots and floors of each, as undoing has them.
+    pub fn calls(&self) -> &Frames<A>
+        ensures value { result.now ≡ self.now.frames }
+        ensures machine { IsMachine self.now }
+    {
+        &self.frames
+    }
+
+    /// The memory.
+    pub fn memory(&self) -> &Memory<A>
+        ensures { result.now ≡ self.now.memory }
+    {
+        &self.memory
     }
 
     /// The bytes that were written.

@@ -246,9 +246,9 @@ fn run_again(status: &mut Status)
     }
 }
 
-/// A value, where there is one.
+/// What a slot held, by the two fields in which a delta keeps it.
 #[inline(always)]
-pub(crate) fn value_of(set: bool, value: u64) -> Option<u64>
+pub fn value_of(set: bool, value: u64) -> Option<u64>
     ensures { result ≡ value_of set value }
 {
     if set { Some(value) } else { None }

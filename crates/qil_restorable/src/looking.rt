@@ -1,6 +1,6 @@
 //! Looks at the state that a machine is in: what stops read there, and which of them hold.
 
-ghost use Rattle.std.specs.Prelude.{◌≡◌, ◌≤◌, length};
+ghost use Rattle.std.specs.Prelude.{◌≡◌, ◌<◌, ◌≤◌, false, None, length};
 ghost use Rattle.qil_meaning.specs.State.{State, is_final};
 ghost use Rattle.qil_meaning.specs.Stops.{is_held, first_watch, first_break, stopped};
 ghost use Rattle.qil_state.specs.State.{state_of};
@@ -12,7 +12,7 @@ use crate::watchable::Watchable;
 use arrayvec::ArrayVec;
 use qil_meaning::Reason;
 use qil_readers::{HasProgram, Readers};
-use qil_stops::{NumberedStop, StopKind, Watched};
+use qil_stops::{NumberedStop, Place, StopKind, Watched};
 use std::alloc::Allocator;
 
 /// Whether the run is over.
@@ -86,6 +86,23 @@ pub fn readings<A: Allocator + Copy, C: HasProgram<A>, M: Watchable<A, C>>(
     all
 }
 
+/// Whether the first of the stops may hold: where there is no other, whether any may. Without a loop, it costs little in the
+/// loop of a run.
+#[inline(always)]
+pub fn may_stop_alone<A: Allocator + Copy, C: HasProgram<A>, M: Watchable<A, C>>(
+    stops: &[NumberedStop],
+    before: &[Option<u64>],
+    machine: &M,
+) -> bool
+    requires some { 0 < length stops.now }
+    requires count { length before.now ≡ length stops.now }
+    requires readable { AreReadable stops.now }
+    ensures quiet { result ≡ false → length stops.now ≡ 1 → AllTell (M.present machine.now).program (state_of (M.present machine.now)) stops.now before.now }
+    ensures unbroken { result ≡ false → length stops.now ≡ 1 → first_break (state_of (M.present machine.now)) (named_stops (M.present machine.now).program stops.now) ≡ None }
+{
+    may_be_met(stops[0].kind, before[0], machine)
+}
+
 /// The number of the first watch that reads otherwise than before. If none does, what was read before is what is read now.
 #[inline(always)]
 pub fn first_watch<A: Allocator + Copy, C: HasProgram<A>, M: Watchable<A, C>>(
@@ -141,6 +158,61 @@ pub fn stopped<A: Allocator + Copy, C: HasProgram<A>, M: Watchable<A, C>>(
         return Some(Reason::Break(number));
     }
     None
+}
+
+/// Whether a breakpoint is there.
+#[inline(always)]
+fn may_break<A: Allocator + Copy, C: HasProgram<A>, M: Watchable<A, C>>(
+    place: Place,
+    before: Option<u64>,
+    machine: &M,
+) -> bool
+    ensures quiet { result ≡ false → before ≡ None }
+    ensures unbroken { result ≡ false → passes (is_held (state_of (M.present machine.now))) (named_kind (M.present machine.now).program (StopKind.Break place)) ≡ false }
+{
+    if before.is_some() {
+        return true;
+    }
+    is_held(StopKind::Break(place), machine)
+}
+
+/// Whether a stop may hold: it is a breakpoint that is there, or a watch that reads otherwise than before.
+#[inline(always)]
+fn may_be_met<A: Allocator + Copy, C: HasProgram<A>, M: Watchable<A, C>>(
+    kind: StopKind,
+    before: Option<u64>,
+    machine: &M,
+) -> bool
+    requires { IsReadable kind }
+    ensures quiet { result ≡ false → Tells (M.present machine.now).program (state_of (M.present machine.now)) kind before }
+    ensures unbroken { result ≡ false → passes (is_held (state_of (M.present machine.now))) (named_kind (M.present machine.now).program kind) ≡ false }
+{
+    match kind {
+        StopKind::Break(place) => may_break(place, before, machine),
+        StopKind::Watch(watched) => watched_reading(watched, machine) != before,
+    }
+}
+
+/// Whether any stop may hold. Where none may, what was read before is what is read now, and no breakpoint is there. It looks at
+/// each stop once.
+#[inline(always)]
+pub fn may_stop<A: Allocator + Copy, C: HasProgram<A>, M: Watchable<A, C>>(
+    stops: &[NumberedStop],
+    before: &[Option<u64>],
+    machine: &M,
+) -> bool
+    requires count { length before.now ≡ length stops.now }
+    requires readable { AreReadable stops.now }
+    ensures quiet { result ≡ false → AllTell (M.present machine.now).program (state_of (M.present machine.now)) stops.now before.now }
+    ensures unbroken { result ≡ false → first_break (state_of (M.present machine.now)) (named_stops (M.present machine.now).program stops.now) ≡ None }
+    ensures none { length stops.now ≡ 0 → result ≡ false }
+{
+    for (index, stop) in stops.iter().enumerate() {
+        if may_be_met(stop.kind, before[index], machine) {
+            return true;
+        }
+    }
+    false
 }
 
 /// The number of the first watch that reads otherwise than before. What was read before is then what is read now.

@@ -173,7 +173,8 @@ pub fn load_value<A: Allocator + Copy>(
 /// # Errors
 ///
 /// The first operand from the left that is unset, a dead address that is loaded from, or a division with no result.
-#[inline(always)]
+// Put into its caller it makes a step of the machine too large to be put into the loops that make moves.
+#[inline(never)]
 pub fn evaluate<A: Allocator + Copy>(
     memory: &Memory<A>,
     slots: &[Option<u64>],

@@ -4,15 +4,14 @@ ghost use Rattle.std.specs.Prelude.{◌≡◌};
 
 use crate::answer::Answer;
 use crate::histories::ask_histories;
-use crate::load::{checked, tell_refused};
+use crate::load::{checked, refused};
 use crate::moves::each_move;
-use crate::read_back::read_back;
+use crate::read_back::{compare, compare_text};
 use qil_code::Code;
 use qil_layout::{Image, layout};
 use qil_numbering::number;
 use qil_rules::Checked;
-use refusing::Refusing;
-use std::alloc::{Allocator, Global};
+use std::alloc::Allocator;
 use std::hash::RandomState;
 
 #[derive(Clone, Copy)]
@@ -34,67 +33,70 @@ impl Question {
     }
 }
 
-/// What is asked, and what it takes to answer.
-#[derive(Drop)]
-pub struct Bench<'t, R> {
-    pub rt: &'t R,
-    pub keys: RandomState,
-    pub question: Question,
-    /// What stands after the text.
-    pub behind: &'t [u8],
-    /// What refuses allocations. It allocates all that there is, so that no code is proved for two allocators.
-    pub heap: &'t Refusing<Global>,
-}
-
+/// Asks about a code, and the tree that it was numbered from.
 fn ask_code<R: Print, A: Allocator + Copy>(
-    bench: &Bench<'_, R>,
+    rt: &R,
     alloc: A,
+    keys: RandomState,
+    question: Question,
+    behind: &[u8],
     checked: &Checked<'_, A>,
     code: &Code<'_, '_, A>,
-) -> anyhow::Result<Answer> {
-    match bench.question {
-        Question::ReadBack => read_back(bench, alloc, checked, code),
-        Question::Moves => each_move(bench.rt, bench.heap, alloc, code),
-        Question::Histories => ask_histories(bench.rt, alloc, code, bench.behind),
+) -> Answer {
+    match question {
+        Question::ReadBack if behind.is_empty() => {
+            compare(code, checked.program().funcs.as_slice())
+        }
+        Question::ReadBack => compare_text(rt, alloc, keys, code, behind),
+        Question::Moves => each_move(rt, alloc, code),
+        Question::Histories => ask_histories(rt, alloc, code, behind),
     }
 }
 
 /// Numbers a program, and asks its code.
 fn ask_laid_out<'c, 'a, R: Print, A: Allocator + Copy>(
-    bench: &Bench<'_, R>,
+    rt: &R,
     alloc: A,
+    keys: RandomState,
+    question: Question,
+    behind: &[u8],
     checked: &'c Checked<'a, A>,
     image: &'c Image<'c, 'a, A>,
-) -> anyhow::Result<Answer>
+) -> Answer
     requires { image.now ≡ checked.now.program }
 {
-    let code = number(alloc, bench.keys, checked, image)?;
-    ask_code(bench, alloc, checked, &code)
+    match number(alloc, keys, checked, image) {
+        Ok(code) => ask_code(rt, alloc, keys, question, behind, checked, &code),
+        Err(_) => Answer::NoMemory("no memory for the code"),
+    }
 }
 
 /// Lays a program out, and goes on.
 fn ask_checked<R: Print, A: Allocator + Copy>(
-    bench: &Bench<'_, R>,
+    rt: &R,
     alloc: A,
+    keys: RandomState,
+    question: Question,
+    behind: &[u8],
     checked: &Checked<'_, A>,
-) -> anyhow::Result<Answer> {
-    match layout(alloc, bench.keys, checked) {
-        Ok(image) => ask_laid_out(bench, alloc, checked, &image),
-        Err(error) => {
-            tell_refused(bench.rt, &error)?;
-            Ok(Answer::Reported)
-        }
+) -> Answer {
+    match layout(alloc, keys, checked) {
+        Ok(image) => ask_laid_out(rt, alloc, keys, question, behind, checked, &image),
+        Err(error) => refused(rt, &error),
     }
 }
 
 /// Asks the question of a text.
 pub fn ask<R: Print, A: Allocator + Copy>(
-    bench: &Bench<'_, R>,
+    rt: &R,
     alloc: A,
+    keys: RandomState,
+    question: Question,
     text: &[u8],
-) -> anyhow::Result<Answer> {
-    match checked(bench.rt, alloc, bench.keys, text)? {
-        Some(checked) => ask_checked(bench, alloc, &checked),
-        None => Ok(Answer::Reported),
+    behind: &[u8],
+) -> Answer {
+    match checked(rt, alloc, keys, text) {
+        Ok(checked) => ask_checked(rt, alloc, keys, question, behind, &checked),
+        Err(answer) => answer,
     }
 }

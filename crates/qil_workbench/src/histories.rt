@@ -4,7 +4,7 @@ ghost use Rattle.std.specs.Prelude.{◌≡◌};
 
 use crate::answer::Answer;
 use crate::asked::{Asked, Came, ask_one, read_line};
-use anyhow::bail;
+use crate::started::unstarted;
 use qil_code::Code;
 use qil_deltas::Deltas;
 use qil_history::History;
@@ -13,8 +13,19 @@ use qil_machine::{Delta, Machine};
 use qil_snapshots::Snapshots;
 use std::alloc::Allocator;
 
-/// Asks both histories for a move: what came of it, if that is the same of both, and the first has as many records as the
-/// other has moves, and a machine that is equal in all that it holds.
+/// Whether two histories hold the same: the first as many records as the other moves, and a machine that is equal in all that
+/// it holds.
+fn are_same<'c, A: Allocator + Copy + 'c>(
+    deltas: &Deltas<'c, 'c, A>,
+    clones: &Snapshots<'c, 'c, A>,
+) -> bool
+    requires { deltas.now.machine.program ≡ clones.now.machine.program }
+{
+    let (machine, records): (&Machine<'_, '_, A>, &[Delta<A>]) = deltas.parts();
+    records.len() as u64 == clones.position() && machine.same(clones.machine())
+}
+
+/// Asks both histories for a move: what came of it, if that is the same of both, and they hold the same.
 fn ask_both<'c, A: Allocator + Copy + 'c>(
     deltas: &mut Deltas<'c, 'c, A>,
     clones: &mut Snapshots<'c, 'c, A>,
@@ -25,57 +36,97 @@ fn ask_both<'c, A: Allocator + Copy + 'c>(
 {
     let came = ask_one(deltas, asked);
     let other = ask_one(clones, asked);
-    let (machine, records): (&Machine<'_, '_, A>, &[Delta<A>]) = deltas.parts();
-    let is_same = came.words() == other.words()
-        && records.len() as u64 == clones.position()
-        && machine.same(clones.machine());
+    let is_same = came.words() == other.words() && are_same(deltas, clones);
     if is_same { Some(came) } else { None }
 }
 
-/// Asks the histories for the move of each line, and tells where they stand after it, up to the first difference.
+/// Tells where the histories stand, and why there was no move; whether that was written.
+fn is_told<R: Print>(rt: &R, position: u64, came: Came) -> bool {
+    let words = came.words();
+    println!(rt; "#{position}{words}").is_ok()
+}
+
+/// Asks the histories for the move of a line, and tells where they stand after it; what is wrong, if something is.
+fn ask_line<'c, R: Print, A: Allocator + Copy + 'c>(
+    rt: &R,
+    image: &Image<'_, '_, A>,
+    deltas: &mut Deltas<'c, 'c, A>,
+    clones: &mut Snapshots<'c, 'c, A>,
+    line: &str,
+) -> Option<Answer>
+    requires { deltas.old.machine.program ≡ clones.old.machine.program }
+    ensures { deltas.new.machine.program ≡ clones.new.machine.program }
+{
+    let Some(asked) = read_line(image, line) else {
+        return Some(Answer::NoMove);
+    };
+    let position = deltas.position();
+    match ask_both(deltas, clones, asked) {
+        Some(came) if is_told(rt, deltas.position(), came) => None,
+        Some(_) => Some(Answer::Fault),
+        None => Some(Answer::DiffersAt(position)),
+    }
+}
+
+/// Asks the histories for the move of each line, up to the first where something is wrong.
 fn ask_lines<'c, R: Print, A: Allocator + Copy + 'c>(
     rt: &R,
     image: &Image<'_, '_, A>,
     deltas: &mut Deltas<'c, 'c, A>,
     clones: &mut Snapshots<'c, 'c, A>,
     lines: &str,
-) -> anyhow::Result<Answer>
+) -> Answer
     requires { deltas.old.machine.program ≡ clones.old.machine.program }
 {
     for line in lines.lines() {
-        let Some(asked) = read_line(image, line) else {
-            bail!("a line that asks for no move");
-        };
-        let position = deltas.position();
-        match ask_both(deltas, clones, asked) {
-            Some(came) => tell(rt, deltas.position(), came)?,
-            None => return Ok(Answer::DiffersAt(position)),
+        if let Some(wrong) = ask_line(rt, image, deltas, clones, line) {
+            return wrong;
         }
     }
-    Ok(Answer::Reported)
+    Answer::Reported
 }
 
-/// Tells where the histories stand, and why there was no move.
-fn tell<R: Print>(rt: &R, position: u64, came: Came) -> anyhow::Result<()> {
-    let words = came.words();
-    println!(rt; "#{position}{words}")?;
-    Ok(())
+/// Begins both histories, and asks them.
+fn ask_begun<'c, R: Print, A: Allocator + Copy + 'c>(
+    rt: &R,
+    alloc: A,
+    image: &Image<'_, '_, A>,
+    machine: Machine<'c, 'c, A>,
+    other: Machine<'c, 'c, A>,
+    lines: &str,
+) -> Answer
+    requires { machine.program ≡ other.program }
+{
+    let mut deltas = Deltas::new(alloc, machine);
+    let mut clones = Snapshots::new(alloc, other);
+    ask_lines(rt, image, &mut deltas, &mut clones, lines)
 }
 
-/// Makes the histories, and asks them.
+/// Copies a machine, for the other history.
+fn ask_started<'c, R: Print, A: Allocator + Copy + 'c>(
+    rt: &R,
+    alloc: A,
+    image: &Image<'_, '_, A>,
+    machine: Machine<'c, 'c, A>,
+    lines: &str,
+) -> Answer {
+    match machine.try_clone() {
+        Ok(other) => ask_begun(rt, alloc, image, machine, other, lines),
+        Err(_) => Answer::NoMemory("no memory for a copy"),
+    }
+}
+
+/// Starts a machine, and asks both histories from there on.
 fn ask_text<'c, R: Print, A: Allocator + Copy + 'c>(
     rt: &R,
     alloc: A,
     code: &'c Code<'c, 'c, A>,
     lines: &str,
-) -> anyhow::Result<Answer> {
-    let Ok(machine) = Machine::start(alloc, code, b"main", &[]) else {
-        return Ok(Answer::Refused);
-    };
-    let other = machine.try_clone()?;
-    let mut deltas = Deltas::new(alloc, machine);
-    let mut clones = Snapshots::new(alloc, other);
-    ask_lines(rt, code.image(), &mut deltas, &mut clones, lines)
+) -> Answer {
+    match Machine::start(alloc, code, b"main", &[]) {
+        Ok(machine) => ask_started(rt, alloc, code.image(), machine, lines),
+        Err(error) => unstarted(error),
+    }
 }
 
 /// Asks both histories for moves, from the start of the program's run on.
@@ -84,9 +135,9 @@ pub fn ask_histories<'c, 'a, R: Print, A: Allocator + Copy>(
     alloc: A,
     code: &'c Code<'c, 'a, A>,
     words: &[u8],
-) -> anyhow::Result<Answer> {
+) -> Answer {
     match str::from_utf8(words) {
         Ok(lines) => ask_text(rt, alloc, code, lines),
-        Err(_) => bail!("words that are no text"),
+        Err(_) => Answer::NoMove,
     }
 }

@@ -2,6 +2,7 @@
 
 ghost use Rattle.qil_tree.specs.Trees.{HasBlocks};
 
+use crate::answer::{Answer, reported};
 use qil_checker::{Checked, check};
 use qil_lexer::tokens;
 use qil_parser::{Program, parse};
@@ -10,17 +11,8 @@ use std::fmt::Display;
 use std::hash::RandomState;
 
 /// Tells why there is no program, as its error says it.
-pub fn tell_refused<R: Print, E: Display>(rt: &R, error: &E) -> anyhow::Result<()> {
-    println!(rt; "refused: {error}")?;
-    Ok(())
-}
-
-fn refused<'t, R: Print, A: Allocator, E: Display>(
-    rt: &R,
-    error: &E,
-) -> anyhow::Result<Option<Checked<'t, A>>> {
-    tell_refused(rt, error)?;
-    Ok(None)
+pub fn refused<R: Print, E: Display>(rt: &R, error: &E) -> Answer {
+    reported(println!(rt; "refused: {error}").is_ok())
 }
 
 /// Checks a program, or tells why it is refused.
@@ -29,13 +21,13 @@ fn check_parsed<'t, R: Print, A: Allocator + Copy>(
     alloc: A,
     keys: RandomState,
     program: Program<'t, A>,
-) -> anyhow::Result<Option<Checked<'t, A>>>
+) -> Result<Checked<'t, A>, Answer>
     // As `parse` gives it.
     requires { HasBlocks program }
 {
     match check(alloc, keys, program) {
-        Ok(checked) => Ok(Some(checked)),
-        Err((_program, error)) => refused(rt, &error),
+        Ok(checked) => Ok(checked),
+        Err((_program, error)) => Err(refused(rt, &error)),
     }
 }
 
@@ -45,13 +37,13 @@ pub fn checked<'t, R: Print, A: Allocator + Copy>(
     alloc: A,
     keys: RandomState,
     text: &'t [u8],
-) -> anyhow::Result<Option<Checked<'t, A>>> {
+) -> Result<Checked<'t, A>, Answer> {
     let found = match tokens(alloc, text) {
         Ok(found) => found,
-        Err(error) => return refused(rt, &error),
+        Err(error) => return Err(refused(rt, &error)),
     };
     match parse(alloc, &found) {
         Ok(program) => check_parsed(rt, alloc, keys, program),
-        Err(error) => refused(rt, &error),
+        Err(error) => Err(refused(rt, &error)),
     }
 }

@@ -1,11 +1,9 @@
-//! `qil_workbench [refusals] QUESTION [NUMBER]`: asks the layers under the debugger what a session can't be asked. Standard
-//! input has the text of a program, and for some questions something after it; then NUMBER says how many bytes the text has.
+//! `qil_workbench QUESTION [NUMBER]`: asks the layers under the debugger what a session can't be asked. Standard input has the
+//! text of a program, and for some questions something after it; then NUMBER says how many bytes the text has.
 //!
-//! - `refusals`: before the question, and of no text: whether the allocator that refuses an allocation does so, and no other.
 //! - `read-back`: whether the numbered code, read back through names, is what the tree has; the tree of the text after
 //!   the first, if there is one.
-//! - `moves`: of a poke of a temporary and of bytes, and of each move of a run, what its record keeps and weighs; and how many
-//!   allocations a start and a copy take, and the begin of a history.
+//! - `moves`: of a poke of a temporary and of bytes, and of each move of a run, what its record keeps and weighs.
 //! - `histories`: where the history of deltas and that of clones stand after each of the moves that the lines after the text
 //!   ask for.
 //!
@@ -22,16 +20,15 @@ mod moves;
 mod read_back;
 mod reader;
 mod record;
-mod refusals;
+mod started;
 
 use answer::Answer;
-use anyhow::bail;
-use ask::{Bench, Question, ask};
-use refusals::tell_refusals;
-use refusing::Refusing;
+use ask::{Question, ask};
+use std::alloc::Global;
 use std::hash::RandomState;
 use std::io::{self, Read};
 use std::process::ExitCode;
+use std::random::RandomSource;
 use std::rt::Env;
 
 /// The most bytes that are read: a text, and what stands after it.
@@ -40,28 +37,34 @@ const LIMIT: u64 = (1 << 20) + (1 << 24);
 /// What the command line asks.
 #[derive(Clone, Copy)]
 struct Words {
-    asks_of_refusals: bool,
     question: Option<Question>,
     /// How many bytes the text has, if something stands after it.
     length: Option<u32>,
 }
 
-fn read_words<R: Env + AllocGlobal>(rt: &R) -> anyhow::Result<Words> {
+impl Words {
+    /// The words with one more.
+    fn with(self, word: &str) -> Words {
+        match Question::of(word) {
+            Some(question) => Words {
+                question: Some(question),
+                length: self.length,
+            },
+            None => Words {
+                question: self.question,
+                length: word.parse().ok(),
+            },
+        }
+    }
+}
+
+fn read_words<R: Env + AllocGlobal>(rt: &R) -> io::Result<Words> {
     let mut words = Words {
-        asks_of_refusals: false,
         question: None,
         length: None,
     };
     for word in std::env::args(rt)? {
-        match Question::of(word.as_str()) {
-            Some(question) => words.question = Some(question),
-            None if word.as_str() == "refusals" => words.asks_of_refusals = true,
-            None => {
-                if let Ok(length) = word.parse() {
-                    words.length = Some(length);
-                }
-            }
-        }
+        words = words.with(word.as_str());
     }
     Ok(words)
 }
@@ -74,25 +77,37 @@ fn split(input: &[u8], length: Option<u32>) -> (&[u8], &[u8]) {
     }
 }
 
-fn main(rt: HostRuntime) -> anyhow::Result<ExitCode> {
-    let words = read_words(&rt)?;
-    let Some(question) = words.question else {
-        bail!("read-back, moves or histories");
-    };
-    let heap = Refusing::new(rt.alloc());
-    if words.asks_of_refusals && !tell_refusals(&rt, &heap)? {
-        return Ok(ExitCode::FAILURE);
+/// Asks about what was read, with keys drawn for its tables.
+fn ask_input<R: Print + RandomSource>(
+    rt: &R,
+    alloc: Global,
+    question: Question,
+    length: Option<u32>,
+    input: &[u8],
+) -> Answer {
+    let (text, behind) = split(input, length);
+    match RandomState::new(rt) {
+        Ok(keys) => ask(rt, alloc, keys, question, text, behind),
+        Err(_) => Answer::Fault,
     }
-    let keys = RandomState::new(&rt)?;
-    let mut input = Vec::new(rt.alloc());
-    rt.reader().take(LIMIT).read_to_end(&mut input)?;
-    let (text, behind) = split(input.as_slice(), words.length);
-    let bench = Bench {
-        rt: &rt,
-        keys,
-        question,
-        behind,
-        heap: &heap,
+}
+
+/// Reads what the words are about, and asks it.
+fn ask_words<R: Input + Print + RandomSource>(rt: &R, alloc: Global, words: Words) -> Answer {
+    let Some(question) = words.question else {
+        return Answer::NoQuestion;
     };
-    ask(&bench, &heap, text)?.tell(&rt)
+    let mut input = Vec::new(alloc);
+    match rt.reader().take(LIMIT).read_to_end(&mut input) {
+        Ok(_) => ask_input(rt, alloc, question, words.length, input.as_slice()),
+        Err(_) => Answer::Fault,
+    }
+}
+
+fn main(rt: HostRuntime) -> ExitCode {
+    let answer = match read_words(&rt) {
+        Ok(words) => ask_words(&rt, rt.alloc(), words),
+        Err(_) => Answer::Fault,
+    };
+    answer.tell(&rt)
 }

@@ -2,5 +2,6 @@
 pub mod ShownTexts
 pub mod Pages
 pub mod Rows
+pub mod ShownPlaces
 pub mod Stacks
 pub mod Counted

@@ -25,10 +25,13 @@ source_tokens name path =
 abbrev pub IsPlace : List Token → Type 0
 IsPlace place = (name path : List ℕ) × (line : ℕ) × (place ≡ source_tokens name path ++ key (codes "line") ∷ number (decimal line) ∷ [])
 
--- the item of a frame
+-- the item of a frame, which is shown at such a place
+abbrev pub ShowsFrameAt : (List Token → Type 0) → ℕ → Frame → List Token → Type 0
+ShowsFrameAt IsThere n f item =
+    (place : List Token) × (column : ℕ) × IsThere place × (item ≡ frame_head n f ++ (place ++ key (codes "column") ∷ number (decimal column) ∷ end_object ∷ []))
+
 abbrev pub ShowsFrame : ℕ → Frame → List Token → Type 0
-ShowsFrame n f item =
-    (place : List Token) × (column : ℕ) × IsPlace place × (item ≡ frame_head n f ++ (place ++ key (codes "column") ∷ number (decimal column) ∷ end_object ∷ []))
+ShowsFrame n f item = ShowsFrameAt IsPlace n f item
 
 -- the items of frames, one after the other, the first of this number
 abbrev pub ShowsFrames : ℕ → List Frame → List Token → Type 0

@@ -4,3 +4,4 @@ pub mod Pages
 pub mod Variables
 pub mod Frames
 pub mod Scopes
+pub mod Sources

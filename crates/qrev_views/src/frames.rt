@@ -1,14 +1,15 @@
 //! The frames of a run, as an editor's stack: the innermost is number 1.
 
-ghost use Rattle.std.specs.Prelude.{◌≡◌, ◌⊎◌, ◌+◌, ◌-◌, ◌<◌, ◌++◌, ℕ, List, length, slice_get, string_bytes, IfOk, MatchOption, Some};
+ghost use Rattle.std.specs.Prelude.{◌≡◌, ◌⊎◌, ◌+◌, ◌-◌, ◌<◌, ◌++◌, ℕ, List, length, slice_get, string_bytes, option_map, IfOk, MatchOption, Some};
 ghost use Rattle.json.specs.Token.{Token};
 ghost use Rattle.qil_frames.specs.Frames.{SlotFrame};
 ghost use Rattle.qil_state.specs.State.{frame_state, frames_state, state_of};
 ghost use Rattle.qrev_protocol.specs.Outgoing.{Adds};
-ghost use Rattle.qrev_views.specs.Frames.{IsPlace, ShowsFrame, ShowsFrames, ShowsStack, end_item, shown_name, source_tokens};
+ghost use Rattle.qrev_views.specs.Frames.{ShowsFrameAt, ShowsFrames, ShowsStack, end_item, shown_name, source_tokens};
 ghost use Rattle.qrev_views.specs.Pages.{page_of};
+ghost use Rattle.qrev_views.specs.Sources.{counted_line, shown_index, frame_line, origin_of, place_tokens, IsShownAt};
 
-use crate::source_map::SourceMap;
+use crate::source_map::{SourceLine, SourceMap};
 use crate::texts::{joined, place_text};
 use crate::variable::Page;
 use qil_answers::{func_name, label_name};
@@ -29,7 +30,9 @@ pub struct Numbering {
 
 impl Numbering {
     /// A line of the text, counted from 1, as the editor counts.
-    pub fn line(self, line: u32) -> u64 {
+    pub fn line(self, line: u32) -> u64
+        ensures { result ≡ counted_line self line }
+    {
         u64::from(line.saturating_sub(1)).saturating_add(u64::from(self.first_line))
     }
 
@@ -86,7 +89,10 @@ pub fn frame_of<'m, A: Allocator + Copy>(
 }
 
 /// The place that is shown of a frame: of a caller its call, after which its index stands.
-pub fn place_of_frame<A: Allocator>(frame: &Frame<A>, number: u64) -> Place {
+pub fn place_of_frame<A: Allocator>(frame: &Frame<A>, number: u64) -> Place
+    ensures block { result.block ≡ frame.now.block }
+    ensures index { result.index ≡ shown_index number frame.now }
+{
     let index = frame.index() as usize;
     Place {
         block: usize::from(frame.block().index),
@@ -99,7 +105,9 @@ pub fn place_of_frame<A: Allocator>(frame: &Frame<A>, number: u64) -> Place {
 }
 
 /// The line of the text that is shown of a frame.
-fn line_of_frame<A: Allocator>(program: &Program<'_, A>, frame: &Frame<A>, number: u64) -> u32 {
+fn line_of_frame<A: Allocator>(program: &Program<'_, A>, frame: &Frame<A>, number: u64) -> u32
+    ensures { result ≡ frame_line program.now frame.now number }
+{
     match program
         .funcs
         .as_slice()
@@ -138,10 +146,24 @@ fn put_source_line<A: Allocator, U: Drop>(
     path: &str,
     line: u64,
 ) -> Result<Object<A, U>, AllocError>
-    ensures { IfOk result (λ o. (place : List Token) × IsPlace place × Adds item.out o.out place) }
+    ensures { IfOk result (λ o. (name : List ℕ) × Adds item.out o.out (place_tokens name path.now line)) }
 {
     let item = put_source(item, path)?.number("line", line)?;
     Ok(item)
+}
+
+/// The line of a source that a line of the text came from, if it came from one.
+fn source_line<A: Allocator + Copy>(
+    alloc: A,
+    source_map: Option<&SourceMap<A>>,
+    line: u32,
+) -> Result<Option<SourceLine<A>>, AllocError>
+    ensures { IfOk result (λ source. option_map (λ s. s.line) source ≡ option_map (λ origin. origin.line) (origin_of source_map.entry line)) }
+{
+    let Some(source_map) = source_map else {
+        return Ok(None);
+    };
+    source_map.line_of(alloc, line)
 }
 
 /// Adds where a line of the text is shown: in the source that it came from, if it came from one.
@@ -152,20 +174,22 @@ fn put_line<A: Allocator + Copy, U: Drop>(
     source_map: Option<&SourceMap<A>>,
     line: u32,
 ) -> Result<Object<A, U>, AllocError>
-    ensures { IfOk result (λ o. (place : List Token) × IsPlace place × Adds item.out o.out place) }
+    ensures { IfOk result (λ o. (place : List Token) × IsShownAt shown.entry (origin_of source_map.entry line) line place × Adds item.out o.out place) }
 {
-    let source = match source_map {
-        Some(source_map) => source_map.line_of(alloc, line)?,
-        None => None,
+    let found = source_line(alloc, source_map, line)?;
+    let source = match found {
+        Some(source) => source,
+        None => {
+            let item = put_source_line(item, shown.path, shown.numbering.line(line))?;
+            return Ok(item);
+        }
     };
-    match source {
-        Some(source) => put_source_line(
-            item,
-            source.path.as_str(),
-            shown.numbering.line(source.line),
-        ),
-        None => put_source_line(item, shown.path, shown.numbering.line(line)),
-    }
+    let item = put_source_line(
+        item,
+        source.path.as_str(),
+        shown.numbering.line(source.line),
+    )?;
+    Ok(item)
 }
 
 /// Adds a frame.
@@ -179,7 +203,9 @@ fn put_frame<A: Allocator + Copy, U: Drop>(
     frame: &Frame<A>,
     number: u64,
 ) -> Result<Array<A, U>, AllocError>
-    ensures { (callers : List SlotFrame) → IfOk result (λ l. (item : List Token) × ShowsFrame number (frame_state machine.now.program callers frame.now) item
+    ensures { (callers : List SlotFrame) → IfOk result (λ l. (item : List Token)
+        × ShowsFrameAt (IsShownAt shown.entry (origin_of source_map.entry (frame_line program.now frame.now number)) (frame_line program.now frame.now number))
+        number (frame_state machine.now.program callers frame.now) item
         × Adds list.out l.out item) }
 {
     let name = frame_name(alloc, machine, frame)?;

@@ -1,5 +1,9 @@
 //! Where a text came from, by the map of places beside it: the sources, by the names that an editor has for their files.
 
+ghost use Rattle.std.specs.Prelude.{◌≡◌, IfOk, option_map};
+ghost use Rattle.qrev_map.specs.Maps.{source_at};
+ghost use Rattle.qrev_map.specs.Spans.{origins_of};
+
 use crate::texts::as_text;
 use qrev_map::Map;
 use std::alloc::{AllocError, Allocator};
@@ -27,7 +31,9 @@ impl<A: Allocator + Copy> SourceMap<A> {
     }
 
     /// The line of a source that a line of the text came from.
-    pub fn line_of(&self, alloc: A, text_line: u32) -> Result<Option<SourceLine<A>>, AllocError> {
+    pub fn line_of(&self, alloc: A, text_line: u32) -> Result<Option<SourceLine<A>>, AllocError>
+        ensures { IfOk result (λ source. option_map (λ s. s.line) source ≡ option_map (λ origin. origin.line) (source_at (origins_of self.now.map) text_line)) }
+    {
         match self.map.source_of(text_line) {
             Some((path, line)) => {
                 let path = self.shown_path(alloc, path)?;

@@ -3,15 +3,8 @@ use Rattle.std.proofs.Common.{sym, ap, subst, length}
 use Rattle.qil_tree.specs.declared.tree.Program.{Program}
 use Rattle.qil_state.specs.State.{FrameFits}
 use Rattle.qil_state.proofs.Reading.{innermost_fits}
-use Rattle.qil_compare.proofs.Due.{due_first, is_bare}
+use Rattle.qil_compare.proofs.Due.{due_first}
 use Rattle.qil_compare.proofs.ahead.kept_before.Goals as goal
-
-pub returns-in_default : goal.returns-in_default
-returns-in_default g c = record {
-  depth = c.depth-depth.ensures;
-  output = ap length c.output-written.ensures;
-  ahead = λ goes. is_bare c.args.machine.now c.innermost.ensures.machine (sym c.in_default.ensures.frame) goes;
-}
 
 pub look_ahead-requires-clause-fits : goal.look_ahead-requires-clause-fits
 look_ahead-requires-clause-fits g c =

@@ -7,14 +7,9 @@ use Rattle.qil_code.specs.Numbered.{names_of}
 use Rattle.qil_code.specs.Reading.{block_code_at, labels_at}
 use Rattle.qil_code.proofs.NamedCode.{copied_at}
 use Rattle.qil_state.proofs.Reading.{are_slots}
-use Rattle.qil_compare.proofs.Due.{unasked_due, inst_due, jump_due}
+use Rattle.qil_compare.proofs.Due.{inst_due, jump_due}
 use Rattle.qil_compare.proofs.Happening.{is_off}
 use Rattle.qil_compare.proofs.ahead.look_ahead.Goals as goal
-
-pub returns-then-asks_nothing : goal.returns-then-asks_nothing
-returns-then-asks_nothing g c = λ fs func at.
-    let none = c.asks_nothing.ensures c.if-asks_nothing.true in
-    unasked_due c.args.code.now c.args.kinds c.args.frame.now fs func _ c.requires.finds c.requires.fits at none.0 none.1
 
 pub returns-in_default-get : goal.returns-in_default-get
 returns-in_default-get g c = λ fs func at.

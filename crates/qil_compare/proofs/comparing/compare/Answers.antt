@@ -1,5 +1,6 @@
 -- Both sides go on to their next events, which are judged.
 use Rattle.std.proofs.Common.{◌∙◌, refl, sym, arith, Some, None}
+use Rattle.qil_compare.proofs.Likeness.{alike_as, alike_of, alike_swapped}
 use Rattle.qil_compare.proofs.Fronts.{alike_begun, both_found, alike_more, answered, next_as, judges_as}
 use Rattle.qil_compare.proofs.comparing.compare.Goals as goal
 
@@ -12,6 +13,61 @@ loop-events-init g c = record {
   alike = alike_begun c.args.good_side.now.kinds (g.H.History.program c.args.good.now) (g.K.History.program c.args.bad.now) (g.H.History.timeline c.args.good.now) (g.K.History.timeline c.args.bad.now) c.written-good_told.result c.written-bad_told.result
       c.written-good_told.ensures c.written-bad_told.ensures;
 }
+
+pub next_event-one-requires : goal.next_event-one-requires
+next_event-one-requires g c = λ lifetimes.
+    let i = c.loop-events.invariant in
+    let p = g.H.History.program c.args.good.now in
+    let q = g.K.History.program c.args.bad.now in
+    let near = c.is_far.ensures.near c.if-is_far.false in
+    let limit = c.requires.limit in (
+      (refl, tt),
+      (
+        omega (arith, near.0, limit),
+        (
+          c.requires.good ∙ sym i.good_program,
+          alike_as p q (g.H.History.program c.loop-events.good) c.args.good_side.now.other.now c.named_alike-alike.result (sym i.good_program) (sym (c.requires.sides.good_other ∙ c.requires.bad))
+              (alike_of c.image.result.now c.image-2.result.now p q c.code.result.now c.code-2.result.now c.machine.result.now.program c.machine-2.result.now.program c.named_alike-alike.result c.image.ensures c.image-2.ensures c.code.ensures c.code-2.ensures c.machine.ensures.program c.machine-2.ensures.program c.named_alike-alike.ensures),
+        ),
+      ),
+    )
+
+pub next_event-other-requires : goal.next_event-other-requires
+next_event-other-requires g c = λ lifetimes.
+    let i = c.loop-events.invariant in
+    let p = g.H.History.program c.args.good.now in
+    let q = g.K.History.program c.args.bad.now in
+    let near = c.is_far.ensures.near c.if-is_far.false in
+    let limit = c.requires.limit in (
+      (refl, tt),
+      (
+        omega (arith, near.1, limit),
+        (
+          c.requires.bad ∙ sym i.bad_program,
+          alike_as q p (g.K.History.program c.loop-events.bad) c.args.bad_side.now.other.now c.named_alike-alike.result (sym i.bad_program) (sym (c.requires.sides.bad_other ∙ c.requires.good))
+              (alike_swapped p q c.named_alike-alike.result
+              (alike_of c.image.result.now c.image-2.result.now p q c.code.result.now c.code-2.result.now c.machine.result.now.program c.machine-2.result.now.program c.named_alike-alike.result c.image.ensures c.image-2.ensures c.code.ensures c.code-2.ensures c.machine.ensures.program c.machine-2.ensures.program c.named_alike-alike.ensures)),
+        ),
+      ),
+    )
+
+pub judge_here-judged-requires : goal.judge_here-judged-requires
+judge_here-judged-requires g c = λ lifetimes.
+    let i = c.loop-events.invariant in
+    let p = g.H.History.program c.args.good.now in
+    let q = g.K.History.program c.args.bad.now in
+    let good = c.next_event-one.ensures.program ∙ i.good_program in
+    let bad = c.next_event-other.ensures.program ∙ i.bad_program in (
+      (refl, tt),
+      (
+        c.requires.good ∙ sym good,
+        (
+          c.requires.bad ∙ sym bad,
+          alike_as p q (g.H.History.program c.next_event-one.new.history) (g.K.History.program c.next_event-other.new.history) c.named_alike-alike.result (sym good) (sym bad)
+              (alike_of c.image.result.now c.image-2.result.now p q c.code.result.now c.code-2.result.now c.machine.result.now.program c.machine-2.result.now.program c.named_alike-alike.result c.image.ensures c.image-2.ensures c.code.ensures c.code-2.ensures c.machine.ensures.program c.machine-2.ensures.program c.named_alike-alike.ensures),
+        ),
+      ),
+    )
 
 pub returns-in-Some-clause-answer : goal.returns-in-Some-clause-answer
 returns-in-Some-clause-answer g c =

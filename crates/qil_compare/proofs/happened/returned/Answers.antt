@@ -1,28 +1,37 @@
 -- A return is told if calls are compared, and the other program has the function.
-use Rattle.std.proofs.Common.{◌∙◌, refl, ap}
+use Rattle.std.proofs.Common.{◌∙◌, refl, sym, ap, subst}
 use Rattle.std.specs.Prelude.{slice_get}
 use Rattle.qil_tree.specs.declared.tree.Program.{Program}
+use Rattle.qil_code.specs.Numbered.{func_at}
 use Rattle.qil_state.specs.State.{state_of, func_name}
+use Rattle.qil_compare.specs.Coded.{AreNamedAlike}
+use Rattle.qil_compare.specs.Events.{has_func}
 use Rattle.qil_compare.proofs.Happening.{if_not, if_so, unasked_return, return_is, told_as}
 use Rattle.qil_compare.proofs.happened.returned.Goals as goal
 
 pub returns-then-not-side : goal.returns-then-not-side
 returns-then-not-side g c = λ due of ahead. unasked_return c.args.machine.now.program c.args.side.now.other.now c.args.side.now.kinds due c.if-not-side.true
 
-pub returns-then-not-has_func : goal.returns-then-not-has_func
-returns-then-not-has_func g c = λ due of ahead.
-    return_is c.args.machine.now.program c.args.side.now.other.now c.args.side.now.kinds (state_of c.args.machine.now) due c.args.before.func c.args.before.ahead c.func_name-name.result.now c.has_func.result _
-    c.if-not-side.false of ahead
-    (c.func_name-name.ensures ∙ ap (λ (q : Program _). func_name (slice_get q.funcs c.args.before.func.index)) (c.image.ensures ∙ c.code.ensures)) c.has_func.ensures refl
-    ∙ if_not c.has_func.result _ c.if-not-has_func.true
+pub has_like-requires : goal.has_like-requires
+has_like-requires g c = subst (λ (q : Program _). AreNamedAlike q c.args.side.now.other.now c.args.alike) (sym (c.image.ensures ∙ c.code.ensures)) c.requires
+
+pub returns-then-not-has_like : goal.returns-then-not-has_like
+returns-then-not-has_like g c = λ due of ahead.
+    let p = c.args.machine.now.program in
+    let other = c.args.side.now.other.now in
+    let id = c.args.before.func in
+    return_is p other c.args.side.now.kinds (state_of c.args.machine.now) due id c.args.before.ahead (func_name (func_at p id.index)) c.has_like.result _ c.if-not-side.false of ahead refl
+    (c.has_like.ensures ∙ ap (λ (q : Program _). has_func other (func_name (slice_get q.funcs id.index))) (c.image.ensures ∙ c.code.ensures)) refl
+    ∙ if_not c.has_like.result _ c.if-not-has_like.true
 
 pub returns : goal.returns
 returns g c = λ due of ahead.
     let p = c.args.machine.now.program in
+    let other = c.args.side.now.other.now in
+    let id = c.args.before.func in
     let s = state_of c.args.machine.now in
     told_as p c.args.side.now.kinds s c.told.result _ _
-    (return_is p c.args.side.now.other.now c.args.side.now.kinds s due c.args.before.func c.args.before.ahead c.func_name-name.result.now c.has_func.result c.returned_value.result
-    c.if-not-side.false of ahead
-    (c.func_name-name.ensures ∙ ap (λ (q : Program _). func_name (slice_get q.funcs c.args.before.func.index)) (c.image.ensures ∙ c.code.ensures)) c.has_func.ensures c.returned_value.ensures
-    ∙ if_so c.has_func.result _ c.if-not-has_func.false)
+    (return_is p other c.args.side.now.kinds s due id c.args.before.ahead (func_name (func_at p id.index)) c.has_like.result c.returned_value.result c.if-not-side.false of ahead refl
+    (c.has_like.ensures ∙ ap (λ (q : Program _). has_func other (func_name (slice_get q.funcs id.index))) (c.image.ensures ∙ c.code.ensures)) c.returned_value.ensures
+    ∙ if_so c.has_like.result _ c.if-not-has_like.false)
     (c.told.ensures c.args.side.now.kinds)

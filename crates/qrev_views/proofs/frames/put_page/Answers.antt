@@ -4,6 +4,8 @@ use Rattle.std.specs.Prelude.{min, slice_get}
 use Rattle.std.proofs.lemmas.List.{append-nil, length-reverse}
 use Rattle.json.specs.Token.{Token}
 use Rattle.qil_state.specs.State.{frame_state, frames_state}
+use Rattle.qrev_views.specs.Sources.{frame_line, origin_of}
+use Rattle.qrev_views.proofs.ShownPlaces.{shows_frame}
 use Rattle.qrev_views.proofs.Stacks.{frame_named, frames_long, nothing_yet, frame_more, frames_all}
 use Rattle.qrev_views.proofs.frames.put_page.Goals as goal
 
@@ -21,13 +23,14 @@ loop-inner-preserved g c =
     let i = c.loop-inner.inner in
     let so_far = c.loop-inner.invariant.added in
     let item = c.in_ok-list.ensures (drop (i + 1) fs) in
+    let line = frame_line c.args.program.now c.frame_at-frame.result.now (i + 1) in
     record {
       begun = search rules;
       within = search rules;
       added = (
         so_far.0 ++ item.0,
         frame_more c.args.page.start c.of-first.result.0 i (frames_state p fs) (frame_state p (drop (i + 1) fs) c.frame_at-frame.result.now) so_far.0 item.0 (rw (frames_long p fs) (rw (c.frames.ensures.value, length-reverse fs) at c.of-first.ensures.first)) c.loop-inner.invariant.begun
-            (frame_named p fs i c.frame_at-frame.result.now c.frame_at-frame.ensures) so_far.1 item.1,
+            (frame_named p fs i c.frame_at-frame.result.now c.frame_at-frame.ensures) so_far.1 (shows_frame c.args.shown (origin_of c.args.source_map line) line (i + 1) (frame_state p (drop (i + 1) fs) c.frame_at-frame.result.now) item.0 item.1),
         item.2 ∙ (ap (λ (t : List Token). t ++ item.0) so_far.2 ∙ append_assoc c.args.list.out.tokens so_far.0 item.0),
       );
     }

@@ -1,0 +1,3 @@
+-- The lemmas.
+pub mod Fitting
+pub mod KindsFit
