@@ -3,7 +3,7 @@ use Rattle.std.proofs.Common.{◌≡◌, ◌↔◌, ◌≢◌, refl, sym, ap, �
 use Rattle.std.specs.Prelude.{is_some, option_map, slice_get, unwrap_or}
 use Rattle.std.specs.Str.{bytes_eq}
 use Rattle.std.proofs.lemmas.Slice.Eq.{bytes_eq-Decides}
-use Rattle.std.proofs.lemmas.Bool.{true≢false}
+use Rattle.std.proofs.lemmas.Bool.{true≢false, lt-ltb}
 use Rattle.std.proofs.lemmas.List.{drop_all, at_drop_more}
 use Rattle.std.proofs.Math.Seq.{drop-length}
 use Rattle.qil_tree.specs.declared.tree.Func.{Func}
@@ -194,6 +194,10 @@ wrote_none p other kinds s due ahead asked is_ahead range =
 
 abbrev chain : Bool → Bool → Bool → Bool → List Event → List Event → List Event → List Event → List Event → List Event
 chain a b c d v w x y z = if a then v else (if b then w else (if c then x else (if d then y else z)))
+
+-- a number of which it was tested that it is less than another
+pub is_less : (a b m n : ℕ) → a ≡ m → b ≡ n → a < b → nat_lt m n ≡ true
+is_less a b m n ea eb lt = lt-ltb m n (omega (arith, ea, eb, lt))
 
 -- what is tested of the two states
 pub record Tests (s t : State) (a b c d : Bool) : Type 0 where

@@ -2,21 +2,24 @@
 use Rattle.std.proofs.Common.{◌≡◌, ◌↔◌, ◌≢◌, refl, sym, ap, ◌∙◌, subst, ℕ, zero, suc, ◌+◌, ◌^◌, ◌<◌, ◌≤◌, Bool, true, false, List, [], ◌∷◌, length, Option, Some, None, IsTrue, not, nat_eq, eq-eqb, arith}
 use Rattle.std.specs.Prelude.{slice_get}
 use Rattle.std.specs.Option.{option_eq}
-use Rattle.std.proofs.lemmas.Bool.{true≢false}
+use Rattle.std.proofs.lemmas.Bool.{true≢false, eqb-true}
 use Rattle.std.proofs.lemmas.Bool.Decides.{nat_tests}
 use borrow.Author.Count.{below_more}
 use Rattle.qil_memory.specs.Buffers.{Buffers}
 use Rattle.qil_tree.specs.declared.ops.AbiType.{AbiType}
 use Rattle.qil_tree.specs.declared.tree.Program.{Program}
 use Rattle.qil_memory.specs.Live.{Live, live}
-use Rattle.qil_meaning.specs.State.{Name}
+use Rattle.qil_meaning.specs.State.{Name, State}
 use Rattle.qil_state.specs.declared.status.Fault.{Fault}
 use Rattle.qil_state.specs.declared.status.Status.{Status}
 use Rattle.qil_state.specs.declared.status.Status.TheVariants.{Faulted}
 use Rattle.qil_state.specs.Faults.{fault_of, status_of}
 use Rattle.qil_state.proofs.Place.{none_some, some_same}
+use Rattle.qil_compare.specs.declared.event as code
+use Rattle.qil_compare.specs.declared.event.Event.TheVariants as coded
 use Rattle.qil_compare.specs.Seen.{Offset}
-use Rattle.qil_compare.specs.Events.{Event, written, bytes_from, Cause, unset, faulted_by, ended, cause_of, end_of}
+use Rattle.qil_compare.specs.Next.{event_at}
+use Rattle.qil_compare.specs.Events.{Event, byte_out, written, bytes_from, Cause, unset, faulted_by, ended, cause_of, end_of}
 
 -- after all addresses of 64 bits nothing is live
 pub dead_far : (m : Buffers) (a : ℕ) → m.top < 2 ^ 64 → 2 ^ 64 ≤ a → live m a ≡ None
@@ -149,6 +152,19 @@ same_place_bytes m w a b n k place other p q r s en ep eq test on bytes =
     let at : place ≡ other = sym ep ∙ test.0 on ∙ eq in
     subst (λ j. IsTrue s ↔ (written place (bytes_from m a n) ≡ written other (bytes_from w b j))) en
     (λ t. (λ i. written (at i) (bytes.0 t i)), λ e. bytes.1 (ap bytes_in e))
+
+-- ---- output
+
+abbrev byte_in : Event → ℕ
+byte_in (byte_out byte) = byte
+byte_in e = 0
+
+-- two bytes of output are one event where they are one number
+pub same_output : {A : Type 0} (p q : Program A) (s t : State) (one other : code.Event.Event) (b d : ℕ) → one ≡ coded.Output b → other ≡ coded.Output d → IsTrue (nat_eq b d) ↔ (event_at p s one ≡ event_at q t other)
+same_output p q s t one other b d eb ed =
+    subst (λ e. IsTrue (nat_eq b d) ↔ (event_at p s e ≡ event_at q t other)) (sym eb)
+    (subst (λ e. IsTrue (nat_eq b d) ↔ (byte_out b ≡ event_at q t e)) (sym ed)
+    (λ on. ap byte_out (eqb-true b d on), λ e. eq-eqb b d (ap byte_in e)))
 
 -- ---- ends
 

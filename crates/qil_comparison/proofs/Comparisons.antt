@@ -100,19 +100,19 @@ cut_as w0 w1 text other e p = (p.0, subst (λ (x : List ℕ). IsPrefixOf p.0 x) 
 
 -- ---- how many moves each side keeps
 
-pub kept_good : (bound : Option ℕ) (session : Option SideName) (kept : SideName) → bound ≡ None → session ≡ Some kept → kept ≡ Good → (keeps bound session Good ≡ None) × (keeps bound session Bad ≡ Some 1)
+pub kept_good : (bound : Option ℕ) (session : Option SideName) (kept : SideName) → bound ≡ None → session ≡ Some kept → kept ≡ Good → (keeps bound session Good ≡ None) × (keeps bound session Bad ≡ Some 0)
 kept_good bound session kept eb es is = (
   ap (λ o. keeps o session Good) eb ∙ ap (λ o. keeps None o Good) (es ∙ ap Some is),
   ap (λ o. keeps o session Bad) eb ∙ ap (λ o. keeps None o Bad) (es ∙ ap Some is),
 )
 
-pub kept_bad : (bound : Option ℕ) (session : Option SideName) (kept : SideName) → bound ≡ None → session ≡ Some kept → kept ≡ Bad → (keeps bound session Good ≡ Some 1) × (keeps bound session Bad ≡ None)
+pub kept_bad : (bound : Option ℕ) (session : Option SideName) (kept : SideName) → bound ≡ None → session ≡ Some kept → kept ≡ Bad → (keeps bound session Good ≡ Some 0) × (keeps bound session Bad ≡ None)
 kept_bad bound session kept eb es is = (
   ap (λ o. keeps o session Good) eb ∙ ap (λ o. keeps None o Good) (es ∙ ap Some is),
   ap (λ o. keeps o session Bad) eb ∙ ap (λ o. keeps None o Bad) (es ∙ ap Some is),
 )
 
-pub kept_few : (bound : Option ℕ) (session : Option SideName) (side : SideName) → bound ≡ None → session ≡ None → keeps bound session side ≡ Some 1
+pub kept_few : (bound : Option ℕ) (session : Option SideName) (side : SideName) → bound ≡ None → session ≡ None → keeps bound session side ≡ Some 0
 kept_few bound session side eb es = ap (λ o. keeps o session side) eb ∙ ap (λ o. keeps None o side) es
 
 pub kept_bound : (bound : Option ℕ) (session : Option SideName) (side : SideName) (n : ℕ) → bound ≡ Some n → keeps bound session side ≡ Some n

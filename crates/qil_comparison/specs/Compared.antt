@@ -42,12 +42,12 @@ setup_of good bad r = record { good = good; bad = bad; request = r }
 
 -- ---- two programs at their starts
 
--- How many moves a side keeps: as many as the bound. Without one the side of the session keeps all, and any other its last.
+-- How many moves a side keeps: as many as the bound. Without one the side of the session keeps all, and any other none.
 abbrev pub keeps : Option ℕ → Option SideName → SideName → Option ℕ
 keeps (Some n) session side = Some n
 keeps None (Some Good) Good = None
 keeps None (Some Bad) Bad = None
-keeps None session side = Some 1
+keeps None session side = Some 0
 
 -- a text as `debug` is given it
 abbrev pub opened_as : Text → Request → SideName → scripts.Setup

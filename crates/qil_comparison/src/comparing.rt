@@ -48,7 +48,7 @@ pub fn compare_texts<'t, A: Allocator + Copy, S: Source, W: Sink>(
     requires reads { S.failures source.old < 2 ^ 64 - 1 }
     requires writes { W.failures sink.old < 2 ^ 64 - 1 }
     requires limit { request.now.limit ≤ 4294967295 }
-    requires bound { IfSome request.now.bound (λ n. (1 ≤ n) × (n ≤ 1000000)) }
+    requires bound { IfSome request.now.bound (λ n. n ≤ 1000000) }
 
     // Where the source tells its bytes, what was written is a refusal; or what is told of where both runs came to, and the
     // answers to the script there, up to what stopped it.

@@ -77,7 +77,7 @@ fn run_ready<'c, A: Allocator + Copy + 'c, S: Source, W: Sink>(
     requires reads { S.failures source.old < 2 ^ 64 - 1 }
     requires writes { W.failures sink.old < 2 ^ 64 - 1 }
     requires limit { request.now.limit ≤ 4294967295 }
-    requires bound { IfSome request.now.bound (λ n. (1 ≤ n) × (n ≤ 1000000)) }
+    requires bound { IfSome request.now.bound (λ n. n ≤ 1000000) }
     requires good { good_code.now ≡ good.now.program }
     requires bad { bad_code.now ≡ bad.now.program }
     ensures written { (one two : Text) → Accepts one.bytes.now good.now → Accepts two.bytes.now bad.now
@@ -125,7 +125,7 @@ fn start_both<'c, 'i, 't, A: Allocator + Copy + 'c, S: Source, W: Sink>(
     requires reads { S.failures source.old < 2 ^ 64 - 1 }
     requires writes { W.failures sink.old < 2 ^ 64 - 1 }
     requires limit { request.now.limit ≤ 4294967295 }
-    requires bound { IfSome request.now.bound (λ n. (1 ≤ n) × (n ≤ 1000000)) }
+    requires bound { IfSome request.now.bound (λ n. n ≤ 1000000) }
     requires good { good_code.now ≡ good.now.program }
     requires bad { bad_code.now ≡ bad.now.program }
     ensures written { (one two : Text) → Accepts one.bytes.now good.now → Accepts two.bytes.now bad.now
@@ -164,7 +164,7 @@ fn start_bad<'c, 'g, 'i, 't, A: Allocator + Copy + 'c, S: Source, W: Sink>(
     requires reads { S.failures source.old < 2 ^ 64 - 1 }
     requires writes { W.failures sink.old < 2 ^ 64 - 1 }
     requires limit { request.now.limit ≤ 4294967295 }
-    requires bound { IfSome request.now.bound (λ n. (1 ≤ n) × (n ≤ 1000000)) }
+    requires bound { IfSome request.now.bound (λ n. n ≤ 1000000) }
     requires good { good_code.now ≡ good.now.program }
     requires bad { bad_code.now ≡ bad.now.program }
     ensures written { (one two : Text) → Accepts one.bytes.now good.now → Accepts two.bytes.now bad.now
@@ -205,7 +205,7 @@ fn lay_bad<'c, 't, A: Allocator + Copy + 'c, S: Source, W: Sink>(
     requires reads { S.failures source.old < 2 ^ 64 - 1 }
     requires writes { W.failures sink.old < 2 ^ 64 - 1 }
     requires limit { request.now.limit ≤ 4294967295 }
-    requires bound { IfSome request.now.bound (λ n. (1 ≤ n) × (n ≤ 1000000)) }
+    requires bound { IfSome request.now.bound (λ n. n ≤ 1000000) }
     requires good { good_code.now ≡ good.now.program }
     ensures written { (one two : Text) → Accepts one.bytes.now good.now → Checks two.bytes.now checked.now
         → IfOk result (λ outcome. Written A outcome (setup_of one two request.now) (S.remaining source.old) (S.remaining source.new) (W.contents sink.old) (W.contents sink.new)) }
@@ -256,7 +256,7 @@ fn load_bad<'c, 't, A: Allocator + Copy + 'c, S: Source, W: Sink>(
     requires reads { S.failures source.old < 2 ^ 64 - 1 }
     requires writes { W.failures sink.old < 2 ^ 64 - 1 }
     requires limit { request.now.limit ≤ 4294967295 }
-    requires bound { IfSome request.now.bound (λ n. (1 ≤ n) × (n ≤ 1000000)) }
+    requires bound { IfSome request.now.bound (λ n. n ≤ 1000000) }
     requires good { good_code.now ≡ good.now.program }
     ensures written { (one : Text) → Accepts one.bytes.now good.now
         → IfOk result (λ outcome. Written A outcome (setup_of one text.now request.now) (S.remaining source.old) (S.remaining source.new) (W.contents sink.old) (W.contents sink.new)) }
@@ -293,7 +293,7 @@ fn lay_good<'g, 't, A: Allocator + Copy, S: Source, W: Sink>(
     requires reads { S.failures source.old < 2 ^ 64 - 1 }
     requires writes { W.failures sink.old < 2 ^ 64 - 1 }
     requires limit { request.now.limit ≤ 4294967295 }
-    requires bound { IfSome request.now.bound (λ n. (1 ≤ n) × (n ≤ 1000000)) }
+    requires bound { IfSome request.now.bound (λ n. n ≤ 1000000) }
     ensures written { (one : Text) → Checks one.bytes.now checked.now
         → IfOk result (λ outcome. Written A outcome (setup_of one bad.now request.now) (S.remaining source.old) (S.remaining source.new) (W.contents sink.old) (W.contents sink.new)) }
     ensures unloaded { (one : Text) → Checks one.bytes.now checked.now → IfErr result (λ e. IsUnloadedOn A (setup_of one bad.now request.now) e.side e.error) }
@@ -341,7 +341,7 @@ pub fn load_both<'t, A: Allocator + Copy, S: Source, W: Sink>(
     requires reads { S.failures source.old < 2 ^ 64 - 1 }
     requires writes { W.failures sink.old < 2 ^ 64 - 1 }
     requires limit { request.now.limit ≤ 4294967295 }
-    requires bound { IfSome request.now.bound (λ n. (1 ≤ n) × (n ≤ 1000000)) }
+    requires bound { IfSome request.now.bound (λ n. n ≤ 1000000) }
     ensures written { IfOk result (λ outcome. Written A outcome (setup_of good.now bad.now request.now) (S.remaining source.old) (S.remaining source.new) (W.contents sink.old) (W.contents sink.new)) }
     ensures unloaded { IfErr result (λ e. IsUnloadedOn A (setup_of good.now bad.now request.now) e.side e.error) }
     ensures only_begun { (p q : accepted.Verdict A) (s t : State) → Begin (setup_of good.now bad.now request.now) p q s t → IfErr result (λ e. e.error ≡ LoadError.OutOfMemory) }

@@ -120,7 +120,7 @@ fn run_bounded<'c, A: Allocator + Copy + 'c, S: Source, W: Sink>(
     requires bad { bad_side.now.program.now ≡ bad.program }
     requires sides { AreSides good_side.now bad_side.now }
     requires kinds { good_side.now.kinds ≡ request.now.kinds }
-    requires bound { (1 ≤ bound) × (bound ≤ 1000000) }
+    requires bound { bound ≤ 1000000 }
     ensures written { (one two : Text) (p q : accepted.Verdict A) → Begin (setup_of one two request.now) p q (state_of good.entry) (state_of bad.entry)
         → good.entry.program ≡ p.program → bad.entry.program ≡ q.program → keeps request.now.bound request.now.session Good ≡ Some bound → keeps request.now.bound request.now.session Bad ≡ Some bound
         → Written A result (setup_of one two request.now) (S.remaining source.old) (S.remaining source.new) (W.contents sink.old) (W.contents sink.new) }
@@ -169,14 +169,14 @@ fn run_keeping<'c, A: Allocator + Copy + 'c, S: Source, W: Sink>(
     ensures counted { CountsFaults result (S.failures source.old) (S.failures source.new) (W.failures sink.old) (W.failures sink.new) }
 {
     match kept {
-        SideName::Good => match Ring::new(alloc, bad, 1) {
+        SideName::Good => match Ring::new(alloc, bad, 0) {
             Ok(bad) => {
                 let good = Deltas::new(alloc, good);
                 run_histories(alloc, good, bad, good_side, bad_side, request, source, sink)
             }
             Err(_) => Outcome::Memory,
         },
-        SideName::Bad => match Ring::new(alloc, good, 1) {
+        SideName::Bad => match Ring::new(alloc, good, 0) {
             Ok(good) => {
                 let bad = Deltas::new(alloc, bad);
                 run_histories(alloc, good, bad, good_side, bad_side, request, source, sink)
@@ -186,7 +186,7 @@ fn run_keeping<'c, A: Allocator + Copy + 'c, S: Source, W: Sink>(
     }
 }
 
-/// Runs both machines: the side that a session is asked of keeps its moves, the other one its last.
+/// Runs both machines: the side that a session is asked of keeps its moves, the other one none.
 pub fn run_machines<'c, A: Allocator + Copy + 'c, S: Source, W: Sink>(
     alloc: A,
     good: Machine<'c, 'c, A>,
@@ -204,7 +204,7 @@ pub fn run_machines<'c, A: Allocator + Copy + 'c, S: Source, W: Sink>(
     requires bad { bad_side.now.program.now ≡ bad.program }
     requires sides { AreSides good_side.now bad_side.now }
     requires kinds { good_side.now.kinds ≡ request.now.kinds }
-    requires bound { IfSome request.now.bound (λ n. (1 ≤ n) × (n ≤ 1000000)) }
+    requires bound { IfSome request.now.bound (λ n. n ≤ 1000000) }
     ensures written { (one two : Text) (p q : accepted.Verdict A) → Begin (setup_of one two request.now) p q (state_of good.entry) (state_of bad.entry)
         → good.entry.program ≡ p.program → bad.entry.program ≡ q.program
         → Written A result (setup_of one two request.now) (S.remaining source.old) (S.remaining source.new) (W.contents sink.old) (W.contents sink.new) }
@@ -223,7 +223,7 @@ pub fn run_machines<'c, A: Allocator + Copy + 'c, S: Source, W: Sink>(
                 alloc, good, bad, kept, good_side, bad_side, request, source, sink,
             ),
             None => run_bounded(
-                alloc, good, bad, 1, good_side, bad_side, request, source, sink,
+                alloc, good, bad, 0, good_side, bad_side, request, source, sink,
             ),
         },
     }

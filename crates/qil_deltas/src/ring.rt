@@ -73,7 +73,7 @@ fn undo_latest<A: Allocator + Copy>(machine: &mut Machine<'_, '_, A>, latest: De
 }
 
 impl<'c, 'a, A: Allocator + Copy> Ring<'c, 'a, A> {
-    /// A history that begins at a machine and keeps so many moves, in a block that it takes here.
+    /// A history that begins at a machine and keeps so many moves, in a block that it takes here. It may keep none.
     ///
     /// # Errors
     ///
@@ -83,8 +83,7 @@ impl<'c, 'a, A: Allocator + Copy> Ring<'c, 'a, A> {
         machine: Machine<'c, 'a, A>,
         bound: u64,
     ) -> Result<Ring<'c, 'a, A>, (Machine<'c, 'a, A>, AllocError)>
-        requires some { 1 ≤ bound }
-        requires few { bound ≤ 1000000 }
+        requires { bound ≤ 1000000 }
         ensures program { IfOk result (λ h. h.machine.program ≡ machine.entry.program) }
         ensures begun { IfOk result (λ h. recent_timeline h ≡ begun (Some bound) (state_of machine.entry)) }
         ensures empty { IfOk result (λ h. h.deltas ≡ []) }

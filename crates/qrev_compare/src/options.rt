@@ -32,7 +32,8 @@ pub struct Options<'a> {
 impl<'a> Options<'a> {
     /// The most moves that can be undone, where not all can, within what a history may have. `clap` has refused every other number.
     pub fn bound(&self) -> Option<u64>
-        ensures { IfSome result (λ n. (1 ≤ n) × (n ≤ 1000000)) }
+        ensures some { IfSome result (λ n. 1 ≤ n) }
+        ensures few { IfSome result (λ n. n ≤ 1000000) }
     {
         match self.history {
             Some(number) => Some(number.clamp(1, 1_000_000)),

@@ -1,4 +1,4 @@
--- The side of the session keeps all its moves, the other one its last.
+-- The side of the session keeps all its moves, the other one none.
 use Rattle.std.specs.Prelude.{ℕ, Option, None}
 use Rattle.std.proofs.Common.{◌∙◌, ap, sym}
 use Rattle.qil_meaning.specs.Timeline.{begun}
