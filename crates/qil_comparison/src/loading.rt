@@ -20,7 +20,7 @@ use crate::request::{Request, SideName, Text};
 use crate::sides::run_machines;
 use qil_code::Code;
 use qil_compare::Side;
-use qil_layout::layout;
+use qil_laying::layout;
 use qil_loading::{LoadError, Refusal, check_text};
 use qil_machine::Machine;
 use qil_meaning::StartFault;

@@ -1,9 +1,3 @@
 -- The lemmas.
-pub mod RoomLemmas
-pub mod TableLemmas
 pub mod FewFunctions
 pub mod BytesLemmas
-pub mod Starts
-pub mod Named
-pub mod LawLemmas
-pub mod OwnNames

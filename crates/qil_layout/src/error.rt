@@ -3,9 +3,7 @@
 ghost use Rattle.std.specs.Prelude.{◌≡◌};
 ghost use Rattle.qil_layout.specs.Codes.{layout_code};
 
-use std::alloc::{AllocError, AllocFailed};
 use std::fmt;
-use thiserror::Error;
 
 /// The code that is reported of a data object that can't be laid out.
 #[derive(Clone, Copy, Debug, PartialEq, Eq)]
@@ -36,35 +34,5 @@ impl fmt::Display for LayoutCode {
 
     fn fmt<W: fmt::Write>(&self, f: &mut fmt::Formatter<W>) -> fmt::Result {
         f.write_str(self.as_str())
-    }
-}
-
-/// Why there is no layout.
-#[derive(Clone, Copy, Debug, PartialEq, Eq, Error)]
-pub enum LayoutError {
-    /// The first object of the text that can't be laid out; the line is that of its name.
-    #[error("{code} line {line}")]
-    Refused { code: LayoutCode, line: u32 },
-    #[error("out of memory")]
-    OutOfMemory,
-}
-
-impl From<AllocError> for LayoutError {
-    ghost use Rattle.qil_layout.specs.declared.error.LayoutError.TheVariants.{OutOfMemory};
-
-    ghost from_gives = { λ _ e. e ≡ OutOfMemory };
-
-    fn from(_error: AllocError) -> Self {
-        LayoutError::OutOfMemory
-    }
-}
-
-impl<T: Drop> From<AllocFailed<T>> for LayoutError {
-    ghost use Rattle.qil_layout.specs.declared.error.LayoutError.TheVariants.{OutOfMemory};
-
-    ghost from_gives = { λ _ e. e ≡ OutOfMemory };
-
-    fn from(_error: AllocFailed<T>) -> Self {
-        LayoutError::OutOfMemory
     }
 }

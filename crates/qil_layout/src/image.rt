@@ -1,19 +1,15 @@
-//! The layout of a program.
+//! The layout of a program, as it is read.
 
-ghost use Rattle.std.specs.Prelude.{◌≡◌, ◌<◌, ◌≤◌, ◌^◌, ℕ, List, Some, None, IfSome, IfOk, IfErr, length, option_map, slice_get};
+ghost use Rattle.std.specs.Prelude.{◌≡◌, ◌<◌, ◌≤◌, ◌^◌, ℕ, List, None, IfSome, length, option_map, slice_get};
 ghost use Rattle.qil_layout.specs.Layout.{address_of, bytes_of, fault_of};
-ghost use Rattle.qil_layout.specs.Answer.{IsFault};
+ghost use Rattle.qil_names.specs.Tables.{value_at};
 ghost use Rattle.qil_layout.specs.Callee.{lies, func_at, callee_at};
 
 use crate::callee::{Callee, FuncId};
-use crate::error::LayoutError;
-use crate::fill;
-use crate::names::{EXIT, FUNC_BASE, FUNC_STRIDE, PUTCHAR, PUTS, names_of};
+use crate::place::{EXIT, FUNC_BASE, FUNC_STRIDE, PUTCHAR, PUTS};
 use qil_names::Firsts;
-use qil_rules::Checked;
 use qil_tree::{Name, Program};
 use std::alloc::Allocator;
-use std::hash::RandomState;
 use std::marker::Model;
 
 /// Where the names of a program lie, and the bytes of its data.
@@ -37,33 +33,20 @@ impl<'c, 'a, A: Allocator> Model for Image<'c, 'a, A> {
     ghost invariant = { λ image. ((x : List ℕ) → value_at image.names.values x ≡ address_of image.program.now x) × (image.bytes.items ≡ bytes_of image.program.now) × (fault_of image.program.now ≡ None) × (length image.program.now.funcs ≤ 1000) };
 }
 
-/// Lays a program out: its data from 65,536 on in the order of the text, each object at the next multiple of its
-/// alignment; its functions from 4096 on, 16 apart.
-///
-/// # Errors
-///
-/// `Y2` where an alignment is no power of two from 1 to 4096, `Y1` where the data passes 2^20 bytes, of the first
-/// object that has either, at the line of its name.
-pub fn layout<'c, 'a, A: Allocator + Copy>(
-    alloc: A,
-    keys: RandomState,
-    checked: &'c Checked<'a, A>,
-) -> Result<Image<'c, 'a, A>, LayoutError>
-    ensures program { IfOk result (λ image. image ≡ checked.entry.now.program) }
-    ensures no_fault { IfOk result (λ image. fault_of checked.entry.now.program ≡ None) }
-    ensures fault { IfErr result (IsFault (fault_of checked.entry.now.program)) }
-{
-    let program = checked.program();
-    let names = names_of(alloc, keys, program)?;
-    let bytes = fill::bytes_of(alloc, &names, program.datas.as_slice())?;
-    Ok(Image {
-        program,
-        names,
-        bytes,
-    })
-}
-
 impl<'c, 'a, A: Allocator + Copy> Image<'c, 'a, A> {
+    /// The image of a program, from its addresses and its data. Only a caller that has proved that these are the program's can
+    /// make one.
+    pub fn new(program: &'c Program<'a, A>, names: Firsts<'a, u64, A>, bytes: Vec<u8, A>) -> Self
+        requires { ((x : List ℕ) → value_at names.values x ≡ address_of program.now x) × (bytes.items ≡ bytes_of program.now) × (fault_of program.now ≡ None) × (length program.now.funcs ≤ 1000) }
+        ensures { result ≡ program.now }
+    {
+        Image {
+            program,
+            names,
+            bytes,
+        }
+    }
+
     /// The address of a name, if the program defines it or it is built in.
     pub fn address(&self, name: &[u8]) -> Option<u64>
         ensures { result ≡ address_of self.now name.now }

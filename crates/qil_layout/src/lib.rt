@@ -3,18 +3,10 @@
 
 mod callee;
 mod error;
-mod fill;
 mod image;
-mod laws;
-mod names;
 mod place;
-mod room;
 
 pub use callee::{Callee, FuncId};
-pub use error::{LayoutCode, LayoutError};
-pub use image::{Image, layout};
-pub use laws::{
-    least_multiple, names_are_own, names_have_their_own, objects_stand, objects_stand_in_order,
-    padding_is_zero,
-};
-pub use place::{DATA_BASE, rounded_up};
+pub use error::LayoutCode;
+pub use image::Image;
+pub use place::{DATA_BASE, EXIT, FUNC_BASE, FUNC_STRIDE, PUTCHAR, PUTS, rounded_up};

@@ -10,10 +10,10 @@ use Rattle.qil_streams.proofs.DeviceLemmas.{Appends-nil, Appends-append}
 use Rattle.qil_tree.specs.declared.tree.Program.{Program}
 use Rattle.qil_rules.specs.Verdict.{Verdict}
 use Rattle.qil_layout.specs.Layout.{fault_of}
-use Rattle.qil_layout.specs.Answer.{IsFault}
+use Rattle.qil_laying.specs.Answer.{IsFault}
 use Rattle.qil_layout.specs.declared.error.LayoutCode.{LayoutCode}
-use Rattle.qil_layout.specs.declared.error.LayoutError.{LayoutError}
-use Rattle.qil_layout.specs.declared.error.LayoutError.TheVariants as layout
+use Rattle.qil_laying.specs.declared.error.LayoutError.{LayoutError}
+use Rattle.qil_laying.specs.declared.error.LayoutError.TheVariants as layout
 use Rattle.qil_machine.specs.Starting.{StartExplains}
 use Rattle.qil_machine.specs.declared.error.StartError.{StartError}
 use Rattle.qil_machine.specs.declared.error.StartError.TheVariants as start

@@ -26,7 +26,7 @@ use qil_deltas::{Deltas, Ring};
 use qil_flat::{FlatCode, flatten};
 use qil_flatmachine::{CopiedMachine, FlatMachine, Replaying, RestorableMachine};
 use qil_history::History;
-use qil_layout::layout;
+use qil_laying::layout;
 use qil_loading::{LoadError, Loaded, Refusal, check_text, put_loaded_line, put_refusal_line};
 use qil_machine::{Machine, StartError};
 use qil_meaning::StartFault;

@@ -8,7 +8,7 @@ ghost use Rattle.qrev_adapter.specs.Opened.{HasStarted, IsAccepted};
 use crate::session::serve_session;
 use qil_code::Code;
 use qil_deltas::{Deltas, Ring};
-use qil_layout::layout;
+use qil_laying::layout;
 use qil_loading::{LoadError, Loaded, check_text};
 use qil_machine::Machine;
 use qil_numbering::number;

@@ -1,0 +1,7 @@
+-- The lemmas.
+pub mod RoomLemmas
+pub mod TableLemmas
+pub mod Starts
+pub mod Named
+pub mod LawLemmas
+pub mod OwnNames

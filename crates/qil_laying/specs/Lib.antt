@@ -1,0 +1,4 @@
+-- The definitions.
+pub mod Room
+pub mod Answer
+pub mod Laws

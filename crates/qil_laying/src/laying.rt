@@ -1,0 +1,35 @@
+//! The layout of a program is made.
+
+ghost use Rattle.std.specs.Prelude.{◌≡◌, None, IfOk, IfErr};
+ghost use Rattle.qil_layout.specs.Layout.{fault_of};
+ghost use Rattle.qil_laying.specs.Answer.{IsFault};
+
+use crate::error::LayoutError;
+use crate::fill::bytes_of;
+use crate::names::names_of;
+use qil_layout::Image;
+use qil_rules::Checked;
+use std::alloc::Allocator;
+use std::hash::RandomState;
+
+/// Lays a program out: its data from 65,536 on in the order of the text, each object at the next multiple of its
+/// alignment; its functions from 4096 on, 16 apart.
+///
+/// # Errors
+///
+/// `Y2` where an alignment is no power of two from 1 to 4096, `Y1` where the data passes 2^20 bytes, of the first
+/// object that has either, at the line of its name.
+pub fn layout<'c, 'a, A: Allocator + Copy>(
+    alloc: A,
+    keys: RandomState,
+    checked: &'c Checked<'a, A>,
+) -> Result<Image<'c, 'a, A>, LayoutError>
+    ensures program { IfOk result (λ image. image ≡ checked.entry.now.program) }
+    ensures no_fault { IfOk result (λ image. fault_of checked.entry.now.program ≡ None) }
+    ensures fault { IfErr result (IsFault (fault_of checked.entry.now.program)) }
+{
+    let program = checked.program();
+    let names = names_of(alloc, keys, program)?;
+    let bytes = bytes_of(alloc, &names, program.datas.as_slice())?;
+    Ok(Image::new(program, names, bytes))
+}
