@@ -1,4 +1,4 @@
--- The status that the process ends with where no session was run.
+-- The status that the process ends with where nothing was run.
 use Rattle.std.specs.Prelude.{ℕ}
 use Rattle.qil_options.specs.declared.failure.Failure.{Failure}
 use Rattle.qil_options.specs.declared.failure.Failure.TheVariants as failure

@@ -1,9 +1,9 @@
-//! Why no session was run.
+//! Why nothing was run.
 
 ghost use Rattle.std.specs.Prelude.{◌≡◌};
 ghost use Rattle.qil_options.specs.Status.{failure_status};
 
-/// Why no session was run.
+/// Why nothing was run.
 #[derive(Clone, Copy)]
 pub enum Failure {
     /// Help was asked for and printed.
@@ -12,7 +12,7 @@ pub enum Failure {
     Unhelped,
     /// The command line is bad, and why was printed.
     Usage,
-    /// The program's file could not be read, and that was printed.
+    /// A file could not be read, and that was printed.
     Unreadable,
     /// The system gave no random bytes.
     NoKeys,

@@ -1,10 +1,14 @@
-//! What `qrev` is given: the words of its command line, what they say, and the program that they name.
+//! What a program is given: the words of its command line, what they say of a run, and the texts that they name.
 #![tactic(auto)]
 
+mod command_line;
 mod failure;
-mod options;
 mod program;
+mod run;
+mod text;
 
+pub use command_line::{NO_TEXT, parse_words, refuse_words, words};
 pub use failure::Failure;
-pub use options::{Options, read_words};
-pub use program::{Given, read_given};
+pub use program::{Given, read_given, read_words};
+pub use run::{RunOptions, args_arg, entry_arg, file_arg, history_arg, limit_arg, read_run};
+pub use text::read_text;

@@ -45,10 +45,10 @@ fn debug_given<S: Source, W: Sink>(
     requires writes { W.failures sink.old < 2 ^ 64 - 1 }
 {
     let text = given.program.as_slice();
-    let entry = given.options.entry.as_bytes();
-    let args = given.options.args.as_slice();
-    let limit = u64::from(given.options.limit);
-    match given.options.budget() {
+    let entry = given.run.entry.as_bytes();
+    let args = given.run.args.as_slice();
+    let limit = u64::from(given.run.limit);
+    match given.budget() {
         Some(budget) => {
             debug_replaying(alloc, keys, text, entry, args, limit, budget, source, sink)
         }
@@ -59,7 +59,7 @@ fn debug_given<S: Source, W: Sink>(
             entry,
             args,
             limit,
-            given.options.bound(),
+            given.run.bound(),
             source,
             sink,
         ),

@@ -4,15 +4,6 @@ use Rattle.qil_compare.specs.declared.comparing.Verdict.{Verdict}
 use Rattle.qil_compare.specs.declared.comparing.Verdict.TheVariants as verdicts
 use Rattle.qil_comparison.specs.declared.outcome.Outcome.{Outcome}
 use Rattle.qil_comparison.specs.declared.outcome.Outcome.TheVariants as outcomes
-use Rattle.qrev_compare.specs.declared.failure.Failure.{Failure}
-use Rattle.qrev_compare.specs.declared.failure.Failure.TheVariants as failures
-
--- where nothing was compared
-abbrev pub failure_status : Failure → ℕ
-failure_status failures.Helped = 0
-failure_status failures.Device = 2
-failure_status failures.OutOfMemory = 3
-failure_status failures.Usage = 64
 
 -- after that was told
 abbrev pub told_status : Verdict → ℕ

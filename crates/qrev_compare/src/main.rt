@@ -4,13 +4,11 @@
 ghost use Rattle.std.specs.Prelude.{◌≡◌};
 ghost use Rattle.qrev_compare.specs.Status.{outcome_status};
 
-mod failure;
 mod options;
-mod texts;
 
-use failure::Failure;
 use options::{Options, parse_options, read_words};
 use qil_comparison::{Outcome, Request, Text, Verdict, compare_texts};
+use qil_options::{Failure, read_text};
 use qil_streams::{FromReader, IntoWriter};
 use std::alloc::Global;
 use std::hash::RandomState;
@@ -19,7 +17,6 @@ use std::io::LineWriter;
 use std::process::ExitCode;
 use std::random::RandomSource;
 use std::rt::{Env, Files};
-use texts::read_text;
 
 /// Compares the texts, whose tables hash with keys drawn for it. The script is standard input, what is told goes to standard
 /// output, where each line is written at once.
@@ -31,7 +28,7 @@ fn compare<R: Input + Print + RandomSource>(
     bad: &[u8],
 ) -> Result<Outcome, Failure> {
     let Ok(keys) = RandomState::new(rt) else {
-        return Err(Failure::Device);
+        return Err(Failure::NoKeys);
     };
     let Ok(writer) = LineWriter::new(alloc, io::writer(rt)) else {
         return Err(Failure::OutOfMemory);
@@ -39,11 +36,11 @@ fn compare<R: Input + Print + RandomSource>(
     let mut source = FromReader::new(rt.reader());
     let mut sink = IntoWriter::new(writer);
     let request = Request {
-        func: options.entry.as_bytes(),
-        args: options.args.as_slice(),
+        func: options.run.entry.as_bytes(),
+        args: options.run.args.as_slice(),
         kinds: options.kinds,
-        limit: u64::from(options.limit),
-        bound: options.bound(),
+        limit: u64::from(options.run.limit),
+        bound: options.run.bound(),
         session: options.session,
     };
     let good = Text {

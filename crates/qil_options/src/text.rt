@@ -1,6 +1,7 @@
-//! The files of the two texts.
+//! The file of a text in QBE IL.
 
-ghost use Rattle.std.specs.Prelude.{◌≡◌, IfOk, IfSome, take};
+ghost use Rattle.std.specs.Prelude.{◌≡◌, IfOk, IfErr, IfSome, take};
+ghost use Rattle.qil_options.specs.Told.{IsOfText};
 
 use crate::failure::Failure;
 use std::alloc::Global;
@@ -24,19 +25,21 @@ fn read_file<R: Files>(rt: &R, alloc: Global, name: &str) -> io::Result<Vec<u8>>
     first_bytes(alloc, fs::open(rt, name)?)
 }
 
-/// The bytes of a text. Where they can't be read, that is printed.
+/// The bytes of a text, at most one more than it may have. Where they can't be read, `unreadable` is printed.
 pub fn read_text<R: Files + Eprint>(
     rt: &R,
     alloc: Global,
     name: &str,
     unreadable: &str,
-) -> Result<Vec<u8>, Failure> {
+) -> Result<Vec<u8>, Failure>
+    ensures { IfErr result IsOfText }
+{
     match read_file(rt, alloc, name) {
         Ok(bytes) => Ok(bytes),
         Err(error) if error.kind() == io::ErrorKind::OutOfMemory => Err(Failure::OutOfMemory),
         Err(_) => {
             let _ = rt.eprintln(unreadable);
-            Err(Failure::Device)
+            Err(Failure::Unreadable)
         }
     }
 }

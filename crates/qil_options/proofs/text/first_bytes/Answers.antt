@@ -1,7 +1,7 @@
 -- What a reader that is cut has left is the prefix of what the reader has.
 use Rattle.std.proofs.Common.{◌≡◌, IfSome, take, ℕ, List, [], ◌++◌, Option, ap, ◌∙◌}
 use Rattle.std.specs.Prelude.{Some, None, option_map}
-use Rattle.qrev_compare.proofs.texts.first_bytes.Goals as goal
+use Rattle.qil_options.proofs.text.first_bytes.Goals as goal
 
 read_prefix : (limit most : ℕ) (before after : List ℕ) (all : Option (List ℕ)) → limit ≡ most → before ≡ []
     → IfSome (option_map (take limit) all) (λ xs. after ≡ before ++ xs) → IfSome all (λ xs. after ≡ take most xs)
