@@ -1,1 +1,3 @@
--- What this crate proves besides the goals of its functions.
+-- The lemmas of this crate.
+pub mod Hearing
+pub mod Words

@@ -9,6 +9,6 @@ mod requests;
 mod serving;
 mod session;
 
-pub use qrev_notices::{Ended, Files};
+pub use qrev_notices::{Ended, Files, Line};
 pub use qrev_recorder::{Opening, Record};
 pub use serving::serve;

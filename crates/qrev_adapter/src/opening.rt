@@ -3,6 +3,8 @@
 ghost use Rattle.std.specs.Prelude.{◌≡◌, ◌≤◌, None, Some, IfSome};
 ghost use Rattle.qil_loading.specs.Load.{Checks};
 ghost use Rattle.qrev_recorder.specs.Record.{setup_of, IsBeginning};
+ghost use Rattle.qrev_notices.specs.Conversation.{asked_by};
+ghost use Rattle.qrev_notices.specs.Reading.{heard, Serves};
 ghost use Rattle.qrev_adapter.specs.Opened.{HasStarted, IsAccepted};
 
 use crate::session::serve_session;
@@ -20,7 +22,7 @@ use qrev_notices::{
     Closed, Ended, Files, Line, read_sources, refuse_load, refuse_map, refuse_start, refuse_unread,
     tell_open,
 };
-use qrev_protocol::{Request, Turn};
+use qrev_protocol::Request;
 use qrev_recorder::{HasMachine, Opening, Recorder};
 use qrev_requests::Launch;
 use qrev_sessions::{BoundedSession, WholeSession};
@@ -51,6 +53,7 @@ fn open_session<
 ) -> Result<Closed<A>, Ended>
     requires limit { opening.limit ≤ 4294967295 }
     requires begins { IsBeginning (setup_of opening) loaded.now (L.state live) }
+    ensures { Serves result (asked_by request.entry) (heard S.remaining W.contents line.old) (heard S.remaining W.contents line.new) }
 {
     let alloc = line.alloc;
     let recorder = match Recorder::new(alloc, opening, loaded, live) {
@@ -60,7 +63,7 @@ fn open_session<
             return Err(Ended::OutOfMemory);
         }
     };
-    tell_open(alloc, Turn::new(&mut line.port, request))?;
+    tell_open(alloc, &mut line.port, request)?;
     let debuggee = Debuggee {
         alloc,
         recorder,
@@ -90,15 +93,17 @@ fn open_whole<'c, 'p, 'a, 'l, A: Allocator + Copy + 'c, S: Source, W: Sink, F: F
     requires limit { opening.limit ≤ 4294967295 }
     requires bound { opening.bound ≡ None }
     requires begins { HasStarted (setup_of opening) loaded.now machine }
+    ensures { Serves result (asked_by request.entry) (heard S.remaining W.contents line.old) (heard S.remaining W.contents line.new) }
 {
     let alloc = line.alloc;
-    match WholeSession::new(alloc, Deltas::new(alloc, machine), opening.limit) {
-        Ok(live) => open_session(live, opening, program, loaded, launch, request, files, line),
+    let live = match WholeSession::new(alloc, Deltas::new(alloc, machine), opening.limit) {
+        Ok(live) => live,
         Err(_) => {
             request.end();
-            Err(Ended::OutOfMemory)
+            return Err(Ended::OutOfMemory);
         }
-    }
+    };
+    open_session(live, opening, program, loaded, launch, request, files, line)
 }
 
 /// Serves from a machine at its start, over the newest of its deltas.
@@ -117,19 +122,21 @@ fn open_bounded<'c, 'p, 'a, 'l, A: Allocator + Copy + 'c, S: Source, W: Sink, F:
     requires bound { opening.bound ≡ Some bound }
     requires range { (1 ≤ bound) × (bound ≤ 1000000) }
     requires begins { HasStarted (setup_of opening) loaded.now machine }
+    ensures { Serves result (asked_by request.entry) (heard S.remaining W.contents line.old) (heard S.remaining W.contents line.new) }
 {
     let alloc = line.alloc;
     let Ok(history) = Ring::new(alloc, machine, bound) else {
         request.end();
         return Err(Ended::OutOfMemory);
     };
-    match BoundedSession::new(alloc, history, opening.limit) {
-        Ok(live) => open_session(live, opening, program, loaded, launch, request, files, line),
+    let live = match BoundedSession::new(alloc, history, opening.limit) {
+        Ok(live) => live,
         Err(_) => {
             request.end();
-            Err(Ended::OutOfMemory)
+            return Err(Ended::OutOfMemory);
         }
-    }
+    };
+    open_session(live, opening, program, loaded, launch, request, files, line)
 }
 
 /// Serves from a machine at its start: over all its deltas, or over the newest if there is a bound.
@@ -146,15 +153,16 @@ fn open_machine<'c, 'p, 'a, 'l, A: Allocator + Copy + 'c, S: Source, W: Sink, F:
     requires limit { opening.limit ≤ 4294967295 }
     requires bound { IfSome opening.bound (λ n. (1 ≤ n) × (n ≤ 1000000)) }
     requires begins { HasStarted (setup_of opening) loaded.now machine }
+    ensures { Serves result (asked_by request.entry) (heard S.remaining W.contents line.old) (heard S.remaining W.contents line.new) }
 {
-    match opening.bound {
-        None => open_whole(
+    let Some(bound) = opening.bound else {
+        return open_whole(
             machine, opening, program, loaded, launch, request, files, line,
-        ),
-        Some(bound) => open_bounded(
-            machine, bound, opening, program, loaded, launch, request, files, line,
-        ),
-    }
+        );
+    };
+    open_bounded(
+        machine, bound, opening, program, loaded, launch, request, files, line,
+    )
 }
 
 /// Serves a program that is numbered.
@@ -171,13 +179,15 @@ fn open_code<'c, 'p, 'a, 'l, A: Allocator + Copy + 'c, S: Source, W: Sink, F: Fi
     requires limit { opening.limit ≤ 4294967295 }
     requires bound { IfSome opening.bound (λ n. (1 ≤ n) × (n ≤ 1000000)) }
     requires accepted { IsAccepted opening.text.now loaded.now code.now }
+    ensures { Serves result (asked_by request.entry) (heard S.remaining W.contents line.old) (heard S.remaining W.contents line.new) }
 {
-    match Machine::start(line.alloc, code, opening.entry, opening.args) {
-        Ok(machine) => open_machine(
-            machine, opening, program, loaded, launch, request, files, line,
-        ),
-        Err(error) => refuse_start(error, launch, request, line),
-    }
+    let machine = match Machine::start(line.alloc, code, opening.entry, opening.args) {
+        Ok(machine) => machine,
+        Err(error) => return refuse_start(error, launch, request, line),
+    };
+    open_machine(
+        machine, opening, program, loaded, launch, request, files, line,
+    )
 }
 
 /// What a session is opened with.
@@ -208,6 +218,7 @@ fn open_checked<'a, 'l, A: Allocator + Copy, S: Source, W: Sink, F: Files<A>>(
     requires limit { opening.limit ≤ 4294967295 }
     requires bound { IfSome opening.bound (λ n. (1 ≤ n) × (n ≤ 1000000)) }
     requires checks { Checks opening.text.now checked.now }
+    ensures { Serves result (asked_by request.entry) (heard S.remaining W.contents line.old) (heard S.remaining W.contents line.new) }
 {
     let alloc = line.alloc;
     let image = match layout(alloc, keys, checked) {
@@ -239,11 +250,13 @@ fn open_text<'l, A: Allocator + Copy, S: Source, W: Sink, F: Files<A>>(
 ) -> Result<Closed<A>, Ended>
     requires limit { opening.limit ≤ 4294967295 }
     requires bound { IfSome opening.bound (λ n. (1 ≤ n) × (n ≤ 1000000)) }
+    ensures { Serves result (asked_by request.entry) (heard S.remaining W.contents line.old) (heard S.remaining W.contents line.new) }
 {
-    match check_text(line.alloc, keys, opening.text) {
-        Ok(checked) => open_checked(keys, opening, &checked, launch, request, files, line),
-        Err(error) => refuse_load(error, launch, request, line),
-    }
+    let checked = match check_text(line.alloc, keys, opening.text) {
+        Ok(checked) => checked,
+        Err(error) => return refuse_load(error, launch, request, line),
+    };
+    open_checked(keys, opening, &checked, launch, request, files, line)
 }
 
 /// Loads a program and serves it, until the session is closed.
@@ -253,7 +266,9 @@ fn open<A: Allocator + Copy, S: Source, W: Sink, F: Files<A>>(
     request: Request<'_>,
     files: &F,
     line: &mut Line<A, S, W>,
-) -> Result<Closed<A>, Ended> {
+) -> Result<Closed<A>, Ended>
+    ensures { Serves result (asked_by request.entry) (heard S.remaining W.contents line.old) (heard S.remaining W.contents line.new) }
+{
     let Some(text) = files.read(launch.program.as_str()) else {
         return refuse_unread(launch, request, line);
     };
@@ -268,12 +283,13 @@ pub fn open_mapped<A: Allocator + Copy, S: Source, W: Sink, F: Files<A>>(
     request: Request<'_>,
     files: &F,
     line: &mut Line<A, S, W>,
-) -> Result<Closed<A>, Ended> {
-    match read_sources(line.alloc, launch, files) {
-        Ok(source_map) => {
-            line.source_map = source_map;
-            open(keys, launch, request, files, line)
-        }
-        Err(fault) => refuse_map(fault, launch, request, line),
-    }
+) -> Result<Closed<A>, Ended>
+    ensures { Serves result (asked_by request.entry) (heard S.remaining W.contents line.old) (heard S.remaining W.contents line.new) }
+{
+    let source_map = match read_sources(line.alloc, launch, files) {
+        Ok(source_map) => source_map,
+        Err(fault) => return refuse_map(fault, launch, request, line),
+    };
+    line.source_map = source_map;
+    open(keys, launch, request, files, line)
 }

@@ -1,16 +1,19 @@
 //! The requests while a session is open: what each does, its response, and what follows it.
 
+ghost use Rattle.qrev_notices.specs.Conversation.{asked_by, spoken, Responds, Tells};
+ghost use Rattle.qrev_adapter.specs.Served.{Leaves};
+
 use qil_machine::Machine;
 use qil_state::Status;
 use qil_streams::Sink;
 use qrev_breakpoints::{breakpoint_locations, set_breakpoints, set_by_words};
-use qrev_debuggee::{Body, Cause, Debuggee, Failure, Motion, StopFamily, Trouble, Why, make_move};
+use qrev_debuggee::{Body, Cause, Debuggee, Failure, Motion, StopFamily, Why, make_move};
 use qrev_inspection::{
     completions, data_breakpoint_info, evaluate, read_memory, scopes, set_variable, stack_trace,
     variables, write_memory,
 };
-use qrev_notices::{fault_in, output_event, send, tell_stopped};
-use qrev_protocol::{Port, Turn};
+use qrev_notices::{Port, Trouble, begin_body, fault_in, output_event, refuse_with, tell_stopped};
+use qrev_protocol::Request;
 use qrev_recorder::HasMachine;
 use qrev_requests::Arguments;
 use qrev_views::{as_text, frame_of, place_text};
@@ -23,8 +26,6 @@ pub enum Then {
     /// The editor is told that the run stands.
     Stopped(Why),
     Move(Motion),
-    /// The session ends.
-    End(Ending),
 }
 
 /// How a session ends.
@@ -34,8 +35,19 @@ pub enum Ending {
     Terminated,
     /// The adapter ends.
     Left,
-    /// The program is loaded again.
-    Restarted,
+}
+
+/// How the session ends once a request with this command is responded to, if it does so.
+pub fn ending_asked(command: &str) -> Option<Ending>
+    ensures { Leaves result command.now }
+{
+    if command == "disconnect" {
+        return Some(Ending::Left);
+    }
+    if command == "terminate" {
+        return Some(Ending::Terminated);
+    }
+    None
 }
 
 /// Adds the one thread.
@@ -114,9 +126,9 @@ fn control<'c, A: Allocator + Copy + 'c, L: HasMachine<A, Machine<'c, 'c, A>>>(
     }
     match command {
         "restartFrame" => Ok((body, restart_frame(debuggee, asked)?)),
-        "pause" | "setExceptionBreakpoints" => Ok((body, Then::Nothing)),
-        "terminate" => Ok((body, Then::End(Ending::Terminated))),
-        "disconnect" => Ok((body, Then::End(Ending::Left))),
+        "pause" | "setExceptionBreakpoints" | "terminate" | "disconnect" => {
+            Ok((body, Then::Nothing))
+        }
         "initialize" | "launch" => Err(Failure::Because(Cause::SessionOpen)),
         _ => Err(Failure::Because(Cause::NotSupported)),
     }
@@ -170,47 +182,53 @@ fn answer<'c, A: Allocator + Copy + 'c, L: HasMachine<A, Machine<'c, 'c, A>>>(
 }
 
 /// Responds that a request isn't done, and why.
-pub fn refuse<'c, 't, A: Allocator + Copy + 'c, L: HasMachine<A, Machine<'c, 'c, A>>, W: Sink>(
+pub fn refuse<'c, A: Allocator + Copy + 'c, L: HasMachine<A, Machine<'c, 'c, A>>, W: Sink>(
     debuggee: &Debuggee<'_, '_, '_, A, L>,
-    turn: Turn<'t, '_, A, W>,
+    port: &mut Port<A, W>,
+    request: Request<'_>,
     failure: Failure,
-) -> Result<&'t mut Port<A, W>, Trouble> {
-    match failure {
-        Failure::OutOfMemory => {
-            turn.give_up();
-            Err(Trouble::OutOfMemory)
-        }
-        Failure::Because(cause) => Ok(turn.refuse(debuggee.alloc, cause.as_str())?),
-        Failure::Answered(from) => match as_text(debuggee.alloc, debuggee.answers_from(from)) {
-            Ok(why) => Ok(turn.refuse(debuggee.alloc, why.as_str())?),
-            Err(_) => {
-                turn.give_up();
-                Err(Trouble::OutOfMemory)
-            }
-        },
+) -> Result<(), Trouble>
+    ensures { Responds result (asked_by request.entry) (spoken W.contents port.old) (spoken W.contents port.new) }
+{
+    if let Failure::Because(cause) = failure {
+        return port.refuse(request, cause.as_str());
     }
+    let Failure::Answered(from) = failure else {
+        request.end();
+        return Err(Trouble::OutOfMemory);
+    };
+    let why = as_text(debuggee.alloc, debuggee.answers_from(from));
+    refuse_with(port, request, &why)
 }
 
 /// Does what a request asks, as far as that comes before its response, and gives the body of that.
-fn prepare<'c, A: Allocator + Copy + 'c, L: HasMachine<A, Machine<'c, 'c, A>>, W: Sink>(
+fn prepare<'c, A: Allocator + Copy + 'c, L: HasMachine<A, Machine<'c, 'c, A>>>(
     debuggee: &mut Debuggee<'_, '_, '_, A, L>,
-    turn: &Turn<'_, '_, A, W>,
+    request: &Request<'_>,
     asked: Arguments<'_, '_, A>,
 ) -> Result<(Body<A>, Then), Failure> {
-    let body = turn.body(debuggee.alloc)?;
-    answer(debuggee, turn.command(), asked, body)
+    let body = begin_body(debuggee.alloc, request)?;
+    answer(debuggee, request.command(), asked, body)
 }
 
 /// Responds to a request, and says what follows.
-pub fn respond<'c, 't, A: Allocator + Copy + 'c, L: HasMachine<A, Machine<'c, 'c, A>>, W: Sink>(
+pub fn respond<'c, A: Allocator + Copy + 'c, L: HasMachine<A, Machine<'c, 'c, A>>, W: Sink>(
     debuggee: &mut Debuggee<'_, '_, '_, A, L>,
-    turn: Turn<'t, '_, A, W>,
+    port: &mut Port<A, W>,
+    request: Request<'_>,
     asked: Arguments<'_, '_, A>,
-) -> Result<(&'t mut Port<A, W>, Then), Trouble> {
-    match prepare(debuggee, &turn, asked) {
-        Ok((body, then)) => Ok((turn.respond(body)?, then)),
-        Err(failure) => Ok((refuse(debuggee, turn, failure)?, Then::Nothing)),
-    }
+) -> Result<Then, Trouble>
+    ensures { Responds result (asked_by request.entry) (spoken W.contents port.old) (spoken W.contents port.new) }
+{
+    let (body, then) = match prepare(debuggee, &request, asked) {
+        Ok(prepared) => prepared,
+        Err(failure) => {
+            refuse(debuggee, port, request, failure)?;
+            return Ok(Then::Nothing);
+        }
+    };
+    port.respond(request, body)?;
+    Ok(then)
 }
 
 /// Makes a move, and tells that the run stands.
@@ -218,14 +236,17 @@ pub fn move_and_tell<'c, A: Allocator + Copy + 'c, L: HasMachine<A, Machine<'c, 
     debuggee: &mut Debuggee<'_, '_, '_, A, L>,
     port: &mut Port<A, W>,
     motion: Motion,
-) -> Result<(), Trouble> {
-    match make_move(debuggee, motion) {
-        Ok(why) => tell_stopped(debuggee, why, port),
-        Err(Failure::OutOfMemory) => Err(Trouble::OutOfMemory),
+) -> Result<(), Trouble>
+    ensures { Tells result (spoken W.contents port.old) (spoken W.contents port.new) }
+{
+    let why = match make_move(debuggee, motion) {
+        Ok(why) => why,
+        Err(Failure::OutOfMemory) => return Err(Trouble::OutOfMemory),
         Err(_) => {
             let text = "the script is full: no line more is taken\n";
-            send(port, output_event(debuggee.alloc, "console", text)?)?;
-            tell_stopped(debuggee, Why::Step, port)
+            port.tell(output_event(debuggee.alloc, "console", text)?)?;
+            return tell_stopped(debuggee, Why::Step, port);
         }
-    }
+    };
+    tell_stopped(debuggee, why, port)
 }

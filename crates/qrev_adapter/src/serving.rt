@@ -1,16 +1,38 @@
 //! Serving: messages are read and answered, without a session and with one.
 
+ghost use Rattle.qrev_notices.specs.Conversation.{asked_by};
+ghost use Rattle.std.specs.Prelude.{Ok};
+ghost use Rattle.qrev_notices.specs.Reading.{Heard, heard, IsStaying, Serves, IsClosed, IsConversation};
+ghost use Rattle.qrev_adapter.specs.Served.{ServesMessage, ServesAgain, ServesOn, StandsAfter};
+
 use crate::opening::open_mapped;
 use json::Scratch;
 use qil_streams::{Sink, Source};
 use qrev_notices::{
-    Closed, Ended, Files, Line, answer_idle, message_in, numbering_said, refuse_unfit,
+    Closed, Ended, Files, Line, message_in, numbering_said, refuse_unfit, respond_idle,
 };
-use qrev_protocol::{Incoming, Port, Request, Turn, request_of};
+use qrev_protocol::{Request, request_of};
 use qrev_requests::{Arguments, Launch, launch_said};
 use qrev_views::Numbering;
 use std::alloc::Allocator;
 use std::hash::RandomState;
+
+/// Loads with the arguments of a message, or with those of the launch where it has none.
+fn load_again<A: Allocator + Copy, S: Source, W: Sink, F: Files<A>>(
+    keys: RandomState,
+    launch: &Launch<A>,
+    request: Request<'_>,
+    asked: Arguments<'_, '_, A>,
+    files: &F,
+    line: &mut Line<A, S, W>,
+) -> Result<Closed<A>, Ended>
+    ensures { Serves result (asked_by request.entry) (heard S.remaining W.contents line.old) (heard S.remaining W.contents line.new) }
+{
+    if asked.text("program").is_none() {
+        return open_mapped(keys, launch, request, files, line);
+    }
+    open_asked(keys, request, asked, files, line)
+}
 
 /// Loads again after a restart: with the arguments that its message has, or with those of the launch.
 fn open_again<A: Allocator + Copy, S: Source, W: Sink, F: Files<A>>(
@@ -19,43 +41,72 @@ fn open_again<A: Allocator + Copy, S: Source, W: Sink, F: Files<A>>(
     body: &[u8],
     files: &F,
     line: &mut Line<A, S, W>,
-) -> Result<Closed<A>, Ended> {
-    let alloc = line.alloc;
-    let mut scratch = Scratch::new(alloc);
-    let Some(message) = message_in(alloc, body, &mut scratch)? else {
-        return Ok(Closed::Terminated);
+) -> Result<Closed<A>, Ended>
+    ensures { ServesAgain result body.now (heard S.remaining W.contents line.old) (heard S.remaining W.contents line.new) }
+{
+    let mut scratch = Scratch::new(line.alloc);
+    let message = match message_in(line.alloc, body, &mut scratch)? {
+        Some(message) => message,
+        None => return Err(Ended::Broken),
     };
-    let Some(request) = request_of(&message) else {
-        return Ok(Closed::Terminated);
+    let request = match request_of(&message) {
+        Some(request) => request,
+        None => return Err(Ended::Broken),
     };
     let asked = Arguments::of(&message).inside("arguments");
-    if asked.text("program").is_none() {
-        return open_mapped(keys, launch, request, files, line);
-    }
-    match launch_said(alloc, asked) {
-        Ok(other) => open_mapped(keys, &other, request, files, line),
-        Err(unfit) => refuse_unfit(request, unfit, line),
-    }
+    load_again(keys, launch, request, asked, files, line)
 }
 
-/// Serves a launch, and the restarts after it.
+/// Loads with the arguments that a message has.
+fn open_asked<A: Allocator + Copy, S: Source, W: Sink, F: Files<A>>(
+    keys: RandomState,
+    request: Request<'_>,
+    asked: Arguments<'_, '_, A>,
+    files: &F,
+    line: &mut Line<A, S, W>,
+) -> Result<Closed<A>, Ended>
+    ensures { Serves result (asked_by request.entry) (heard S.remaining W.contents line.old) (heard S.remaining W.contents line.new) }
+{
+    let launch = match launch_said(line.alloc, asked) {
+        Ok(launch) => launch,
+        Err(unfit) => return refuse_unfit(request, unfit, line),
+    };
+    open_mapped(keys, &launch, request, files, line)
+}
+
+/// Whether another session may be opened after one that was closed so.
+fn after<A: Allocator>(closed: Closed<A>) -> Result<(), Ended>
+    ensures { (start now : Heard) → IsClosed (Ok closed) start now → StandsAfter result start now }
+{
+    match closed {
+        Closed::Terminated => return Ok(()),
+        Closed::Left => return Err(Ended::Left),
+        Closed::InputEnded => return Err(Ended::InputEnded),
+        Closed::Restarted(_) => {}
+    }
+    // The message that asks for it is a request, to which a launch responds.
+    Err(Ended::Broken)
+}
+
+/// Serves a launch, and the restarts after it, until another may be launched.
 fn serve_launch<A: Allocator + Copy, S: Source, W: Sink, F: Files<A>>(
     keys: RandomState,
     request: Request<'_>,
     launch: &Launch<A>,
     files: &F,
     line: &mut Line<A, S, W>,
-) -> Result<Closed<A>, Ended> {
+) -> Result<(), Ended>
+    ensures { IsStaying (asked_by request.entry) → ServesOn result (asked_by request.entry) (heard S.remaining W.contents line.old) (heard S.remaining W.contents line.new) }
+{
     let mut closed = open_mapped(keys, launch, request, files, line)?;
     for _ in 0..u64::MAX {
-        match closed {
-            Closed::Restarted(body) => {
-                closed = open_again(keys, launch, body.as_slice(), files, line)?;
-            }
-            other => return Ok(other),
-        }
+        let body = match closed {
+            Closed::Restarted(body) => body,
+            other => return after(other),
+        };
+        closed = open_again(keys, launch, body.as_slice(), files, line)?;
     }
-    Ok(Closed::Terminated)
+    Err(Ended::Broken)
 }
 
 /// Serves a launch with the arguments that it has.
@@ -65,79 +116,88 @@ fn launch_asked<A: Allocator + Copy, S: Source, W: Sink, F: Files<A>>(
     asked: Arguments<'_, '_, A>,
     files: &F,
     line: &mut Line<A, S, W>,
-) -> Result<Closed<A>, Ended> {
-    match launch_said(line.alloc, asked) {
-        Ok(launch) => serve_launch(keys, request, &launch, files, line),
-        Err(unfit) => refuse_unfit(request, unfit, line),
-    }
+) -> Result<(), Ended>
+    ensures { IsStaying (asked_by request.entry) → ServesOn result (asked_by request.entry) (heard S.remaining W.contents line.old) (heard S.remaining W.contents line.new) }
+{
+    let launch = match launch_said(line.alloc, asked) {
+        Ok(launch) => launch,
+        Err(unfit) => return after(refuse_unfit(request, unfit, line)?),
+    };
+    serve_launch(keys, request, &launch, files, line)
 }
 
-/// Answers one message while no session is open.
+/// How an editor counts after a request: as its first one says, else as before.
+fn numbering_after<A: Allocator + Copy>(
+    command: &str,
+    asked: Arguments<'_, '_, A>,
+    before: Numbering,
+) -> Numbering {
+    if command == "initialize" {
+        return numbering_said(asked);
+    }
+    before
+}
+
+/// Responds to a request that launches nothing.
+fn answer_idle<A: Allocator + Copy, S: Source, W: Sink>(
+    request: Request<'_>,
+    asked: Arguments<'_, '_, A>,
+    line: &mut Line<A, S, W>,
+) -> Result<(), Ended>
+    ensures { ServesOn result (asked_by request.entry) (heard S.remaining W.contents line.old) (heard S.remaining W.contents line.new) }
+{
+    line.numbering = numbering_after(request.command(), asked, line.numbering);
+    let leaves = request.command() == "disconnect";
+    respond_idle(line.alloc, &mut line.port, request)?;
+    if leaves {
+        return Err(Ended::Left);
+    }
+    Ok(())
+}
+
+/// Answers one message while no session is open, with all that comes of it.
 fn answer_outside<A: Allocator + Copy, S: Source, W: Sink, F: Files<A>>(
     keys: RandomState,
     body: &[u8],
     files: &F,
     line: &mut Line<A, S, W>,
-) -> Result<Closed<A>, Ended> {
+) -> Result<(), Ended>
+    ensures { ServesMessage result body.now (heard S.remaining W.contents line.old) (heard S.remaining W.contents line.new) }
+{
     let mut scratch = Scratch::new(line.alloc);
-    let Some(message) = message_in(line.alloc, body, &mut scratch)? else {
-        return Ok(Closed::Terminated);
+    let message = match message_in(line.alloc, body, &mut scratch)? {
+        Some(message) => message,
+        None => return Ok(()),
     };
-    let Some(request) = request_of(&message) else {
-        return Ok(Closed::Terminated);
+    let request = match request_of(&message) {
+        Some(request) => request,
+        None => return Ok(()),
     };
     let asked = Arguments::of(&message);
     if request.command() == "launch" {
         return launch_asked(keys, request, asked, files, line);
     }
-    if request.command() == "initialize" {
-        line.numbering = numbering_said(asked);
-    }
-    if answer_idle(line.alloc, Turn::new(&mut line.port, request))? {
-        return Ok(Closed::Left);
-    }
-    Ok(Closed::Terminated)
-}
-
-/// Answers messages until the editor leaves or the input ends.
-fn serve_line<A: Allocator + Copy, S: Source, W: Sink, F: Files<A>>(
-    keys: RandomState,
-    files: &F,
-    line: &mut Line<A, S, W>,
-) -> Result<Ended, Ended> {
-    for _ in 0..u64::MAX {
-        let Some(body) = line.next()? else {
-            return Ok(Ended::InputEnded);
-        };
-        match answer_outside(keys, body.as_slice(), files, line)? {
-            Closed::Left => return Ok(Ended::Left),
-            Closed::InputEnded => return Ok(Ended::InputEnded),
-            Closed::Terminated | Closed::Restarted(_) => {}
-        }
-    }
-    Ok(Ended::InputEnded)
+    answer_idle(request, asked, line)
 }
 
 /// Answers an editor until it leaves or its messages end.
-pub fn serve<A: Allocator + Copy, S: Source + Drop, W: Sink + Drop, F: Files<A>>(
-    alloc: A,
+pub fn serve<A: Allocator + Copy, S: Source, W: Sink, F: Files<A>>(
     keys: RandomState,
-    source: S,
-    sink: W,
     files: &F,
-) -> Ended {
-    let mut line = Line {
-        alloc,
-        source,
-        incoming: Incoming::new(),
-        port: Port::new(alloc, sink),
-        numbering: Numbering {
-            first_line: 1,
-            first_column: 1,
-        },
-        source_map: None,
-    };
-    match serve_line(keys, files, &mut line) {
-        Ok(ended) | Err(ended) => ended,
+    line: &mut Line<A, S, W>,
+) -> Ended
+    ensures { IsConversation result (heard S.remaining W.contents line.old) (heard S.remaining W.contents line.new) }
+{
+    for _ in 0..u64::MAX {
+        let body = match line.next() {
+            Ok(Some(body)) => body,
+            Ok(None) => return Ended::InputEnded,
+            Err(ended) => return ended,
+        };
+        match answer_outside(keys, body.as_slice(), files, line) {
+            Ok(()) => {}
+            Err(ended) => return ended,
+        }
     }
+    Ended::Broken
 }

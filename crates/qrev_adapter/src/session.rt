@@ -1,12 +1,20 @@
 //! A session from its first message to its end.
 
-use crate::requests::{Ending, Then, move_and_tell, refuse, respond};
+ghost use Rattle.std.specs.Prelude.{IfOk};
+ghost use Rattle.qrev_notices.specs.Conversation.{asked_by, spoken, Responds, Tells};
+ghost use Rattle.qrev_notices.specs.Reading.{heard};
+ghost use Rattle.qrev_adapter.specs.Served.{Leaves, Hears, GoesOn, Closes};
+
+use crate::requests::{Ending, Then, ending_asked, move_and_tell, refuse, respond};
 use json::Scratch;
 use qil_machine::Machine;
 use qil_streams::{Sink, Source};
-use qrev_debuggee::{Cause, Debuggee, Failure, Motion, Trouble, Why};
-use qrev_notices::{Closed, Ended, Files, Line, message_in, send, tell_stopped, write_record};
-use qrev_protocol::{Port, Turn, event, request_of};
+use qrev_debuggee::{Cause, Debuggee, Failure, Motion, Why};
+use qrev_notices::{
+    Closed, Ended, Files, Line, Port, Trouble, keep_record, message_in, tell_plain, tell_stopped,
+    write_record,
+};
+use qrev_protocol::{Request, request_of};
 use qrev_recorder::HasMachine;
 use qrev_requests::{Arguments, Launch};
 use std::alloc::Allocator;
@@ -14,36 +22,34 @@ use std::alloc::Allocator;
 /// Begins the run: the editor has made its breakpoints.
 fn begin<'c, A: Allocator + Copy + 'c, L: HasMachine<A, Machine<'c, 'c, A>>, W: Sink>(
     debuggee: &mut Debuggee<'_, '_, '_, A, L>,
-    turn: Turn<'_, '_, A, W>,
+    port: &mut Port<A, W>,
+    request: Request<'_>,
     stops_on_entry: bool,
-) -> Result<(), Trouble> {
-    let port = turn.accept(debuggee.alloc)?;
+) -> Result<(), Trouble>
+    ensures { Responds result (asked_by request.entry) (spoken W.contents port.old) (spoken W.contents port.new) }
+{
+    port.accept(request)?;
     if stops_on_entry {
-        tell_stopped(debuggee, Why::Entry, port)
-    } else {
-        move_and_tell(debuggee, port, Motion::Continue)
+        return tell_stopped(debuggee, Why::Entry, port);
     }
+    move_and_tell(debuggee, port, Motion::Continue)
 }
 
-/// Answers one request, and says how the session ends if it does.
-fn answer_one<'c, A: Allocator + Copy + 'c, L: HasMachine<A, Machine<'c, 'c, A>>, W: Sink>(
+/// Tells what follows a response.
+fn follow<'c, A: Allocator + Copy + 'c, L: HasMachine<A, Machine<'c, 'c, A>>, W: Sink>(
     debuggee: &mut Debuggee<'_, '_, '_, A, L>,
-    turn: Turn<'_, '_, A, W>,
-    asked: Arguments<'_, '_, A>,
-) -> Result<Option<Ending>, Trouble> {
-    let (port, then) = respond(debuggee, turn, asked)?;
-    match then {
-        Then::Nothing => Ok(None),
-        Then::Stopped(why) => {
-            tell_stopped(debuggee, why, port)?;
-            Ok(None)
-        }
-        Then::Move(motion) => {
-            move_and_tell(debuggee, port, motion)?;
-            Ok(None)
-        }
-        Then::End(ending) => Ok(Some(ending)),
+    port: &mut Port<A, W>,
+    then: Then,
+) -> Result<(), Trouble>
+    ensures { Tells result (spoken W.contents port.old) (spoken W.contents port.new) }
+{
+    if let Then::Stopped(why) = then {
+        return tell_stopped(debuggee, why, port);
     }
+    if let Then::Move(motion) = then {
+        return move_and_tell(debuggee, port, motion);
+    }
+    Ok(())
 }
 
 /// Whether the run has begun, or does so at the next `configurationDone`, and how.
@@ -53,36 +59,84 @@ struct Stage {
     stops_on_entry: bool,
 }
 
-/// Answers one message, and says how the session ends if it does.
+/// Begins the run, where it hasn't begun.
+fn begin_once<'c, A: Allocator + Copy + 'c, L: HasMachine<A, Machine<'c, 'c, A>>, W: Sink>(
+    debuggee: &mut Debuggee<'_, '_, '_, A, L>,
+    port: &mut Port<A, W>,
+    stage: &mut Stage,
+    request: Request<'_>,
+) -> Result<(), Trouble>
+    ensures { Responds result (asked_by request.entry) (spoken W.contents port.old) (spoken W.contents port.new) }
+{
+    if stage.has_begun {
+        return refuse(
+            debuggee,
+            port,
+            request,
+            Failure::Because(Cause::AlreadyConfigured),
+        );
+    }
+    stage.has_begun = true;
+    begin(debuggee, port, request, stage.stops_on_entry)
+}
+
+/// Answers one request, and says how the session ends if it does.
+fn answer_one<'c, A: Allocator + Copy + 'c, L: HasMachine<A, Machine<'c, 'c, A>>, W: Sink>(
+    debuggee: &mut Debuggee<'_, '_, '_, A, L>,
+    port: &mut Port<A, W>,
+    stage: &mut Stage,
+    request: Request<'_>,
+    asked: Arguments<'_, '_, A>,
+) -> Result<Option<Ending>, Trouble>
+    ensures responds { Responds result (asked_by request.entry) (spoken W.contents port.old) (spoken W.contents port.new) }
+    ensures leaves { IfOk result (λ ending. Leaves ending request.entry.command.now) }
+{
+    let ending = ending_asked(request.command());
+    if request.command() == "configurationDone" {
+        begin_once(debuggee, port, stage, request)?;
+        return Ok(ending);
+    }
+    let then = respond(debuggee, port, request, asked)?;
+    follow(debuggee, port, then)?;
+    Ok(ending)
+}
+
+/// What comes after a message.
+#[derive(Clone, Copy)]
+enum Next {
+    Message,
+    End(Ending),
+    /// The program is loaded again, where the message is answered.
+    Restart,
+}
+
+/// Answers one message, and says what comes after it.
 fn answer_message<'c, A: Allocator + Copy + 'c, L: HasMachine<A, Machine<'c, 'c, A>>, W: Sink>(
     debuggee: &mut Debuggee<'_, '_, '_, A, L>,
     port: &mut Port<A, W>,
     stage: &mut Stage,
     body: &[u8],
-) -> Result<Option<Ending>, Trouble> {
+) -> Result<Next, Trouble>
+    ensures { Hears result body.now (spoken W.contents port.old) (spoken W.contents port.new) }
+{
     let mut scratch = Scratch::new(debuggee.alloc);
-    let Some(message) = message_in(debuggee.alloc, body, &mut scratch)? else {
-        return Ok(None);
+    let message = match message_in(debuggee.alloc, body, &mut scratch)? {
+        Some(message) => message,
+        None => return Ok(Next::Message),
     };
-    let Some(request) = request_of(&message) else {
-        return Ok(None);
+    let request = match request_of(&message) {
+        Some(request) => request,
+        None => return Ok(Next::Message),
     };
     if request.command() == "restart" {
-        // It is answered where the program is loaded again.
         request.end();
-        return Ok(Some(Ending::Restarted));
+        return Ok(Next::Restart);
     }
-    let turn = Turn::new(port, request);
-    if turn.command() != "configurationDone" {
-        return answer_one(debuggee, turn, Arguments::of(&message));
+    let ending = answer_one(debuggee, port, stage, request, Arguments::of(&message))?;
+    if let Some(ending) = ending {
+        return Ok(Next::End(ending));
     }
-    if stage.has_begun {
-        refuse(debuggee, turn, Failure::Because(Cause::AlreadyConfigured))?;
-        return Ok(None);
-    }
-    stage.has_begun = true;
-    begin(debuggee, turn, stage.stops_on_entry)?;
-    Ok(None)
+    Ok(Next::Message)
 }
 
 /// Answers messages until the session ends.
@@ -96,23 +150,60 @@ fn answer_messages<
     debuggee: &mut Debuggee<'_, '_, '_, A, L>,
     stops_on_entry: bool,
     line: &mut Line<A, S, W>,
-) -> Result<Closed<A>, Ended> {
+) -> Result<Closed<A>, Ended>
+    ensures { GoesOn result (heard S.remaining W.contents line.old) (heard S.remaining W.contents line.new) }
+{
     let mut stage = Stage {
         has_begun: false,
         stops_on_entry,
     };
     for _ in 0..u64::MAX {
-        let Some(body) = line.next()? else {
-            return Ok(Closed::InputEnded);
+        let body = match line.next()? {
+            Some(body) => body,
+            None => return Ok(Closed::InputEnded),
         };
         match answer_message(debuggee, &mut line.port, &mut stage, body.as_slice())? {
-            None => {}
-            Some(Ending::Terminated) => return Ok(Closed::Terminated),
-            Some(Ending::Left) => return Ok(Closed::Left),
-            Some(Ending::Restarted) => return Ok(Closed::Restarted(body)),
+            Next::Message => {}
+            Next::End(Ending::Terminated) => return Ok(Closed::Terminated),
+            Next::End(Ending::Left) => return Ok(Closed::Left),
+            Next::Restart => return Ok(Closed::Restarted(body)),
         }
     }
-    Ok(Closed::InputEnded)
+    Err(Ended::Broken)
+}
+
+/// Writes the record of a session that was closed so. An editor that ends the session is told: a restart is responded to later,
+/// and where the input has ended nobody may be reading any more.
+fn close<
+    'c,
+    A: Allocator + Copy + 'c,
+    L: HasMachine<A, Machine<'c, 'c, A>>,
+    S: Source,
+    W: Sink,
+    F: Files<A>,
+>(
+    debuggee: &Debuggee<'_, '_, '_, A, L>,
+    launch: &Launch<A>,
+    files: &F,
+    line: &mut Line<A, S, W>,
+    closed: Closed<A>,
+) -> Result<Closed<A>, Ended>
+    ensures { Closes result closed (heard S.remaining W.contents line.old) (heard S.remaining W.contents line.new) }
+{
+    let other = match closed {
+        Closed::Terminated => {
+            write_record(debuggee, launch, files, &mut line.port)?;
+            tell_plain(line.alloc, "terminated", &mut line.port)?;
+            return Ok(Closed::Terminated);
+        }
+        Closed::Left => {
+            write_record(debuggee, launch, files, &mut line.port)?;
+            return Ok(Closed::Left);
+        }
+        other => other,
+    };
+    keep_record(debuggee, launch, files)?;
+    Ok(other)
 }
 
 /// Answers messages until the session ends, and writes its record.
@@ -128,16 +219,15 @@ pub fn serve_session<
     launch: &Launch<A>,
     files: &F,
     line: &mut Line<A, S, W>,
-) -> Result<Closed<A>, Ended> {
-    let closed = answer_messages(&mut debuggee, launch.stops_on_entry, line);
-    // Told is an editor that ends the session: a restart is responded to later, and where the input has ended nobody may be
-    // reading any more.
-    let is_told = matches!(closed, Ok(Closed::Terminated | Closed::Left));
-    let written = write_record(&debuggee, launch, files, &mut line.port, is_told);
-    let closed = closed?;
-    written?;
-    if matches!(closed, Closed::Terminated) {
-        send(&mut line.port, event(line.alloc, "terminated")?)?;
-    }
-    Ok(closed)
+) -> Result<Closed<A>, Ended>
+    ensures { GoesOn result (heard S.remaining W.contents line.old) (heard S.remaining W.contents line.new) }
+{
+    let closed = match answer_messages(&mut debuggee, launch.stops_on_entry, line) {
+        Ok(closed) => closed,
+        Err(ended) => {
+            let _ = keep_record(&debuggee, launch, files);
+            return Err(ended);
+        }
+    };
+    close(&debuggee, launch, files, line, closed)
 }

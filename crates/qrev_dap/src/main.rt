@@ -2,7 +2,7 @@
 #![tactic(auto)]
 
 use qil_streams::{FromReader, IntoWriter};
-use qrev_adapter::{Ended, Files, Opening, Record, serve};
+use qrev_adapter::{Ended, Files, Line, Opening, Record, serve};
 use std::alloc::{AllocError, Global};
 use std::hash::RandomState;
 use std::io::Read;
@@ -77,7 +77,8 @@ fn run<R: rt::Files + Input + Print + RandomSource>(rt: &R, alloc: Global) -> u8
     let files = Disk { rt, alloc };
     let source = FromReader::new(rt.reader());
     let sink = IntoWriter::new(io::writer(rt));
-    status(serve(alloc, keys, source, sink, &files))
+    let mut line = Line::new(alloc, source, sink);
+    status(serve(keys, &files, &mut line))
 }
 
 fn main(rt: HostRuntime) -> ExitCode {

@@ -1,8 +1,12 @@
 //! The requests that need no session.
 
+ghost use Rattle.qrev_notices.specs.Conversation.{asked_by, spoken, Responds};
+
+use crate::port::{Port, begin_body};
+use crate::trouble::Trouble;
 use qil_streams::Sink;
-use qrev_debuggee::{Body, Cause, Trouble};
-use qrev_protocol::Turn;
+use qrev_debuggee::{Body, Cause};
+use qrev_protocol::Request;
 use qrev_requests::Arguments;
 use qrev_views::Numbering;
 use std::alloc::{AllocError, Allocator};
@@ -26,11 +30,11 @@ const CAPABILITIES: [&str; 15] = [
 ];
 
 /// The body that tells what is served.
-fn capabilities<A: Allocator + Copy, W: Sink>(
+fn capabilities<A: Allocator + Copy>(
     alloc: A,
-    turn: &Turn<'_, '_, A, W>,
+    request: &Request<'_>,
 ) -> Result<Body<A>, AllocError> {
-    let mut body = turn.body(alloc)?;
+    let mut body = begin_body(alloc, request)?;
     for capability in &CAPABILITIES {
         body = body.flag(capability, true)?;
     }
@@ -40,18 +44,16 @@ fn capabilities<A: Allocator + Copy, W: Sink>(
 /// Tells what is served.
 fn initialize<A: Allocator + Copy, W: Sink>(
     alloc: A,
-    turn: Turn<'_, '_, A, W>,
-) -> Result<(), Trouble> {
-    match capabilities(alloc, &turn) {
-        Ok(body) => {
-            turn.respond(body)?;
-            Ok(())
-        }
-        Err(_) => {
-            turn.give_up();
-            Err(Trouble::OutOfMemory)
-        }
-    }
+    port: &mut Port<A, W>,
+    request: Request<'_>,
+) -> Result<(), Trouble>
+    ensures { Responds result (asked_by request.entry) (spoken W.contents port.old) (spoken W.contents port.new) }
+{
+    let Ok(body) = capabilities(alloc, &request) else {
+        request.end();
+        return Err(Trouble::OutOfMemory);
+    };
+    port.respond(request, body)
 }
 
 /// How an editor counts.
@@ -62,23 +64,23 @@ pub fn numbering_said<A: Allocator + Copy>(asked: Arguments<'_, '_, A>) -> Numbe
     }
 }
 
-/// Answers a request that needs no session. Says whether the editor leaves.
-pub fn answer_idle<A: Allocator + Copy, W: Sink>(
+/// Responds to a request that needs no session.
+pub fn respond_idle<A: Allocator + Copy, W: Sink>(
     alloc: A,
-    turn: Turn<'_, '_, A, W>,
-) -> Result<bool, Trouble> {
-    let command = turn.command();
-    match command {
-        "initialize" => initialize(alloc, turn)?,
-        "terminate" | "disconnect" => {
-            turn.accept(alloc)?;
-        }
-        "attach" => {
-            turn.refuse(alloc, Cause::NotSupported.as_str())?;
-        }
-        _ => {
-            turn.refuse(alloc, Cause::NoSession.as_str())?;
-        }
+    port: &mut Port<A, W>,
+    request: Request<'_>,
+) -> Result<(), Trouble>
+    ensures { Responds result (asked_by request.entry) (spoken W.contents port.old) (spoken W.contents port.new) }
+{
+    let command = request.command();
+    if command == "initialize" {
+        return initialize(alloc, port, request);
     }
-    Ok(command == "disconnect")
+    if command == "terminate" || command == "disconnect" {
+        return port.accept(request);
+    }
+    if command == "attach" {
+        return port.refuse(request, Cause::NotSupported.as_str());
+    }
+    port.refuse(request, Cause::NoSession.as_str())
 }

@@ -4,14 +4,20 @@
 
 mod idle;
 mod line;
+mod port;
 mod recording;
 mod refusals;
 mod source_map;
 mod stopped;
+mod trouble;
 
-pub use idle::{answer_idle, numbering_said};
+pub use idle::{numbering_said, respond_idle};
 pub use line::{Closed, Ended, Line, message_in};
-pub use recording::{Files, write_record};
-pub use refusals::{refuse_load, refuse_start, refuse_unfit, refuse_unread, tell_open};
+pub use port::{Port, begin_body};
+pub use recording::{Files, keep_record, write_record};
+pub use refusals::{
+    refuse_load, refuse_start, refuse_unfit, refuse_unread, refuse_with, tell_open,
+};
 pub use source_map::{MapFault, read_sources, refuse_map};
-pub use stopped::{fault_in, output_event, send, tell_stopped};
+pub use stopped::{fault_in, output_event, tell_plain, tell_stopped};
+pub use trouble::Trouble;

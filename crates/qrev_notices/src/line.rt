@@ -1,9 +1,16 @@
 //! Where the messages of an editor come from and go to.
 
+ghost use Rattle.std.specs.Prelude.{◌≡◌, [], List, ℕ, Option, Some, None, Ok, IfOk, IfSome};
+ghost use Rattle.std.specs.Io.KnownBytes.{prepend_known};
+ghost use Rattle.json.specs.Json.{Json};
+ghost use Rattle.json.specs.Value.{value_view};
+ghost use Rattle.qrev_notices.specs.Reading.{IsDocument, ReadsNext};
+
+use crate::port::Port;
+use crate::trouble::Trouble;
 use json::{Error, Scratch, Value};
 use qil_streams::{Sink, Source};
-use qrev_debuggee::Trouble;
-use qrev_protocol::{Came, Incoming, Port, ReadError};
+use qrev_protocol::{Came, Incoming, ReadError};
 use qrev_views::{Numbering, SourceMap};
 use std::alloc::{AllocError, Allocator};
 
@@ -20,6 +27,11 @@ pub enum Ended {
 }
 
 impl From<Trouble> for Ended {
+    ghost use Rattle.std.specs.Prelude.{◌≡◌};
+    ghost use Rattle.qrev_notices.specs.Reading.{ended_by};
+
+    ghost from_gives = { λ trouble ended. ended ≡ ended_by trouble };
+
     fn from(trouble: Trouble) -> Self {
         match trouble {
             Trouble::OutOfMemory => Ended::OutOfMemory,
@@ -29,6 +41,11 @@ impl From<Trouble> for Ended {
 }
 
 impl From<AllocError> for Ended {
+    ghost use Rattle.std.specs.Prelude.{◌≡◌};
+    ghost use Rattle.qrev_notices.specs.declared.line.Ended.TheVariants.{OutOfMemory};
+
+    ghost from_gives = { λ _ ended. ended ≡ OutOfMemory };
+
     fn from(_refused: AllocError) -> Self {
         Ended::OutOfMemory
     }
@@ -58,15 +75,40 @@ pub struct Line<A: Allocator, S, W> {
 }
 
 impl<A: Allocator + Copy, S: Source, W: Sink> Line<A, S, W> {
+    /// Nothing was read or written so far.
+    pub fn new(alloc: A, source: S, sink: W) -> Self
+        ensures source { result.source ≡ source }
+        ensures nothing { result.incoming.pending ≡ [] }
+        ensures sink { result.port.sink ≡ sink }
+        ensures none { result.port.sent ≡ 0 }
+    {
+        Line {
+            alloc,
+            source,
+            incoming: Incoming::new(),
+            port: Port::new(alloc, sink),
+            numbering: Numbering {
+                first_line: 1,
+                first_column: 1,
+            },
+            source_map: None,
+        }
+    }
+
     /// The body of the next message, or none where the input ended.
-    pub fn next(&mut self) -> Result<Option<Vec<u8, A>>, Ended> {
+    pub fn next(&mut self) -> Result<Option<Vec<u8, A>>, Ended>
+        ensures read { ReadsNext result (prepend_known self.old.incoming.pending (S.remaining self.old.source))
+            (prepend_known self.new.incoming.pending (S.remaining self.new.source)) }
+        ensures silent { self.new.port ≡ self.old.port }
+    {
         if self.source.faults() == u64::MAX {
             return Err(Ended::Broken);
         }
         match self.incoming.next(self.alloc, &mut self.source) {
             Ok(Came::Body(body)) => Ok(Some(body)),
             Ok(Came::End) => Ok(None),
-            Ok(Came::Lost) | Err(ReadError::Device) => Err(Ended::Broken),
+            Ok(Came::Lost) => Err(Ended::Broken),
+            Err(ReadError::Device) => Err(Ended::Broken),
             Err(ReadError::OutOfMemory) => Err(Ended::OutOfMemory),
         }
     }
@@ -77,7 +119,10 @@ pub fn message_in<'b, A: Allocator + Copy>(
     alloc: A,
     body: &'b [u8],
     scratch: &'b mut Scratch<A>,
-) -> Result<Option<Value<'b, A>>, AllocError> {
+) -> Result<Option<Value<'b, A>>, AllocError>
+    ensures some { IfOk result (λ found. IfSome found (λ message. IsDocument body.entry.now (value_view message))) }
+    ensures none { result ≡ Ok None → (json : Json) → IsDocument body.entry.now json → ⊥ }
+{
     match Value::from_slice(alloc, body, scratch) {
         Ok(message) => Ok(Some(message)),
         Err(Error::OutOfMemory) => Err(AllocError),

@@ -3,12 +3,14 @@
 ghost use Rattle.qil_streams.specs.Script.{lines_of};
 ghost use Rattle.qil_script.specs.Transcript.{IsSession};
 ghost use Rattle.qrev_recorder.specs.Record.{setup_of};
+ghost use Rattle.qrev_notices.specs.Conversation.{spoken, Tells};
 
-use crate::stopped::{output_event, send};
+use crate::port::Port;
+use crate::stopped::output_event;
+use crate::trouble::Trouble;
 use qil_machine::Machine;
 use qil_streams::Sink;
-use qrev_debuggee::{Debuggee, Trouble};
-use qrev_protocol::Port;
+use qrev_debuggee::Debuggee;
 use qrev_recorder::{HasMachine, Opening, Record};
 use qrev_requests::Launch;
 use qrev_views::number_text;
@@ -93,7 +95,51 @@ fn transcript_name<A: Allocator + Copy>(alloc: A, record: &str) -> Result<String
     Ok(name)
 }
 
-/// Writes the record of a session, if one was asked for, and tells the editor how it is played, if anything may be told.
+/// Writes a record, and says whether it could.
+fn write<'c, A: Allocator + Copy + 'c, L: HasMachine<A, Machine<'c, 'c, A>>, F: Files<A>>(
+    debuggee: &Debuggee<'_, '_, '_, A, L>,
+    record: &str,
+    files: &F,
+) -> Result<bool, AllocError> {
+    let transcript = transcript_name(debuggee.alloc, record)?;
+    match debuggee.recorder.record() {
+        Some(kept) => Ok(files.write(
+            record,
+            transcript.as_str(),
+            debuggee.recorder.opening(),
+            kept,
+        )),
+        None => Ok(false),
+    }
+}
+
+/// Writes the record of a session, if one was asked for, and tells nothing of it.
+pub fn keep_record<'c, A: Allocator + Copy + 'c, L: HasMachine<A, Machine<'c, 'c, A>>, F: Files<A>>(
+    debuggee: &Debuggee<'_, '_, '_, A, L>,
+    launch: &Launch<A>,
+    files: &F,
+) -> Result<(), AllocError> {
+    if let Some(record) = &launch.record {
+        write(debuggee, record.as_str(), files)?;
+    }
+    Ok(())
+}
+
+/// Writes a record, and gives what the editor is told of it.
+fn record_text<'c, A: Allocator + Copy + 'c, L: HasMachine<A, Machine<'c, 'c, A>>, F: Files<A>>(
+    debuggee: &Debuggee<'_, '_, '_, A, L>,
+    launch: &Launch<A>,
+    record: &str,
+    files: &F,
+) -> Result<String<A>, AllocError> {
+    if write(debuggee, record, files)? {
+        replay_text(debuggee.alloc, launch, record)
+    } else {
+        unwritten_text(debuggee.alloc, record)
+    }
+}
+
+/// Writes the record of a session, if one was asked for, and tells the editor how it is played.
 pub fn write_record<
     'c,
     A: Allocator + Copy + 'c,
@@ -105,30 +151,14 @@ pub fn write_record<
     launch: &Launch<A>,
     files: &F,
     port: &mut Port<A, W>,
-    is_told: bool,
-) -> Result<(), Trouble> {
+) -> Result<(), Trouble>
+    ensures { Tells result (spoken W.contents port.old) (spoken W.contents port.new) }
+{
     let Some(record) = &launch.record else {
         return Ok(());
     };
     let record = record.as_str();
     let alloc = debuggee.alloc;
-    let transcript = transcript_name(alloc, record)?;
-    let is_written = match debuggee.recorder.record() {
-        Some(kept) => files.write(
-            record,
-            transcript.as_str(),
-            debuggee.recorder.opening(),
-            kept,
-        ),
-        None => false,
-    };
-    if !is_told {
-        return Ok(());
-    }
-    let text = if is_written {
-        replay_text(alloc, launch, record)?
-    } else {
-        unwritten_text(alloc, record)?
-    };
-    send(port, output_event(alloc, "console", text.as_str())?)
+    let text = record_text(debuggee, launch, record, files)?;
+    port.tell(output_event(alloc, "console", text.as_str())?)
 }

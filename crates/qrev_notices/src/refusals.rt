@@ -1,13 +1,18 @@
 //! A launch that opens no session, and why; and one that does.
 
+ghost use Rattle.std.specs.Prelude.{IfOk};
+ghost use Rattle.qrev_notices.specs.Conversation.{asked_by, spoken, Responds, Tells, IsEventSoFar};
+ghost use Rattle.qrev_notices.specs.Reading.{heard, Serves, IsClosedBy};
+
 use crate::line::{Closed, Ended, Line};
-use crate::stopped::send;
+use crate::port::Port;
+use crate::stopped::tell_plain;
+use crate::trouble::Trouble;
 use qil_loading::{LoadError, Refusal, put_refusal_line};
 use qil_machine::StartError;
 use qil_meaning::StartFault;
 use qil_streams::{Buffer, Sink, Source};
-use qrev_debuggee::Trouble;
-use qrev_protocol::{Object, Port, Request, Turn, Whole, event};
+use qrev_protocol::{Object, Request, Whole, event};
 use qrev_requests::{Launch, Unfit, unfit_words};
 use qrev_views::{Numbering, as_text, put_source};
 use std::alloc::{AllocError, Allocator};
@@ -38,17 +43,21 @@ fn refusal_event<A: Allocator + Copy>(
     words: &str,
     path: &str,
     line: Option<u64>,
-) -> Result<Object<A, Whole>, AllocError> {
+) -> Result<Object<A, Whole>, AllocError>
+    ensures { IfOk result (λ o. IsEventSoFar o.out.tokens) }
+{
     let mut text = String::from_str(alloc, words)?;
     text.push_str("\n")?;
     let body = event(alloc, "output")?
         .object("body")?
         .text("category", "stderr")?
         .text("output", text.as_str())?;
-    match line {
-        Some(line) => put_source(body, path)?.number("line", line)?.end(),
-        None => body.end(),
-    }
+    let Some(line) = line else {
+        let message = body.end()?;
+        return Ok(message);
+    };
+    let message = put_source(body, path)?.number("line", line)?.end()?;
+    Ok(message)
 }
 
 /// The words of a refusal. Where memory ran out there are none.
@@ -63,19 +72,27 @@ fn refusal_words<A: Allocator + Copy>(alloc: A, error: LoadError) -> Result<Stri
     }
 }
 
+/// How a session is closed that wasn't opened, since its request was refused so.
+pub fn closed_by<A: Allocator>(refused: Result<(), Trouble>) -> Result<Closed<A>, Ended>
+    ensures { IsClosedBy result refused }
+{
+    refused?;
+    Ok(Closed::Terminated)
+}
+
 /// Responds that a request isn't done, with these words, if memory was found for them.
-fn refuse_with<'p, A: Allocator + Copy, W: Sink>(
-    alloc: A,
-    turn: Turn<'p, '_, A, W>,
+pub fn refuse_with<A: Allocator + Copy, W: Sink>(
+    port: &mut Port<A, W>,
+    request: Request<'_>,
     words: &Result<String<A>, AllocError>,
-) -> Result<&'p mut Port<A, W>, Trouble> {
-    match words {
-        Ok(words) => Ok(turn.refuse(alloc, words.as_str())?),
-        Err(_) => {
-            turn.give_up();
-            Err(Trouble::OutOfMemory)
-        }
-    }
+) -> Result<(), Trouble>
+    ensures { Responds result (asked_by request.entry) (spoken W.contents port.old) (spoken W.contents port.new) }
+{
+    let Ok(words) = words else {
+        request.end();
+        return Err(Trouble::OutOfMemory);
+    };
+    port.refuse(request, words.as_str())
 }
 
 /// Sends the event that shows a refusal.
@@ -86,7 +103,9 @@ fn tell_refusal<A: Allocator + Copy, W: Sink>(
     words: &Result<String<A>, AllocError>,
     path: &str,
     error: LoadError,
-) -> Result<(), Trouble> {
+) -> Result<(), Trouble>
+    ensures { Tells result (spoken W.contents port.old) (spoken W.contents port.new) }
+{
     let Ok(words) = words else {
         return Ok(());
     };
@@ -97,7 +116,7 @@ fn tell_refusal<A: Allocator + Copy, W: Sink>(
         },
         LoadError::OutOfMemory => None,
     };
-    send(port, refusal_event(alloc, words.as_str(), path, line)?)
+    port.tell(refusal_event(alloc, words.as_str(), path, line)?)
 }
 
 /// Responds that a text is refused, and shows it.
@@ -108,20 +127,24 @@ fn refuse_text<A: Allocator + Copy, W: Sink>(
     numbering: Numbering,
     path: &str,
     error: LoadError,
-) -> Result<Closed<A>, Ended> {
+) -> Result<(), Trouble>
+    ensures { Responds result (asked_by request.entry) (spoken W.contents port.old) (spoken W.contents port.new) }
+{
     let words = refusal_words(alloc, error);
-    refuse_with(alloc, Turn::new(port, request), &words)?;
-    tell_refusal(alloc, port, numbering, &words, path, error)?;
-    Ok(Closed::Terminated)
+    refuse_with(port, request, &words)?;
+    tell_refusal(alloc, port, numbering, &words, path, error)
 }
 
 /// Tells that a session is open.
 pub fn tell_open<A: Allocator + Copy, W: Sink>(
     alloc: A,
-    turn: Turn<'_, '_, A, W>,
-) -> Result<(), Trouble> {
-    let port = turn.accept(alloc)?;
-    send(port, event(alloc, "initialized")?)
+    port: &mut Port<A, W>,
+    request: Request<'_>,
+) -> Result<(), Trouble>
+    ensures { Responds result (asked_by request.entry) (spoken W.contents port.old) (spoken W.contents port.new) }
+{
+    port.accept(request)?;
+    tell_plain(alloc, "initialized", port)
 }
 
 /// Responds that a program doesn't start.
@@ -130,7 +153,9 @@ pub fn refuse_start<A: Allocator + Copy, S: Source, W: Sink>(
     launch: &Launch<A>,
     request: Request<'_>,
     line: &mut Line<A, S, W>,
-) -> Result<Closed<A>, Ended> {
+) -> Result<Closed<A>, Ended>
+    ensures { Serves result (asked_by request.entry) (heard S.remaining W.contents line.old) (heard S.remaining W.contents line.new) }
+{
     refuse_load(start_error(error), launch, request, line)
 }
 
@@ -140,11 +165,13 @@ pub fn refuse_load<A: Allocator + Copy, S: Source, W: Sink>(
     launch: &Launch<A>,
     request: Request<'_>,
     line: &mut Line<A, S, W>,
-) -> Result<Closed<A>, Ended> {
+) -> Result<Closed<A>, Ended>
+    ensures { Serves result (asked_by request.entry) (heard S.remaining W.contents line.old) (heard S.remaining W.contents line.new) }
+{
     let alloc = line.alloc;
     let numbering = line.numbering;
     let path = launch.program.as_str();
-    refuse_text(alloc, &mut line.port, request, numbering, path, error)
+    closed_by(refuse_text(alloc, &mut line.port, request, numbering, path, error))
 }
 
 /// Why a file can't be read.
@@ -159,11 +186,12 @@ pub fn refuse_unread<A: Allocator + Copy, S: Source, W: Sink>(
     launch: &Launch<A>,
     request: Request<'_>,
     line: &mut Line<A, S, W>,
-) -> Result<Closed<A>, Ended> {
+) -> Result<Closed<A>, Ended>
+    ensures { Serves result (asked_by request.entry) (heard S.remaining W.contents line.old) (heard S.remaining W.contents line.new) }
+{
     let alloc = line.alloc;
     let words = unread_words(alloc, launch.program.as_str());
-    refuse_with(alloc, Turn::new(&mut line.port, request), &words)?;
-    Ok(Closed::Terminated)
+    closed_by(refuse_with(&mut line.port, request, &words))
 }
 
 /// Tells that the arguments of a launch aren't fit.
@@ -171,14 +199,12 @@ pub fn refuse_unfit<A: Allocator + Copy, S: Source, W: Sink>(
     request: Request<'_>,
     unfit: Unfit,
     line: &mut Line<A, S, W>,
-) -> Result<Closed<A>, Ended> {
+) -> Result<Closed<A>, Ended>
+    ensures { Serves result (asked_by request.entry) (heard S.remaining W.contents line.old) (heard S.remaining W.contents line.new) }
+{
     if unfit == Unfit::OutOfMemory {
         request.end();
         return Err(Ended::OutOfMemory);
     }
-    let turn = Turn::new(&mut line.port, request);
-    match turn.refuse(line.alloc, unfit_words(unfit)) {
-        Ok(_) => Ok(Closed::Terminated),
-        Err(error) => Err(Ended::from(Trouble::from(error))),
-    }
+    closed_by(line.port.refuse(request, unfit_words(unfit)))
 }

@@ -1,11 +1,14 @@
 //! The map of places of a launch: it is read before the text, and refused as a whole.
 
+ghost use Rattle.qrev_notices.specs.Conversation.{asked_by};
+ghost use Rattle.qrev_notices.specs.Reading.{heard, Serves};
+
 use crate::line::{Closed, Ended, Line};
 use crate::recording::Files;
+use crate::refusals::{closed_by, refuse_with};
 use qil_streams::{Sink, Source};
-use qrev_debuggee::Trouble;
 use qrev_map::{Map, MapError};
-use qrev_protocol::{Request, Turn};
+use qrev_protocol::Request;
 use qrev_requests::Launch;
 use qrev_views::{SourceMap, number_text};
 use std::alloc::{AllocError, Allocator};
@@ -100,16 +103,9 @@ pub fn refuse_map<A: Allocator + Copy, S: Source, W: Sink>(
     launch: &Launch<A>,
     request: Request<'_>,
     line: &mut Line<A, S, W>,
-) -> Result<Closed<A>, Ended> {
-    let alloc = line.alloc;
-    match fault_words(alloc, launch, fault) {
-        Ok(words) => match Turn::new(&mut line.port, request).refuse(alloc, words.as_str()) {
-            Ok(_) => Ok(Closed::Terminated),
-            Err(error) => Err(Ended::from(Trouble::from(error))),
-        },
-        Err(_) => {
-            request.end();
-            Err(Ended::OutOfMemory)
-        }
-    }
+) -> Result<Closed<A>, Ended>
+    ensures { Serves result (asked_by request.entry) (heard S.remaining W.contents line.old) (heard S.remaining W.contents line.new) }
+{
+    let words = fault_words(line.alloc, launch, fault);
+    closed_by(refuse_with(&mut line.port, request, &words))
 }

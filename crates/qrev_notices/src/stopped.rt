@@ -1,37 +1,45 @@
 //! What an editor is told when a run stands: the output that is new, and why and where the run stands.
 
-ghost use Rattle.std.specs.Prelude.{◌≤◌, length};
+ghost use Rattle.std.specs.Prelude.{◌≤◌, length, IfOk};
+ghost use Rattle.qrev_notices.specs.Conversation.{spoken, Tells, IsEventSoFar};
 
+use crate::port::Port;
+use crate::trouble::Trouble;
 use qil_machine::Machine;
 use qil_meaning::Reason;
 use qil_state::Status;
 use qil_streams::Sink;
-use qrev_debuggee::{Debuggee, RequestedStop, StopFamily, Trouble, Why};
-use qrev_protocol::{Object, Port, Whole, event};
+use qrev_debuggee::{Debuggee, RequestedStop, StopFamily, Why};
+use qrev_protocol::{Object, Whole, event};
 use qrev_recorder::HasMachine;
 use qrev_views::{as_text, place_text};
 use std::alloc::{AllocError, Allocator};
-
-/// Sends an event.
-pub fn send<A: Allocator + Copy, W: Sink>(
-    port: &mut Port<A, W>,
-    message: Object<A, Whole>,
-) -> Result<(), Trouble> {
-    port.send_counted(message)?;
-    Ok(())
-}
 
 /// An event with a text, as the program's output or for the console.
 pub fn output_event<A: Allocator + Copy>(
     alloc: A,
     category: &str,
     text: &str,
-) -> Result<Object<A, Whole>, AllocError> {
-    event(alloc, "output")?
+) -> Result<Object<A, Whole>, AllocError>
+    ensures { IfOk result (λ o. IsEventSoFar o.out.tokens) }
+{
+    let message = event(alloc, "output")?
         .object("body")?
         .text("category", category)?
         .text("output", text)?
-        .end()
+        .end()?;
+    Ok(message)
+}
+
+/// Tells an event that has no body.
+pub fn tell_plain<A: Allocator + Copy, W: Sink>(
+    alloc: A,
+    name: &str,
+    port: &mut Port<A, W>,
+) -> Result<(), Trouble>
+    ensures { Tells result (spoken W.contents port.old) (spoken W.contents port.new) }
+{
+    port.tell(event(alloc, name)?)
 }
 
 /// How many bytes two texts have in common at their beginnings.
@@ -47,26 +55,40 @@ fn common(one: &[u8], other: &[u8]) -> usize
     count
 }
 
+/// Tells that the output isn't what was told of it, if so it is.
+fn tell_difference<A: Allocator + Copy, W: Sink>(
+    alloc: A,
+    differs: bool,
+    port: &mut Port<A, W>,
+) -> Result<(), Trouble>
+    ensures { Tells result (spoken W.contents port.old) (spoken W.contents port.new) }
+{
+    if !differs {
+        return Ok(());
+    }
+    let text = "[the output differs from what was shown]\n";
+    port.tell(output_event(alloc, "console", text)?)
+}
+
 /// Tells what is new of the output. After a move back that is nothing until the output is longer than what was told.
 fn tell_output<'c, A: Allocator + Copy + 'c, L: HasMachine<A, Machine<'c, 'c, A>>, W: Sink>(
     debuggee: &mut Debuggee<'_, '_, '_, A, L>,
     port: &mut Port<A, W>,
-) -> Result<(), Trouble> {
+) -> Result<(), Trouble>
+    ensures { Tells result (spoken W.contents port.old) (spoken W.contents port.new) }
+{
     let alloc = debuggee.alloc;
     let output = debuggee.recorder.live().machine().output();
     let same = common(output, debuggee.output.as_slice());
     if same == output.len() {
         return Ok(());
     }
-    if same < debuggee.output.len() {
-        let text = "[the output differs from what was shown]\n";
-        send(port, output_event(alloc, "console", text)?)?;
-    }
+    tell_difference(alloc, same < debuggee.output.len(), port)?;
     let (_, new) = output.split_at(same);
     let text = as_text(alloc, new)?;
     debuggee.output.truncate(same);
     debuggee.output.extend_from_slice(new)?;
-    send(port, output_event(alloc, "stdout", text.as_str())?)
+    port.tell(output_event(alloc, "stdout", text.as_str())?)
 }
 
 /// The reason's word, the text next to it, and the number of the stop that was hit.
@@ -120,7 +142,9 @@ fn stopped_event<A: Allocator + Copy>(
     alloc: A,
     words: Words,
     place: &str,
-) -> Result<Object<A, Whole>, AllocError> {
+) -> Result<Object<A, Whole>, AllocError>
+    ensures { IfOk result (λ o. IsEventSoFar o.out.tokens) }
+{
     let body = event(alloc, "stopped")?
         .object("body")?
         .text("reason", words.reason)?
@@ -128,17 +152,25 @@ fn stopped_event<A: Allocator + Copy>(
         .text("text", fault_in(place).unwrap_or(words.text))?
         .number("threadId", 1)?
         .flag("allThreadsStopped", true)?;
-    match words.stop {
-        Some(number) => body.array("hitBreakpointIds")?.number(number)?.end()?.end(),
-        None => body.end(),
-    }
+    let Some(number) = words.stop else {
+        let message = body.end()?;
+        return Ok(message);
+    };
+    let message = body
+        .array("hitBreakpointIds")?
+        .number(number)?
+        .end()?
+        .end()?;
+    Ok(message)
 }
 
 /// The message that says that the run stands.
 fn stopped_message<'c, A: Allocator + Copy + 'c, L: HasMachine<A, Machine<'c, 'c, A>>>(
     debuggee: &Debuggee<'_, '_, '_, A, L>,
     why: Why,
-) -> Result<Object<A, Whole>, AllocError> {
+) -> Result<Object<A, Whole>, AllocError>
+    ensures { IfOk result (λ o. IsEventSoFar o.out.tokens) }
+{
     let machine = debuggee.machine();
     let place = place_text(debuggee.alloc, debuggee.position(), machine)?;
     let on_function = is_on_function(why, debuggee.stops.as_slice());
@@ -151,7 +183,9 @@ pub fn tell_stopped<'c, A: Allocator + Copy + 'c, L: HasMachine<A, Machine<'c, '
     debuggee: &mut Debuggee<'_, '_, '_, A, L>,
     why: Why,
     port: &mut Port<A, W>,
-) -> Result<(), Trouble> {
+) -> Result<(), Trouble>
+    ensures { Tells result (spoken W.contents port.old) (spoken W.contents port.new) }
+{
     tell_output(debuggee, port)?;
-    send(port, stopped_message(debuggee, why)?)
+    port.tell(stopped_message(debuggee, why)?)
 }
