@@ -4,3 +4,5 @@ pub mod Shown
 pub mod Listing
 pub mod Slots
 pub mod Frames
+-- what this crate's own are stated with, for what stands on it
+pub use Rattle.qil_state.specs as qil_state

@@ -21,7 +21,7 @@ use Rattle.qil_tree.specs.declared.tree.Block.{Block}
 use Rattle.qil_tree.specs.declared.tree.Func.{Func}
 use Rattle.qil_tree.specs.declared.tree.Program.{Program}
 use Rattle.qil_rules.specs.Mentions.{func_mentions}
-use Rattle.qil_layout.specs.Layout.{address_of}
+use Rattle.qil_meaning.specs.qil_layout.Layout.{address_of}
 use Rattle.qil_meaning.specs.State.{Name}
 use Rattle.qil_meaning.specs.Names.{temps_named}
 use Rattle.qil_meaning.specs.Poke.{class_in}

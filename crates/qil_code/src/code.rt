@@ -18,7 +18,7 @@ ghost use Rattle.qil_code.specs.Reading.{IsCodeOf, func_names, func_code_at, par
 use crate::numbered::{
     BlockId, FuncCode, NumberedBlock, NumberedInst, NumberedJump, PhiMove, Slot,
 };
-use qil_layout::{FuncId, Image};
+use qil_meaning::{FuncId, Image};
 use qil_names::Numbers;
 use qil_tree::{AbiType, Block, Class, Name, Program};
 use std::alloc::Allocator;

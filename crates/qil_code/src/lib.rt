@@ -12,3 +12,4 @@ pub use numbered::{
     BlockId, Edge, FuncCode, NumberedArgument, NumberedBlock, NumberedExpr, NumberedFunc,
     NumberedInst, NumberedJump, NumberedOperand, PhiMove, Receiver, Slot,
 };
+pub use qil_meaning::FuncId;

@@ -11,7 +11,7 @@ use Rattle.qil_streams.proofs.DeviceLemmas.{Appends-nil, Appends-append, Consume
 use Rattle.qil_meaning.specs.State.{State}
 use Rattle.qil_meaning.specs.Timeline.{Timeline}
 use Rattle.qil_replies.specs.SessionState.{SessionState, session_at}
-use Rattle.qil_session.specs.Kept.{Kept, session_state}
+use Rattle.qil_serving.specs.qil_session.Kept.{Kept, session_state}
 use Rattle.qil_replies.specs.Answers as sessions
 use Rattle.qil_script.proofs.ReachedLemmas.{ample}
 use Rattle.qil_serving.specs.declared.serving.IoFault.{IoFault}

@@ -12,8 +12,7 @@ use crate::outcome::Outcome;
 use qil_compare::Verdict;
 use qil_history::History;
 use qil_machine::Machine;
-use qil_runs::Stepwise;
-use qil_serving::{IoFault, Session, serve};
+use qil_serving::{IoFault, Session, Stepwise, serve};
 use qil_streams::{Sink, Source};
 use std::alloc::Allocator;
 

@@ -21,7 +21,7 @@ use qil_compare::{Answer, Side, compare};
 use qil_deltas::{Deltas, Ring};
 use qil_history::History;
 use qil_machine::Machine;
-use qil_runs::Stepwise;
+use qil_serving::Stepwise;
 use qil_streams::{Outlet, PutError, Sink, Source};
 use std::alloc::Allocator;
 

@@ -9,7 +9,7 @@ use Rattle.qil_meaning.specs.Runs.{if_holds, stop_on, stop_back, bottom}
 use Rattle.qil_meaning.specs.declared.reason.Reason.{Reason}
 use Rattle.qil_meaning.specs.declared.reason.Reason.TheVariants.{End, Start, Oldest, Limit, Memory}
 use Rattle.qil_frames.specs.Frames.{SlotFrame}
-use Rattle.qil_state.specs.State.{frames_state}
+use Rattle.qil_stops.specs.qil_state.State.{frames_state}
 use Rattle.qil_stops.proofs.OnWay as on
 use Rattle.qil_stops.proofs.BackWay as off
 use Rattle.qil_depths.specs.declared.depth_end.DepthEnd.{DepthEnd}

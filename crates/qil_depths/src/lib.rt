@@ -7,4 +7,5 @@ mod depth_end;
 mod running;
 
 pub use depth_end::DepthEnd;
+pub use qil_stops::{HasState, Stops};
 pub use running::{run_back_to_depth, run_to_depth};

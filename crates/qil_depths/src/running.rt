@@ -9,10 +9,11 @@ ghost use Rattle.qil_stops.specs.Named.{named_stops};
 ghost use Rattle.qil_depths.specs.Depths.{RunsToDepth, RunsBackToDepth, bottom_or_depth};
 
 use crate::depth_end::DepthEnd;
-use qil_history::{BackError, History};
-use qil_machine::{Machine, MoveError};
 use qil_meaning::Reason;
-use qil_stops::{NumberedStop, Stops, bottom_or_limit, end_or, is_over, readings, stopped_here};
+use qil_stops::{
+    BackError, History, Machine, MoveError, NumberedStop, Stops, bottom_or_limit, end_or, is_over,
+    readings, stopped_here,
+};
 use std::alloc::Allocator;
 
 /// How many calls are open.

@@ -10,8 +10,7 @@ ghost use Rattle.qil_frames.specs.Taken.{taken};
 
 use crate::phis::{do_phis, undo_phis};
 use crate::saved::{PhiFault, PhiSaved};
-use qil_code::{BlockId, PhiMove, Receiver, Slot};
-use qil_layout::FuncId;
+use qil_code::{BlockId, FuncId, PhiMove, Receiver, Slot};
 use qil_tree::AbiType;
 use std::alloc::{AllocError, Allocator};
 use std::marker::Model;

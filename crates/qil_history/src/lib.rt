@@ -6,3 +6,4 @@ mod poke;
 
 pub use history::{BackError, HasState, History};
 pub use poke::Poke;
+pub use qil_machine::{BlockId, Code, Machine, MoveError, PokeError, Slot};

@@ -1,13 +1,12 @@
 //! Pokes of all kinds as one, so that each history has one way to keep them.
 
 ghost use Rattle.std.specs.Prelude.{◌≡◌, ◌≢◌, ◌≤◌, Ok, Err, IfOk, IfErr, OnOk, OnErr};
-ghost use Rattle.qil_state.specs.State.{state_of};
+ghost use Rattle.qil_machine.specs.qil_state.State.{state_of};
 ghost use Rattle.qil_machine.specs.Moves.{weight};
 ghost use Rattle.qil_machine.specs.Places.{Made};
 ghost use Rattle.qil_history.specs.Pokes.{HasWidth, poke_of, poke_cost, Explains};
 
-use qil_code::Slot;
-use qil_machine::{Delta, Machine, PokeError};
+use qil_machine::{Delta, Machine, PokeError, Slot};
 use std::alloc::Allocator;
 
 /// A poke that is asked for.

@@ -22,3 +22,4 @@ pub mod KindsWeigh
 pub mod KindsFit
 pub mod Placing
 pub mod Statuses
+pub mod Keeping

@@ -201,12 +201,12 @@ entered_weighs {A} now new block e k n here of ent en h =
 
 -- ---- the step
 
-pub perform_costs : {A : Type 0} (m now new : Whole A) (block : NumberedBlock A) (inst : NumberedInst A) (k : ℕ) (r : Result Move StepError) → m ≡ now → IsMachine m → IsHere now.program now.frames block k → Some inst ≡ slice_get block.insts k
-    → OnOk r (performed_whole now inst ≡ Ok (state_of new)) → IfOk r (λ d. weight d ≤ inst_weight now new inst) → IfOk r (λ d. weight d ≤ cost_of now.program (state_of now))
-perform_costs m now new block inst k (Ok d) same ok here is does h =
+pub perform_costs : {A T : Type 0} (m now new : Whole A) (block : NumberedBlock A) (inst : NumberedInst A) (k : ℕ) (before after : List Move) (r : Result T StepError) → m ≡ now → IsMachine m → IsHere now.program now.frames block k
+    → Some inst ≡ slice_get block.insts k → OnOk r (performed_whole now inst ≡ Ok (state_of new)) → OnOk r (WeighsAtMost before after (inst_weight now new inst)) → OnOk r (WeighsAtMost before after (cost_of now.program (state_of now)))
+perform_costs m now new block inst k before after (Ok d) same ok here is does h = λ move kept.
     let found : InstFound now inst k = inst_found m now block inst k same ok here is in
-    inst_costs now new block inst k (weight d) here is (found.does ∙ does) h
-perform_costs m now new block inst k (Err e) same ok here is does h = tt
+    inst_costs now new block inst k (weight move) here is (found.does ∙ does) (h move kept)
+perform_costs m now new block inst k before after (Err e) same ok here is does h = tt
 
 pub leave_costs : {A : Type 0} (m now new : Whole A) (block : NumberedBlock A) (k : ℕ) (r : Result Move StepError) → m ≡ now → IsMachine m → IsHere now.program now.frames block k → None ≡ slice_get block.insts k
     → OnOk r (left_whole now block.jump ≡ Ok (state_of new)) → IfOk r (λ d. weight d ≡ jump_weight now new block.jump) → IfOk r (λ d. weight d ≤ cost_of now.program (state_of now))

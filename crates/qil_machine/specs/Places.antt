@@ -1,10 +1,11 @@
 -- Where a running machine stands before a move of some kind.
-use Rattle.std.specs.Prelude.{◌≡◌, ℕ, List, [], ◌∷◌, ◌++◌}
+use Rattle.std.specs.Prelude.{◌≡◌, ℕ, List, [], ◌∷◌, ◌++◌, Result, Ok, Err}
 use Rattle.qil_tree.specs.declared.tree.Program.{Program}
 use Rattle.qil_code.specs.Numbered.{block_at}
 use Rattle.qil_frames.specs.Frames.{SlotFrame}
 use Rattle.qil_state.specs.declared.status.Status.TheVariants.{Running}
 use Rattle.qil_state.specs.State.{Whole, PlaceFits, IsMachine}
+use Rattle.qil_machine.specs.declared.error.StepError.{StepError}
 use Rattle.qil_machine.specs.Moves.{Move, inst_count, undone, Fits}
 
 abbrev pub IsRunning : {A : Type 0} → Whole A → Type 0
@@ -26,3 +27,10 @@ pub record HasMade {A : Type 0} (before after : List Move) (m w : Whole A) : Typ
   pub move : Move
   pub kept : after ≡ before ++ move ∷ []
   pub made : Made move m w
+
+-- of a move that was made or wasn't, and of what is told of it: if it was made it is kept, behind those before, and else the same error is told
+abbrev pub IsKept : {T : Type 0} → Result Move StepError → Result T StepError → List Move → List Move → Type 0
+IsKept (Ok move) (Ok told) before after = after ≡ before ++ move ∷ []
+IsKept (Ok move) (Err error) before after = ⊥
+IsKept (Err why) (Ok told) before after = ⊥
+IsKept (Err why) (Err error) before after = why ≡ error

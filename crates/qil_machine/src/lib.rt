@@ -22,4 +22,7 @@ pub use delta::{Copied, Delta, DeltaKind, Grown};
 pub use error::{MoveError, PokeError, StartError};
 pub use log::{DeltaSink, OneDelta};
 pub use machine::Machine;
+pub use qil_code::{BlockId, Code, Receiver, Slot};
+pub use qil_frames::Frame;
+pub use qil_state::Status;
 pub use undo::value_of;

@@ -5,7 +5,7 @@ use Rattle.qil_tree.specs.declared.tree.CallResult.{CallResult}
 use Rattle.qil_tree.specs.declared.tree.Argument.{Argument}
 use Rattle.qil_tree.specs.declared.tree.Func.{Func}
 use Rattle.qil_tree.specs.declared.tree.Program.{Program}
-use Rattle.qil_layout.specs.Callee.{callee_at}
+use Rattle.qil_memory.specs.qil_layout.Callee.{callee_at}
 use Rattle.qil_meaning.specs.State.{Frame, State, no_function, call_shape, calls_too_deep, output_full}
 use Rattle.qil_meaning.specs.Calls.{agree_all, gives, call, call_defined, depth_limit, next, takes, output_limit, writes}
 

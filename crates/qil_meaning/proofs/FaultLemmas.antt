@@ -12,9 +12,9 @@ use Rattle.qil_tree.specs.declared.tree.JumpKind.TheVariants as jumps
 use Rattle.qil_tree.specs.declared.tree.Block.{Block}
 use Rattle.qil_tree.specs.declared.tree.Func.{Func}
 use Rattle.qil_tree.specs.declared.tree.Program.{Program}
-use Rattle.qil_layout.specs.declared.callee.Callee.{Callee}
-use Rattle.qil_layout.specs.declared.callee.Callee.TheVariants.{Defined, PutChar, Puts, Exit}
-use Rattle.qil_layout.specs.Callee.{callee_at}
+use Rattle.qil_memory.specs.qil_layout.declared.callee.Callee.{Callee}
+use Rattle.qil_memory.specs.qil_layout.declared.callee.Callee.TheVariants.{Defined, PutChar, Puts, Exit}
+use Rattle.qil_memory.specs.qil_layout.Callee.{callee_at}
 use Rattle.qil_meaning.specs.State.{Frame, Fault, running, State}
 use Rattle.qil_meaning.specs.Laws.{IsWhole, Settles}
 use Rattle.qil_meaning.specs.Values.{Outcome, ◌>>=◌, first, rest}

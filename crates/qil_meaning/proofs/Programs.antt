@@ -24,7 +24,7 @@ use Rattle.qil_tree.specs.declared.tree.Field.{Field}
 use Rattle.qil_tree.specs.declared.tree.Program.{Program}
 use Rattle.qil_meaning.specs.State.{Name, Frame, State, Status}
 use Rattle.qil_meaning.specs.declared.start.StartFault.{StartFault}
-use Rattle.qil_layout.specs.Layout.{zeros}
+use Rattle.qil_memory.specs.qil_layout.Layout.{zeros}
 use Rattle.qil_memory.specs.Live.{laid, below}
 use Rattle.qil_meaning.specs.Temps.{with_temp, by_name, overlay}
 use Rattle.qil_meaning.specs.Calls.{text_at}

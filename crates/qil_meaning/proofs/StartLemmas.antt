@@ -3,7 +3,7 @@ use Rattle.std.proofs.Common.{◌≡◌, refl, ℕ, ◌-◌, ◌≤◌, Bool, tr
 use Rattle.std.specs.Prelude.{slice_get}
 use Rattle.std.proofs.lemmas.Option.{slice_get_past}
 use Rattle.std.proofs.lemmas.Bool.{ltb-false, le-ltb}
-use Rattle.qil_layout.specs.Layout.{data_base, zeros}
+use Rattle.qil_memory.specs.qil_layout.Layout.{data_base, zeros}
 use Rattle.qil_memory.specs.Buffers.{stack_base, capacity, fresh}
 use Rattle.qil_memory.specs.Live.{live, laid, else_at}
 use Rattle.qil_meaning.specs.Start.{none_live}

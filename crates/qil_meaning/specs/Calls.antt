@@ -8,9 +8,9 @@ use Rattle.qil_tree.specs.declared.tree.Block.{Block}
 use Rattle.qil_tree.specs.declared.tree.Func.{Func}
 use Rattle.qil_tree.specs.declared.tree.Program.{Program}
 use Rattle.qil_tree.specs.Types.{class_of}
-use Rattle.qil_layout.specs.declared.callee.Callee.{Callee}
-use Rattle.qil_layout.specs.declared.callee.Callee.TheVariants.{Defined, PutChar, Puts, Exit}
-use Rattle.qil_layout.specs.Callee.{callee_at}
+use Rattle.qil_memory.specs.qil_layout.declared.callee.Callee.{Callee}
+use Rattle.qil_memory.specs.qil_layout.declared.callee.Callee.TheVariants.{Defined, PutChar, Puts, Exit}
+use Rattle.qil_memory.specs.qil_layout.Callee.{callee_at}
 use Rattle.qil_ops.specs.Values.{width, low_bits}
 use Rattle.qil_memory.specs.Buffers.{stack_end}
 use Rattle.qil_memory.specs.Live.{Live}

@@ -11,7 +11,7 @@ use Rattle.qil_tree.specs.declared.tree.JumpKind.TheVariants as jumps
 use Rattle.qil_tree.specs.declared.tree.Block.{Block}
 use Rattle.qil_tree.specs.declared.tree.Func.{Func}
 use Rattle.qil_tree.specs.declared.tree.Program.{Program}
-use Rattle.qil_layout.specs.Layout.{width_bytes}
+use Rattle.qil_memory.specs.qil_layout.Layout.{width_bytes}
 use Rattle.qil_meaning.specs.State.{Name, Frame, State}
 use Rattle.qil_meaning.specs.Values.{Outcome}
 use Rattle.qil_meaning.specs.Names.{temps_named}

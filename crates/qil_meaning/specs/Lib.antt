@@ -16,3 +16,5 @@ pub mod Names
 pub mod Slots
 pub mod Laws
 pub mod Cost
+-- what this crate's own are stated with, for what stands on it
+pub use Rattle.qil_memory.specs.qil_layout as qil_layout

@@ -10,7 +10,7 @@ use Rattle.qil_tree.specs.declared.tree.JumpKind.{JumpKind}
 use Rattle.qil_tree.specs.declared.tree.JumpKind.TheVariants as jumps
 use Rattle.qil_tree.specs.declared.tree.Block.{Block}
 use Rattle.qil_tree.specs.declared.tree.Func.{Func}
-use Rattle.qil_rules.specs.Operands.{inst_reads, inst_target}
+use Rattle.qil_memory.specs.qil_rules.Operands.{inst_reads, inst_target}
 use Rattle.qil_meaning.specs.State.{Name}
 
 abbrev pub operand_names : Operand → List Name

@@ -5,10 +5,10 @@ use Rattle.std.specs.Str.{bytes_eq}
 use Rattle.qil_tree.specs.declared.ops.Class.{Class}
 use Rattle.qil_tree.specs.declared.tree.Func.{Func}
 use Rattle.qil_tree.specs.declared.tree.Program.{Program}
-use Rattle.qil_rules.specs.declared.mention.MentionKind.{MentionKind}
-use Rattle.qil_rules.specs.declared.mention.MentionKind.TheVariants.{Defines}
-use Rattle.qil_rules.specs.declared.mention.Mention.{Mention}
-use Rattle.qil_rules.specs.Mentions.{func_mentions}
+use Rattle.qil_memory.specs.qil_rules.declared.mention.MentionKind.{MentionKind}
+use Rattle.qil_memory.specs.qil_rules.declared.mention.MentionKind.TheVariants.{Defines}
+use Rattle.qil_memory.specs.qil_rules.declared.mention.Mention.{Mention}
+use Rattle.qil_memory.specs.qil_rules.Mentions.{func_mentions}
 use Rattle.qil_memory.specs.declared.fault.Dead.{Dead}
 use Rattle.qil_memory.specs.Live.{Live}
 use Rattle.qil_memory.specs.Calls.{stored}

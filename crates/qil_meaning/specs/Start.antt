@@ -2,7 +2,7 @@
 use Rattle.std.specs.Prelude.{ℕ, ◌==◌, if◌then◌else◌, List, [], ◌∷◌, length, map, Option, Some, None, Result, Ok, Err}
 use Rattle.qil_tree.specs.declared.tree.Func.{Func}
 use Rattle.qil_tree.specs.declared.tree.Program.{Program}
-use Rattle.qil_layout.specs.Layout.{data_base, bytes_of}
+use Rattle.qil_memory.specs.qil_layout.Layout.{data_base, bytes_of}
 use Rattle.qil_memory.specs.Buffers.{stack_base}
 use Rattle.qil_memory.specs.Live.{Live, laid}
 use Rattle.qil_meaning.specs.State.{Name, running, State}

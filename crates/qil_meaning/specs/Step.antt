@@ -18,9 +18,9 @@ use Rattle.qil_tree.specs.declared.tree.JumpKind.TheVariants as jumps
 use Rattle.qil_tree.specs.declared.tree.Block.{Block}
 use Rattle.qil_tree.specs.declared.tree.Func.{Func}
 use Rattle.qil_tree.specs.declared.tree.Program.{Program}
-use Rattle.qil_rules.specs.Operands.{Read, as_class, inst_reads}
-use Rattle.qil_rules.specs.Mentions.{returned_class}
-use Rattle.qil_layout.specs.Layout.{width_bytes, rounded, zeros}
+use Rattle.qil_memory.specs.qil_rules.Operands.{Read, as_class, inst_reads}
+use Rattle.qil_memory.specs.qil_rules.Mentions.{returned_class}
+use Rattle.qil_memory.specs.qil_layout.Layout.{width_bytes, rounded, zeros}
 use Rattle.qil_ops.specs.Values.{width, low_bits}
 use Rattle.qil_memory.specs.declared.fault.BlitFault.{BlitFault}
 use Rattle.qil_memory.specs.declared.fault.BlitFault.TheVariants.{Source, Target as Onto}

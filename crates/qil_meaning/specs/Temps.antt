@@ -2,7 +2,7 @@
 use Rattle.std.specs.Prelude.{ℕ, if◌then◌else◌, List, [], ◌∷◌, zip, Option, None}
 use Rattle.std.specs.Option.{option_or}
 use Rattle.std.specs.Str.{bytes_eq}
-use Rattle.qil_layout.specs.Layout.{if_named}
+use Rattle.qil_memory.specs.qil_layout.Layout.{if_named}
 use Rattle.qil_meaning.specs.State.{Name, Temps}
 
 -- the map with a value for one temporary, or with that one unset

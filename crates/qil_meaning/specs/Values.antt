@@ -11,8 +11,8 @@ use Rattle.qil_tree.specs.declared.tree.Operand.TheVariants as operands
 use Rattle.qil_tree.specs.declared.tree.Expr.{Expr}
 use Rattle.qil_tree.specs.declared.tree.Expr.TheVariants as exprs
 use Rattle.qil_tree.specs.declared.tree.Program.{Program}
-use Rattle.qil_rules.specs.Operands.{Read}
-use Rattle.qil_layout.specs.Layout.{address_of}
+use Rattle.qil_memory.specs.qil_rules.Operands.{Read}
+use Rattle.qil_memory.specs.qil_layout.Layout.{address_of}
 use Rattle.qil_ops.specs.declared.division.DivFault.{DivFault}
 use Rattle.qil_ops.specs.Values.{width, low_bits}
 use Rattle.qil_ops.specs.Operations.{unary_of, binary_of, holds, extended}

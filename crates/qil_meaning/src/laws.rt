@@ -7,7 +7,7 @@ ghost use Rattle.qil_tree.specs.declared.tree.Argument.{Argument};
 ghost use Rattle.qil_tree.specs.declared.tree.CallResult.{CallResult};
 ghost use Rattle.qil_tree.specs.declared.tree.Func.{Func};
 ghost use Rattle.qil_tree.specs.declared.tree.Program.{Program};
-ghost use Rattle.qil_layout.specs.Callee.{callee_at};
+ghost use Rattle.qil_memory.specs.qil_layout.Callee.{callee_at};
 ghost use Rattle.qil_memory.specs.Buffers.{stack_end};
 ghost use Rattle.qil_memory.specs.Live.{Live};
 ghost use Rattle.qil_meaning.specs.State.{Name, Frame, State, running, dead_address, no_function, call_shape, calls_too_deep, output_full};

@@ -12,6 +12,7 @@ pub use laws::{
     call_faults_in_order, dead_byte_comes_before_full_output, fault_changes_status,
     final_states_stay, output_is_bounded, phis_swap, text_is_up_to_zero,
 };
+pub use qil_memory::{FuncId, Image};
 pub use reason::Reason;
 pub use start::StartFault;
 pub use stops::{

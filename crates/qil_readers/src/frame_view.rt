@@ -3,8 +3,8 @@
 ghost use Rattle.std.specs.Prelude.{◌≡◌, ◌≤◌, length};
 ghost use Rattle.qil_readers.specs.Viewed.{viewed};
 
-use qil_code::{BlockId, Receiver};
 use qil_layout::FuncId;
+use qil_machine::{BlockId, Receiver};
 use std::marker::Model;
 
 /// A call that is not over, whichever way its machine keeps it. Specifications see what they see of a frame.
@@ -20,7 +20,7 @@ pub struct FrameView<'m> {
 
 impl<'m> Model for FrameView<'m> {
     ghost use Rattle.std.specs.Prelude.{◌≤◌, length};
-    ghost use Rattle.qil_frames.specs.Frames.{SlotFrame};
+    ghost use Rattle.qil_machine.specs.qil_frames.Frames.{SlotFrame};
     ghost use Rattle.qil_readers.specs.Viewed.{viewed};
 
     ghost Value = { SlotFrame };

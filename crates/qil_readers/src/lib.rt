@@ -5,4 +5,5 @@ mod frame_view;
 mod readers;
 
 pub use frame_view::FrameView;
+pub use qil_machine::Machine;
 pub use readers::{HasProgram, Readers};

@@ -3,15 +3,12 @@
 ghost use Rattle.std.specs.Prelude.{◌≡◌, ◌≢◌, ◌+◌, ◌↔◌, ℕ, List, Some, IsTrue, length, slice_get};
 ghost use Rattle.qil_tree.specs.declared.tree.Program.{Program};
 ghost use Rattle.qil_memory.specs.Live.{live};
-ghost use Rattle.qil_frames.specs.Frames.{HasSlot, held};
-ghost use Rattle.qil_state.specs.State.{Whole, IsMachine, state_of, head_names};
+ghost use Rattle.qil_machine.specs.qil_frames.Frames.{HasSlot, held};
+ghost use Rattle.qil_machine.specs.qil_state.State.{Whole, IsMachine, state_of, head_names};
 ghost use Rattle.qil_machine.specs.Readings.{temp_here};
 
 use crate::frame_view::FrameView;
-use qil_code::{Code, Slot};
-use qil_frames::Frame;
-use qil_machine::Machine;
-use qil_state::Status;
+use qil_machine::{Code, Frame, Machine, Slot, Status};
 use std::alloc::Allocator;
 
 /// What a code is of, seen whole: the clauses of a trait can't name the code itself.

@@ -7,7 +7,7 @@ use Rattle.qil_meaning.specs.declared.reason.Reason.{Reason}
 use Rattle.qil_meaning.specs.declared.reason.Reason.TheVariants as reasons
 use Rattle.qil_code.specs.Numbered.{func_at, block_at, names_of}
 use Rattle.qil_code.specs.Slots.{name_at}
-use Rattle.qil_state.specs.State.{func_name, label_in}
+use Rattle.qil_answers.specs.qil_state.State.{func_name, label_in}
 use Rattle.qil_stops.specs.declared.stop.Watched.TheVariants as watches
 use Rattle.qil_stops.specs.declared.stop.StopKind.{StopKind}
 use Rattle.qil_stops.specs.declared.stop.StopKind.TheVariants as kinds

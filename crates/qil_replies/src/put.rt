@@ -2,7 +2,7 @@
 
 ghost use Rattle.std.specs.Prelude.{◌-◌, ◌<◌, ◌^◌, ◌++◌};
 ghost use Rattle.qil_streams.specs.Device.{HasPut};
-ghost use Rattle.qil_state.specs.State.{state_of};
+ghost use Rattle.qil_answers.specs.qil_state.State.{state_of};
 ghost use Rattle.qil_answers.specs.Texts.{state_line};
 ghost use Rattle.qil_replies.specs.Texts.{reason_line};
 ghost use Rattle.qil_replies.specs.Reply.{reply_text};
@@ -11,11 +11,10 @@ use crate::reply::Reply;
 use crate::stops::put_stops;
 use crate::texts::{put_deleted, put_reason, put_stop, refusal_words};
 use qil_answers::{
-    put_block, put_frames, put_memory, put_output, put_place, put_printed, put_temps,
+    Readers, put_block, put_frames, put_memory, put_output, put_place, put_printed, put_temps,
 };
 use qil_code::Code;
 use qil_meaning::Reason;
-use qil_readers::Readers;
 use qil_stops::NumberedStop;
 use qil_streams::{Put, PutError, put_line};
 use std::alloc::Allocator;

@@ -7,16 +7,15 @@ ghost use Rattle.qil_meaning.specs.Poke.{poke_temp, poke_memory, dead_bytes};
 ghost use Rattle.qil_meaning.specs.Stops.{first_break};
 ghost use Rattle.qil_meaning.specs.Targets.{after};
 ghost use Rattle.qil_state.specs.State.{state_of};
-ghost use Rattle.qil_machine.specs.Pokes.{poke_slot, RefusesName, RefusesSlot};
+ghost use Rattle.qil_stops.specs.qil_machine.Pokes.{poke_slot, RefusesName, RefusesSlot};
 ghost use Rattle.qil_stops.specs.Listed.{AreReadable};
 ghost use Rattle.qil_stops.specs.Named.{named_stops};
 ghost use Rattle.qil_stops.specs.Readings.{AllTell};
 
 use crate::watchable::Watchable;
 use qil_code::Slot;
-use qil_machine::PokeError;
 use qil_readers::HasProgram;
-use qil_stops::NumberedStop;
+use qil_stops::{NumberedStop, PokeError};
 use std::alloc::{AllocError, Allocator};
 
 /// A machine with copies of some of its states, each of which it can be brought back to. Only `keep` takes memory: a run is

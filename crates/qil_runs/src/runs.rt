@@ -7,14 +7,13 @@ ghost use Rattle.qil_meaning.specs.Poke.{poke_temp, poke_memory, no_frame, unkno
 ghost use Rattle.qil_meaning.specs.Timeline.{Timeline, position, oldest, at_end, poked};
 ghost use Rattle.qil_meaning.specs.Moves.{forward_by, back_by as gone_by};
 ghost use Rattle.qil_meaning.specs.Runs.{RunsOn, RunsBack};
-ghost use Rattle.qil_state.specs.State.{state_of};
+ghost use Rattle.qil_stops.specs.qil_state.State.{state_of};
 ghost use Rattle.qil_stops.specs.Listed.{AreReadable};
 ghost use Rattle.qil_stops.specs.Named.{named_stops};
 
-use qil_machine::PokeError;
 use qil_meaning::Reason;
 use qil_readers::{HasProgram, Readers};
-use qil_stops::NumberedStop;
+use qil_stops::{NumberedStop, PokeError};
 use std::alloc::Allocator;
 
 /// The states of a run, and runs along them: many moves by one call, so that whatever keeps the states has the loop. A step

@@ -6,10 +6,8 @@ use crate::runs::Runs;
 use crate::walk::{back_by, forward_by};
 use qil_code::Code;
 use qil_deltas::{Deltas, Ring};
-use qil_history::History;
-use qil_machine::{Machine, PokeError};
 use qil_meaning::Reason;
-use qil_stops::{NumberedStop, run, run_back};
+use qil_stops::{History, Machine, NumberedStop, PokeError, run, run_back};
 use std::alloc::Allocator;
 
 /// Marks a history that goes by single moves: each of these has runs by the one `impl` below. Without the mark no type could have

@@ -4,8 +4,7 @@ ghost use Rattle.std.specs.Prelude.{◌≡◌, ◌+◌, ◌<◌, ◌≤◌, ◌^
 ghost use Rattle.qil_meaning.specs.Timeline.{position, at_end};
 ghost use Rattle.qil_meaning.specs.Moves.{forward_by, back_by as gone_by};
 
-use qil_history::{HasState, History};
-use qil_machine::MoveError;
+use qil_stops::{HasState, History, MoveError};
 use std::alloc::Allocator;
 
 /// Moves forward up to so many times, and not past the end. Where memory runs out, answers how many moves were made.

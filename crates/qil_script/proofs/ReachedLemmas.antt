@@ -15,8 +15,8 @@ use Rattle.qil_streams.proofs.ScriptLemmas.{WholeLines-nil, WholeLines-line}
 use Rattle.qil_meaning.specs.State.{State}
 use Rattle.qil_meaning.specs.Poke.{PokeFault}
 use Rattle.qil_meaning.specs.Timeline.{position, at_end}
-use Rattle.qil_stops.specs.Listed.{is_listed}
-use Rattle.qil_stops.specs.declared.stop.StopKind.{StopKind}
+use Rattle.qil_replies.specs.qil_stops.Listed.{is_listed}
+use Rattle.qil_replies.specs.qil_stops.declared.stop.StopKind.{StopKind}
 use Rattle.qil_replies.specs.SessionState.{SessionState, has_kind, is_full}
 use Rattle.qil_replies.specs.Answers.{Answer, answer, answer_text, AreValid, IsValid, IsAnsweredTo, is_quit, if_back, poke_answer, poke_at, stop_answer}
 use Rattle.qil_script.specs.Reached.{Reported, Reached}

@@ -9,7 +9,7 @@ use Rattle.qil_meaning.specs.Start.{start_of}
 use Rattle.qil_meaning.specs.Timeline.{Timeline, begun}
 use Rattle.qil_loading.specs.Load.{Accepts}
 use Rattle.qil_loading.specs.Lines.{loaded_line}
-use Rattle.qil_answers.specs.Texts.{place_line}
+use Rattle.qil_replies.specs.qil_answers.Texts.{place_line}
 use Rattle.qil_replies.specs.SessionState.{SessionState, session_at}
 use Rattle.qil_replies.specs.Answers.{IsAnswered}
 

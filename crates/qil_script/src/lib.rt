@@ -17,3 +17,5 @@ use std::alloc::Allocator;
 pub fn script_has_answers<A: Allocator>()
     ensures { (s : SessionState A) (lines : List (List ℕ)) → (text : List ℕ) × IsAnswered s lines text }
 {}
+
+pub use qil_replies::{CommandRefusal, Reply};

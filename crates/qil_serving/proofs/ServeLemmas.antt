@@ -10,10 +10,10 @@ use Rattle.qil_commands.specs.declared.command.Refused.{Refused}
 use Rattle.qil_commands.specs.Command.{command_of}
 use Rattle.qil_streams.specs.Reader.{IsLine}
 use Rattle.qil_streams.specs.Script.{lines_of, whole_lines_of}
-use Rattle.qil_replies.specs.Reply.{reply_text}
-use Rattle.qil_replies.specs.SessionState.{SessionState}
+use Rattle.qil_script.specs.qil_replies.Reply.{reply_text}
+use Rattle.qil_script.specs.qil_replies.SessionState.{SessionState}
 use Rattle.qil_session.specs.AnsweredLine.{AnswersLine}
-use Rattle.qil_replies.specs.Answers.{answer, answer_text, answers, AreValid, IsValid, IsAnswered, IsAnsweredTo, is_quit, quits}
+use Rattle.qil_script.specs.qil_replies.Answers.{answer, answer_text, answers, AreValid, IsValid, IsAnswered, IsAnsweredTo, is_quit, quits}
 use Rattle.std.specs.Prelude.{IfSome, IsErrAnd, OnOk}
 use Rattle.std.specs.Io.KnownBytes.{Consumes, Appends, IsAtEnd, prepend_known}
 use Rattle.qil_serving.specs.declared.serving.IoFault.{IoFault}

@@ -4,8 +4,8 @@ use Rattle.std.specs.Io.KnownBytes.{Consumes}
 use Rattle.qil_streams.specs.Device.{IsPrefixOf}
 use Rattle.qil_streams.specs.Script.{lines_of, whole_lines_of}
 use Rattle.qil_commands.specs.Command.{command_of}
-use Rattle.qil_replies.specs.SessionState.{SessionState}
-use Rattle.qil_replies.specs.Answers.{answer, answer_text, IsValid, IsAnswered, IsAnsweredTo, quits}
+use Rattle.qil_script.specs.qil_replies.SessionState.{SessionState}
+use Rattle.qil_script.specs.qil_replies.Answers.{answer, answer_text, IsValid, IsAnswered, IsAnsweredTo, quits}
 use Rattle.qil_serving.specs.declared.serving.IoFault.{IoFault}
 use Rattle.qil_serving.specs.declared.serving.IoFault.TheVariants.{Read, Write, TooLong}
 

@@ -3,6 +3,6 @@
 
 mod serving;
 
-pub use qil_session::{Next, Session};
+pub use qil_session::{Next, Runs, Session, Stepwise};
 pub use qil_streams::{DeviceFault, FromReader, IntoWriter, Sink, Source};
 pub use serving::{IoFault, serve, serve_in_turn, serve_lines};

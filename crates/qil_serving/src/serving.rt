@@ -7,8 +7,7 @@ ghost use Rattle.qil_session.specs.Kept.{session_state};
 ghost use Rattle.qil_serving.specs.Serve.{AreServed, IsServed, IsTooLong, CountsServe, TakesFew};
 
 use qil_code::Code;
-use qil_runs::Runs;
-use qil_session::{Next, Session, answer_line};
+use qil_session::{Next, Runs, Session, answer_line};
 use qil_streams::{LineEnd, LineReader, Outlet, Put, Sink, Source};
 use std::alloc::Allocator;
 

@@ -1,3 +1,5 @@
 -- What a session keeps, and what answering a line does to it.
 pub mod Kept
 pub mod AnsweredLine
+-- what this crate's own are stated with, for what stands on it
+pub use Rattle.qil_replies.specs as qil_replies

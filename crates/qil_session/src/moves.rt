@@ -11,8 +11,7 @@ ghost use Rattle.qil_replies.specs.Answers.{Replies, back_refusal};
 
 use qil_code::Code;
 use qil_meaning::Reason;
-use qil_readers::Readers;
-use qil_replies::{CommandRefusal, Reply};
+use qil_replies::{CommandRefusal, Readers, Reply};
 use qil_runs::Runs;
 use qil_stops::Stops;
 use std::alloc::Allocator;

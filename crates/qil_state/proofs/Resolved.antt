@@ -18,9 +18,9 @@ use Rattle.qil_tree.specs.declared.tree.Func.{Func}
 use Rattle.qil_tree.specs.declared.tree.Program.{Program}
 use Rattle.qil_rules.specs.Operands.{Read, expr_reads, inst_reads, argument_read, as_class}
 use Rattle.qil_rules.specs.Mentions.{returned_class}
-use Rattle.qil_layout.specs.declared.callee.Callee.{Callee}
-use Rattle.qil_layout.specs.declared.callee.Callee.TheVariants.{Defined, PutChar, Puts, Exit}
-use Rattle.qil_layout.specs.Callee.{callee_at}
+use Rattle.qil_memory.specs.qil_layout.declared.callee.Callee.{Callee}
+use Rattle.qil_memory.specs.qil_layout.declared.callee.Callee.TheVariants.{Defined, PutChar, Puts, Exit}
+use Rattle.qil_memory.specs.qil_layout.Callee.{callee_at}
 use Rattle.qil_memory.specs.Live.{Live}
 use Rattle.qil_meaning.specs.State as meaning
 use Rattle.qil_meaning.specs.State.{Temps, State, call_shape}

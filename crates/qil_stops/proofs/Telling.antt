@@ -19,10 +19,10 @@ use Rattle.qil_meaning.specs.Stops.{Reading, dead, unset, bytes_read, value_read
 use Rattle.qil_meaning.specs.Stops as meaning
 use Rattle.qil_meaning.specs.declared.reason.Reason.{Reason}
 use Rattle.qil_meaning.specs.declared.reason.Reason.TheVariants as reasons
-use Rattle.qil_code.specs.Numbered.{func_at, names_of}
-use Rattle.qil_state.specs.declared.status.Status.{Status}
-use Rattle.qil_state.specs.declared.status.Status.TheVariants.{Running, Done, Exited, Faulted}
-use Rattle.qil_state.specs.Faults.{status_of}
+use Rattle.qil_history.specs.qil_code.Numbered.{func_at, names_of}
+use Rattle.qil_history.specs.qil_state.declared.status.Status.{Status}
+use Rattle.qil_history.specs.qil_state.declared.status.Status.TheVariants.{Running, Done, Exited, Faulted}
+use Rattle.qil_history.specs.qil_state.Faults.{status_of}
 use Rattle.qil_stops.specs.declared.stop.StopKind.{StopKind}
 use Rattle.qil_stops.specs.declared.stop.StopKind.TheVariants.{Break, Watch}
 use Rattle.qil_stops.specs.declared.stop.Watched.TheVariants.{Bytes, Temp}

@@ -2,3 +2,6 @@
 pub mod Listed
 pub mod Named
 pub mod Readings
+-- what this crate's own are stated with, for what stands on it
+pub use Rattle.qil_history.specs.qil_machine as qil_machine
+pub use Rattle.qil_history.specs.qil_state as qil_state

@@ -7,7 +7,7 @@ use Rattle.qil_tree.specs.declared.tree.Program.{Program}
 use Rattle.qil_meaning.specs.State.{Name}
 use Rattle.qil_meaning.specs.Stops as meaning
 use Rattle.qil_meaning.specs.Stops.{memory_at, temp_in, break_at, watch, Numbered}
-use Rattle.qil_code.specs.Numbered.{func_at, block_at, names_of}
+use Rattle.qil_history.specs.qil_code.Numbered.{func_at, block_at, names_of}
 use Rattle.qil_stops.specs.declared.stop.Place.{Place}
 use Rattle.qil_stops.specs.declared.stop.Watched.{Watched}
 use Rattle.qil_stops.specs.declared.stop.Watched.TheVariants.{Bytes, Temp}

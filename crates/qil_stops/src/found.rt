@@ -3,14 +3,14 @@
 ghost use Rattle.std.specs.Prelude.{◌≡◌, ◌≤◌, [], ◌∷◌, length};
 ghost use Rattle.qil_meaning.specs.State.{State, is_final};
 ghost use Rattle.qil_meaning.specs.Stops.{first_watch, first_break, stopped};
-ghost use Rattle.qil_state.specs.State.{state_of};
+ghost use Rattle.qil_history.specs.qil_state.State.{state_of};
 ghost use Rattle.qil_stops.specs.Listed.{IsReadable, AreReadable};
 ghost use Rattle.qil_stops.specs.Named.{named_stops};
 ghost use Rattle.qil_stops.specs.Readings.{Tells, AllTell};
 
 use crate::stop::NumberedStop;
 use arrayvec::ArrayVec;
-use qil_machine::Machine;
+use qil_history::Machine;
 use qil_meaning::Reason;
 use std::alloc::Allocator;
 

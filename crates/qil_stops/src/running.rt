@@ -11,8 +11,7 @@ ghost use Rattle.qil_stops.specs.Readings.{AllTell};
 
 use crate::found::{is_over, readings, stopped};
 use crate::stop::NumberedStop;
-use qil_history::{BackError, History};
-use qil_machine::{Machine, MoveError};
+use qil_history::{BackError, History, Machine, MoveError};
 use qil_meaning::Reason;
 use std::alloc::Allocator;
 

@@ -6,14 +6,13 @@ ghost use Rattle.qil_memory.specs.Bytes.{number};
 ghost use Rattle.qil_memory.specs.Calls.{IsWidth};
 ghost use Rattle.qil_memory.specs.Live.{live, read};
 ghost use Rattle.qil_meaning.specs.Stops.{is_held};
-ghost use Rattle.qil_state.specs.State.{state_of};
+ghost use Rattle.qil_history.specs.qil_state.State.{state_of};
 ghost use Rattle.qil_stops.specs.Listed.{HasWidth, IsReadable};
 ghost use Rattle.qil_stops.specs.Named.{named_kind, passes};
 ghost use Rattle.qil_stops.specs.Readings.{TellsWatched, Tells};
 
-use qil_code::{BlockId, Slot};
+use qil_history::{BlockId, Machine, Slot};
 use qil_layout::FuncId;
-use qil_machine::Machine;
 use std::alloc::Allocator;
 
 /// A place where a run can stand: a block, and how many of its instructions are done. Where all are, the jump is next.

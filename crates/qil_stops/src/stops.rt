@@ -7,7 +7,7 @@ ghost use Rattle.qil_stops.specs.Listed.{Listed, HasWidth, IsReadable, AreReadab
 ghost use Rattle.qil_stops.specs.Named.{has_place, has_watched, named_stops};
 
 use crate::stop::{NumberedStop, Place, StopKind, Watched};
-use qil_code::{BlockId, Code};
+use qil_history::{BlockId, Code};
 use qil_layout::FuncId;
 use std::alloc::{AllocError, Allocator};
 use std::marker::Model;

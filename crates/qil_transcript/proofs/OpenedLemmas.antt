@@ -3,7 +3,7 @@ use Rattle.std.proofs.Common.{◌≡◌, ℕ, [], sym, ◌∙◌, ap}
 use Rattle.qil_tree.specs.declared.tree.Program.{Program}
 use Rattle.qil_meaning.specs.State.{State}
 use Rattle.qil_meaning.specs.Timeline.{Timeline, begun}
-use Rattle.qil_session.specs.Kept.{Kept, session_state}
+use Rattle.qil_serving.specs.qil_session.Kept.{Kept, session_state}
 use Rattle.qil_script.specs.Transcript.{Setup, opened}
 
 -- a session over a history that has made no move is at the start of its program

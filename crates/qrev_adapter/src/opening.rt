@@ -17,10 +17,9 @@ use qil_numbering::number;
 use qil_rules::Checked;
 use qil_streams::{Sink, Source};
 use qil_tree::Program;
-use qrev_debuggee::Debuggee;
 use qrev_notices::{
-    Closed, Ended, Files, Line, read_sources, refuse_load, refuse_map, refuse_start, refuse_unread,
-    tell_open,
+    Closed, Debuggee, Ended, Files, Line, read_sources, refuse_load, refuse_map, refuse_start,
+    refuse_unread, tell_open,
 };
 use qrev_protocol::Request;
 use qrev_recorder::{HasMachine, Opening, Recorder};

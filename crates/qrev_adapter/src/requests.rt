@@ -7,12 +7,14 @@ use qil_machine::Machine;
 use qil_state::Status;
 use qil_streams::Sink;
 use qrev_breakpoints::{breakpoint_locations, set_breakpoints, set_by_words};
-use qrev_debuggee::{Body, Cause, Debuggee, Failure, Motion, StopFamily, Why, make_move};
 use qrev_inspection::{
     completions, data_breakpoint_info, evaluate, read_memory, scopes, set_variable, stack_trace,
     variables, write_memory,
 };
-use qrev_notices::{Port, Trouble, begin_body, fault_in, output_event, refuse_with, tell_stopped};
+use qrev_notices::{
+    Body, Cause, Debuggee, Failure, Motion, Port, StopFamily, Trouble, Why, begin_body, fault_in,
+    make_move, output_event, refuse_with, tell_stopped,
+};
 use qrev_protocol::Request;
 use qrev_recorder::HasMachine;
 use qrev_requests::Arguments;

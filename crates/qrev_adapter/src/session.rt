@@ -9,10 +9,9 @@ use crate::requests::{Ending, Then, ending_asked, move_and_tell, refuse, respond
 use json::Scratch;
 use qil_machine::Machine;
 use qil_streams::{Sink, Source};
-use qrev_debuggee::{Cause, Debuggee, Failure, Motion, Why};
 use qrev_notices::{
-    Closed, Ended, Files, Line, Port, Trouble, keep_record, message_in, tell_plain, tell_stopped,
-    write_record,
+    Cause, Closed, Debuggee, Ended, Failure, Files, Line, Motion, Port, Trouble, Why, keep_record,
+    message_in, tell_plain, tell_stopped, write_record,
 };
 use qrev_protocol::{Request, request_of};
 use qrev_recorder::HasMachine;

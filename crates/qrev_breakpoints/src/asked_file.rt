@@ -1,9 +1,8 @@
 //! The file that a request about lines is about.
 
 use qil_machine::Machine;
-use qrev_debuggee::{Cause, Debuggee, Failure};
+use qrev_debuggee::{Cause, Debuggee, Failure, HasMachine};
 use qrev_map::SourceFile;
-use qrev_recorder::HasMachine;
 use qrev_requests::Arguments;
 use qrev_views::{SourceMap, same_file};
 use std::alloc::{AllocError, Allocator};

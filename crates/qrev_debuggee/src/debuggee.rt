@@ -1,13 +1,12 @@
 //! What an editor drives: a session that is recorded, and what the editor was told of it.
 
 use crate::failure::{Cause, Failure};
-use qil_depths::DepthEnd;
 use qil_machine::Machine;
 use qil_meaning::Reason;
 use qil_pieces::{Fragment, put_fragments};
 use qil_streams::Buffer;
 use qil_tree::Program;
-use qrev_recorder::{Debugged, Done, HasMachine, LineError, Recorder};
+use qrev_recorder::{Debugged, DepthEnd, Done, HasMachine, LineError, Recorder};
 use qrev_views::{Shown, SourceMap};
 use std::alloc::Allocator;
 

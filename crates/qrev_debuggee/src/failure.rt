@@ -1,30 +1,6 @@
-//! Why a request isn't done, and why the adapter can't go on.
+//! Why a request isn't done.
 
-use qrev_protocol::SendError;
 use std::alloc::AllocError;
-
-/// Why the adapter can't go on.
-#[derive(Clone, Copy, Debug, PartialEq, Eq)]
-pub enum Trouble {
-    OutOfMemory,
-    /// The device that messages go to failed.
-    Device,
-}
-
-impl From<AllocError> for Trouble {
-    fn from(_refused: AllocError) -> Self {
-        Trouble::OutOfMemory
-    }
-}
-
-impl From<SendError> for Trouble {
-    fn from(error: SendError) -> Self {
-        match error {
-            SendError::OutOfMemory => Trouble::OutOfMemory,
-            SendError::Device => Trouble::Device,
-        }
-    }
-}
 
 /// What is wrong with a request.
 #[derive(Clone, Copy, Debug, PartialEq, Eq)]

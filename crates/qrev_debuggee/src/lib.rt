@@ -10,5 +10,6 @@ mod motion;
 
 pub use body::Body;
 pub use debuggee::{Debuggee, RequestedStop, StopFamily};
-pub use failure::{Cause, Failure, Trouble};
+pub use failure::{Cause, Failure};
 pub use motion::{Motion, Why, make_move};
+pub use qrev_recorder::{Done, HasMachine, Opening, Record};

@@ -2,11 +2,9 @@
 
 use crate::debuggee::Debuggee;
 use crate::failure::Failure;
-use qil_depths::DepthEnd;
 use qil_machine::Machine;
 use qil_meaning::Reason;
-use qil_replies::CommandRefusal;
-use qrev_recorder::{Done, HasMachine};
+use qrev_recorder::{CommandRefusal, DepthEnd, Done, HasMachine};
 use std::alloc::Allocator;
 
 /// A move that an editor asks for.

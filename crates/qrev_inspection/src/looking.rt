@@ -3,8 +3,7 @@
 use qil_frames::Frame;
 use qil_machine::Machine;
 use qil_tree::Class;
-use qrev_debuggee::{Body, Cause, Debuggee, Failure};
-use qrev_recorder::HasMachine;
+use qrev_debuggee::{Body, Cause, Debuggee, Failure, HasMachine};
 use qrev_requests::Arguments;
 use qrev_views::{
     DATA, MACHINE, Page, frame_of, put_data, put_frames, put_machine, put_scopes, put_temps,

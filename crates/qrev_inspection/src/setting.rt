@@ -3,8 +3,7 @@
 use crate::looking::temp_in;
 use qil_machine::Machine;
 use qil_pieces::Fragment;
-use qrev_debuggee::{Body, Cause, Debuggee, Failure};
-use qrev_recorder::HasMachine;
+use qrev_debuggee::{Body, Cause, Debuggee, Failure, HasMachine};
 use qrev_requests::Arguments;
 use qrev_views::{DATA, MACHINE, class_letter, data_named, data_word, frame_of, value_text};
 use std::alloc::{AllocError, Allocator};

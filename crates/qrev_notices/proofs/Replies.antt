@@ -14,7 +14,7 @@ use Rattle.qil_streams.proofs.DeviceLemmas.{Appends-nil, Appends-append}
 use Rattle.qrev_protocol.specs.Frame.{framed}
 use Rattle.json.specs.Written.{Written}
 use Rattle.qrev_protocol.specs.Outgoing.{Adds, response_head, event_head}
-use Rattle.qrev_protocol.specs.declared.port.Outcome.TheVariants.{Done}
+use Rattle.qrev_protocol.specs.declared.outgoing.Outcome.TheVariants.{Done}
 use Rattle.qrev_notices.specs.declared.trouble.Trouble.{Trouble}
 use Rattle.qrev_notices.specs.declared.trouble.Trouble.TheVariants.{OutOfMemory, Device}
 use Rattle.qrev_notices.specs.Conversation.{Asked, Spoken, Says, message_text, IsNumbered, AreNumbered, BeginsAs, IsResponse, IsEvent, AreReply, AreReplies, HasReplied, HasRepliedPart, HasResponded, SaysPart, Sends, Responds, Tells, IsEventSoFar}

@@ -7,7 +7,7 @@ use Rattle.json.specs.Token.{Token, end_object, key, number}
 use Rattle.json.specs.Print.{print}
 use Rattle.qrev_protocol.specs.Frame.{framed}
 use Rattle.qrev_protocol.specs.Outgoing.{response_head, event_head}
-use Rattle.qrev_protocol.specs.declared.port.Outcome.{Outcome}
+use Rattle.qrev_protocol.specs.declared.outgoing.Outcome.{Outcome}
 use Rattle.qrev_protocol.specs.declared.request.Request.{Request}
 use Rattle.qrev_notices.specs.declared.trouble.Trouble.{Trouble}
 use Rattle.qrev_notices.specs.declared.trouble.Trouble.TheVariants.{OutOfMemory, Device}

@@ -14,6 +14,7 @@ mod trouble;
 pub use idle::{numbering_said, respond_idle};
 pub use line::{Closed, Ended, Line, message_in};
 pub use port::{Port, begin_body};
+pub use qrev_debuggee::{Body, Cause, Debuggee, Failure, Motion, StopFamily, Why, make_move};
 pub use recording::{Files, keep_record, write_record};
 pub use refusals::{
     refuse_load, refuse_start, refuse_unfit, refuse_unread, refuse_with, tell_open,

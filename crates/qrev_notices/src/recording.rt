@@ -1,8 +1,8 @@
 //! The record of a session: the script of what was done in it, and its transcript.
 
 ghost use Rattle.qil_streams.specs.Script.{lines_of};
-ghost use Rattle.qil_script.specs.Transcript.{IsSession};
-ghost use Rattle.qrev_recorder.specs.Record.{setup_of};
+ghost use Rattle.qrev_debuggee.specs.qil_script.Transcript.{IsSession};
+ghost use Rattle.qrev_debuggee.specs.qrev_recorder.Record.{setup_of};
 ghost use Rattle.qrev_notices.specs.Conversation.{spoken, Tells};
 
 use crate::port::Port;
@@ -10,8 +10,7 @@ use crate::stopped::output_event;
 use crate::trouble::Trouble;
 use qil_machine::Machine;
 use qil_streams::Sink;
-use qrev_debuggee::Debuggee;
-use qrev_recorder::{HasMachine, Opening, Record};
+use qrev_debuggee::{Debuggee, HasMachine, Opening, Record};
 use qrev_requests::Launch;
 use qrev_views::number_text;
 use std::alloc::{AllocError, Allocator};

@@ -9,9 +9,8 @@ use qil_machine::Machine;
 use qil_meaning::Reason;
 use qil_state::Status;
 use qil_streams::Sink;
-use qrev_debuggee::{Debuggee, RequestedStop, StopFamily, Why};
+use qrev_debuggee::{Debuggee, HasMachine, RequestedStop, StopFamily, Why};
 use qrev_protocol::{Object, Whole, event};
-use qrev_recorder::HasMachine;
 use qrev_views::{as_text, place_text};
 use std::alloc::{AllocError, Allocator};
 

@@ -1,11 +1,9 @@
--- What goes out: the tokens of JSON that calls add, and the text of a message.
+-- What goes out: the tokens of JSON that calls add, and how messages begin.
 use Rattle.std.specs.Prelude.{◌≡◌, ℕ, List, [], ◌∷◌, ◌++◌, codes, decimal, true, false}
-use Rattle.json.specs.Token.{Token, begin_object, end_object, key, string, number, boolean}
-use Rattle.json.specs.Print.{print}
+use Rattle.json.specs.Token.{Token, begin_object, key, string, number, boolean}
 use Rattle.json.specs.Written.{Written}
-use Rattle.qrev_protocol.specs.Frame.{framed}
-use Rattle.qrev_protocol.specs.declared.port.Outcome.{Outcome}
-use Rattle.qrev_protocol.specs.declared.port.Outcome.TheVariants.{Done, Failed}
+use Rattle.qrev_protocol.specs.declared.outgoing.Outcome.{Outcome}
+use Rattle.qrev_protocol.specs.declared.outgoing.Outcome.TheVariants.{Done, Failed}
 
 -- a call added these tokens after those that were written
 abbrev pub Adds : Written → Written → List Token → Type 0
@@ -27,7 +25,3 @@ response_head request command outcome =
 -- an event up to its body
 abbrev pub event_head : List ℕ → List Token
 event_head event = message_head (codes "event") ++ key (codes "event") ∷ string event ∷ []
-
--- the n-th message, as it is sent
-abbrev pub sent_text : ℕ → List Token → List ℕ
-sent_text n tokens = framed (print (tokens ++ key (codes "seq") ∷ number (decimal n) ∷ end_object ∷ []))

@@ -41,7 +41,7 @@ pub fn flag_of<A: Allocator>(object: &Value<'_, A>, name: &str) -> Option<bool>
     object.get(name)?.as_bool()
 }
 
-/// A request: its number, by which it is answered, and what it asks for. It can't be let go: it ends in a turn.
+/// A request: its number, by which it is answered, and what it asks for. It can't be let go: it ends where it is responded to.
 pub struct Request<'a> {
     seq: u64,
     command: &'a str,

@@ -10,10 +10,9 @@ use crate::debugged::Debugged;
 use crate::done::{Done, LineError, done_by};
 use crate::keeping::{add_line, is_line, is_quit, keep_backs, keep_steps, loaded_text, reply_text};
 use qil_commands::read_command;
-use qil_depths::DepthEnd;
+use qil_depths::{DepthEnd, Stops};
 use qil_loading::Loaded;
 use qil_meaning::Reason;
-use qil_stops::Stops;
 use std::alloc::{AllocError, Allocator};
 
 /// The position from which on no line is answered. No session comes near it.

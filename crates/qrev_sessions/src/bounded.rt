@@ -2,7 +2,7 @@
 
 ghost use Rattle.std.specs.Prelude.{◌≡◌, [], IfOk};
 ghost use Rattle.qil_deltas.specs.Kept.{recent_timeline};
-ghost use Rattle.qil_replies.specs.SessionState.{session_at};
+ghost use Rattle.qil_session.specs.qil_replies.SessionState.{session_at};
 ghost use Rattle.qil_session.specs.Kept.{session_state};
 
 use qil_commands::{Command, Refused};
@@ -10,8 +10,7 @@ use qil_deltas::Ring;
 use qil_depths::DepthEnd;
 use qil_history::History;
 use qil_machine::Machine;
-use qil_replies::Reply;
-use qil_session::Session;
+use qil_session::{Reply, Session};
 use qil_stops::{Stops, is_over};
 use qil_streams::{Buffer, PutError};
 use qrev_recorder::{Debugged, HasMachine};

@@ -10,7 +10,7 @@ ghost use Rattle.qrev_views.specs.Variables.{shown_width, width_letter, value_of
 
 use crate::texts::sigiled;
 use crate::variable::{Page, add_address, begin_variable, value_text};
-use qil_machine::Machine;
+use qil_answers::Machine;
 use qil_tree::{Data, Field, Item, Program, Width};
 use qrev_protocol::Array;
 use std::alloc::{AllocError, Allocator};

@@ -12,10 +12,9 @@ ghost use Rattle.qrev_views.specs.Sources.{counted_line, shown_index, frame_line
 use crate::source_map::{SourceLine, SourceMap};
 use crate::texts::{joined, place_text};
 use crate::variable::Page;
-use qil_answers::{func_name, label_name};
+use qil_answers::{Machine, func_name, label_name};
 use qil_frames::Frame;
 use qil_lines::{Place, line_of};
-use qil_machine::Machine;
 use qil_pieces::Fragment;
 use qil_tree::Program;
 use qrev_protocol::{Array, Object};

@@ -8,7 +8,7 @@ ghost use Rattle.qrev_views.specs.Variables.{fixed_tokens, machine_rows};
 
 use crate::texts::{as_text, number_text, place_text};
 use crate::variable::{Page, begin_variable, end_read_only};
-use qil_machine::Machine;
+use qil_answers::Machine;
 use qrev_protocol::Array;
 use std::alloc::{AllocError, Allocator};
 

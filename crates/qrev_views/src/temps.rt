@@ -10,10 +10,9 @@ ghost use Rattle.qrev_views.specs.Variables.{class_letter, live_reference, temp_
 
 use crate::texts::sigiled;
 use crate::variable::{Page, add_address, begin_variable, end_variable, value_text};
-use qil_answers::temp_name;
+use qil_answers::{Machine, temp_name};
 use qil_code::Slot;
 use qil_frames::Frame;
-use qil_machine::Machine;
 use qil_tree::Class;
 use qrev_protocol::{Array, InArray, Object};
 use std::alloc::{AllocError, Allocator};

@@ -6,8 +6,7 @@ ghost use Rattle.qil_pieces.specs.Texts.{fragment_text};
 ghost use Rattle.qil_answers.specs.Texts.{state_line};
 ghost use Rattle.qrev_views.specs.Texts.{shown_text, without_end};
 
-use qil_answers::put_place;
-use qil_machine::Machine;
+use qil_answers::{Machine, put_place};
 use qil_pieces::{Fragment, put_fragments};
 use qil_streams::{Buffer, PutError};
 use std::alloc::{AllocError, Allocator};

@@ -5,7 +5,7 @@ use Rattle.qil_streams.specs.Text.{line}
 use Rattle.qil_streams.proofs.DeviceLemmas.{Appends-nil}
 use Rattle.qil_streams.proofs.TextLemmas.{HasPut-as}
 use Rattle.qil_meaning.specs.State.{Name}
-use Rattle.qil_state.specs.State.{state_of}
+use Rattle.qil_answers.specs.qil_state.State.{state_of}
 use Rattle.qil_answers.specs.Shown.{printed}
 use Rattle.qil_replies.specs.Reply.{reply_text}
 use Rattle.qil_replies.specs.Texts.{stop_line, stops_shown}

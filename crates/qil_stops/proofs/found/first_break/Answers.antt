@@ -1,5 +1,5 @@
 -- The first of the stops is the first of those that they represent.
-use Rattle.qil_state.specs.State.{state_of}
+use Rattle.qil_history.specs.qil_state.State.{state_of}
 use Rattle.qil_stops.proofs.Naming.{first_break-by}
 use Rattle.qil_stops.proofs.found.first_break.Goals as goal
 

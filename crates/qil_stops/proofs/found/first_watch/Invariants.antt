@@ -2,7 +2,7 @@
 use Rattle.std.proofs.Common.{◌≡◌, drop}
 use Rattle.qil_meaning.specs.State.{State}
 use Rattle.qil_meaning.specs.Stops.{differs, first_watch}
-use Rattle.qil_state.specs.State.{state_of}
+use Rattle.qil_history.specs.qil_state.State.{state_of}
 use Rattle.qil_stops.specs.Named.{named_stops}
 use Rattle.qil_stops.specs.Readings.{AllTell}
 use Rattle.qil_stops.proofs.Naming.{first_by}

@@ -1,5 +1,5 @@
 -- A run is over unless it goes on.
-use Rattle.qil_state.specs.State.{head_names}
+use Rattle.qil_history.specs.qil_state.State.{head_names}
 use Rattle.qil_stops.proofs.Telling.{over-by}
 use Rattle.qil_stops.proofs.found.is_over.Goals as goal
 

@@ -1,5 +1,5 @@
 -- One stop alone: its watch comes before its breakpoint, and it is one of the two.
-use Rattle.qil_state.specs.State.{state_of}
+use Rattle.qil_history.specs.qil_state.State.{state_of}
 use Rattle.qil_stops.proofs.Telling.{only-watch, only-break, only-none}
 use Rattle.qil_stops.proofs.found.only_stopped.Goals as goal
 

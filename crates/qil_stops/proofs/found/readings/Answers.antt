@@ -1,7 +1,7 @@
 -- Each stop can be read, and its own reading is what is kept: by hand, so that another value is refused at once.
 use Rattle.std.proofs.Common.{ap, arith, length}
 use Rattle.std.proofs.lemmas.List.{length_push}
-use Rattle.qil_state.specs.State.{state_of}
+use Rattle.qil_history.specs.qil_state.State.{state_of}
 use Rattle.qil_stops.proofs.Kept.{readable-at}
 use Rattle.qil_stops.proofs.Telling.{reported-more}
 use Rattle.qil_stops.proofs.found.readings.Goals as goal

@@ -1,7 +1,7 @@
 -- What was read so far.
 use Rattle.std.proofs.Common.{◌≡◌, ◌<◌, ℕ, length, None, get_or}
 use Rattle.arrayvec.specs.ArrayVec.{array_vec_len}
-use Rattle.qil_state.specs.State.{state_of}
+use Rattle.qil_history.specs.qil_state.State.{state_of}
 use Rattle.qil_stops.specs.declared.stop.NumberedStop.{NumberedStop}
 use Rattle.qil_stops.specs.Readings.{Tells}
 use Rattle.qil_stops.proofs.found.readings.Given as goal

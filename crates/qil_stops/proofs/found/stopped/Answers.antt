@@ -1,6 +1,6 @@
 -- A watch comes before a breakpoint.
 use Rattle.std.proofs.Common.{◌∙◌, sym}
-use Rattle.qil_state.specs.State.{state_of}
+use Rattle.qil_history.specs.qil_state.State.{state_of}
 use Rattle.qil_stops.specs.Named.{named_stops}
 use Rattle.qil_stops.proofs.Telling.{by-watch, by-break, by-none}
 use Rattle.qil_stops.proofs.found.stopped.Goals as goal

@@ -1,3 +1,4 @@
+use Rattle.std.proofs.Common.{ap, ◌∙◌, [], ◌∷◌, ◌++◌}
 use Rattle.qil_machine.proofs.Weights.{weighs_one, least_cost}
 use Rattle.qil_machine.proofs.Advancing.{step_done, step_faulted}
 use Rattle.qil_machine.proofs.machine.Machine.advance_into.Goals as goal
@@ -10,8 +11,8 @@ returns-in-Err-Fault-clause-step g c =
     step_faulted c.args.self.now c.step.new.self c.end.new.self c.in-Err-Fault.fault c.in-Err-Fault.ensures.err (rw c.in-Err-Fault.field-0-is at c.in-Err-Fault.ensures.fault) c.end.ensures.after
 
 pub returns-in-Ok-clause-cost : goal.returns-in-Ok-clause-cost
-returns-in-Ok-clause-cost g c = weighs_one _ _ c.in-Ok.delta _ c.keep.ensures c.in-Ok.ensures.weighs
+returns-in-Ok-clause-cost g c = c.in-Ok.ensures.weighs
 
 pub returns-in-Err-Fault-clause-cost : goal.returns-in-Err-Fault-clause-cost
 returns-in-Err-Fault-clause-cost g c =
-    weighs_one _ _ c.end.result _ c.keep-in-Err-Fault.ensures (rw c.end.ensures.weighs (least_cost c.args.self.now.program _))
+    weighs_one _ _ c.end.result _ (c.keep.ensures ∙ ap (λ x. g.K.DeltaSink.kept x ++ c.end.result ∷ []) c.in-Err-Fault.ensures.none) (rw c.end.ensures.weighs (least_cost c.args.self.now.program _))

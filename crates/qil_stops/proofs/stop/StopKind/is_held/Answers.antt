@@ -4,8 +4,8 @@ use Rattle.qil_tree.specs.declared.tree.Func.{Func}
 use Rattle.qil_tree.specs.declared.tree.Program.{Program}
 use Rattle.qil_meaning.specs.State.{Name, State}
 use Rattle.qil_meaning.specs.Stops.{is_held}
-use Rattle.qil_state.specs.State.{state_of}
-use Rattle.qil_code.specs.Numbered.{func_at, names_of}
+use Rattle.qil_history.specs.qil_state.State.{state_of}
+use Rattle.qil_history.specs.qil_code.Numbered.{func_at, names_of}
 use Rattle.std.specs.Prelude.{slice_get}
 use Rattle.qil_stops.specs.declared.stop.Watched.{Watched}
 use Rattle.qil_stops.specs.declared.stop.Watched.TheVariants.{Bytes, Temp}

@@ -2,7 +2,7 @@
 use Rattle.std.proofs.Common.{refl, suc, sym, [], ◌∙◌, ◌≡◌}
 use Rattle.std.proofs.lemmas.List.{append-nil}
 use Rattle.qrev_protocol.specs.Outgoing.{response_head}
-use Rattle.qrev_protocol.specs.declared.port.Outcome.TheVariants.{Failed}
+use Rattle.qrev_protocol.specs.declared.outgoing.Outcome.TheVariants.{Failed}
 use Rattle.qrev_notices.specs.Conversation.{asked_by, spoken, message_text}
 use Rattle.qrev_notices.proofs.Replies.{begins, responds}
 use Rattle.qrev_notices.proofs.port.Port.refuse.Goals as goal

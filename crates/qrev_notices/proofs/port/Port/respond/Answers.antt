@@ -4,7 +4,7 @@ use Rattle.std.proofs.lemmas.Bool.Decides.{Decides-eqb}
 use Rattle.std.proofs.lemmas.Slice.Eq.{starts_is}
 use Rattle.json.specs.Print.{print}
 use Rattle.qrev_protocol.specs.Outgoing.{response_head}
-use Rattle.qrev_protocol.specs.declared.port.Outcome.TheVariants.{Done}
+use Rattle.qrev_protocol.specs.declared.outgoing.Outcome.TheVariants.{Done}
 use Rattle.qrev_notices.specs.declared.trouble.Trouble.TheVariants.{Device}
 use Rattle.qrev_notices.specs.Conversation.{asked_by, spoken, message_text}
 use Rattle.qrev_notices.proofs.Replies.{responds, responds_exit, silent}
