@@ -60,8 +60,8 @@ class Running(NamedTuple):
                 return None
         return run.stdout, run.stderr, run.returncode
 
-    def timed(self, text, script=b"", words=()):
-        """The processor's seconds that a run takes, and its transcript. A run that doesn't end well is an error."""
+    def measured(self, text, script=b"", words=()):
+        """What a run uses, and its transcript. A run that doesn't end well is an error."""
         with tempfile.NamedTemporaryFile(prefix="hostile-", suffix=".ssa") as file, tempfile.TemporaryFile() as lines, \
                 tempfile.TemporaryFile() as transcript:
             file.write(text)
@@ -74,7 +74,17 @@ class Running(NamedTuple):
             if process.returncode != 0:
                 raise ValueError(f"status {process.returncode}")
             transcript.seek(0)
-            return used.ru_utime + used.ru_stime, transcript.read()
+            return used, transcript.read()
+
+    def timed(self, text, script=b"", words=()):
+        """The processor's seconds that a run takes, and its transcript."""
+        used, transcript = self.measured(text, script, words)
+        return used.ru_utime + used.ru_stime, transcript
+
+    def resident(self, text, script=b"", words=()):
+        """The most memory that a run has resident, in kB, and its transcript."""
+        used, transcript = self.measured(text, script, words)
+        return used.ru_maxrss, transcript
 
     def fault(self, text, script, words, transcript, status):
         """What the program does otherwise than it must, or None. Nothing may come on standard error."""

@@ -127,6 +127,35 @@ QUIET = {"what only looks": LOOKED, "a run back": REVERSED}
 GREATEST = b"data $z = { z 1048576 }\n" + LOOP
 GREATEST_LOADED = LOADED.replace(b"0 data", b"1048576 data")
 
+# Rounds of six moves, each of which has memory of its own in its record: a call's return, an allocation, a copy, and jumps to
+# three and to five phis. The first move goes to the first round.
+OWNING = b"""data $d = { z 192 }
+function w $f(w %x) {
+@s
+	%p =l alloc16 64
+	blit $d, %p, 64
+	ret %x
+}
+function $main() {
+@s
+	jmp @three
+@three
+	%a =w phi @s 1, @five 1
+	%b =w phi @s 2, @five 2
+	%c =w phi @s 3, @five 3
+	%r =w call $f(w %a)
+	jmp @five
+@five
+	%d =w phi @three 1
+	%e =w phi @three 2
+	%f =w phi @three 3
+	%g =w phi @three 4
+	%h =w phi @three 5
+	jmp @three
+}
+"""
+OWNING_SAID = b"loaded 2 functions 192 data bytes ssa yes\n#0 $main @s 0\n#%d $main @five 0\n"
+
 
 class Counting:
     """Counts what runs of a program's text take."""
@@ -233,6 +262,16 @@ def ring_moves(running):
         return difference(ROUND_SAID, counting.run(ROUND).written) or (f"{taken} allocations" if taken else None)
 
 
+def given_back(running):
+    """What a forgotten record has of its own is given back: ten times as many moves with --history 3 take no more memory."""
+    def run(moves):
+        kilobytes, written = running.resident(OWNING, b"step %d\n" % moves, ["--history", "3"])
+        return kilobytes, difference(OWNING_SAID % moves, written)
+
+    (few, fault), (many, other) = run(300_000), run(3_000_000)
+    return fault or other or (f"{many} kB in place of {few}" if many - few > 2_000 else None)
+
+
 def records(running):
     """1,000 moves over 2^20 bytes of data take 24 bytes each, in lists of 4, 8 and so on to 1,024 records."""
     with library() as made:
@@ -258,4 +297,5 @@ def cases():
     yield Case("3,000 moves with --history 3 take none", long_run, (3, 0))
     yield Case("the room of a bound", ring)
     yield Case("moves to and fro with --history 3 take no memory", ring_moves)
+    yield Case("3,000,000 moves with --history 3 take the memory of 300,000", given_back)
     yield Case("a move keeps a record and nothing beside it", records)

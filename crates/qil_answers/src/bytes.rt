@@ -50,7 +50,7 @@ fn put_next_byte<P: Put>(out: &mut P, byte: Option<u8>) -> Result<(), PutError>
 /// # Errors
 ///
 /// `PutError` where `out` stopped. Then a prefix of the line was put.
-pub fn put_memory<'c, P: Put, A: Allocator + Copy + 'c, M: Readers<A, Code<'c, 'c, A>>>(
+pub fn put_memory<'c, P: Put, A: Allocator + Copy + 'c, M: Readers<A, Code<'c, A>>>(
     out: &mut P,
     machine: &M,
     address: u64,
@@ -121,7 +121,7 @@ fn put_counted<P: Put>(out: &mut P, bytes: &[u8]) -> Result<(), PutError>
 /// # Errors
 ///
 /// `PutError` where `out` stopped. Then a prefix of the line was put.
-pub fn put_output<'c, P: Put, A: Allocator + Copy + 'c, M: Readers<A, Code<'c, 'c, A>>>(
+pub fn put_output<'c, P: Put, A: Allocator + Copy + 'c, M: Readers<A, Code<'c, A>>>(
     out: &mut P,
     machine: &M,
 ) -> Result<(), PutError>

@@ -15,7 +15,7 @@ use qil_streams::{Put, PutError, put_line};
 use std::alloc::Allocator;
 
 /// Puts the place of a frame.
-fn put_frame<'c, P: Put, A: Allocator + Copy + 'c, M: Readers<A, Code<'c, 'c, A>>>(
+fn put_frame<'c, P: Put, A: Allocator + Copy + 'c, M: Readers<A, Code<'c, A>>>(
     out: &mut P,
     machine: &M,
     frame: &FrameView<'_>,
@@ -41,7 +41,7 @@ fn put_frame<'c, P: Put, A: Allocator + Copy + 'c, M: Readers<A, Code<'c, 'c, A>
 }
 
 /// A frame, counted from the innermost one.
-fn frame_at<'c, 'm, A: Allocator + Copy + 'c, M: Readers<A, Code<'c, 'c, A>>>(
+fn frame_at<'c, 'm, A: Allocator + Copy + 'c, M: Readers<A, Code<'c, A>>>(
     machine: &'m M,
     inner: usize,
 ) -> FrameView<'m>
@@ -59,7 +59,7 @@ fn frame_at<'c, 'm, A: Allocator + Copy + 'c, M: Readers<A, Code<'c, 'c, A>>>(
 /// # Errors
 ///
 /// `PutError` where `out` stopped. Then a prefix of the text was put.
-pub fn put_frames<'c, P: Put, A: Allocator + Copy + 'c, M: Readers<A, Code<'c, 'c, A>>>(
+pub fn put_frames<'c, P: Put, A: Allocator + Copy + 'c, M: Readers<A, Code<'c, A>>>(
     out: &mut P,
     machine: &M,
 ) -> Result<(), PutError>

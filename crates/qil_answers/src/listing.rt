@@ -115,9 +115,9 @@ fn put_rows<P: Put, A: Allocator>(
 }
 
 /// Puts the line that says in which block a frame is.
-fn put_head<'c, 'a, P: Put, A: Allocator + Copy>(
+fn put_head<'c, P: Put, A: Allocator + Copy>(
     out: &mut P,
-    code: &'c Code<'c, 'a, A>,
+    code: &'c Code<'c, A>,
     frame: &FrameView<'_>,
 ) -> Result<(), PutError>
     requires { P.stops out.old < 2 ^ 64 - 1 }
@@ -136,9 +136,9 @@ fn put_head<'c, 'a, P: Put, A: Allocator + Copy>(
 }
 
 /// Puts the rows of the block that a frame is in.
-fn put_block_of<'c, 'a, P: Put, A: Allocator + Copy>(
+fn put_block_of<'c, P: Put, A: Allocator + Copy>(
     out: &mut P,
-    code: &'c Code<'c, 'a, A>,
+    code: &'c Code<'c, A>,
     frame: &FrameView<'_>,
 ) -> Result<(), PutError>
     requires { P.stops out.old < 2 ^ 64 - 1 }
@@ -161,7 +161,7 @@ fn put_block_of<'c, 'a, P: Put, A: Allocator + Copy>(
 /// # Errors
 ///
 /// `PutError` where `out` stopped. Then a prefix of the text was put.
-pub fn put_block<'c, P: Put, A: Allocator + Copy + 'c, M: Readers<A, Code<'c, 'c, A>>>(
+pub fn put_block<'c, P: Put, A: Allocator + Copy + 'c, M: Readers<A, Code<'c, A>>>(
     out: &mut P,
     machine: &M,
 ) -> Result<(), PutError>

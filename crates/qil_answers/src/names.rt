@@ -11,7 +11,7 @@ use qil_readers::{FrameView, Readers};
 use std::alloc::Allocator;
 
 /// The name of a function, without its sigil.
-pub fn func_name<'c, 'a, A: Allocator + Copy>(code: &'c Code<'c, 'a, A>, func: FuncId) -> &'c [u8]
+pub fn func_name<'c, A: Allocator + Copy>(code: &Code<'c, A>, func: FuncId) -> &'c [u8]
     ensures { result.now ≡ func_name (func_at code.now func.index) }
 {
     match code.image().name_of(func) {
@@ -21,8 +21,8 @@ pub fn func_name<'c, 'a, A: Allocator + Copy>(code: &'c Code<'c, 'a, A>, func: F
 }
 
 /// The label of a block, without its sigil.
-pub fn label_name<'c, 'a, A: Allocator + Copy>(
-    code: &'c Code<'c, 'a, A>,
+pub fn label_name<'c, A: Allocator + Copy>(
+    code: &Code<'c, A>,
     func: FuncId,
     block: BlockId,
 ) -> &'c [u8]
@@ -35,11 +35,7 @@ pub fn label_name<'c, 'a, A: Allocator + Copy>(
 }
 
 /// The name of a temporary, without its sigil.
-pub fn temp_name<'c, 'a, A: Allocator + Copy>(
-    code: &'c Code<'c, 'a, A>,
-    func: FuncId,
-    slot: Slot,
-) -> &'c [u8]
+pub fn temp_name<'c, A: Allocator + Copy>(code: &Code<'c, A>, func: FuncId, slot: Slot) -> &'c [u8]
     ensures { result.now ≡ name_at (names_of code.now func.index) slot.index }
 {
     match code.name_of(func, slot) {
@@ -49,7 +45,7 @@ pub fn temp_name<'c, 'a, A: Allocator + Copy>(
 }
 
 /// The innermost frame, if a call isn't over.
-pub fn innermost<'c, 'm, A: Allocator + Copy + 'c, M: Readers<A, Code<'c, 'c, A>>>(
+pub fn innermost<'c, 'm, A: Allocator + Copy + 'c, M: Readers<A, Code<'c, A>>>(
     machine: &'m M,
 ) -> Option<FrameView<'m>>
     ensures frame { result ≡ slice_get (M.whole machine.now).frames 0 }

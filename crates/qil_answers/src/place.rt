@@ -36,7 +36,7 @@ fn fault_words(fault: Fault) -> &'static [u8]
 }
 
 /// The address or the temporary that a fault tells.
-fn fault_detail<'c: 'm, 'm, A: Allocator + Copy + 'c, M: Readers<A, Code<'c, 'c, A>>>(
+fn fault_detail<'c: 'm, 'm, A: Allocator + Copy + 'c, M: Readers<A, Code<'c, A>>>(
     machine: &'m M,
     fault: Fault,
 ) -> Fragment<'m>
@@ -45,7 +45,10 @@ fn fault_detail<'c: 'm, 'm, A: Allocator + Copy + 'c, M: Readers<A, Code<'c, 'c,
     match fault {
         Fault::DeadAddress(address) | Fault::NoFunction(address) => Fragment::Number(address),
         Fault::Unset(slot) => match innermost(machine) {
-            Some(frame) => Fragment::Bytes(temp_name(machine.code(), frame.func(), slot)),
+            Some(frame) => {
+                let code = machine.code();
+                Fragment::Bytes(temp_name(code, frame.func(), slot))
+            }
             None => Fragment::Bytes(b""),
         },
         _ => Fragment::Bytes(b""),
@@ -53,7 +56,7 @@ fn fault_detail<'c: 'm, 'm, A: Allocator + Copy + 'c, M: Readers<A, Code<'c, 'c,
 }
 
 /// Puts the line of the place of a run that goes on.
-fn put_standing<'c, P: Put, A: Allocator + Copy + 'c, M: Readers<A, Code<'c, 'c, A>>>(
+fn put_standing<'c, P: Put, A: Allocator + Copy + 'c, M: Readers<A, Code<'c, A>>>(
     out: &mut P,
     position: u64,
     machine: &M,
@@ -116,7 +119,7 @@ fn put_fault<'w, P: Put>(
 /// # Errors
 ///
 /// `PutError` where `out` stopped. Then a prefix of the line was put.
-pub fn put_place<'c, P: Put, A: Allocator + Copy + 'c, M: Readers<A, Code<'c, 'c, A>>>(
+pub fn put_place<'c, P: Put, A: Allocator + Copy + 'c, M: Readers<A, Code<'c, A>>>(
     out: &mut P,
     position: u64,
     machine: &M,

@@ -48,7 +48,7 @@ fn put_value<P: Put>(out: &mut P, name: &[u8], value: Option<u64>) -> Result<(),
 /// # Errors
 ///
 /// `PutError` where `out` stopped. Then a prefix of the text was put.
-pub fn put_printed<'c, P: Put, A: Allocator + Copy + 'c, M: Readers<A, Code<'c, 'c, A>>>(
+pub fn put_printed<'c, P: Put, A: Allocator + Copy + 'c, M: Readers<A, Code<'c, A>>>(
     out: &mut P,
     machine: &M,
     name: &[u8],
@@ -66,9 +66,9 @@ pub fn put_printed<'c, P: Put, A: Allocator + Copy + 'c, M: Readers<A, Code<'c, 
 }
 
 /// Puts a line for each slot of a frame.
-fn put_slots<'c, 'a, P: Put, A: Allocator + Copy>(
+fn put_slots<'c, P: Put, A: Allocator + Copy>(
     out: &mut P,
-    code: &'c Code<'c, 'a, A>,
+    code: &'c Code<'c, A>,
     frame: &FrameView<'_>,
 ) -> Result<(), PutError>
     requires stops { P.stops out.old < 2 ^ 64 - 1 }
@@ -90,7 +90,7 @@ fn put_slots<'c, 'a, P: Put, A: Allocator + Copy>(
 /// # Errors
 ///
 /// `PutError` where `out` stopped. Then a prefix of the text was put.
-pub fn put_temps<'c, P: Put, A: Allocator + Copy + 'c, M: Readers<A, Code<'c, 'c, A>>>(
+pub fn put_temps<'c, P: Put, A: Allocator + Copy + 'c, M: Readers<A, Code<'c, A>>>(
     out: &mut P,
     machine: &M,
 ) -> Result<(), PutError>

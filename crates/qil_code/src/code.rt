@@ -33,14 +33,14 @@ fn item_at<T>(items: &[T], index: u16) -> Option<&T>
 
 /// A checked program, numbered. Specifications see the program: what its code is follows from that.
 #[derive(Drop)]
-pub struct Code<'c, 'a, A: Allocator> {
-    program: &'c Program<'a, A>,
-    image: &'c Image<'c, 'a, A>,
-    names: Numbers<'a, A>,
-    funcs: Vec<FuncCode<'a, A>, A>,
+pub struct Code<'c, A: Allocator> {
+    program: &'c Program<'c, A>,
+    image: &'c Image<'c, A>,
+    names: Numbers<'c, A>,
+    funcs: Vec<FuncCode<'c, A>, A>,
 }
 
-impl<'c, 'a, A: Allocator> Model for Code<'c, 'a, A> {
+impl<'c, A: Allocator> Model for Code<'c, A> {
     ghost use Rattle.qil_tree.specs.declared.tree.Program.{Program};
     ghost use Rattle.qil_code.specs.Reading.{IsCodeOf};
 
@@ -51,13 +51,13 @@ impl<'c, 'a, A: Allocator> Model for Code<'c, 'a, A> {
     ghost invariant = { λ code. IsCodeOf code.program.now code.image.now code.names code.funcs.items };
 }
 
-impl<'c, 'a, A: Allocator + Copy> Code<'c, 'a, A> {
+impl<'c, A: Allocator + Copy> Code<'c, A> {
     /// The code of a program, from what was numbered of it. Only a caller that has proved that it is the program's can make one.
     pub fn new(
-        program: &'c Program<'a, A>,
-        image: &'c Image<'c, 'a, A>,
-        names: Numbers<'a, A>,
-        funcs: Vec<FuncCode<'a, A>, A>,
+        program: &'c Program<'c, A>,
+        image: &'c Image<'c, A>,
+        names: Numbers<'c, A>,
+        funcs: Vec<FuncCode<'c, A>, A>,
     ) -> Self
         requires { IsCodeOf program.now image.now names funcs.items }
         ensures { result ≡ program.now }
@@ -71,14 +71,14 @@ impl<'c, 'a, A: Allocator + Copy> Code<'c, 'a, A> {
     }
 
     /// Where the program lies.
-    pub fn image(&self) -> &'c Image<'c, 'a, A>
+    pub fn image(&self) -> &'c Image<'c, A>
         ensures { result.now ≡ self.now }
     {
         self.image
     }
 
     /// The code of a function, if there is one of that number.
-    pub fn func(&self, func: FuncId) -> Option<&FuncCode<'a, A>>
+    pub fn func(&self, func: FuncId) -> Option<&FuncCode<'c, A>>
         ensures code { option_copied result ≡ func_code_at self.now func.index }
         ensures few { IfSome result (λ k. (length k.now.temps ≤ 65535) × (length k.now.labels ≤ 65535)) }
         ensures range { IfSome result (λ k. FuncInRange k.now) }
@@ -137,7 +137,7 @@ impl<'c, 'a, A: Allocator + Copy> Code<'c, 'a, A> {
     }
 
     /// The name of the temporary of a slot.
-    pub fn name_of(&self, func: FuncId, slot: Slot) -> Option<Name<'a>>
+    pub fn name_of(&self, func: FuncId, slot: Slot) -> Option<Name<'c>>
         ensures { result ≡ slice_get (names_of self.now func.index) slot.index }
     {
         match self.func(func) {
@@ -216,7 +216,7 @@ impl<'c, 'a, A: Allocator + Copy> Code<'c, 'a, A> {
     }
 
     /// A block of the tree, if there is one of those numbers.
-    pub fn source(&self, func: FuncId, block: BlockId) -> Option<&'c Block<'a, A>>
+    pub fn source(&self, func: FuncId, block: BlockId) -> Option<&'c Block<'c, A>>
         ensures { option_copied result ≡ block_at self.now func.index block.index }
     {
         match self.program.funcs.as_slice().get(usize::from(func.index)) {
@@ -226,7 +226,7 @@ impl<'c, 'a, A: Allocator + Copy> Code<'c, 'a, A> {
     }
 }
 
-impl<'c, 'a, A: Allocator + Copy> Code<'c, 'a, A> {
+impl<'c, A: Allocator + Copy> Code<'c, A> {
     /// What is so of the names in every code, with nothing to run: each function and each block is found by its name, and no
     /// two have one name.
     #[inline(always)]
@@ -248,7 +248,7 @@ impl<'c, 'a, A: Allocator + Copy> Code<'c, 'a, A> {
     }
 
     /// The label of a block, without its sigil.
-    pub fn label_of(&self, func: FuncId, block: BlockId) -> Option<Name<'a>>
+    pub fn label_of(&self, func: FuncId, block: BlockId) -> Option<Name<'c>>
         ensures { result ≡ option_map (λ b. b.label) (block_at self.now func.index block.index) }
     {
         match self.source(func, block) {

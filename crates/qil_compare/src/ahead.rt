@@ -124,7 +124,7 @@ fn class_returned(returns: Option<AbiType>) -> Class
 
 /// What a jump returns.
 fn return_ahead<A: Allocator + Copy>(
-    code: &Code<'_, '_, A>,
+    code: &Code<'_, A>,
     frame: &Frame<A>,
     jump: &NumberedJump<A>,
 ) -> Ahead
@@ -140,7 +140,7 @@ fn return_ahead<A: Allocator + Copy>(
 
 /// The value of an operand as the function of a frame returns it.
 fn returned_ahead<A: Allocator + Copy>(
-    code: &Code<'_, '_, A>,
+    code: &Code<'_, A>,
     frame: &Frame<A>,
     source: Option<NumberedOperand>,
 ) -> Ahead
@@ -161,7 +161,7 @@ fn returned_ahead<A: Allocator + Copy>(
 /// What the step of a frame may do, as far as an event of these kinds comes of it.
 // The place is looked for whatever is asked, and there is no way on without one: so the step behind finds it again at no cost.
 #[inline(always)]
-fn look_ahead<A: Allocator + Copy>(code: &Code<'_, '_, A>, frame: &Frame<A>, kinds: Kinds) -> Ahead
+fn look_ahead<A: Allocator + Copy>(code: &Code<'_, A>, frame: &Frame<A>, kinds: Kinds) -> Ahead
     requires fits { FrameFits code.now frame.now }
     requires finds { Finds code.now }
     ensures { (fs : List SlotFrame) (func : FuncId) → func.index ≡ frame.now.func → IsDue code.now kinds (due_of code.now (frames_state code.now (frame.now ∷ fs))) func result }
@@ -179,7 +179,7 @@ fn look_ahead<A: Allocator + Copy>(code: &Code<'_, '_, A>, frame: &Frame<A>, kin
 }
 
 /// The innermost frame.
-pub fn innermost<'m, A: Allocator + Copy>(machine: &'m Machine<'_, '_, A>) -> Option<&'m Frame<A>>
+pub fn innermost<'m, A: Allocator + Copy>(machine: &'m Machine<'_, A>) -> Option<&'m Frame<A>>
     ensures frame { option_copied result ≡ slice_get machine.now.frames 0 }
     ensures machine { IsMachine machine.now }
 {
@@ -187,7 +187,7 @@ pub fn innermost<'m, A: Allocator + Copy>(machine: &'m Machine<'_, '_, A>) -> Op
 }
 
 /// How many calls are open.
-pub fn depth<A: Allocator + Copy>(machine: &Machine<'_, '_, A>) -> usize
+pub fn depth<A: Allocator + Copy>(machine: &Machine<'_, A>) -> usize
     ensures { result ≡ length (state_of machine.now).frames }
 {
     machine.frames().len()
@@ -195,7 +195,7 @@ pub fn depth<A: Allocator + Copy>(machine: &Machine<'_, '_, A>) -> usize
 
 /// What is kept of a machine before a step of its run, which isn't over.
 #[inline(always)]
-pub fn kept_before<A: Allocator + Copy>(machine: &Machine<'_, '_, A>, kinds: Kinds) -> Before
+pub fn kept_before<A: Allocator + Copy>(machine: &Machine<'_, A>, kinds: Kinds) -> Before
     requires { is_final (state_of machine.now).status ≡ false }
     ensures { IsKept machine.now.program kinds (state_of machine.now) result }
 {

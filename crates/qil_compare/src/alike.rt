@@ -19,7 +19,7 @@ use qil_machine::Machine;
 use std::alloc::Allocator;
 
 /// Whether a function of a program has a name.
-fn is_named<A: Allocator + Copy>(image: &Image<'_, '_, A>, func: FuncId, name: &[u8]) -> bool
+fn is_named<A: Allocator + Copy>(image: &Image<'_, A>, func: FuncId, name: &[u8]) -> bool
     ensures { IsTrue result → option_map (λ f. f.name) (slice_get image.now.funcs func.index) ≡ Some name.now }
 {
     match image.name_of(func) {
@@ -30,8 +30,8 @@ fn is_named<A: Allocator + Copy>(image: &Image<'_, '_, A>, func: FuncId, name: &
 
 /// Whether two programs have functions of one name at a number.
 fn is_named_alike<A: Allocator + Copy>(
-    image: &Image<'_, '_, A>,
-    other: &Image<'_, '_, A>,
+    image: &Image<'_, A>,
+    other: &Image<'_, A>,
     func: FuncId,
 ) -> bool
     ensures { IsTrue result → (name : Name) × (name_at image.now func.index ≡ Some name) × (name_at other.now func.index ≡ Some name) }
@@ -43,7 +43,7 @@ fn is_named_alike<A: Allocator + Copy>(
 }
 
 /// At how many numbers, from the first on, two programs have functions of the same names.
-pub fn named_alike<A: Allocator + Copy>(image: &Image<'_, '_, A>, other: &Image<'_, '_, A>) -> u16
+pub fn named_alike<A: Allocator + Copy>(image: &Image<'_, A>, other: &Image<'_, A>) -> u16
     ensures { AreNamedAlike image.now other.now result }
 {
     for index in 0..u16::MAX {
@@ -57,7 +57,7 @@ pub fn named_alike<A: Allocator + Copy>(image: &Image<'_, '_, A>, other: &Image<
 /// Whether a program defines a function of a name. It is looked for at a number first, since to find a name in a table takes
 /// much longer.
 #[inline(never)]
-fn has_func<A: Allocator + Copy>(code: &Code<'_, '_, A>, func: FuncId, name: &[u8]) -> bool
+fn has_func<A: Allocator + Copy>(code: &Code<'_, A>, func: FuncId, name: &[u8]) -> bool
     ensures { result ≡ has_func code.now name.now }
 {
     if is_named(code.image(), func, name) {
@@ -69,8 +69,8 @@ fn has_func<A: Allocator + Copy>(code: &Code<'_, '_, A>, func: FuncId, name: &[u
 /// Whether a program defines a function of the name that a function of another one has.
 #[inline(always)]
 pub fn has_like<'c, A: Allocator + Copy>(
-    code: &Code<'_, '_, A>,
-    image: &'c Image<'c, 'c, A>,
+    code: &Code<'_, A>,
+    image: &'c Image<'c, A>,
     func: FuncId,
     alike: u16,
 ) -> bool
@@ -86,8 +86,8 @@ pub fn has_like<'c, A: Allocator + Copy>(
 /// Whether a program defines a function of the name that was called in another one.
 #[inline(always)]
 pub fn has_called<'c, A: Allocator + Copy>(
-    code: &Code<'_, '_, A>,
-    machine: &Machine<'c, 'c, A>,
+    code: &Code<'_, A>,
+    machine: &Machine<'c, A>,
     alike: u16,
 ) -> bool
     requires { AreNamedAlike machine.now.program code.now alike }
@@ -110,8 +110,8 @@ fn is_alike(func: FuncId, second: FuncId, alike: u16) -> bool
 /// Whether two functions, each of a program of its own, have the same name, byte by byte.
 #[inline(never)]
 fn are_names_same<'c, A: Allocator + Copy>(
-    image: &'c Image<'c, 'c, A>,
-    other: &'c Image<'c, 'c, A>,
+    image: &'c Image<'c, A>,
+    other: &'c Image<'c, A>,
     func: FuncId,
     second: FuncId,
 ) -> bool
@@ -123,8 +123,8 @@ fn are_names_same<'c, A: Allocator + Copy>(
 /// Whether two functions, each of a program of its own, have the same name.
 #[inline(always)]
 pub fn same_names<'c, A: Allocator + Copy>(
-    image: &'c Image<'c, 'c, A>,
-    other: &'c Image<'c, 'c, A>,
+    image: &'c Image<'c, A>,
+    other: &'c Image<'c, A>,
     func: FuncId,
     second: FuncId,
     alike: u16,
@@ -141,8 +141,8 @@ pub fn same_names<'c, A: Allocator + Copy>(
 /// Whether two machines are in calls of functions that have one number and the same name.
 #[inline(always)]
 fn are_alike<'c, A: Allocator + Copy>(
-    left: &Machine<'c, 'c, A>,
-    right: &Machine<'c, 'c, A>,
+    left: &Machine<'c, A>,
+    right: &Machine<'c, A>,
     alike: u16,
 ) -> bool
     requires { AreNamedAlike left.now.program right.now.program alike }
@@ -160,8 +160,8 @@ fn are_alike<'c, A: Allocator + Copy>(
 /// Whether two machines are in calls of functions of one name, byte by byte.
 #[inline(never)]
 fn are_call_names_same<'c, A: Allocator + Copy>(
-    left: &Machine<'c, 'c, A>,
-    right: &Machine<'c, 'c, A>,
+    left: &Machine<'c, A>,
+    right: &Machine<'c, A>,
 ) -> bool
     ensures { IsTrue result ↔ (call_name (state_of left.now).frames ≡ call_name (state_of right.now).frames) }
 {
@@ -171,8 +171,8 @@ fn are_call_names_same<'c, A: Allocator + Copy>(
 /// Whether two machines are in calls of functions of one name.
 #[inline(always)]
 pub fn same_call_names<'c, A: Allocator + Copy>(
-    left: &Machine<'c, 'c, A>,
-    right: &Machine<'c, 'c, A>,
+    left: &Machine<'c, A>,
+    right: &Machine<'c, A>,
     alike: u16,
 ) -> bool
     requires { AreNamedAlike left.now.program right.now.program alike }

@@ -15,7 +15,7 @@ use qil_tree::{AbiType, Program};
 use std::alloc::Allocator;
 
 /// The name of the function that was called, without its sigil.
-pub fn call_name<'c, A: Allocator + Copy>(machine: &Machine<'c, 'c, A>) -> &'c [u8]
+pub fn call_name<'c, A: Allocator + Copy>(machine: &Machine<'c, A>) -> &'c [u8]
     ensures { result.now ≡ call_name (state_of machine.now).frames }
 {
     match innermost(machine) {
@@ -25,7 +25,7 @@ pub fn call_name<'c, A: Allocator + Copy>(machine: &Machine<'c, 'c, A>) -> &'c [
 }
 
 /// How many parameters it has.
-pub fn param_count<A: Allocator + Copy>(machine: &Machine<'_, '_, A>) -> usize
+pub fn param_count<A: Allocator + Copy>(machine: &Machine<'_, A>) -> usize
     ensures { result ≡ length (call_params machine.now.program (state_of machine.now).frames) }
 {
     let code = machine.code();
@@ -48,7 +48,7 @@ fn held_or_zero<A: Allocator + Copy>(frame: &Frame<A>, slot: Slot) -> u64
 
 /// The type of one of its parameters, counted from 0, and the value that its slot holds.
 #[inline(always)]
-pub fn param_held<A: Allocator + Copy>(machine: &Machine<'_, '_, A>, index: usize) -> (AbiType, u64)
+pub fn param_held<A: Allocator + Copy>(machine: &Machine<'_, A>, index: usize) -> (AbiType, u64)
     requires { index < length (call_params machine.now.program (state_of machine.now).frames) }
     ensures { Some (seen machine.now.program result.0 result.1) ≡ slice_get (call_params machine.now.program (state_of machine.now).frames) index }
 {
@@ -66,7 +66,7 @@ pub fn param_held<A: Allocator + Copy>(machine: &Machine<'_, '_, A>, index: usiz
 /// What one of its parameters is, counted from 0.
 pub fn param_seen<'c, A: Allocator + Copy>(
     program: &'c Program<'c, A>,
-    machine: &Machine<'c, 'c, A>,
+    machine: &Machine<'c, A>,
     index: usize,
 ) -> Seen<'c>
     requires program { program.now ≡ machine.now.program }

@@ -122,8 +122,8 @@ fn judge<'c, A: Allocator + Copy>(
 fn judge_here<
     'c,
     A: Allocator + Copy + 'c,
-    H: History<A, Machine<'c, 'c, A>>,
-    K: History<A, Machine<'c, 'c, A>>,
+    H: History<A, Machine<'c, A>>,
+    K: History<A, Machine<'c, A>>,
 >(
     good: &H,
     bad: &K,
@@ -153,8 +153,8 @@ fn judge_here<
 fn is_far<
     'c,
     A: Allocator + Copy + 'c,
-    H: History<A, Machine<'c, 'c, A>>,
-    K: History<A, Machine<'c, 'c, A>>,
+    H: History<A, Machine<'c, A>>,
+    K: History<A, Machine<'c, A>>,
 >(good: &H, bad: &K) -> bool
     ensures near { result ≡ false → (position (H.timeline good.now) ≤ 1000000000000000000) × (position (K.timeline bad.now) ≤ 1000000000000000000) }
 {
@@ -185,8 +185,8 @@ fn limited(common: u64) -> Answer
 pub fn compare<
     'c,
     A: Allocator + Copy + 'c,
-    H: History<A, Machine<'c, 'c, A>>,
-    K: History<A, Machine<'c, 'c, A>>,
+    H: History<A, Machine<'c, A>>,
+    K: History<A, Machine<'c, A>>,
 >(good: &mut H, bad: &mut K, good_side: &Side<'c, A>, bad_side: &Side<'c, A>, limit: u64) -> Answer
     requires limit { limit ≤ 4294967295 }
     requires start { (position (H.timeline good.old) ≤ 1000000000000000000) × (position (K.timeline bad.old) ≤ 1000000000000000000) }

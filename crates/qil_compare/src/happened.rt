@@ -24,12 +24,12 @@ use std::alloc::Allocator;
 #[derive(Drop)]
 pub struct Side<'c, A: Allocator> {
     pub program: &'c Program<'c, A>,
-    pub other: &'c Code<'c, 'c, A>,
+    pub other: &'c Code<'c, A>,
     pub kinds: Kinds,
 }
 
 /// Whether a program defines a data object of a name.
-fn has_data<A: Allocator + Copy>(image: &Image<'_, '_, A>, name: &[u8]) -> bool
+fn has_data<A: Allocator + Copy>(image: &Image<'_, A>, name: &[u8]) -> bool
     ensures { result ≡ has_data image.now name.now }
 {
     match image.address(name) {
@@ -39,14 +39,14 @@ fn has_data<A: Allocator + Copy>(image: &Image<'_, '_, A>, name: &[u8]) -> bool
 }
 
 /// Whether the run is over.
-pub fn is_over<A: Allocator + Copy>(machine: &Machine<'_, '_, A>) -> bool
+pub fn is_over<A: Allocator + Copy>(machine: &Machine<'_, A>) -> bool
     ensures { result ≡ is_final (state_of machine.now).status }
 {
     machine.is_final()
 }
 
 /// An event with which no output is left to tell.
-fn told<A: Allocator + Copy>(machine: &Machine<'_, '_, A>, event: Event) -> Option<Told>
+fn told<A: Allocator + Copy>(machine: &Machine<'_, A>, event: Event) -> Option<Told>
     ensures { (kinds : Kinds) → AreTold machine.now.program kinds (state_of machine.now) (event_at machine.now.program (state_of machine.now) event ∷ []) result }
 {
     Some(Told {
@@ -58,7 +58,7 @@ fn told<A: Allocator + Copy>(machine: &Machine<'_, '_, A>, event: Event) -> Opti
 /// How a run ended, if that is compared.
 fn ended<A: Allocator + Copy>(
     kinds: Kinds,
-    machine: &Machine<'_, '_, A>,
+    machine: &Machine<'_, A>,
     before: Before,
 ) -> Option<Told>
     ensures { (due : Due) → IsFuncOf machine.now.program due before.func
@@ -73,7 +73,7 @@ fn ended<A: Allocator + Copy>(
 /// A call, if it is one of both programs.
 fn called<'c, A: Allocator + Copy>(
     side: &Side<'c, A>,
-    machine: &Machine<'c, 'c, A>,
+    machine: &Machine<'c, A>,
     alike: u16,
 ) -> Option<Told>
     requires { AreNamedAlike machine.now.program side.now.other.now alike }
@@ -91,7 +91,7 @@ fn called<'c, A: Allocator + Copy>(
 /// A return, if it is one of both programs.
 fn returned<'c, A: Allocator + Copy>(
     side: &Side<'c, A>,
-    machine: &Machine<'c, 'c, A>,
+    machine: &Machine<'c, A>,
     before: Before,
     alike: u16,
 ) -> Option<Told>
@@ -134,7 +134,7 @@ fn range_of(ahead: Ahead) -> Option<(u64, u64)>
 /// A write to memory, if it is to data of both programs.
 fn wrote_at<'c, A: Allocator + Copy>(
     side: &Side<'c, A>,
-    machine: &Machine<'c, 'c, A>,
+    machine: &Machine<'c, A>,
     start: u64,
     count: u64,
 ) -> Option<Told>
@@ -154,7 +154,7 @@ fn wrote_at<'c, A: Allocator + Copy>(
 /// What was to be written, if writes are compared.
 fn wrote<'c, A: Allocator + Copy>(
     side: &Side<'c, A>,
-    machine: &Machine<'c, 'c, A>,
+    machine: &Machine<'c, A>,
     before: Before,
 ) -> Option<Told>
     requires { side.now.program.now ≡ machine.now.program }
@@ -172,7 +172,7 @@ fn wrote<'c, A: Allocator + Copy>(
 
 /// The first byte of output after so many, if output is compared.
 pub fn byte_out<A: Allocator + Copy>(
-    machine: &Machine<'_, '_, A>,
+    machine: &Machine<'_, A>,
     kinds: Kinds,
     told: usize,
 ) -> Option<Told>
@@ -195,7 +195,7 @@ pub fn byte_out<A: Allocator + Copy>(
 #[inline(always)]
 pub fn happened<'c, A: Allocator + Copy>(
     side: &Side<'c, A>,
-    machine: &Machine<'c, 'c, A>,
+    machine: &Machine<'c, A>,
     before: Before,
     alike: u16,
 ) -> Option<Told>

@@ -14,18 +14,14 @@ use qil_machine::{Machine, MoveError};
 use std::alloc::Allocator;
 
 /// How many bytes of output there are.
-pub fn written<'c, A: Allocator + Copy + 'c, H: History<A, Machine<'c, 'c, A>>>(
-    history: &H,
-) -> usize
+pub fn written<'c, A: Allocator + Copy + 'c, H: History<A, Machine<'c, A>>>(history: &H) -> usize
     ensures { result ≡ length (H.timeline history.now).now.output }
 {
     history.machine().output().len()
 }
 
 /// Why a run ends that had no event on its last move.
-fn over_or_limit<'c, A: Allocator + Copy + 'c, H: History<A, Machine<'c, 'c, A>>>(
-    history: &H,
-) -> Found
+fn over_or_limit<'c, A: Allocator + Copy + 'c, H: History<A, Machine<'c, A>>>(history: &H) -> Found
     ensures { result ≡ cond (at_end (H.timeline history.now)) founds.Over founds.Limit }
 {
     if is_over(history.machine()) {
@@ -38,7 +34,7 @@ fn over_or_limit<'c, A: Allocator + Copy + 'c, H: History<A, Machine<'c, 'c, A>>
 /// Moves forward to the next event, and gives it: after the least number of moves with one, or after `limit` moves; at the
 /// end of the run, or where there is no memory for a move. Gives also how many bytes of output are told then.
 #[inline(never)]
-fn run_to_event<'c, A: Allocator + Copy + 'c, H: History<A, Machine<'c, 'c, A>>>(
+fn run_to_event<'c, A: Allocator + Copy + 'c, H: History<A, Machine<'c, A>>>(
     history: &mut H,
     side: &Side<'c, A>,
     alike: u16,
@@ -69,7 +65,7 @@ fn run_to_event<'c, A: Allocator + Copy + 'c, H: History<A, Machine<'c, 'c, A>>>
 
 /// The next event of a run, of which so many bytes of output are told: a byte that isn't told yet, without a move; or what
 /// comes of moves, `limit` at most.
-pub fn next_event<'c, A: Allocator + Copy + 'c, H: History<A, Machine<'c, 'c, A>>>(
+pub fn next_event<'c, A: Allocator + Copy + 'c, H: History<A, Machine<'c, A>>>(
     history: &mut H,
     side: &Side<'c, A>,
     alike: u16,

@@ -30,7 +30,7 @@ use std::alloc::Allocator;
 #[derive(Drop)]
 pub struct Stand<'s, 'c, A: Allocator> {
     pub side: &'s Side<'c, A>,
-    pub machine: &'s Machine<'c, 'c, A>,
+    pub machine: &'s Machine<'c, A>,
 }
 
 impl<'s, 'c, A: Allocator + Copy> Stand<'s, 'c, A> {
@@ -202,7 +202,7 @@ fn same_calls<'c, A: Allocator + Copy>(
 
 /// The byte so far after an address, if it is live. After the last address there is none.
 pub fn byte_behind<A: Allocator + Copy>(
-    machine: &Machine<'_, '_, A>,
+    machine: &Machine<'_, A>,
     address: u64,
     offset: u64,
 ) -> Option<u8>
@@ -217,8 +217,8 @@ pub fn byte_behind<A: Allocator + Copy>(
 
 /// Whether so many bytes of two memories are the same, from an address on in each.
 fn same_bytes<'c, A: Allocator + Copy>(
-    left: &Machine<'c, 'c, A>,
-    right: &Machine<'c, 'c, A>,
+    left: &Machine<'c, A>,
+    right: &Machine<'c, A>,
     start: u64,
     second: u64,
     count: u64,

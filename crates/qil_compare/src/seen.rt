@@ -44,7 +44,7 @@ fn is_stack(address: u64) -> bool
 }
 
 /// Where an object of the program begins.
-fn start_of<'d, A: Allocator + Copy>(image: &Image<'d, 'd, A>, object: &Data<'d, A>) -> u64
+fn start_of<'d, A: Allocator + Copy>(image: &Image<'d, A>, object: &Data<'d, A>) -> u64
     ensures { result ≡ start_of image.now object.now }
 {
     image.address(object.name.bytes()).unwrap_or(0)
@@ -52,7 +52,7 @@ fn start_of<'d, A: Allocator + Copy>(image: &Image<'d, 'd, A>, object: &Data<'d,
 
 /// The last object that begins at an address or before it.
 fn last_object<'d, A: Allocator + Copy>(
-    image: &Image<'d, 'd, A>,
+    image: &Image<'d, A>,
     datas: &'d [Data<'d, A>],
     address: u64,
 ) -> Option<&'d Data<'d, A>>
@@ -73,7 +73,7 @@ fn last_object<'d, A: Allocator + Copy>(
 /// belongs to the last object.
 pub fn data_place<'d, A: Allocator + Copy>(
     program: &'d Program<'d, A>,
-    image: &Image<'d, 'd, A>,
+    image: &Image<'d, A>,
     address: u64,
 ) -> Option<DataPlace<'d>>
     requires { image.now ≡ program.now }
@@ -92,7 +92,7 @@ pub fn data_place<'d, A: Allocator + Copy>(
 }
 
 /// The name of a function of the program, without its sigil.
-pub fn func_name<'d, A: Allocator + Copy>(image: &'d Image<'d, 'd, A>, func: FuncId) -> &'d [u8]
+pub fn func_name<'d, A: Allocator + Copy>(image: &'d Image<'d, A>, func: FuncId) -> &'d [u8]
     ensures { result.now ≡ func_name (slice_get image.now.funcs func.index) }
 {
     match image.name_of(func) {
@@ -102,7 +102,7 @@ pub fn func_name<'d, A: Allocator + Copy>(image: &'d Image<'d, 'd, A>, func: Fun
 }
 
 /// The name of what a call goes to, without its sigil.
-fn callee_name<'d, A: Allocator + Copy>(image: &'d Image<'d, 'd, A>, callee: Callee) -> &'d [u8]
+fn callee_name<'d, A: Allocator + Copy>(image: &'d Image<'d, A>, callee: Callee) -> &'d [u8]
     ensures { result.now ≡ callee_name image.now callee }
 {
     match callee {
@@ -116,7 +116,7 @@ fn callee_name<'d, A: Allocator + Copy>(image: &'d Image<'d, 'd, A>, callee: Cal
 /// What an address is.
 pub fn address_seen<'d, A: Allocator + Copy>(
     program: &'d Program<'d, A>,
-    image: &'d Image<'d, 'd, A>,
+    image: &'d Image<'d, A>,
     address: u64,
 ) -> Seen<'d>
     requires { image.now ≡ program.now }
@@ -137,7 +137,7 @@ pub fn address_seen<'d, A: Allocator + Copy>(
 /// What a value of a type is: only one of 64 bits can be an address.
 pub fn value_seen<'d, A: Allocator + Copy>(
     program: &'d Program<'d, A>,
-    image: &'d Image<'d, 'd, A>,
+    image: &'d Image<'d, A>,
     abi_type: AbiType,
     value: u64,
 ) -> Seen<'d>

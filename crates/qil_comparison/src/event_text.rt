@@ -128,7 +128,7 @@ fn put_next_byte<P: Put>(out: &mut P, byte: Option<u8>) -> Result<(), PutError>
 /// Puts so many bytes of memory from an address on in a line.
 fn put_bytes<P: Put, A: Allocator + Copy>(
     out: &mut P,
-    machine: &Machine<'_, '_, A>,
+    machine: &Machine<'_, A>,
     start: u64,
     count: u64,
 ) -> Result<(), PutError>

@@ -21,6 +21,7 @@ use crate::sides::run_machines;
 use qil_code::Code;
 use qil_compare::Side;
 use qil_laying::layout;
+use qil_layout::Image;
 use qil_loading::{LoadError, Refusal, check_text};
 use qil_machine::Machine;
 use qil_meaning::StartFault;
@@ -45,7 +46,7 @@ fn not_loaded(side: SideName, error: LoadError) -> Unloaded
 
 /// Whether a program can be started.
 fn can_start<A: Allocator + Copy>(
-    code: &Code<'_, '_, A>,
+    code: &Code<'_, A>,
     request: &Request<'_>,
 ) -> Result<(), LoadError>
     ensures starts { OnOk result (IsOk (start_of code.now request.now.func.now request.now.args.now)) }
@@ -67,9 +68,9 @@ fn can_start<A: Allocator + Copy>(
 fn run_ready<'c, A: Allocator + Copy + 'c, S: Source, W: Sink>(
     alloc: A,
     good: &'c Checked<'c, A>,
-    good_code: &'c Code<'c, 'c, A>,
+    good_code: &'c Code<'c, A>,
     bad: &'c Checked<'c, A>,
-    bad_code: &'c Code<'c, 'c, A>,
+    bad_code: &'c Code<'c, A>,
     request: &Request<'_>,
     source: &mut S,
     sink: &mut W,
@@ -112,12 +113,12 @@ fn run_ready<'c, A: Allocator + Copy + 'c, S: Source, W: Sink>(
 }
 
 /// Starts both programs, where the bad one can be started too, and runs them.
-fn start_both<'c, 'i, 't, A: Allocator + Copy + 'c, S: Source, W: Sink>(
+fn start_both<'c, 'i, A: Allocator + Copy + 'c, S: Source, W: Sink>(
     alloc: A,
     good: &'c Checked<'c, A>,
-    good_code: &'c Code<'c, 'c, A>,
-    bad: &'c Checked<'t, A>,
-    bad_code: &'c Code<'i, 't, A>,
+    good_code: &'c Code<'c, A>,
+    bad: &'c Checked<'i, A>,
+    bad_code: &'c Code<'i, A>,
     request: &Request<'_>,
     source: &mut S,
     sink: &mut W,
@@ -151,12 +152,12 @@ fn start_both<'c, 'i, 't, A: Allocator + Copy + 'c, S: Source, W: Sink>(
 
 /// The same of programs whose texts are there for longer than they are. Each call takes two of them at a shorter lifetime: four at
 /// once are past a limit of the prover.
-fn start_bad<'c, 'g, 'i, 't, A: Allocator + Copy + 'c, S: Source, W: Sink>(
+fn start_bad<'c, 'g, 'i, A: Allocator + Copy + 'c, S: Source, W: Sink>(
     alloc: A,
     good: &'c Checked<'g, A>,
-    good_code: &'c Code<'g, 'g, A>,
-    bad: &'c Checked<'t, A>,
-    bad_code: &'c Code<'i, 't, A>,
+    good_code: &'c Code<'g, A>,
+    bad: &'c Checked<'i, A>,
+    bad_code: &'c Code<'i, A>,
     request: &Request<'_>,
     source: &mut S,
     sink: &mut W,
@@ -191,12 +192,61 @@ fn start_bad<'c, 'g, 'i, 't, A: Allocator + Copy + 'c, S: Source, W: Sink>(
     )
 }
 
-/// Lays the bad program out next to the good one, and runs both.
-fn lay_bad<'c, 't, A: Allocator + Copy + 'c, S: Source, W: Sink>(
+/// Numbers the bad program next to the good one, and runs both.
+fn number_bad<'c, 'g, 'i, A: Allocator + Copy + 'c, S: Source, W: Sink>(
     alloc: A,
     keys: RandomState,
-    good: &'c Checked<'c, A>,
-    good_code: &'c Code<'c, 'c, A>,
+    good: &'c Checked<'g, A>,
+    good_code: &'c Code<'g, A>,
+    checked: &'i Checked<'i, A>,
+    image: &'i Image<'i, A>,
+    request: &Request<'_>,
+    source: &mut S,
+    sink: &mut W,
+) -> Result<Outcome, LoadError>
+    requires reads { S.failures source.old < 2 ^ 64 - 1 }
+    requires writes { W.failures sink.old < 2 ^ 64 - 1 }
+    requires limit { request.now.limit ≤ 4294967295 }
+    requires bound { IfSome request.now.bound (λ n. n ≤ 1000000) }
+    requires good { good_code.now ≡ good.now.program }
+    requires image { image.now ≡ checked.now.program }
+    requires lies { fault_of checked.now.program ≡ None }
+    ensures written { (one two : Text) → Accepts one.bytes.now good.now → Checks two.bytes.now checked.now
+        → IfOk result (λ outcome. Written A outcome (setup_of one two request.now) (S.remaining source.old) (S.remaining source.new) (W.contents sink.old) (W.contents sink.new)) }
+    ensures unloaded { (two : Text) → Checks two.bytes.now checked.now → IfErr result (IsUnloaded A two request.now) }
+    ensures only_begun { (start : State) → start_of checked.now.program request.now.func.now request.now.args.now ≡ Ok start
+        → IfErr result (λ e. e ≡ LoadError.OutOfMemory) }
+    ensures only_started { (fault : StartFault) → start_of checked.now.program request.now.func.now request.now.args.now ≡ Err fault → IsErr result }
+    ensures ran { IfOk result (λ outcome. outcome ≢ Outcome.Refused) }
+    ensures untouched { IfOk result (λ outcome. IsUntouched outcome source.old source.new) }
+    ensures unasked { request.now.session ≡ None → source.new ≡ source.old }
+    ensures few { IfSome (S.remaining source.old) (λ script. TakesFew script (S.remaining source.new)) }
+    ensures counted { IfOk result (λ outcome. CountsFaults outcome (S.failures source.old) (S.failures source.new) (W.failures sink.old) (W.failures sink.new)) }
+    ensures unread { OnErr result (source.new ≡ source.old) }
+    ensures unwritten { OnErr result (sink.new ≡ sink.old) }
+{
+    let code = match number(alloc, keys, checked, image) {
+        Ok(code) => code,
+        Err(_) => return Err(LoadError::OutOfMemory),
+    };
+    start_bad(
+        alloc,
+        &*good,
+        &*good_code,
+        &*checked,
+        &code,
+        request,
+        source,
+        sink,
+    )
+}
+
+/// Lays the bad program out next to the good one, and runs both.
+fn lay_bad<'c, 'g, 't, A: Allocator + Copy + 'c, S: Source, W: Sink>(
+    alloc: A,
+    keys: RandomState,
+    good: &'c Checked<'g, A>,
+    good_code: &'c Code<'g, A>,
     checked: &Checked<'t, A>,
     request: &Request<'_>,
     source: &mut S,
@@ -222,32 +272,20 @@ fn lay_bad<'c, 't, A: Allocator + Copy + 'c, S: Source, W: Sink>(
     ensures unread { OnErr result (source.new ≡ source.old) }
     ensures unwritten { OnErr result (sink.new ≡ sink.old) }
 {
-    let image = match layout(alloc, keys, checked) {
-        Ok(image) => image,
-        Err(error) => return Err(LoadError::from(error)),
-    };
-    let code = match number(alloc, keys, checked, &image) {
-        Ok(code) => code,
-        Err(_) => return Err(LoadError::OutOfMemory),
-    };
-    start_bad(
-        alloc,
-        &*good,
-        &*good_code,
-        &*checked,
-        &code,
-        request,
-        source,
-        sink,
-    )
+    match layout(alloc, keys, checked) {
+        Ok(image) => number_bad(
+            alloc, keys, good, good_code, &*checked, &image, request, source, sink,
+        ),
+        Err(error) => Err(LoadError::from(error)),
+    }
 }
 
 /// Loads the bad text next to the good one, and runs both.
-fn load_bad<'c, 't, A: Allocator + Copy + 'c, S: Source, W: Sink>(
+fn load_bad<'c, 'g, 't, A: Allocator + Copy + 'c, S: Source, W: Sink>(
     alloc: A,
     keys: RandomState,
-    good: &'c Checked<'c, A>,
-    good_code: &'c Code<'c, 'c, A>,
+    good: &'c Checked<'g, A>,
+    good_code: &'c Code<'g, A>,
     text: &Text<'t>,
     request: &Request<'_>,
     source: &mut S,
@@ -277,6 +315,52 @@ fn load_bad<'c, 't, A: Allocator + Copy + 'c, S: Source, W: Sink>(
             alloc, keys, good, good_code, &checked, request, source, sink,
         ),
         Err(error) => Err(error),
+    }
+}
+
+/// Numbers the good program, and loads the bad text next to it.
+fn number_good<'c, 't, A: Allocator + Copy + 'c, S: Source, W: Sink>(
+    alloc: A,
+    keys: RandomState,
+    checked: &'c Checked<'c, A>,
+    image: &'c Image<'c, A>,
+    bad: &Text<'t>,
+    request: &Request<'_>,
+    source: &mut S,
+    sink: &mut W,
+) -> Result<Outcome, Unloaded>
+    requires reads { S.failures source.old < 2 ^ 64 - 1 }
+    requires writes { W.failures sink.old < 2 ^ 64 - 1 }
+    requires limit { request.now.limit ≤ 4294967295 }
+    requires bound { IfSome request.now.bound (λ n. n ≤ 1000000) }
+    requires image { image.now ≡ checked.now.program }
+    requires lies { fault_of checked.now.program ≡ None }
+    ensures written { (one : Text) → Checks one.bytes.now checked.now
+        → IfOk result (λ outcome. Written A outcome (setup_of one bad.now request.now) (S.remaining source.old) (S.remaining source.new) (W.contents sink.old) (W.contents sink.new)) }
+    ensures unloaded { (one : Text) → Checks one.bytes.now checked.now → IfErr result (λ e. IsUnloadedOn A (setup_of one bad.now request.now) e.side e.error) }
+    ensures only_begun { (q : accepted.Verdict A) (s t : State) → start_of checked.now.program request.now.func.now request.now.args.now ≡ Ok s
+        → Accepts bad.now.bytes.now q → start_of q.program request.now.func.now request.now.args.now ≡ Ok t → IfErr result (λ e. e.error ≡ LoadError.OutOfMemory) }
+    ensures only_started { (fault : StartFault) → start_of checked.now.program request.now.func.now request.now.args.now ≡ Err fault → IsErr result }
+    ensures only_refused { (refusal : Refusal) → Refuses A bad.now.bytes.now request.now.func.now request.now.args.now refusal → IsErr result }
+    ensures ran { IfOk result (λ outcome. outcome ≢ Outcome.Refused) }
+    ensures untouched { IfOk result (λ outcome. IsUntouched outcome source.old source.new) }
+    ensures unasked { request.now.session ≡ None → source.new ≡ source.old }
+    ensures few { IfSome (S.remaining source.old) (λ script. TakesFew script (S.remaining source.new)) }
+    ensures counted { IfOk result (λ outcome. CountsFaults outcome (S.failures source.old) (S.failures source.new) (W.failures sink.old) (W.failures sink.new)) }
+    ensures unread { OnErr result (source.new ≡ source.old) }
+    ensures unwritten { OnErr result (sink.new ≡ sink.old) }
+{
+    let code = match number(alloc, keys, checked, image) {
+        Ok(code) => code,
+        Err(_) => return Err(not_loaded(SideName::Good, LoadError::OutOfMemory)),
+    };
+    match can_start(&code, request) {
+        Ok(()) => {}
+        Err(error) => return Err(not_loaded(SideName::Good, error)),
+    }
+    match load_bad(alloc, keys, &*checked, &code, bad, request, source, sink) {
+        Ok(outcome) => Ok(outcome),
+        Err(error) => Err(not_loaded(SideName::Bad, error)),
     }
 }
 
@@ -310,21 +394,9 @@ fn lay_good<'g, 't, A: Allocator + Copy, S: Source, W: Sink>(
     ensures unread { OnErr result (source.new ≡ source.old) }
     ensures unwritten { OnErr result (sink.new ≡ sink.old) }
 {
-    let image = match layout(alloc, keys, checked) {
-        Ok(image) => image,
-        Err(error) => return Err(not_loaded(SideName::Good, LoadError::from(error))),
-    };
-    let code = match number(alloc, keys, checked, &image) {
-        Ok(code) => code,
-        Err(_) => return Err(not_loaded(SideName::Good, LoadError::OutOfMemory)),
-    };
-    match can_start(&code, request) {
-        Ok(()) => {}
-        Err(error) => return Err(not_loaded(SideName::Good, error)),
-    }
-    match load_bad(alloc, keys, &*checked, &code, bad, request, source, sink) {
-        Ok(outcome) => Ok(outcome),
-        Err(error) => Err(not_loaded(SideName::Bad, error)),
+    match layout(alloc, keys, checked) {
+        Ok(image) => number_good(alloc, keys, &*checked, &image, bad, request, source, sink),
+        Err(error) => Err(not_loaded(SideName::Good, LoadError::from(error))),
     }
 }
 

@@ -32,7 +32,7 @@ fn served_outcome(served: Result<(), IoFault>, told: Verdict) -> Outcome
 pub fn serve_at<
     'c,
     A: Allocator + Copy + 'c,
-    H: History<A, Machine<'c, 'c, A>> + Stepwise + Drop,
+    H: History<A, Machine<'c, A>> + Stepwise + Drop,
     S: Source,
     W: Sink,
 >(alloc: A, history: H, limit: u64, told: Verdict, source: &mut S, sink: &mut W) -> Outcome

@@ -29,8 +29,8 @@ use std::alloc::Allocator;
 fn write_answer<
     'c,
     A: Allocator + Copy + 'c,
-    H: History<A, Machine<'c, 'c, A>>,
-    K: History<A, Machine<'c, 'c, A>>,
+    H: History<A, Machine<'c, A>>,
+    K: History<A, Machine<'c, A>>,
     W: Sink,
 >(
     sink: &mut W,
@@ -56,8 +56,8 @@ fn write_answer<
 fn run_histories<
     'c,
     A: Allocator + Copy + 'c,
-    H: History<A, Machine<'c, 'c, A>> + Stepwise + Drop,
-    K: History<A, Machine<'c, 'c, A>> + Stepwise + Drop,
+    H: History<A, Machine<'c, A>> + Stepwise + Drop,
+    K: History<A, Machine<'c, A>> + Stepwise + Drop,
     S: Source,
     W: Sink,
 >(
@@ -104,8 +104,8 @@ fn run_histories<
 /// Runs both machines over histories that keep their newest moves alone.
 fn run_bounded<'c, A: Allocator + Copy + 'c, S: Source, W: Sink>(
     alloc: A,
-    good: Machine<'c, 'c, A>,
-    bad: Machine<'c, 'c, A>,
+    good: Machine<'c, A>,
+    bad: Machine<'c, A>,
     bound: u64,
     good_side: &Side<'c, A>,
     bad_side: &Side<'c, A>,
@@ -143,8 +143,8 @@ fn run_bounded<'c, A: Allocator + Copy + 'c, S: Source, W: Sink>(
 /// Runs both machines, the one that a session is asked of over all its deltas.
 fn run_keeping<'c, A: Allocator + Copy + 'c, S: Source, W: Sink>(
     alloc: A,
-    good: Machine<'c, 'c, A>,
-    bad: Machine<'c, 'c, A>,
+    good: Machine<'c, A>,
+    bad: Machine<'c, A>,
     kept: SideName,
     good_side: &Side<'c, A>,
     bad_side: &Side<'c, A>,
@@ -189,8 +189,8 @@ fn run_keeping<'c, A: Allocator + Copy + 'c, S: Source, W: Sink>(
 /// Runs both machines: the side that a session is asked of keeps its moves, the other one none.
 pub fn run_machines<'c, A: Allocator + Copy + 'c, S: Source, W: Sink>(
     alloc: A,
-    good: Machine<'c, 'c, A>,
-    bad: Machine<'c, 'c, A>,
+    good: Machine<'c, A>,
+    bad: Machine<'c, A>,
     good_side: &Side<'c, A>,
     bad_side: &Side<'c, A>,
     request: &Request<'_>,

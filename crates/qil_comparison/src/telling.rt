@@ -64,7 +64,7 @@ fn put_way<P: Put>(out: &mut P, position: u64) -> Result<(), PutError>
 fn put_stand<P: Put, A: Allocator + Copy>(
     out: &mut P,
     position: u64,
-    machine: &Machine<'_, '_, A>,
+    machine: &Machine<'_, A>,
 ) -> Result<(), PutError>
     requires { P.stops out.old < 2 ^ 64 - 1 }
     ensures { HasPut P.written P.stops P.device result out.old out.new
@@ -77,7 +77,7 @@ fn put_stand<P: Put, A: Allocator + Copy>(
 }
 
 /// Puts what is told of one side.
-fn put_side<'c, A: Allocator + Copy + 'c, H: History<A, Machine<'c, 'c, A>>, P: Put>(
+fn put_side<'c, A: Allocator + Copy + 'c, H: History<A, Machine<'c, A>>, P: Put>(
     out: &mut P,
     name: &[u8],
     history: &H,
@@ -99,8 +99,8 @@ fn put_side<'c, A: Allocator + Copy + 'c, H: History<A, Machine<'c, 'c, A>>, P: 
 fn put_sides<
     'c,
     A: Allocator + Copy + 'c,
-    H: History<A, Machine<'c, 'c, A>>,
-    K: History<A, Machine<'c, 'c, A>>,
+    H: History<A, Machine<'c, A>>,
+    K: History<A, Machine<'c, A>>,
     P: Put,
 >(
     out: &mut P,
@@ -133,8 +133,8 @@ fn is_same(verdict: Verdict) -> bool
 pub fn put_answer<
     'c,
     A: Allocator + Copy + 'c,
-    H: History<A, Machine<'c, 'c, A>>,
-    K: History<A, Machine<'c, 'c, A>>,
+    H: History<A, Machine<'c, A>>,
+    K: History<A, Machine<'c, A>>,
     P: Put,
 >(
     out: &mut P,

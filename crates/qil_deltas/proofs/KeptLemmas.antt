@@ -5,10 +5,12 @@ use Rattle.std.proofs.lemmas.List.Sums.{sum_by_push}
 use Rattle.qil_meaning.specs.State.{State}
 use Rattle.qil_meaning.specs.Poke.{PokeFault}
 use Rattle.qil_meaning.specs.Step.{step_of}
+use Rattle.qil_meaning.specs.Cost.{cost_of}
 use Rattle.qil_meaning.specs.Timeline.{to, forward, poked}
 use Rattle.qil_state.specs.State.{Whole, state_of}
 use Rattle.qil_machine.specs.Moves.{Move, undone, weight}
 use Rattle.qil_machine.specs.Places.{Made, HasMade}
+use Rattle.qil_machine.specs.Costs.{WeighsAtMost}
 use Rattle.qil_deltas.specs.Kept.{before, AllFit, Moved, moved_timeline}
 use Rattle.qil_deltas.specs.Weights.{total}
 
@@ -61,9 +63,17 @@ pub kept_moves : {A : Type 0} (m : Whole A) (ds es : List Move) (k : Moved A) �
 kept_moves {A} m ds es k e is = ap (λ (xs : List Move). moved_timeline (kept m xs)) e ∙ ap (λ (x : Moved A). moved_timeline x) is
 
 -- a step that was kept behind the others is the move forward
-pub steps_kept : {A T E : Type 0} (r : Result T E) (m w : Whole A) (ds es fs : List Move) (now : Moved A) → OnOk r (state_of w ≡ step_of m.program (state_of m)) → OnOk r (HasMade ds es m w) → ds ≡ fs → kept m fs ≡ now
+pub steps_kept : {A T E : Type 0} (r : Result T E) (m w : Whole A) (ds es fs : List Move) (now : Moved A) → OnOk r (state_of w ≡ step_of m.program (state_of m)) → OnOk r (HasMade (λ d. es ≡ ds ++ d ∷ []) m w) → ds ≡ fs → kept m fs ≡ now
     → OnOk r (moved_timeline (kept w es) ≡ forward now.machine.program (moved_timeline now))
 steps_kept (Err e) m w ds es fs now step made same view = tt
 steps_kept {A} (Ok x) m w ds es fs now step made same view =
     subst (λ (k : Moved A). moved_timeline (kept w es) ≡ forward k.machine.program (moved_timeline k)) (ap (λ (xs : List Move). kept m xs) same ∙ view)
-    (moved-on m w ds es made.move made.kept made.made ∙ ap (λ (s : State). to s (moved_timeline (kept m ds))) step)
+    (moved-on m w ds es made.move made.is_kept made.made ∙ ap (λ (s : State). to s (moved_timeline (kept m ds))) step)
+
+-- and adds at most what the step costs
+pub steps_weigh : {A T E : Type 0} (r : Result T E) (m : Whole A) (ds es fs : List Move) (now : Moved A) → OnOk r (WeighsAtMost (λ d. es ≡ ds ++ d ∷ []) (cost_of m.program (state_of m))) → ds ≡ fs → kept m fs ≡ now
+    → OnOk r (total es ≤ total now.deltas + cost_of now.machine.program (state_of now.machine))
+steps_weigh (Err e) m ds es fs now few same view = tt
+steps_weigh {A} (Ok x) m ds es fs now few same view =
+    subst (λ (k : Moved A). total es ≤ total k.deltas + cost_of k.machine.program (state_of k.machine)) (ap (λ (xs : List Move). kept m xs) same ∙ view)
+    (adds_weight m m ds es few.0 (kept m ds) (cost_of m.program (state_of m)) refl few.1 few.2)

@@ -1,4 +1,5 @@
 -- The lemmas.
 pub mod KeptLemmas
 pub mod RingLemmas
+pub mod Rooms
 pub mod WeightLemmas

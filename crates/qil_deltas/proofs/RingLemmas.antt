@@ -1,19 +1,19 @@
 -- Facts on the newest of what is kept.
-use Rattle.std.proofs.Common.{◌≡◌, ℕ, zero, suc, ◌+◌, ◌-◌, ◌<◌, ◌≤◌, ◌^◌, List, [], ◌∷◌, ◌++◌, length, get_or, reverse, take, drop, Option, Some, None, Result, Ok, ap, sym, ◌∙◌, subst, refl, arith, take-append-drop, take_all, ⊎_elim, true, nat_lt, if◌then◌else◌}
-use Rattle.std.specs.Prelude.{slice_get, unwrap_or, option_to_list, IfNone, is_some}
+use Rattle.std.proofs.Common.{◌≡◌, ℕ, zero, suc, ◌+◌, ◌-◌, ◌<◌, ◌≤◌, ◌^◌, List, [], ◌∷◌, ◌++◌, length, get_or, reverse, take, drop, Option, Some, None, Result, Ok, Err, OnOk, OnErr, ap, sym, ◌∙◌, subst, refl, arith, take-append-drop, take_all, ⊎_elim}
+use Rattle.std.specs.Prelude.{slice_get, unwrap_or, option_to_list, IfNone}
 use Rattle.std.proofs.lemmas.List.{length-reverse, length-drop, length-append, reverse-append}
-use Rattle.std.proofs.lemmas.Bool.{cases_lt, false≢true}
-use Rattle.std.proofs.lemmas.Bool.Decides.{nat_tests}
+use Rattle.std.proofs.lemmas.Bool.{cases_lt}
 use Rattle.std.proofs.lemmas.Option.{none-some, slice_get-get_or}
 use Rattle.std.proofs.Math.Seq.{take-append_seam}
 use Rattle.circular_buffer.specs.Buffer.{Buffer, buffer, keep_last, last_item}
 use Rattle.qil_meaning.specs.State.{State}
 use Rattle.qil_meaning.specs.Poke.{PokeFault}
-use Rattle.qil_meaning.specs.Timeline.{to, poked, back_to, back, position}
+use Rattle.qil_meaning.specs.Step.{step_of}
+use Rattle.qil_meaning.specs.Timeline.{to, forward, poked, back_to, back, position}
 use Rattle.qil_state.specs.State.{Whole, state_of}
 use Rattle.qil_machine.specs.Moves.{Move, undone, Fits}
-use Rattle.qil_machine.specs.Places.{Made}
-use Rattle.qil_deltas.specs.Kept.{before, AllFit, Recent, recent, recent_timeline, IsRecent}
+use Rattle.qil_machine.specs.Places.{Made, HasMade}
+use Rattle.qil_deltas.specs.Kept.{before, AllFit, Recent, recent, recent_timeline, IsRecent, HasAdded}
 use Rattle.qil_deltas.proofs.KeptLemmas.{length_before, before_made, fits_made}
 
 -- ---- lists
@@ -124,6 +124,30 @@ moves_on {A} m w ds d f n g b now s is made eb eg e =
     (ap (λ (c : Buffer Move). recent_timeline (recent w c.items g c.capacity)) eb
     ∙ (ap (λ h. recent_timeline (recent w (keep_last n (ds ++ d ∷ [])) h n)) eg ∙ moved m w ds d f n s made e))
 
+-- ---- a step whose delta went into the ring
+
+abbrev ring_with : {A X : Type 0} → (X → Buffer Move) → (X → ℕ) → Whole A → X → Recent A
+ring_with deltas gone m x = recent m (deltas x).items (gone x) (deltas x).capacity
+
+abbrev Adds : {X : Type 0} → (X → Buffer Move) → (X → ℕ) → X → X → Move → Type 0
+Adds deltas gone x y d = HasAdded (deltas x) (gone x) d (deltas y) (gone y)
+
+module _ {A X : Type 0} (deltas : X → Buffer Move) (gone : X → ℕ) where
+  -- it stays a ring
+  pub steps_recent : {T E : Type 0} (r : Result T E) (m w : Whole A) (x y : X) (now : Recent A) → ring_with deltas gone m x ≡ now → IsRecent (ring_with deltas gone m x) → OnOk r (HasMade (Adds deltas gone x y) m w) → OnErr r (w ≡ m) → OnErr r (y ≡ x)
+      → position (recent_timeline now) < 2 ^ 62 → IsRecent (ring_with deltas gone w y)
+  steps_recent (Ok t) m w x y now view ok made same none small =
+      stays_recent m w (deltas x).items made.move (gone x) (deltas x).capacity (gone y) (deltas y) now view ok made.made made.is_kept.kept made.is_kept.counted small
+  steps_recent (Err e) m w x y now view ok made same none small = subst (λ v. IsRecent (ring_with deltas gone v y)) (sym same) (subst (λ z. IsRecent (ring_with deltas gone m z)) (sym none) ok)
+
+  -- it is the move forward
+  pub steps_on : {T E : Type 0} (r : Result T E) (m w : Whole A) (x y : X) (now : Recent A) → ring_with deltas gone m x ≡ now → OnOk r (state_of w ≡ step_of m.program (state_of m)) → OnOk r (HasMade (Adds deltas gone x y) m w)
+      → OnOk r (recent_timeline (ring_with deltas gone w y) ≡ forward now.machine.program (recent_timeline now))
+  steps_on (Ok t) m w x y now view step made =
+      moves_on m w (deltas x).items made.move (gone x) (deltas x).capacity (gone y) (deltas y) now (step_of now.machine.program (state_of now.machine)) view made.made made.is_kept.kept made.is_kept.counted
+      (step ∙ ap (λ (k : Recent A). step_of k.machine.program (state_of k.machine)) view)
+  steps_on (Err e) m w x y now view step made = tt
+
 -- so is a poke that isn't refused
 pub pokes_on : {A : Type 0} (m w : Whole A) (ds : List Move) (d : Move) (f n g : ℕ) (b : Buffer Move) (now : Recent A) (r : Result State PokeFault) → recent m ds f n ≡ now → Made d m w
     → b ≡ buffer (keep_last n (ds ++ d ∷ [])) n → g ≡ f + (length ds + 1 - n) → r ≡ Ok (state_of w) → poked (recent_timeline now) r ≡ Ok (recent_timeline (recent w b.items g b.capacity))
@@ -163,13 +187,3 @@ module _ {A : Type 0} (m w : Whole A) (ds es : List Move) (d : Move) (o : Option
       subst (λ (r : Recent A). back (recent_timeline r) ≡ Some (recent_timeline (recent w es f k))) view
       (ap (λ xs. back_to (recent_timeline (recent m ds f n)) (before xs m)) (reverse-was e is)
       ∙ (ap (λ v. Some (recent_timeline (recent v es f n))) (sym ew) ∙ ap (λ j. Some (recent_timeline (recent w es f j))) (sym ek)))
-
-less : (n cap : ℕ) → n < cap → nat_lt n cap ≡ true
-less n cap lt = grind (arith, nat_tests)
-
--- where an item went, all places were taken, and one more was forgotten
-pub counted : {T : Type 0} (r x : Option T) (n cap gone : ℕ) → n ≤ cap → is_some r ≡ true → r ≡ (if nat_lt n cap then None else x) → gone + 1 ≡ gone + (n + 1 - cap)
-counted {T} r x n cap gone few some is = ⊎_elim
-    (λ lt. absurd (false≢true (sym (ap (λ (o : Option T). is_some o) (is ∙ ap (λ t. if t then None else x) (less n cap lt))) ∙ some)))
-    (λ ge. omega (arith, ge, few))
-    (cases_lt n cap)

@@ -1,10 +1,12 @@
 -- What a delta more adds to the weight of a ring.
-use Rattle.std.proofs.Common.{◌≡◌, ℕ, ◌+◌, ◌-◌, ◌≤◌, List, [], ◌∷◌, ◌++◌, length, take, drop, ap, sym, subst, arith, take-append-drop}
+use Rattle.std.proofs.Common.{◌≡◌, ℕ, ◌+◌, ◌-◌, ◌≤◌, List, [], ◌∷◌, ◌++◌, length, take, drop, Result, Ok, Err, OnOk, ap, sym, subst, arith, take-append-drop}
 use Rattle.std.proofs.lemmas.List.Sums.{sum_by-append, sum_by_push}
 use Rattle.circular_buffer.specs.Buffer.{Buffer, buffer, keep_last}
-use Rattle.qil_state.specs.State.{Whole}
+use Rattle.qil_meaning.specs.Cost.{cost_of}
+use Rattle.qil_state.specs.State.{Whole, state_of}
 use Rattle.qil_machine.specs.Moves.{Move, weight}
-use Rattle.qil_deltas.specs.Kept.{Recent, recent}
+use Rattle.qil_machine.specs.Costs.{WeighsAtMost}
+use Rattle.qil_deltas.specs.Kept.{Recent, recent, HasAdded}
 use Rattle.qil_deltas.specs.Weights.{total}
 
 newest_weigh : (ds : List Move) (n : ℕ) → total (keep_last n ds) ≤ total ds
@@ -21,3 +23,11 @@ pub adds_at_most : {A : Type 0} (m : Whole A) (ds : List Move) (d : Move) (f n k
     → total b.items ≤ total now.deltas + k
 adds_at_most {A} m ds d f n k b now is eb few =
     subst (λ (r : Recent A). total b.items ≤ total r.deltas + k) is (subst (λ (c : Buffer Move). total c.items ≤ total ds + k) (sym eb) (newest_added ds d n k few))
+
+-- a step whose delta went into the ring adds at most what it costs
+pub steps_add : {A X T E : Type 0} (deltas : X → Buffer Move) (gone : X → ℕ) (r : Result T E) (m : Whole A) (x y : X) (now : Recent A) → recent m (deltas x).items (gone x) (deltas x).capacity ≡ now
+    → OnOk r (WeighsAtMost (λ d. HasAdded (deltas x) (gone x) d (deltas y) (gone y)) (cost_of m.program (state_of m))) → OnOk r (total (deltas y).items ≤ total now.deltas + cost_of now.machine.program (state_of now.machine))
+steps_add {A} deltas gone (Ok t) m x y now view few =
+    adds_at_most m (deltas x).items few.0 (gone x) (deltas x).capacity (cost_of now.machine.program (state_of now.machine)) (deltas y) now view few.1.kept
+    (subst (λ (k : Recent A). weight few.0 ≤ cost_of k.machine.program (state_of k.machine)) view few.2)
+steps_add deltas gone (Err e) m x y now view few = tt

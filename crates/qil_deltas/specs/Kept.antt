@@ -1,5 +1,6 @@
 -- The timeline of what is kept: of a machine with the deltas of its moves, all or the newest.
-use Rattle.std.specs.Prelude.{◌≡◌, ℕ, ◌+◌, ◌≤◌, ◌^◌, List, [], ◌∷◌, length, reverse, Some, None}
+use Rattle.std.specs.Prelude.{◌≡◌, ℕ, ◌+◌, ◌-◌, ◌≤◌, ◌^◌, List, [], ◌∷◌, ◌++◌, length, reverse, Some, None}
+use Rattle.circular_buffer.specs.Buffer.{Buffer, buffer, keep_last}
 use Rattle.qil_meaning.specs.State.{State}
 use Rattle.qil_meaning.specs.Timeline.{Timeline}
 use Rattle.qil_state.specs.State.{Whole, state_of}
@@ -26,6 +27,11 @@ abbrev pub moved_timeline : {A : Type 0} → Moved A → Timeline
 moved_timeline k = record { now = state_of k.machine; past = before (reverse k.deltas) k.machine; forgotten = 0; keeps = None }
 
 -- ---- the newest deltas
+
+-- one more stands last, where all places were taken the oldest went, and it was counted
+pub record HasAdded (before : Buffer Move) (gone : ℕ) (move : Move) (after : Buffer Move) (more : ℕ) : Type 0 where
+  pub kept : after ≡ buffer (keep_last before.capacity (before.items ++ move ∷ [])) before.capacity
+  pub counted : more ≡ gone + (length before.items + 1 - before.capacity)
 
 -- a machine, and what its newest moves kept, the latest last; how many older moves were forgotten; and how many are kept
 -- at most

@@ -21,12 +21,12 @@ use std::marker::Model;
 /// memory for it; each step and each poke may be out of memory there, a step also where the machine's own may. A move back
 /// never is.
 #[derive(Drop)]
-pub struct Deltas<'c, 'a, A: Allocator> {
-    machine: Machine<'c, 'a, A>,
+pub struct Deltas<'c, A: Allocator> {
+    machine: Machine<'c, A>,
     deltas: Vec<Delta<A>, A>,
 }
 
-impl<'c, 'a, A: Allocator> Model for Deltas<'c, 'a, A> {
+impl<'c, A: Allocator> Model for Deltas<'c, A> {
     ghost use Rattle.std.specs.Prelude.{reverse};
     ghost use Rattle.qil_deltas.specs.Kept.{Moved, AllFit};
 
@@ -37,9 +37,9 @@ impl<'c, 'a, A: Allocator> Model for Deltas<'c, 'a, A> {
     ghost invariant = { λ h. AllFit (reverse h.deltas.items) h.machine };
 }
 
-impl<'c, 'a, A: Allocator + Copy> Deltas<'c, 'a, A> {
+impl<'c, A: Allocator + Copy> Deltas<'c, A> {
     /// A history that begins at a machine. It takes no memory.
-    pub fn new(alloc: A, machine: Machine<'c, 'a, A>) -> Deltas<'c, 'a, A>
+    pub fn new(alloc: A, machine: Machine<'c, A>) -> Deltas<'c, A>
         ensures program { result.machine.program ≡ machine.entry.program }
         ensures begun { moved_timeline result ≡ begun None (state_of machine.entry) }
         ensures empty { result.deltas ≡ [] }
@@ -52,12 +52,12 @@ impl<'c, 'a, A: Allocator + Copy> Deltas<'c, 'a, A> {
 
     /// The machine, and the delta of each move, the latest last. There is nothing else: with one more field the pattern here
     /// isn't accepted.
-    pub fn parts(&self) -> (&Machine<'c, 'a, A>, &[Delta<A>])
+    pub fn parts(&self) -> (&Machine<'c, A>, &[Delta<A>])
         ensures machine { result.0.now ≡ self.now.machine }
         ensures deltas { result.1.now ≡ self.now.deltas }
     {
         let Deltas { machine, deltas } = self;
-        let machine: &Machine<'c, 'a, A> = machine;
+        let machine: &Machine<'c, A> = machine;
         let deltas: &Vec<Delta<A>, A> = deltas;
         (machine, deltas.as_slice())
     }
@@ -83,7 +83,7 @@ impl<'c, 'a, A: Allocator + Copy> Deltas<'c, 'a, A> {
 }
 
 /// Clauses here take the place of the contract's, so they say those again, and next to them what each call does to the deltas.
-impl<'c, 'a, A: Allocator + Copy> History<A, Machine<'c, 'a, A>> for Deltas<'c, 'a, A> {
+impl<'c, A: Allocator + Copy> History<A, Machine<'c, A>> for Deltas<'c, A> {
     ghost program = { λ h. h.machine.program };
 
     ghost timeline = { moved_timeline };
@@ -186,7 +186,7 @@ impl<'c, 'a, A: Allocator + Copy> History<A, Machine<'c, 'a, A>> for Deltas<'c, 
         None
     }
 
-    fn machine(&self) -> &Machine<'c, 'a, A> {
+    fn machine(&self) -> &Machine<'c, A> {
         &self.machine
     }
 }

@@ -2,6 +2,7 @@
 #![tactic(auto)]
 
 mod deltas;
+mod newest;
 mod ring;
 
 pub use deltas::Deltas;

@@ -1,7 +1,6 @@
 //! A machine, and the deltas of its newest moves.
 
-ghost use Rattle.std.specs.Prelude.{◌≡◌, ◌≢◌, ◌+◌, ◌-◌, ◌≤◌, ◌^◌, ◌<◌, ◌↔◌, true, [], ◌∷◌, ◌++◌, length, Ok, Err, IfOk, IfErr, OnOk, OnErr, IfNone, Some, option_to_list};
-ghost use Rattle.circular_buffer.specs.Buffer.{buffer, keep_last};
+ghost use Rattle.std.specs.Prelude.{◌≡◌, ◌≢◌, ◌+◌, ◌≤◌, ◌^◌, ◌<◌, ◌↔◌, true, [], Ok, Err, IfOk, IfErr, OnOk, OnErr, Some};
 ghost use Rattle.qil_memory.specs.Calls.{IsWidth};
 ghost use Rattle.qil_meaning.specs.Cost.{cost_of, temp_poke_cost, bytes_poke_cost};
 ghost use Rattle.qil_meaning.specs.Poke.{poke_temp, poke_memory, no_frame, unknown_temporary, dead_bytes};
@@ -14,65 +13,42 @@ ghost use Rattle.qil_deltas.specs.Kept.{recent_timeline};
 ghost use Rattle.qil_history.specs.Pokes.{HasWidth, poke_of, poke_cost, Explains};
 ghost use Rattle.qil_deltas.specs.Weights.{total, TakesLatestOff};
 
+use crate::newest::{Newest, take_latest};
 use circular_buffer::HeapCircularBuffer;
 use qil_code::Slot;
 use qil_history::{BackError, History, Poke};
-use qil_machine::{Delta, Machine, MoveError, PokeError};
+use qil_machine::{Delta, DeltaSink, Machine, MoveError, PokeError};
 use std::alloc::{AllocError, Allocator};
 use std::marker::Model;
 
 /// A machine, and the deltas of its newest moves, the latest last. Their block is taken when the history is made: a step may
 /// be out of memory where the machine's own may, a poke and a move back never.
 #[derive(Drop)]
-pub struct Ring<'c, 'a, A: Allocator> {
-    machine: Machine<'c, 'a, A>,
-    deltas: HeapCircularBuffer<Delta<A>, A>,
-    forgotten: u64,
+pub struct Ring<'c, A: Allocator> {
+    machine: Machine<'c, A>,
+    newest: Newest<A>,
 }
 
-impl<'c, 'a, A: Allocator> Model for Ring<'c, 'a, A> {
+impl<'c, A: Allocator> Model for Ring<'c, A> {
     ghost use Rattle.qil_deltas.specs.Kept.{Recent, recent, IsRecent};
 
     ghost Value = { Recent A };
 
-    ghost view = { λ h. recent h.machine h.deltas.items h.forgotten h.deltas.capacity };
+    ghost view = { λ h. recent h.machine h.newest.deltas.items h.newest.gone h.newest.deltas.capacity };
 
-    ghost invariant = { λ h. IsRecent (recent h.machine h.deltas.items h.forgotten h.deltas.capacity) };
-}
-
-/// Adds an item as the latest. Where all places are taken, the oldest item goes, and is counted.
-#[inline(always)]
-fn add<T: Drop, A: Allocator>(items: &mut HeapCircularBuffer<T, A>, gone: &mut u64, item: T)
-    requires few { length items.old.items ≤ items.old.capacity }
-    requires small { gone.old < 2 ^ 63 }
-    ensures items { items.new ≡ buffer (keep_last items.old.capacity (items.old.items ++ item ∷ [])) items.old.capacity }
-    ensures gone { gone.new ≡ gone.old + (length items.old.items + 1 - items.old.capacity) }
-{
-    if items.push_back(item).is_some() {
-        *gone += 1;
-    }
-}
-
-/// Takes the latest item away.
-#[inline(always)]
-fn take_latest<T, A: Allocator>(items: &mut HeapCircularBuffer<T, A>) -> Option<T>
-    ensures items { items.old.items ≡ items.new.items ++ option_to_list result }
-    ensures none { IfNone result (items.old.items ≡ []) }
-    ensures capacity { items.new.capacity ≡ items.old.capacity }
-{
-    items.pop_back()
+    ghost invariant = { λ h. IsRecent (recent h.machine h.newest.deltas.items h.newest.gone h.newest.deltas.capacity) };
 }
 
 /// Puts back what the latest move kept.
 #[inline(always)]
-fn undo_latest<A: Allocator + Copy>(machine: &mut Machine<'_, '_, A>, latest: Delta<A>)
+fn undo_latest<A: Allocator + Copy>(machine: &mut Machine<'_, A>, latest: Delta<A>)
     requires { Fits latest machine.old }
     ensures { machine.new ≡ undone latest machine.old }
 {
     machine.undo(latest);
 }
 
-impl<'c, 'a, A: Allocator + Copy> Ring<'c, 'a, A> {
+impl<'c, A: Allocator + Copy> Ring<'c, A> {
     /// A history that begins at a machine and keeps so many moves, in a block that it takes here. It may keep none.
     ///
     /// # Errors
@@ -80,9 +56,9 @@ impl<'c, 'a, A: Allocator + Copy> Ring<'c, 'a, A> {
     /// The machine, where there is no memory for the block.
     pub fn new(
         alloc: A,
-        machine: Machine<'c, 'a, A>,
+        machine: Machine<'c, A>,
         bound: u64,
-    ) -> Result<Ring<'c, 'a, A>, (Machine<'c, 'a, A>, AllocError)>
+    ) -> Result<Ring<'c, A>, (Machine<'c, A>, AllocError)>
         requires { bound ≤ 1000000 }
         ensures program { IfOk result (λ h. h.machine.program ≡ machine.entry.program) }
         ensures begun { IfOk result (λ h. recent_timeline h ≡ begun (Some bound) (state_of machine.entry)) }
@@ -92,8 +68,7 @@ impl<'c, 'a, A: Allocator + Copy> Ring<'c, 'a, A> {
         match HeapCircularBuffer::with_capacity(alloc, bound as usize) {
             Ok(deltas) => Ok(Ring {
                 machine,
-                deltas,
-                forgotten: 0,
+                newest: Newest { deltas, gone: 0 },
             }),
             Err(error) => Err((machine, error)),
         }
@@ -112,13 +87,13 @@ impl<'c, 'a, A: Allocator + Copy> Ring<'c, 'a, A> {
         ensures kept { OnErr result (self.new.deltas ≡ self.old.deltas) }
     {
         let delta = poke.apply(&mut self.machine)?;
-        add(&mut self.deltas, &mut self.forgotten, delta);
+        self.newest.keep(delta);
         Ok(())
     }
 }
 
 /// Clauses here take the place of the contract's, so they say those again, and next to them what each call does to the deltas.
-impl<'c, 'a, A: Allocator + Copy> History<A, Machine<'c, 'a, A>> for Ring<'c, 'a, A> {
+impl<'c, A: Allocator + Copy> History<A, Machine<'c, A>> for Ring<'c, A> {
     ghost program = { λ h. h.machine.program };
 
     ghost timeline = { recent_timeline };
@@ -134,9 +109,7 @@ impl<'c, 'a, A: Allocator + Copy> History<A, Machine<'c, 'a, A>> for Ring<'c, 'a
         ensures cost { OnOk result (total self.new.deltas ≤ total self.old.deltas + cost_of self.old.machine.program (state_of self.old.machine)) }
         ensures kept { OnErr result (self.new.deltas ≡ self.old.deltas) }
     {
-        let delta = self.machine.advance()?;
-        add(&mut self.deltas, &mut self.forgotten, delta);
-        Ok(())
+        self.machine.advance_into(&mut self.newest)
     }
 
     #[inline(always)]
@@ -149,12 +122,12 @@ impl<'c, 'a, A: Allocator + Copy> History<A, Machine<'c, 'a, A>> for Ring<'c, 'a
         ensures weight { OnOk result (TakesLatestOff self.old.deltas self.new.deltas) }
         ensures kept { OnErr result (self.new.deltas ≡ self.old.deltas) }
     {
-        match take_latest(&mut self.deltas) {
+        match take_latest(&mut self.newest.deltas) {
             Some(delta) => {
                 undo_latest(&mut self.machine, delta);
                 Ok(())
             }
-            None => Err(if self.forgotten == 0 {
+            None => Err(if self.newest.gone == 0 {
                 BackError::AtStart
             } else {
                 BackError::Oldest
@@ -213,18 +186,18 @@ impl<'c, 'a, A: Allocator + Copy> History<A, Machine<'c, 'a, A>> for Ring<'c, 'a
 
     #[tactic(auto, using(crate::proofs::KeptLemmas::length_before))]
     fn position(&self) -> u64 {
-        self.forgotten + self.deltas.len() as u64
+        self.newest.gone + self.newest.deltas.len() as u64
     }
 
     fn oldest(&self) -> u64 {
-        self.forgotten
+        self.newest.gone
     }
 
     fn keeps(&self) -> Option<u64> {
-        Some(self.deltas.capacity() as u64)
+        Some(self.newest.deltas.capacity() as u64)
     }
 
-    fn machine(&self) -> &Machine<'c, 'a, A> {
+    fn machine(&self) -> &Machine<'c, A> {
         &self.machine
     }
 }

@@ -17,16 +17,14 @@ use qil_stops::{
 use std::alloc::Allocator;
 
 /// How many calls are open.
-fn depth<'c, A: Allocator + Copy + 'c, H: History<A, Machine<'c, 'c, A>>>(history: &H) -> usize
+fn depth<'c, A: Allocator + Copy + 'c, H: History<A, Machine<'c, A>>>(history: &H) -> usize
     ensures { result ≡ length (H.timeline history.now).now.frames }
 {
     history.machine().frames().len()
 }
 
 /// Why a run ends where no more calls are open than were asked for: at the end of the run that comes first.
-fn shallow_end<'c, A: Allocator + Copy + 'c, H: History<A, Machine<'c, 'c, A>>>(
-    history: &H,
-) -> DepthEnd
+fn shallow_end<'c, A: Allocator + Copy + 'c, H: History<A, Machine<'c, A>>>(history: &H) -> DepthEnd
     ensures { result ≡ cond (at_end (H.timeline history.now)) (DepthEnd.Stopped End) DepthEnd.Depth }
 {
     if is_over(history.machine()) {
@@ -37,7 +35,7 @@ fn shallow_end<'c, A: Allocator + Copy + 'c, H: History<A, Machine<'c, 'c, A>>>(
 }
 
 /// Why a run back ends there: at the oldest state that is kept that comes first.
-fn shallow_bottom<'c, A: Allocator + Copy + 'c, H: History<A, Machine<'c, 'c, A>>>(
+fn shallow_bottom<'c, A: Allocator + Copy + 'c, H: History<A, Machine<'c, A>>>(
     history: &H,
 ) -> DepthEnd
     ensures { result ≡ bottom_or_depth (bottom (H.timeline history.now) 0) }
@@ -51,7 +49,7 @@ fn shallow_bottom<'c, A: Allocator + Copy + 'c, H: History<A, Machine<'c, 'c, A>
 /// Moves forward to the first place, after a move, where at most `most` calls are open, or where there is a reason to stop:
 /// at the end of the run, where a stop holds after a move, or after `limit` moves; or where there is no memory for a move.
 /// Gives why, and how many moves were made.
-pub fn run_to_depth<'c, A: Allocator + Copy + 'c, H: History<A, Machine<'c, 'c, A>>>(
+pub fn run_to_depth<'c, A: Allocator + Copy + 'c, H: History<A, Machine<'c, A>>>(
     history: &mut H,
     stops: &Stops<A>,
     most: usize,
@@ -65,7 +63,7 @@ pub fn run_to_depth<'c, A: Allocator + Copy + 'c, H: History<A, Machine<'c, 'c, 
 }
 
 #[inline(never)]
-fn forward_to_depth<'c, A: Allocator + Copy + 'c, H: History<A, Machine<'c, 'c, A>>>(
+fn forward_to_depth<'c, A: Allocator + Copy + 'c, H: History<A, Machine<'c, A>>>(
     history: &mut H,
     list: &[NumberedStop],
     most: usize,
@@ -97,7 +95,7 @@ fn forward_to_depth<'c, A: Allocator + Copy + 'c, H: History<A, Machine<'c, 'c, 
 /// Moves back to the first place, after a move, where at most `most` calls are open, or where there is a reason to stop: at
 /// the oldest state that is kept, where a stop holds after a move, or after `limit` moves. Gives why, and how many moves were
 /// undone. Takes no memory.
-pub fn run_back_to_depth<'c, A: Allocator + Copy + 'c, H: History<A, Machine<'c, 'c, A>>>(
+pub fn run_back_to_depth<'c, A: Allocator + Copy + 'c, H: History<A, Machine<'c, A>>>(
     history: &mut H,
     stops: &Stops<A>,
     most: usize,
@@ -110,7 +108,7 @@ pub fn run_back_to_depth<'c, A: Allocator + Copy + 'c, H: History<A, Machine<'c,
 }
 
 #[inline(never)]
-fn back_to_depth<'c, A: Allocator + Copy + 'c, H: History<A, Machine<'c, 'c, A>>>(
+fn back_to_depth<'c, A: Allocator + Copy + 'c, H: History<A, Machine<'c, A>>>(
     history: &mut H,
     list: &[NumberedStop],
     most: usize,

@@ -19,7 +19,7 @@ use std::alloc::Allocator;
 
 /// Whether `Machine::undo` may put this back into the machine: all places that it names are there, and the machine
 /// would be one that the type allows. What a move of a machine gives fits that machine.
-pub fn fits<A: Allocator + Copy>(delta: &Delta<A>, machine: &Machine<'_, '_, A>) -> bool
+pub fn fits<A: Allocator + Copy>(delta: &Delta<A>, machine: &Machine<'_, A>) -> bool
     ensures { IsTrue result ↔ Fits delta.now machine.now }
 {
     match delta.kind() {
@@ -73,7 +73,7 @@ pub fn fits<A: Allocator + Copy>(delta: &Delta<A>, machine: &Machine<'_, '_, A>)
 // The kinds, each from what it keeps. Where slots are put back, it fits if the slots are there and the rest of it fits.
 
 fn fits_assigned<A: Allocator + Copy>(
-    machine: &Machine<'_, '_, A>,
+    machine: &Machine<'_, A>,
     slot: Slot,
     value: Option<u64>,
     index: u32,
@@ -85,14 +85,14 @@ fn fits_assigned<A: Allocator + Copy>(
     is_slot && is_index
 }
 
-fn fits_index<A: Allocator + Copy>(machine: &Machine<'_, '_, A>, index: u32) -> bool
+fn fits_index<A: Allocator + Copy>(machine: &Machine<'_, A>, index: u32) -> bool
     ensures { IsTrue result ↔ Fits (slots_move (at index) []) machine.now }
 {
     has_index(machine.code(), machine.calls(), index)
 }
 
 fn fits_stored<A: Allocator + Copy>(
-    machine: &Machine<'_, '_, A>,
+    machine: &Machine<'_, A>,
     count: u8,
     index: u32,
     address: u32,
@@ -105,11 +105,7 @@ fn fits_stored<A: Allocator + Copy>(
     is_index && are_places
 }
 
-fn fits_left<A: Allocator + Copy>(
-    machine: &Machine<'_, '_, A>,
-    block: u16,
-    kept: &[SavedSlot],
-) -> bool
+fn fits_left<A: Allocator + Copy>(machine: &Machine<'_, A>, block: u16, kept: &[SavedSlot]) -> bool
     ensures { IsTrue result ↔ Fits (slots_move (end_of block) kept.now) machine.now }
 {
     let are_slots = are_slots_there(machine, kept);
@@ -118,7 +114,7 @@ fn fits_left<A: Allocator + Copy>(
 }
 
 fn fits_left_one<A: Allocator + Copy>(
-    machine: &Machine<'_, '_, A>,
+    machine: &Machine<'_, A>,
     block: u16,
     slot: Slot,
     value: Option<u64>,
@@ -130,7 +126,7 @@ fn fits_left_one<A: Allocator + Copy>(
 
 /// Where two phis of the block wrote, and both slots had been set.
 fn fits_left_two<A: Allocator + Copy>(
-    machine: &Machine<'_, '_, A>,
+    machine: &Machine<'_, A>,
     block: u16,
     a: Slot,
     b: Slot,
@@ -150,20 +146,20 @@ fn fits_left_two<A: Allocator + Copy>(
     fits_left(machine, block, &[first, second])
 }
 
-fn fits_end<A: Allocator + Copy>(machine: &Machine<'_, '_, A>, block: u16) -> bool
+fn fits_end<A: Allocator + Copy>(machine: &Machine<'_, A>, block: u16) -> bool
     ensures { IsTrue result ↔ Fits (slots_move (end_of block) []) machine.now }
 {
     has_block(machine.code(), machine.calls(), BlockId { index: block })
 }
 
-fn fits_called<A: Allocator + Copy>(machine: &Machine<'_, '_, A>, index: u32) -> bool
+fn fits_called<A: Allocator + Copy>(machine: &Machine<'_, A>, index: u32) -> bool
     ensures { IsTrue result ↔ Fits (called_move index) machine.now }
 {
     caller_has_index(machine.code(), machine.calls(), index)
 }
 
 fn fits_returned<A: Allocator + Copy>(
-    machine: &Machine<'_, '_, A>,
+    machine: &Machine<'_, A>,
     frame: &Frame<A>,
     top: u32,
     value: Option<u64>,
@@ -173,7 +169,7 @@ fn fits_returned<A: Allocator + Copy>(
     may_return(machine.code(), machine.calls(), frame, u64::from(top))
 }
 
-fn fits_grew<A: Allocator + Copy>(machine: &Machine<'_, '_, A>, grown: &Grown<A>) -> bool
+fn fits_grew<A: Allocator + Copy>(machine: &Machine<'_, A>, grown: &Grown<A>) -> bool
     ensures { IsTrue result ↔ Fits (grown_move grown.now.index grown.now.slot grown.now.value grown.now.saved) machine.now }
 {
     let is_slot = is_slot_there(machine, grown.slot);
@@ -181,11 +177,7 @@ fn fits_grew<A: Allocator + Copy>(machine: &Machine<'_, '_, A>, grown: &Grown<A>
     is_slot && is_saved
 }
 
-fn fits_copied<A: Allocator + Copy>(
-    machine: &Machine<'_, '_, A>,
-    index: u32,
-    saved: &Saved<A>,
-) -> bool
+fn fits_copied<A: Allocator + Copy>(machine: &Machine<'_, A>, index: u32, saved: &Saved<A>) -> bool
     ensures { IsTrue result ↔ Fits (copied_move index saved.now) machine.now }
 {
     let is_memory = saved.fits(machine.memory());
@@ -195,7 +187,7 @@ fn fits_copied<A: Allocator + Copy>(
     is_memory && is_floor && is_index
 }
 
-fn fits_wrote<A: Allocator + Copy>(machine: &Machine<'_, '_, A>, index: u32, count: u32) -> bool
+fn fits_wrote<A: Allocator + Copy>(machine: &Machine<'_, A>, index: u32, count: u32) -> bool
     ensures { IsTrue result ↔ Fits (wrote_move index count []) machine.now }
 {
     let is_index = has_index(machine.code(), machine.calls(), index);
@@ -204,7 +196,7 @@ fn fits_wrote<A: Allocator + Copy>(machine: &Machine<'_, '_, A>, index: u32, cou
 }
 
 fn fits_wrote_to<A: Allocator + Copy>(
-    machine: &Machine<'_, '_, A>,
+    machine: &Machine<'_, A>,
     slot: Slot,
     value: Option<u64>,
     index: u32,
@@ -217,14 +209,14 @@ fn fits_wrote_to<A: Allocator + Copy>(
     is_slot && is_count
 }
 
-fn fits_ended<A: Allocator + Copy>(machine: &Machine<'_, '_, A>) -> bool
+fn fits_ended<A: Allocator + Copy>(machine: &Machine<'_, A>) -> bool
     ensures { IsTrue result ↔ Fits ended_move machine.now }
 {
     machine.calls().depth() > 0
 }
 
 fn fits_poked_slot<A: Allocator + Copy>(
-    machine: &Machine<'_, '_, A>,
+    machine: &Machine<'_, A>,
     slot: Slot,
     value: Option<u64>,
 ) -> bool
@@ -234,7 +226,7 @@ fn fits_poked_slot<A: Allocator + Copy>(
 }
 
 fn fits_poked_bytes<A: Allocator + Copy>(
-    machine: &Machine<'_, '_, A>,
+    machine: &Machine<'_, A>,
     count: u8,
     address: u32,
     number: u64,
@@ -246,14 +238,14 @@ fn fits_poked_bytes<A: Allocator + Copy>(
     has_places(machine.memory(), count, address, number)
 }
 
-fn is_slot_there<A: Allocator + Copy>(machine: &Machine<'_, '_, A>, slot: Slot) -> bool
+fn is_slot_there<A: Allocator + Copy>(machine: &Machine<'_, A>, slot: Slot) -> bool
     ensures slot { IsTrue result ↔ HasSlot machine.now.frames slot }
     ensures machine { IsMachine machine.now }
 {
     has_slot(machine.calls(), slot)
 }
 
-fn are_slots_there<A: Allocator + Copy>(machine: &Machine<'_, '_, A>, kept: &[SavedSlot]) -> bool
+fn are_slots_there<A: Allocator + Copy>(machine: &Machine<'_, A>, kept: &[SavedSlot]) -> bool
     ensures { IsTrue result ↔ HasSlots machine.now.frames kept.now }
 {
     has_slots(machine.calls(), kept)
@@ -279,7 +271,7 @@ fn are_within(kept: &[SavedSlot], count: usize) -> bool
 }
 
 /// Whether a block has an instruction at the index, or ends there.
-fn is_place<A: Allocator + Copy>(code: &Code<'_, '_, A>, frame: &Frame<A>, index: u32) -> bool
+fn is_place<A: Allocator + Copy>(code: &Code<'_, A>, frame: &Frame<A>, index: u32) -> bool
     ensures { IsTrue result ↔ PlaceFits (block_at code.now frame.now.func frame.now.block) index }
 {
     match code.source(frame.func(), frame.block()) {
@@ -288,17 +280,13 @@ fn is_place<A: Allocator + Copy>(code: &Code<'_, '_, A>, frame: &Frame<A>, index
     }
 }
 
-fn has_index<A: Allocator + Copy>(code: &Code<'_, '_, A>, frames: &Frames<A>, index: u32) -> bool
+fn has_index<A: Allocator + Copy>(code: &Code<'_, A>, frames: &Frames<A>, index: u32) -> bool
     ensures { IsTrue result ↔ HasIndex code.now frames.now index }
 {
     frames.depth() > 0 && is_place(code, frames.innermost(), index)
 }
 
-fn has_block<A: Allocator + Copy>(
-    code: &Code<'_, '_, A>,
-    frames: &Frames<A>,
-    block: BlockId,
-) -> bool
+fn has_block<A: Allocator + Copy>(code: &Code<'_, A>, frames: &Frames<A>, block: BlockId) -> bool
     ensures { IsTrue result ↔ HasBlock code.now frames.now block.index }
 {
     frames.depth() > 0 && code.source(frames.innermost().func(), block).is_some()
@@ -314,11 +302,7 @@ fn caller<A: Allocator>(frames: &Frames<A>) -> Option<&Frame<A>>
     }
 }
 
-fn caller_has_index<A: Allocator + Copy>(
-    code: &Code<'_, '_, A>,
-    frames: &Frames<A>,
-    index: u32,
-) -> bool
+fn caller_has_index<A: Allocator + Copy>(code: &Code<'_, A>, frames: &Frames<A>, index: u32) -> bool
     ensures { IsTrue result ↔ HasIndex code.now (without true frames.now) index }
 {
     match caller(frames) {
@@ -362,7 +346,7 @@ fn is_receiver<A: Allocator>(frames: &Frames<A>, receiver: Option<Receiver>) -> 
 }
 
 /// Whether a frame is one of the code.
-fn is_frame<A: Allocator + Copy>(code: &Code<'_, '_, A>, frame: &Frame<A>) -> bool
+fn is_frame<A: Allocator + Copy>(code: &Code<'_, A>, frame: &Frame<A>) -> bool
     ensures { IsTrue result ↔ FrameFits code.now frame.now }
 {
     let are_slots = code.slot_count(frame.func()) == frame.slots().len();
@@ -372,7 +356,7 @@ fn is_frame<A: Allocator + Copy>(code: &Code<'_, '_, A>, frame: &Frame<A>) -> bo
 
 /// Whether a frame may come back, with this top of the stack.
 fn may_return<A: Allocator + Copy>(
-    code: &Code<'_, '_, A>,
+    code: &Code<'_, A>,
     frames: &Frames<A>,
     frame: &Frame<A>,
     top: u64,

@@ -127,13 +127,11 @@ impl<A: Allocator, M: HasCopies<A>> HasCopies<A> for Replaying<M> {
     ghost kept = { λ r. M.kept r.machine };
 }
 
-impl<'c, A: Allocator + Copy + 'c, M: CopiedMachine<A, FlatMachine<'c, 'c, A>>> Readers<
-    A,
-    Code<'c, 'c, A>,
-> for Replaying<M> {
+impl<'c, A: Allocator + Copy + 'c, M: CopiedMachine<A, FlatMachine<'c, A>>> Readers<A, Code<'c, A>>
+    for Replaying<M> {
     ghost whole = { λ r. M.present r.machine };
 
-    fn code(&self) -> &Code<'c, 'c, A> {
+    fn code(&self) -> &Code<'c, A> {
         self.machine.machine().code()
     }
 
@@ -170,9 +168,9 @@ impl<'c, A: Allocator + Copy + 'c, M: CopiedMachine<A, FlatMachine<'c, 'c, A>>> 
     }
 }
 
-impl<'c, A: Allocator + Copy + 'c, M: CopiedMachine<A, FlatMachine<'c, 'c, A>>> Watchable<
+impl<'c, A: Allocator + Copy + 'c, M: CopiedMachine<A, FlatMachine<'c, A>>> Watchable<
     A,
-    Code<'c, 'c, A>,
+    Code<'c, A>,
 > for Replaying<M> {
     fn is_read(&self) {}
 
@@ -189,9 +187,9 @@ impl<'c, A: Allocator + Copy + 'c, M: CopiedMachine<A, FlatMachine<'c, 'c, A>>> 
     }
 }
 
-impl<'c, A: Allocator + Copy + 'c, M: CopiedMachine<A, FlatMachine<'c, 'c, A>>> Restorable<
+impl<'c, A: Allocator + Copy + 'c, M: CopiedMachine<A, FlatMachine<'c, A>>> Restorable<
     A,
-    Code<'c, 'c, A>,
+    Code<'c, A>,
 > for Replaying<M> {
     fn run(&mut self, count: u64) -> u64 {
         self.machine.run_quietly(&[], &[], count)

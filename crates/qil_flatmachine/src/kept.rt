@@ -15,15 +15,15 @@ use std::marker::Model;
 /// A copy of a machine's state: the calls with the slots in use, the bytes that are live, and the output. Specifications see
 /// the machine that it is of, without the dead bytes of its stack.
 #[derive(Drop)]
-pub struct KeptState<'c, 'a, A: Allocator> {
-    code: &'c FlatCode<'c, 'a, A>,
+pub struct KeptState<'c, A: Allocator> {
+    code: &'c FlatCode<'c, A>,
     calls: KeptCalls<A>,
     memory: KeptMemory<A>,
     output: Vec<u8, A>,
     status: Status,
 }
 
-impl<'c, 'a, A: Allocator> Model for KeptState<'c, 'a, A> {
+impl<'c, A: Allocator> Model for KeptState<'c, A> {
     ghost use Rattle.qil_flatmachine.specs.Kept.{KeptWhole, kept_whole, IsKept};
 
     ghost Value = { KeptWhole A };
@@ -33,7 +33,7 @@ impl<'c, 'a, A: Allocator> Model for KeptState<'c, 'a, A> {
     ghost invariant = { λ k. IsKept k.code.now k.calls.frames k.memory k.output.items k.status };
 }
 
-impl<'c, 'a, A: Allocator + Copy> KeptState<'c, 'a, A> {
+impl<'c, A: Allocator + Copy> KeptState<'c, A> {
     /// About how many bytes it takes.
     pub fn size(&self) -> usize {
         self.calls
@@ -43,9 +43,9 @@ impl<'c, 'a, A: Allocator + Copy> KeptState<'c, 'a, A> {
     }
 }
 
-impl<'c, 'a, A: Allocator + Copy> FlatMachine<'c, 'a, A> {
+impl<'c, A: Allocator + Copy> FlatMachine<'c, A> {
     /// A copy of the state, in memory of its own.
-    pub fn keep(&self) -> Result<KeptState<'c, 'a, A>, AllocError>
+    pub fn keep(&self) -> Result<KeptState<'c, A>, AllocError>
         ensures of { IfOk result (IsOf self.now.base) }
         ensures state { IfOk result (λ k. state_of k.whole ≡ state_of self.now.whole) }
     {
@@ -63,7 +63,7 @@ impl<'c, 'a, A: Allocator + Copy> FlatMachine<'c, 'a, A> {
     }
 
     /// Goes to the state that a copy is of. It takes no memory, and time by what is live there.
-    pub fn restore(&mut self, kept: &KeptState<'c, 'a, A>)
+    pub fn restore(&mut self, kept: &KeptState<'c, A>)
         requires { IsOf self.old.base kept.now }
         ensures base { self.new.base ≡ self.old.base }
         ensures state { state_of self.new.whole ≡ state_of kept.now.whole }

@@ -24,7 +24,7 @@ use qil_readers::{FrameView, Readers};
 use qil_state::Status;
 use std::alloc::Allocator;
 
-impl<'c, 'a, A: Allocator + Copy> FlatMachine<'c, 'a, A> {
+impl<'c, A: Allocator + Copy> FlatMachine<'c, A> {
     /// The call with so many callers.
     fn view_at(&self, outside: usize) -> FrameView<'_>
         requires { outside < length self.now.whole.frames }
@@ -145,10 +145,10 @@ fn is_place(place: FlatPlace, func: FuncId, block: BlockId, index: u64) -> bool
         && u64::from(place.index) == index
 }
 
-impl<'c, 'a, A: Allocator + Copy> Readers<A, Code<'c, 'a, A>> for FlatMachine<'c, 'a, A> {
+impl<'c, A: Allocator + Copy> Readers<A, Code<'c, A>> for FlatMachine<'c, A> {
     ghost whole = { λ machine. machine.whole };
 
-    fn code(&self) -> &Code<'c, 'a, A> {
+    fn code(&self) -> &Code<'c, A> {
         self.code.code()
     }
 

@@ -16,13 +16,13 @@ use std::marker::Model;
 
 /// A flat machine, and copies of states that it had.
 #[derive(Drop)]
-pub struct RestorableMachine<'c, 'a, A: Allocator> {
+pub struct RestorableMachine<'c, A: Allocator> {
     /// Behind a pointer, so that this type is of few words wherever it is moved.
-    present: Box<FlatMachine<'c, 'a, A>, A>,
-    copies: Vec<KeptState<'c, 'a, A>, A>,
+    present: Box<FlatMachine<'c, A>, A>,
+    copies: Vec<KeptState<'c, A>, A>,
 }
 
-impl<'c, 'a, A: Allocator> Model for RestorableMachine<'c, 'a, A> {
+impl<'c, A: Allocator> Model for RestorableMachine<'c, A> {
     ghost use Rattle.qil_flatmachine.specs.Kept.{WithCopies, AreOf};
 
     ghost Value = { WithCopies A };
@@ -32,7 +32,7 @@ impl<'c, 'a, A: Allocator> Model for RestorableMachine<'c, 'a, A> {
     ghost invariant = { λ m. AreOf m.present.value.base m.copies.items };
 }
 
-impl<'c, 'a, A: Allocator + Copy> RestorableMachine<'c, 'a, A> {
+impl<'c, A: Allocator + Copy> RestorableMachine<'c, A> {
     /// A machine with no copies yet.
     ///
     /// # Errors
@@ -40,8 +40,8 @@ impl<'c, 'a, A: Allocator + Copy> RestorableMachine<'c, 'a, A> {
     /// Where there is no memory for it.
     pub fn new(
         alloc: A,
-        machine: FlatMachine<'c, 'a, A>,
-    ) -> Result<RestorableMachine<'c, 'a, A>, AllocError>
+        machine: FlatMachine<'c, A>,
+    ) -> Result<RestorableMachine<'c, A>, AllocError>
         ensures { IfOk result (λ m. m ≡ record { present = machine.entry; copies = [] }) }
     {
         Ok(RestorableMachine {
@@ -51,15 +51,14 @@ impl<'c, 'a, A: Allocator + Copy> RestorableMachine<'c, 'a, A> {
     }
 }
 
-impl<'c, 'a, A: Allocator> HasCopies<A> for RestorableMachine<'c, 'a, A> {
+impl<'c, A: Allocator> HasCopies<A> for RestorableMachine<'c, A> {
     ghost present = { λ m. m.present.whole };
 
     ghost kept = { λ m. states_of m.copies };
 }
 
-impl<'c, 'a, A: Allocator + Copy> CopiedMachine<A, FlatMachine<'c, 'a, A>>
-    for RestorableMachine<'c, 'a, A> {
-    fn machine(&self) -> &FlatMachine<'c, 'a, A> {
+impl<'c, A: Allocator + Copy> CopiedMachine<A, FlatMachine<'c, A>> for RestorableMachine<'c, A> {
+    fn machine(&self) -> &FlatMachine<'c, A> {
         &self.present
     }
 

@@ -28,14 +28,14 @@ pub trait HasState<A: Allocator> {
     ghost whole: { Self → Whole A };
 }
 
-impl<'c, 'a, A: Allocator> HasState<A> for Machine<'c, 'a, A> {
+impl<'c, A: Allocator> HasState<A> for Machine<'c, A> {
     ghost whole = { λ m. m };
 }
 
 /// The states of a run, kept in some way: that of the machine now, and those before it, all or the newest. A step and a
 /// poke are one move each.
 ///
-/// A user is generic in `H: History<A, Machine<'c, 'c, A>>`, under `A: Allocator + 'c`.
+/// A user is generic in `H: History<A, Machine<'c, A>>`, under `A: Allocator + 'c`.
 pub trait History<A: Allocator, M: HasState<A>> {
     /// What is run. No move changes it.
     ghost program: { Self → Program A };

@@ -24,7 +24,7 @@ impl<'n> Poke<'n> {
     /// Pokes a machine: what `Machine::undo` takes to go back. It takes no memory.
     pub fn apply<A: Allocator + Copy>(
         self,
-        machine: &mut Machine<'_, '_, A>,
+        machine: &mut Machine<'_, A>,
     ) -> Result<Delta<A>, PokeError>
         requires { HasWidth self }
         ensures poke { OnOk result (poke_of machine.old.program (state_of machine.old) self.entry ≡ Ok (state_of machine.new)) }
@@ -42,7 +42,7 @@ impl<'n> Poke<'n> {
     }
 
     /// Why it isn't kept as a move where there is no memory for that: what refuses it, or out of memory. The machine stays.
-    pub fn refusal<A: Allocator + Copy>(self, machine: &mut Machine<'_, '_, A>) -> PokeError
+    pub fn refusal<A: Allocator + Copy>(self, machine: &mut Machine<'_, A>) -> PokeError
         requires { HasWidth self }
         ensures why { Explains (poke_of machine.old.program (state_of machine.old) self.entry) result }
         ensures machine { machine.new ≡ machine.old }

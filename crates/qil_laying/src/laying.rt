@@ -19,11 +19,11 @@ use std::hash::RandomState;
 ///
 /// `Y2` where an alignment is no power of two from 1 to 4096, `Y1` where the data passes 2^20 bytes, of the first
 /// object that has either, at the line of its name.
-pub fn layout<'c, 'a, A: Allocator + Copy>(
+pub fn layout<'c, A: Allocator + Copy>(
     alloc: A,
     keys: RandomState,
-    checked: &'c Checked<'a, A>,
-) -> Result<Image<'c, 'a, A>, LayoutError>
+    checked: &'c Checked<'c, A>,
+) -> Result<Image<'c, A>, LayoutError>
     ensures program { IfOk result (λ image. image ≡ checked.entry.now.program) }
     ensures no_fault { IfOk result (λ image. fault_of checked.entry.now.program ≡ None) }
     ensures fault { IfErr result (IsFault (fault_of checked.entry.now.program)) }

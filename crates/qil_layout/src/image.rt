@@ -14,13 +14,13 @@ use std::marker::Model;
 
 /// Where the names of a program lie, and the bytes of its data.
 #[derive(Drop)]
-pub struct Image<'c, 'a, A: Allocator> {
-    program: &'c Program<'a, A>,
-    names: Firsts<'a, u64, A>,
+pub struct Image<'c, A: Allocator> {
+    program: &'c Program<'c, A>,
+    names: Firsts<'c, u64, A>,
     bytes: Vec<u8, A>,
 }
 
-impl<'c, 'a, A: Allocator> Model for Image<'c, 'a, A> {
+impl<'c, A: Allocator> Model for Image<'c, A> {
     ghost use Rattle.std.specs.Prelude.{◌≡◌, ◌≤◌, ℕ, List, None, length};
     ghost use Rattle.qil_tree.specs.declared.tree.Program.{Program};
     ghost use Rattle.qil_layout.specs.Layout.{address_of, bytes_of, fault_of};
@@ -33,10 +33,10 @@ impl<'c, 'a, A: Allocator> Model for Image<'c, 'a, A> {
     ghost invariant = { λ image. ((x : List ℕ) → value_at image.names.values x ≡ address_of image.program.now x) × (image.bytes.items ≡ bytes_of image.program.now) × (fault_of image.program.now ≡ None) × (length image.program.now.funcs ≤ 1000) };
 }
 
-impl<'c, 'a, A: Allocator + Copy> Image<'c, 'a, A> {
+impl<'c, A: Allocator + Copy> Image<'c, A> {
     /// The image of a program, from its addresses and its data. Only a caller that has proved that these are the program's can
     /// make one.
-    pub fn new(program: &'c Program<'a, A>, names: Firsts<'a, u64, A>, bytes: Vec<u8, A>) -> Self
+    pub fn new(program: &'c Program<'c, A>, names: Firsts<'c, u64, A>, bytes: Vec<u8, A>) -> Self
         requires { ((x : List ℕ) → value_at names.values x ≡ address_of program.now x) × (bytes.items ≡ bytes_of program.now) × (fault_of program.now ≡ None) × (length program.now.funcs ≤ 1000) }
         ensures { result ≡ program.now }
     {
@@ -120,7 +120,7 @@ impl<'c, 'a, A: Allocator + Copy> Image<'c, 'a, A> {
     }
 
     /// The name of a function of the program, without its sigil.
-    pub fn name_of(&self, func: FuncId) -> Option<Name<'a>>
+    pub fn name_of(&self, func: FuncId) -> Option<Name<'c>>
         ensures { result ≡ option_map (λ f. f.name) (slice_get self.now.funcs func.index) }
     {
         match self.program.funcs.as_slice().get(usize::from(func.index)) {

@@ -25,7 +25,7 @@ impl<'l> Loaded<'l> {
     /// What is reported of a program with its image.
     pub fn new<'a, A: Allocator + Copy>(
         checked: &'l Checked<'a, A>,
-        image: &Image<'_, 'a, A>,
+        image: &Image<'a, A>,
     ) -> Loaded<'l>
         requires { image.now ≡ checked.now.program }
         ensures { IsLoaded result checked.entry.now }

@@ -171,9 +171,3 @@ pub call_is : {A X : Type 0} (m now : Whole A) (to : Option Receiver) (callee : 
 call_is {A} m now to callee args vs a x same ok of ra rs =
     subst (λ (w : Whole A). performed_whole w (numbered.Call to callee args) ≡ called_whole w to args a (callee_at w.program a)) same
     (call_is_at m.program m.frames m.memory m.output m.status to callee args vs a x ok.frames of ra rs)
-
-pub call_explains : {A X : Type 0} (m now : Whole A) (to : Option Receiver) (callee : NumberedOperand) (args : List NumberedArgument) (vs : List (Option ℕ)) (a : ℕ) (x : X) (e : StepError) → m ≡ now → IsMachine m → AreOf m.frames vs → ReadIn A vs classes.L callee (Ok a)
-    → PassedIn A vs args (Ok x) → Explains (head_names now.program now.frames) (called_whole now to args a (callee_at now.program a)) e
-    → Explains (head_names now.program now.frames) (performed_whole now (numbered.Call to callee args)) e
-call_explains m now to callee args vs a x e same ok of ra rs h =
-    subst (λ (r : Outcome State). Explains (head_names now.program now.frames) r e) (sym (call_is m now to callee args vs a x same ok of ra rs)) h

@@ -1,15 +1,9 @@
 -- A delta fits, and is put back, as the move that its kind is.
-use Rattle.std.proofs.Common.{◌≡◌, ◌∙◌, sym, ap, subst, Bool}
-use Rattle.std.specs.Prelude.{◌↔◌, IsTrue}
+use Rattle.std.proofs.Common.{◌≡◌, ◌∙◌, sym, ap, subst}
 use Rattle.qil_state.specs.State.{Whole}
 use Rattle.qil_machine.specs.declared.delta.DeltaKind.{DeltaKind}
 use Rattle.qil_machine.specs.Moves.{Move, undone, Fits}
-use Rattle.qil_machine.specs.declared.delta.Grown.{Grown}
-use Rattle.qil_machine.specs.declared.delta.Copied.{Copied}
-use Rattle.qil_machine.specs.Kinds.{grown_move, copied_move}
 use Rattle.qil_machine.specs.Deltas.{move_of}
-use Rattle.std.specs.declared.vec.Vec.{Vec}
-use Rattle.arrayvec.specs.ArrayVec.{ArrayVec}
 
 -- a kind that is another has its move
 pub same_move : {A : Type 0} (k v : DeltaKind A) (d e : Move) → move_of k ≡ d → k ≡ v → e ≡ move_of v → e ≡ d

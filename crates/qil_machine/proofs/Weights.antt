@@ -1,8 +1,8 @@
 -- What moves weigh by number is what they cost by names.
-use Rattle.std.proofs.Common.{◌≡◌, refl, sym, ap, ◌∙◌, subst, ℕ, suc, ◌+◌, ◌*◌, ◌==◌, ◌≤◌, true, if◌then◌else◌, List, [], ◌∷◌, ◌++◌, length, Option, Some, None, Result, Ok, Err, OnOk, IfOk, arith}
+use Rattle.std.proofs.Common.{◌≡◌, refl, sym, ap, ◌∙◌, subst, ℕ, suc, ◌+◌, ◌*◌, ◌==◌, ◌≤◌, true, if◌then◌else◌, List, [], ◌∷◌, length, Option, Some, None, Result, Ok, Err, OnOk, arith}
 use Rattle.std.specs.Prelude.{slice_get, option_map}
 use Rattle.std.specs.List.{flat_map}
-use Rattle.std.proofs.lemmas.List.{length-map, append_cancel_left}
+use Rattle.std.proofs.lemmas.List.{length-map}
 use Rattle.std.proofs.lemmas.Bool.Decides.{nat_tests}
 use Rattle.qil_tree.specs.declared.tree.Operand.{Operand}
 use Rattle.qil_tree.specs.declared.tree.JumpKind.TheVariants as trees
@@ -55,15 +55,6 @@ least_in p s (f ∷ fs) = least_by s f (func_named p.funcs f.func) (in_func p s 
 pub least_cost : {A : Type 0} (p : Program A) (s : State) → 4 ≤ cost_of p s
 unfolding cost_of
 least_cost p s = least_in p s s.frames
-
-first_or : Move → List Move → Move
-first_or d [] = d
-first_or d (e ∷ es) = e
-
-pub weighs_one : (before after : List Move) (d : Move) (n : ℕ) → after ≡ before ++ d ∷ [] → weight d ≤ n → WeighsAtMost before after n
-unfolding first_or
-weighs_one before after d n made h move is =
-    subst (λ (e : Move). weight e ≤ n) (ap (first_or d) (append_cancel_left before (d ∷ []) (move ∷ []) (sym made ∙ is))) h
 
 -- ---- calls
 
@@ -201,15 +192,16 @@ entered_weighs {A} now new block e k n here of ent en h =
 
 -- ---- the step
 
-pub perform_costs : {A T : Type 0} (m now new : Whole A) (block : NumberedBlock A) (inst : NumberedInst A) (k : ℕ) (before after : List Move) (r : Result T StepError) → m ≡ now → IsMachine m → IsHere now.program now.frames block k
-    → Some inst ≡ slice_get block.insts k → OnOk r (performed_whole now inst ≡ Ok (state_of new)) → OnOk r (WeighsAtMost before after (inst_weight now new inst)) → OnOk r (WeighsAtMost before after (cost_of now.program (state_of now)))
-perform_costs m now new block inst k before after (Ok d) same ok here is does h = λ move kept.
+pub perform_costs : {A T : Type 0} (m now new : Whole A) (block : NumberedBlock A) (inst : NumberedInst A) (k : ℕ) (kept : Move → Type 0) (r : Result T StepError) → m ≡ now → IsMachine m → IsHere now.program now.frames block k
+    → Some inst ≡ slice_get block.insts k → OnOk r (performed_whole now inst ≡ Ok (state_of new)) → OnOk r (WeighsAtMost kept (inst_weight now new inst)) → OnOk r (WeighsAtMost kept (cost_of now.program (state_of now)))
+perform_costs m now new block inst k kept (Ok d) same ok here is does h =
     let found : InstFound now inst k = inst_found m now block inst k same ok here is in
-    inst_costs now new block inst k (weight move) here is (found.does ∙ does) (h move kept)
-perform_costs m now new block inst k before after (Err e) same ok here is does h = tt
+    (h.0, h.1, inst_costs now new block inst k (weight h.0) here is (found.does ∙ does) h.2)
+perform_costs m now new block inst k kept (Err e) same ok here is does h = tt
 
-pub leave_costs : {A : Type 0} (m now new : Whole A) (block : NumberedBlock A) (k : ℕ) (r : Result Move StepError) → m ≡ now → IsMachine m → IsHere now.program now.frames block k → None ≡ slice_get block.insts k
-    → OnOk r (left_whole now block.jump ≡ Ok (state_of new)) → IfOk r (λ d. weight d ≡ jump_weight now new block.jump) → IfOk r (λ d. weight d ≤ cost_of now.program (state_of now))
-leave_costs m now new block k (Ok d) same ok here is does h =
-    jump_costs m now new block k (weight d) same ok here is (jump_found now block k here is ∙ does) h
-leave_costs m now new block k (Err e) same ok here is does h = tt
+pub leave_costs : {A T : Type 0} (m now new : Whole A) (block : NumberedBlock A) (k : ℕ) (kept : Move → Type 0) (r : Result T StepError) → m ≡ now → IsMachine m → IsHere now.program now.frames block k → None ≡ slice_get block.insts k
+    → OnOk r (left_whole now block.jump ≡ Ok (state_of new)) → OnOk r (WeighsAtMost kept (jump_weight now new block.jump)) → OnOk r (WeighsAtMost kept (cost_of now.program (state_of now)))
+leave_costs m now new block k kept (Ok d) same ok here is does h =
+    let most : jump_weight now new block.jump ≤ cost_of now.program (state_of now) = jump_costs m now new block k (jump_weight now new block.jump) same ok here is (jump_found now block k here is ∙ does) refl in
+    (h.0, h.1, omega (arith, h.2, most))
+leave_costs m now new block k kept (Err e) same ok here is does h = tt

@@ -1,5 +1,5 @@
 -- What each kind of move weighs, by number; below the public calls.
-use Rattle.std.specs.Prelude.{ℕ, ◌+◌, ◌-◌, ◌*◌, ◌==◌, ◌≡◌, ◌≤◌, if◌then◌else◌, List, [], ◌∷◌, ◌++◌, length, Option, Some, None}
+use Rattle.std.specs.Prelude.{ℕ, ◌+◌, ◌-◌, ◌*◌, ◌==◌, ◌≤◌, if◌then◌else◌, List, [], ◌∷◌, length, Option, Some, None}
 use Rattle.qil_tree.specs.declared.tree.Func.{Func}
 use Rattle.qil_layout.specs.Layout.{width_bytes}
 use Rattle.qil_meaning.specs.State as meaning
@@ -13,9 +13,9 @@ use Rattle.qil_frames.specs.Frames.{SlotFrame}
 use Rattle.qil_state.specs.State.{Whole, head_func, frames_state}
 use Rattle.qil_machine.specs.Moves.{Move, weight}
 
--- one more move is kept, and it weighs that much at most
-abbrev pub WeighsAtMost : List Move → List Move → ℕ → Type 0
-WeighsAtMost before after n = (move : Move) → after ≡ before ++ move ∷ [] → weight move ≤ n
+-- a move is kept, and it weighs that much at most
+abbrev pub WeighsAtMost : (Move → Type 0) → ℕ → Type 0
+WeighsAtMost kept n = (move : Move) × kept move × (weight move ≤ n)
 
 -- how many slots take a result
 abbrev pub receiver_count : Option Receiver → ℕ

@@ -1,5 +1,5 @@
 -- Where a running machine stands before a move of some kind.
-use Rattle.std.specs.Prelude.{◌≡◌, ℕ, List, [], ◌∷◌, ◌++◌, Result, Ok, Err}
+use Rattle.std.specs.Prelude.{◌≡◌, ℕ, List, [], ◌∷◌, Result, Ok, Err}
 use Rattle.qil_tree.specs.declared.tree.Program.{Program}
 use Rattle.qil_code.specs.Numbered.{block_at}
 use Rattle.qil_frames.specs.Frames.{SlotFrame}
@@ -22,15 +22,15 @@ pub record Made {A : Type 0} (d : Move) (m w : Whole A) : Type 0 where
   pub fits : Fits d w
   pub undo : undone d w ≡ m
 
--- one more move is kept, and leads from one machine to the other
-pub record HasMade {A : Type 0} (before after : List Move) (m w : Whole A) : Type 0 where
+-- a move is kept, and leads from one machine to the other
+pub record HasMade {A : Type 0} (kept : Move → Type 0) (m w : Whole A) : Type 0 where
   pub move : Move
-  pub kept : after ≡ before ++ move ∷ []
+  pub is_kept : kept move
   pub made : Made move m w
 
--- of a move that was made or wasn't, and of what is told of it: if it was made it is kept, behind those before, and else the same error is told
-abbrev pub IsKept : {T : Type 0} → Result Move StepError → Result T StepError → List Move → List Move → Type 0
-IsKept (Ok move) (Ok told) before after = after ≡ before ++ move ∷ []
-IsKept (Ok move) (Err error) before after = ⊥
-IsKept (Err why) (Ok told) before after = ⊥
-IsKept (Err why) (Err error) before after = why ≡ error
+-- of a move that was made or wasn't, and of what is reported of it: if it was made it is kept, and else the same error is reported
+abbrev pub IsPassedOn : {T : Type 0} → Result Move StepError → Result T StepError → (Move → Type 0) → Type 0
+IsPassedOn (Ok move) (Ok reported) kept = kept move
+IsPassedOn (Ok move) (Err error) kept = ⊥
+IsPassedOn (Err why) (Ok reported) kept = ⊥
+IsPassedOn (Err why) (Err error) kept = why ≡ error

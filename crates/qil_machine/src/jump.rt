@@ -7,20 +7,21 @@ ghost use Rattle.qil_state.specs.State.{state_of, head_names};
 ghost use Rattle.qil_state.specs.Stepping.{left_whole, went_whole};
 ghost use Rattle.qil_rules.specs.Mentions.{returned_class};
 ghost use Rattle.qil_machine.specs.Moves.{weight};
-ghost use Rattle.qil_machine.specs.Costs.{entered_weight, returned_weight, jump_weight};
-ghost use Rattle.qil_machine.specs.Places.{IsRunning, Made};
+ghost use Rattle.qil_machine.specs.Costs.{WeighsAtMost, entered_weight, returned_weight, jump_weight};
+ghost use Rattle.qil_machine.specs.Places.{IsRunning, Made, HasMade};
 ghost use Rattle.qil_machine.specs.Results.{Explains};
 ghost use Rattle.qil_machine.specs.Steps.{IsHere, HasOperand, HasReturned, BranchTakes, JumpTakes};
 
 use crate::delta::Delta;
 use crate::error::StepError;
+use crate::log::{DeltaSink, keep_made};
 use crate::machine::Machine;
 use qil_code::{Edge, NumberedBlock, NumberedJump, NumberedOperand};
 use qil_state::{Fault, fitted, value};
 use qil_tree::{AbiType, Class};
 use std::alloc::Allocator;
 
-impl<'c, 'a, A: Allocator + Copy> Machine<'c, 'a, A> {
+impl<'c, A: Allocator + Copy> Machine<'c, A> {
     /// Goes along an edge of the jump at the end of the block.
     #[inline(always)]
     pub(crate) fn go_along(
@@ -125,30 +126,33 @@ impl<'c, 'a, A: Allocator + Copy> Machine<'c, 'a, A> {
         }
     }
 
-    /// Does the jump at the end of the block.
+    /// Does the jump at the end of the block, and keeps its delta.
     #[inline(always)]
-    pub(crate) fn leave(
+    pub(crate) fn leave<K: DeltaSink<Delta<A>>>(
         &mut self,
         block: &NumberedBlock<A>,
         index: u32,
-    ) -> Result<Delta<A>, StepError>
+        into: &mut K,
+    ) -> Result<(), StepError>
         requires running { IsRunning self.old }
         requires here { IsHere self.old.program self.old.frames block.now index }
         requires end { slice_get block.now.insts index ≡ None }
+        requires room { K.has_room into.old }
         ensures does { OnOk result (left_whole self.old block.now.jump ≡ Ok (state_of self.new)) }
-        ensures made { IfOk result (λ d. Made d self.old self.new) }
-        ensures weighs { IfOk result (λ d. weight d ≡ jump_weight self.old self.new block.now.jump) }
+        ensures made { OnOk result (HasMade (K.takes into.old into.new) self.old self.new) }
+        ensures weighs { OnOk result (WeighsAtMost (K.takes into.old into.new) (jump_weight self.old self.new block.now.jump)) }
         ensures fault { IfErr result (Explains (head_names self.old.program self.old.frames) (left_whole self.old block.now.jump)) }
         ensures memory { (result ≡ Err StepError.OutOfMemory) → JumpTakes self.old.program self.old.frames block.now.jump }
         ensures err { OnErr result (self.new ≡ self.old) }
+        ensures none { OnErr result (into.new ≡ into.old) }
     {
         let _ = self.frames.innermost();
         match &block.jump {
-            NumberedJump::Jmp(edge) => self.go_along(block, edge, index),
+            NumberedJump::Jmp(edge) => keep_made(into, self.go_along(block, edge, index)),
             NumberedJump::Jnz(source, if_set, if_zero) => {
-                self.branch(block, *source, if_set, if_zero, index)
+                keep_made(into, self.branch(block, *source, if_set, if_zero, index))
             }
-            NumberedJump::Ret(source) => self.give_back(*source),
+            NumberedJump::Ret(source) => keep_made(into, self.give_back(*source)),
             NumberedJump::Hlt => Err(StepError::Fault(Fault::Halted)),
         }
     }

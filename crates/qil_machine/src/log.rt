@@ -1,18 +1,21 @@
-//! Where deltas go: into the hands of a caller, or onto the end of a list.
+//! Where deltas go: into the hands of a caller, onto the end of a list, or wherever else one can be taken.
 
-ghost use Rattle.std.specs.Prelude.{◌≡◌, ◌<◌, List, [], ◌∷◌, ◌++◌, option_to_list, None, vec_len, vec_capacity};
+ghost use Rattle.std.specs.Prelude.{◌≡◌, ◌<◌, [], ◌∷◌, ◌++◌, Some, None, OnErr, vec_len, vec_capacity};
+ghost use Rattle.qil_machine.specs.Places.{IsPassedOn};
 
+use crate::delta::Delta;
+use crate::error::StepError;
 use std::alloc::Allocator;
 
-/// Something that takes an item, and has room for it.
+/// Something that takes an item, and has room for it. From which one to which other it comes by an item, `takes` says.
 pub trait DeltaSink<T> {
-    ghost kept: { Self → List T };
+    ghost takes: { Self → Self → T → Type 0 };
 
     ghost has_room: { Self → Type 0 };
 
     fn keep(&mut self, item: T)
         requires { has_room self.old }
-        ensures { kept self.new ≡ kept self.old ++ item ∷ [] };
+        ensures { takes self.old self.new item };
 }
 
 /// Room for one.
@@ -22,7 +25,7 @@ pub struct OneDelta<T> {
 }
 
 impl<T: Drop> DeltaSink<T> for OneDelta<T> {
-    ghost kept = { λ o. option_to_list o.item };
+    ghost takes = { λ o p x. p.item ≡ Some x };
 
     ghost has_room = { λ o. o.item ≡ None };
 
@@ -33,7 +36,7 @@ impl<T: Drop> DeltaSink<T> for OneDelta<T> {
 }
 
 impl<T: Drop, A: Allocator> DeltaSink<T> for Vec<T, A> {
-    ghost kept = { λ v. v.items };
+    ghost takes = { λ v w x. w.items ≡ v.items ++ x ∷ [] };
 
     ghost has_room = { λ v. vec_len v < vec_capacity v };
 
@@ -43,5 +46,24 @@ impl<T: Drop, A: Allocator> DeltaSink<T> for Vec<T, A> {
             Ok(()) => {}
             Err(_) => unreachable!(),
         }
+    }
+}
+
+/// Keeps the delta that was made, if one was.
+#[inline(always)]
+pub(crate) fn keep_made<A: Allocator, K: DeltaSink<Delta<A>>>(
+    into: &mut K,
+    made: Result<Delta<A>, StepError>,
+) -> Result<(), StepError>
+    requires { K.has_room into.old }
+    ensures kept { IsPassedOn made result (K.takes into.old into.new) }
+    ensures none { OnErr result (into.new ≡ into.old) }
+{
+    match made {
+        Ok(delta) => {
+            into.keep(delta);
+            Ok(())
+        }
+        Err(error) => Err(error),
     }
 }

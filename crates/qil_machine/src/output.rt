@@ -26,7 +26,7 @@ use std::alloc::Allocator;
 
 const OUTPUT_LIMIT: usize = 1_048_576;
 
-impl<'c, 'a, A: Allocator + Copy> Machine<'c, 'a, A> {
+impl<'c, A: Allocator + Copy> Machine<'c, A> {
     /// Gives a value to the slot that takes it and goes one instruction on, where bytes were written after so many.
     #[inline(always)]
     fn wrote(&mut self, count: u32, to: Option<Receiver>, value: u64, index: u32) -> Delta<A>

@@ -8,7 +8,7 @@ use qil_code::BlockId;
 use qil_layout::FuncId;
 use std::alloc::Allocator;
 
-impl<'c, 'a, A: Allocator + Copy> Machine<'c, 'a, A> {
+impl<'c, A: Allocator + Copy> Machine<'c, A> {
     /// Each frame is in a function and a block of the program, at an instruction or at the jump, and the program has the
     /// blocks that the jump may go to. So no step of a machine is one of those that the definitions have only to be total,
     /// where a function, a block or a label isn't there and the state stays as it is. It does nothing.

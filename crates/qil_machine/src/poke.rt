@@ -18,7 +18,7 @@ use qil_ops::unary;
 use qil_tree::{Class, UnaryOp};
 use std::alloc::Allocator;
 
-impl<'c, 'a, A: Allocator + Copy> Machine<'c, 'a, A> {
+impl<'c, A: Allocator + Copy> Machine<'c, A> {
     /// Replaces 1, 2, 4 or 8 bytes of memory by the low bytes of a number. It takes no memory.
     ///
     /// # Errors

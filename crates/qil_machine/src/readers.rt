@@ -20,9 +20,9 @@ use qil_memory::{Dead, Memory};
 use qil_state::Status;
 use std::alloc::Allocator;
 
-impl<'c, 'a, A: Allocator + Copy> Machine<'c, 'a, A> {
+impl<'c, A: Allocator + Copy> Machine<'c, A> {
     /// The code that it runs.
-    pub fn code(&self) -> &'c Code<'c, 'a, A>
+    pub fn code(&self) -> &'c Code<'c, A>
         ensures { result.now ≡ self.now.program }
     {
         self.code

@@ -13,9 +13,9 @@ fn is_same(one: Status, other: Status) -> bool
     one == other
 }
 
-impl<'c, 'a, A: Allocator + Copy> Machine<'c, 'a, A> {
+impl<'c, A: Allocator + Copy> Machine<'c, A> {
     /// Whether two machines of one program are equal in all that they hold, dead bytes of memory too. It takes no memory.
-    pub fn same(&self, other: &Machine<'_, '_, A>) -> bool
+    pub fn same(&self, other: &Machine<'_, A>) -> bool
         requires { self.now.program ≡ other.now.program }
         ensures { IsTrue result ↔ (self.now ≡ other.now) }
     {
@@ -26,7 +26,7 @@ impl<'c, 'a, A: Allocator + Copy> Machine<'c, 'a, A> {
     }
 
     /// An equal machine, over the same code, with as much room for output.
-    pub fn try_clone(&self) -> Result<Machine<'c, 'a, A>, AllocError>
+    pub fn try_clone(&self) -> Result<Machine<'c, A>, AllocError>
         ensures { IfOk result (λ m. m ≡ self.now) }
     {
         let frames = self.frames.try_clone()?;

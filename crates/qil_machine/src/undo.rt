@@ -18,7 +18,7 @@ use qil_layout::FuncId;
 use qil_state::Status;
 use std::alloc::Allocator;
 
-impl<'c, 'a, A: Allocator + Copy> Machine<'c, 'a, A> {
+impl<'c, A: Allocator + Copy> Machine<'c, A> {
     /// Puts back what a move kept. `Delta::fits` is the test of its condition.
     #[inline(always)]
     pub fn undo(&mut self, delta: Delta<A>)
@@ -88,7 +88,7 @@ impl<'c, 'a, A: Allocator + Copy> Machine<'c, 'a, A> {
 }
 
 /// The kinds, each from what it keeps.
-impl<'c, 'a, A: Allocator + Copy> Machine<'c, 'a, A> {
+impl<'c, A: Allocator + Copy> Machine<'c, A> {
     #[inline(always)]
     fn undo_assigned(&mut self, slot: Slot, value: Option<u64>, index: u32)
         requires { Fits (slots_move (at index) (one slot value)) self.old }
@@ -256,7 +256,7 @@ pub fn value_of(set: bool, value: u64) -> Option<u64>
 
 /// How many instructions a block has.
 #[inline(always)]
-fn end_of<A: Allocator + Copy>(code: &Code<'_, '_, A>, func: FuncId, block: BlockId) -> u32
+fn end_of<A: Allocator + Copy>(code: &Code<'_, A>, func: FuncId, block: BlockId) -> u32
     ensures { result ≡ inst_count (block_at code.now func.index block.index) }
 {
     match code.block(func, block) {

@@ -19,7 +19,7 @@ use qil_layout::FuncId;
 use qil_state::Status;
 use std::alloc::Allocator;
 
-impl<'c, 'a, A: Allocator + Copy> Machine<'c, 'a, A> {
+impl<'c, A: Allocator + Copy> Machine<'c, A> {
     /// What a watch reads of memory: the number in 1, 2, 4 or 8 bytes from an address on, if all are live. They are its low
     /// bytes, so that equal numbers are of equal bytes.
     #[inline(always)]

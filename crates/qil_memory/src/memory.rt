@@ -49,7 +49,7 @@ impl<A: Allocator> Model for Memory<A> {
 impl<A: Allocator + Copy> Memory<A> {
     /// The memory at the start of a run: the bytes of the image's data, and an empty stack, all bytes of which are
     /// reserved here.
-    pub fn new(alloc: A, image: &Image<'_, '_, A>) -> Result<Memory<A>, AllocError>
+    pub fn new(alloc: A, image: &Image<'_, A>) -> Result<Memory<A>, AllocError>
         ensures { IfOk result (λ m. m ≡ fresh (bytes_of image.now)) }
     {
         Ok(Memory {

@@ -15,7 +15,7 @@ use std::hash::RandomState;
 
 fn note_sources<'a, A: Allocator + Copy>(
     alloc: A,
-    resolver: &Resolver<'_, '_, 'a, A>,
+    resolver: &Resolver<'_, 'a, A>,
     table: &mut Groups<'a, PhiMove, A>,
     target: &Target<'a>,
     sources: &[PhiSource<'a>],
@@ -31,7 +31,7 @@ fn note_sources<'a, A: Allocator + Copy>(
 
 fn note_phi<'a, A: Allocator + Copy>(
     alloc: A,
-    resolver: &Resolver<'_, '_, 'a, A>,
+    resolver: &Resolver<'_, 'a, A>,
     table: &mut Groups<'a, PhiMove, A>,
     phi: &Phi<'a, A>,
 ) -> Result<(), AllocError>
@@ -44,7 +44,7 @@ fn note_phi<'a, A: Allocator + Copy>(
 pub fn moves_of<'a, A: Allocator + Copy>(
     alloc: A,
     keys: RandomState,
-    resolver: &Resolver<'_, '_, 'a, A>,
+    resolver: &Resolver<'_, 'a, A>,
     block: &Block<'a, A>,
 ) -> Result<Groups<'a, PhiMove, A>, AllocError>
     ensures { IfOk result (λ table. (x : List ℕ) → values_at table.lists x ≡ block_moves resolver.now.image.now resolver.now.temps.now x block.now) }

@@ -15,12 +15,12 @@ use std::hash::RandomState;
 /// # Errors
 ///
 /// Only out of memory.
-pub fn number<'c, 'a, A: Allocator + Copy>(
+pub fn number<'c, A: Allocator + Copy>(
     alloc: A,
     keys: RandomState,
-    checked: &'c Checked<'a, A>,
-    image: &'c Image<'c, 'a, A>,
-) -> Result<Code<'c, 'a, A>, AllocError>
+    checked: &'c Checked<'c, A>,
+    image: &'c Image<'c, A>,
+) -> Result<Code<'c, A>, AllocError>
     requires { image.now ≡ checked.now.program }
     ensures { IfOk result (λ code. code ≡ checked.entry.now.program) }
 {

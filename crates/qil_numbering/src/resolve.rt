@@ -16,16 +16,16 @@ use std::alloc::{AllocError, Allocator};
 
 /// What names represent in a function: temporaries and labels for their numbers, globals for their addresses.
 #[derive(Drop)]
-pub struct Resolver<'r, 'c, 'a, A: Allocator> {
-    pub image: &'r Image<'c, 'a, A>,
-    pub temps: &'r Numbers<'a, A>,
-    pub labels: &'r Numbers<'a, A>,
+pub struct Resolver<'r, 'c, A: Allocator> {
+    pub image: &'r Image<'c, A>,
+    pub temps: &'r Numbers<'c, A>,
+    pub labels: &'r Numbers<'c, A>,
     ghost few_temps: { length temps.now ≤ 65535 },
     ghost few_labels: { length labels.now ≤ 65535 },
 }
 
-impl<'r, 'c, 'a, A: Allocator + Copy> Resolver<'r, 'c, 'a, A> {
-    fn slot(&self, name: &Name<'a>) -> Slot
+impl<'r, 'c, A: Allocator + Copy> Resolver<'r, 'c, A> {
+    fn slot(&self, name: &Name<'c>) -> Slot
         ensures { result ≡ slot_in self.now.temps.now name.now }
     {
         match self.temps.number(name.bytes()) {
@@ -36,7 +36,7 @@ impl<'r, 'c, 'a, A: Allocator + Copy> Resolver<'r, 'c, 'a, A> {
         }
     }
 
-    fn address(&self, name: &Name<'a>) -> NumberedOperand
+    fn address(&self, name: &Name<'c>) -> NumberedOperand
         ensures { result ≡ operand_of self.now.image.now self.now.temps.now (operands.Global name.now) }
     {
         match self.image.address(name.bytes()) {
@@ -45,7 +45,7 @@ impl<'r, 'c, 'a, A: Allocator + Copy> Resolver<'r, 'c, 'a, A> {
         }
     }
 
-    pub fn operand(&self, operand: &Operand<'a>) -> NumberedOperand
+    pub fn operand(&self, operand: &Operand<'c>) -> NumberedOperand
         ensures { result ≡ operand_of self.now.image.now self.now.temps.now operand.now }
     {
         match operand {
@@ -55,7 +55,7 @@ impl<'r, 'c, 'a, A: Allocator + Copy> Resolver<'r, 'c, 'a, A> {
         }
     }
 
-    fn expr(&self, expr: &Expr<'a>) -> NumberedExpr
+    fn expr(&self, expr: &Expr<'c>) -> NumberedExpr
         ensures { result ≡ expr_of self.now.image.now self.now.temps.now expr.now }
     {
         match expr {
@@ -71,7 +71,7 @@ impl<'r, 'c, 'a, A: Allocator + Copy> Resolver<'r, 'c, 'a, A> {
         }
     }
 
-    fn receiver(&self, taken: &CallResult<'a>) -> Receiver
+    fn receiver(&self, taken: &CallResult<'c>) -> Receiver
         ensures { result ≡ receiver_of self.now.temps.now taken.now }
     {
         Receiver {
@@ -83,7 +83,7 @@ impl<'r, 'c, 'a, A: Allocator + Copy> Resolver<'r, 'c, 'a, A> {
     fn arguments(
         &self,
         alloc: A,
-        arguments: &[Argument<'a>],
+        arguments: &[Argument<'c>],
     ) -> Result<Vec<NumberedArgument, A>, AllocError>
         ensures { IfOk result (λ v. v.items ≡ map (argument_of self.now.image.now self.now.temps.now) arguments.now) }
     {
@@ -97,7 +97,7 @@ impl<'r, 'c, 'a, A: Allocator + Copy> Resolver<'r, 'c, 'a, A> {
         Ok(out)
     }
 
-    pub fn inst(&self, alloc: A, inst: &Inst<'a, A>) -> Result<NumberedInst<A>, AllocError>
+    pub fn inst(&self, alloc: A, inst: &Inst<'c, A>) -> Result<NumberedInst<A>, AllocError>
         ensures { IfOk result (λ i. i ≡ inst_of self.now.image.now self.now.temps.now inst.now) }
     {
         Ok(match &inst.kind {
@@ -124,7 +124,7 @@ impl<'r, 'c, 'a, A: Allocator + Copy> Resolver<'r, 'c, 'a, A> {
         })
     }
 
-    pub fn phi_move(&self, target: &Target<'a>, value: &Operand<'a>) -> PhiMove
+    pub fn phi_move(&self, target: &Target<'c>, value: &Operand<'c>) -> PhiMove
         ensures { result ≡ move_with self.now.image.now self.now.temps.now target.now value.now }
     {
         PhiMove {
@@ -137,7 +137,7 @@ impl<'r, 'c, 'a, A: Allocator + Copy> Resolver<'r, 'c, 'a, A> {
     pub fn params(
         &self,
         alloc: A,
-        params: &[Param<'a>],
+        params: &[Param<'c>],
     ) -> Result<Vec<(Slot, AbiType), A>, AllocError>
         ensures { IfOk result (λ v. v.items ≡ map (param_of self.now.temps.now) params.now) }
     {

@@ -28,10 +28,10 @@ const INDEX_LIMIT: usize = 1 << 32;
 
 /// The blocks of a function, with what the phis of each do for each block that may be left.
 #[derive(Drop)]
-pub struct Shape<'r, 'c, 'a, A: Allocator> {
-    resolver: &'r Resolver<'r, 'c, 'a, A>,
-    blocks: &'r [Block<'a, A>],
-    moves: Vec<Groups<'a, PhiMove, A>, A>,
+pub struct Shape<'r, 'c, A: Allocator> {
+    resolver: &'r Resolver<'r, 'c, A>,
+    blocks: &'r [Block<'c, A>],
+    moves: Vec<Groups<'c, PhiMove, A>, A>,
     ghost labels_are: { resolver.now.labels.now ≡ labels_in blocks.now },
     ghost each_block: { length moves.items ≡ length blocks.now },
     ghost moves_are: { (i : ℕ) (b : Block A) → slice_get blocks.now i ≡ Some b → ForSome (slice_get moves.items i) (λ t. (x : List ℕ) → values_at t.lists x ≡ block_moves resolver.now.image.now resolver.now.temps.now x b) },
@@ -41,7 +41,7 @@ pub struct Shape<'r, 'c, 'a, A: Allocator> {
 fn moves_of_all<'a, A: Allocator + Copy>(
     alloc: A,
     keys: RandomState,
-    resolver: &Resolver<'_, '_, 'a, A>,
+    resolver: &Resolver<'_, 'a, A>,
     blocks: &[Block<'a, A>],
 ) -> Result<Vec<Groups<'a, PhiMove, A>, A>, AllocError>
     ensures len { IfOk result (λ v. length v.items ≡ length blocks.now) }
@@ -69,8 +69,8 @@ fn copied<A: Allocator + Copy>(alloc: A, moves: &[PhiMove]) -> Result<Vec<PhiMov
     Ok(out)
 }
 
-impl<'r, 'c, 'a, A: Allocator + Copy> Shape<'r, 'c, 'a, A> {
-    fn moves(&self, alloc: A, left: &Name<'a>, number: usize) -> Result<Vec<PhiMove, A>, AllocError>
+impl<'r, 'c, A: Allocator + Copy> Shape<'r, 'c, A> {
+    fn moves(&self, alloc: A, left: &Name<'c>, number: usize) -> Result<Vec<PhiMove, A>, AllocError>
         requires { number < length self.now.blocks.now }
         ensures moves { (b : Block A) → slice_get self.now.blocks.now number ≡ Some b → IfOk result (λ v. v.items ≡ block_moves self.now.resolver.now.image.now self.now.resolver.now.temps.now left.now b) }
         ensures short { IfOk result (λ v. IsShort v.items) }
@@ -83,7 +83,7 @@ impl<'r, 'c, 'a, A: Allocator + Copy> Shape<'r, 'c, 'a, A> {
     }
 
     /// The way from a block to the block of a label.
-    fn edge(&self, alloc: A, left: &Name<'a>, label: &Name<'a>) -> Result<Edge<A>, AllocError>
+    fn edge(&self, alloc: A, left: &Name<'c>, label: &Name<'c>) -> Result<Edge<A>, AllocError>
         ensures edge { IfOk result (λ e. e ≡ edge_of self.now.resolver.now.image.now self.now.blocks.now self.now.resolver.now.temps.now left.now label.now) }
         ensures short { IfOk result (λ e. IsShort e.moves) }
     {
@@ -104,8 +104,8 @@ impl<'r, 'c, 'a, A: Allocator + Copy> Shape<'r, 'c, 'a, A> {
     fn jump(
         &self,
         alloc: A,
-        left: &Name<'a>,
-        jump: &Jump<'a>,
+        left: &Name<'c>,
+        jump: &Jump<'c>,
     ) -> Result<NumberedJump<A>, AllocError>
         ensures jump { IfOk result (λ j. j ≡ jump_of self.now.resolver.now.image.now self.now.blocks.now self.now.resolver.now.temps.now left.now jump.now.kind) }
         ensures short { IfOk result (λ j. JumpIsShort j) }
@@ -123,7 +123,7 @@ impl<'r, 'c, 'a, A: Allocator + Copy> Shape<'r, 'c, 'a, A> {
         }
     }
 
-    fn insts(&self, alloc: A, insts: &[Inst<'a, A>]) -> Result<Vec<NumberedInst<A>, A>, AllocError>
+    fn insts(&self, alloc: A, insts: &[Inst<'c, A>]) -> Result<Vec<NumberedInst<A>, A>, AllocError>
         ensures insts { IfOk result (λ v. v.items ≡ map (inst_of self.now.resolver.now.image.now self.now.resolver.now.temps.now) insts.now) }
         ensures short { IfOk result (λ v. IsShort v.items) }
     {
@@ -137,7 +137,7 @@ impl<'r, 'c, 'a, A: Allocator + Copy> Shape<'r, 'c, 'a, A> {
         Ok(out)
     }
 
-    fn block(&self, alloc: A, block: &Block<'a, A>) -> Result<NumberedBlock<A>, AllocError>
+    fn block(&self, alloc: A, block: &Block<'c, A>) -> Result<NumberedBlock<A>, AllocError>
         ensures block { IfOk result (λ b. b ≡ block_of self.now.resolver.now.image.now self.now.blocks.now self.now.resolver.now.temps.now block.now) }
         ensures short { IfOk result (λ b. BlockIsShort b) }
     {
@@ -166,7 +166,7 @@ impl<'r, 'c, 'a, A: Allocator + Copy> Shape<'r, 'c, 'a, A> {
 fn blocks_of<'a, A: Allocator + Copy>(
     alloc: A,
     keys: RandomState,
-    resolver: &Resolver<'_, '_, 'a, A>,
+    resolver: &Resolver<'_, 'a, A>,
     blocks: &[Block<'a, A>],
 ) -> Result<Vec<NumberedBlock<A>, A>, AllocError>
     requires { resolver.now.labels.now ≡ labels_in blocks.now }
@@ -186,7 +186,7 @@ fn blocks_of<'a, A: Allocator + Copy>(
 fn numbered_func<'a, A: Allocator + Copy>(
     alloc: A,
     keys: RandomState,
-    image: &Image<'_, 'a, A>,
+    image: &Image<'a, A>,
     temps: &Numbers<'a, A>,
     labels: &Numbers<'a, A>,
     func: &Func<'a, A>,
@@ -217,7 +217,7 @@ fn numbered_func<'a, A: Allocator + Copy>(
 fn func_code<'a, A: Allocator + Copy>(
     alloc: A,
     keys: RandomState,
-    image: &Image<'_, 'a, A>,
+    image: &Image<'a, A>,
     func: &Func<'a, A>,
 ) -> Result<FuncCode<'a, A>, AllocError>
     requires { IsNumerable func.now }
@@ -238,7 +238,7 @@ fn func_code<'a, A: Allocator + Copy>(
 pub fn funcs_code<'a, A: Allocator + Copy>(
     alloc: A,
     keys: RandomState,
-    image: &Image<'_, 'a, A>,
+    image: &Image<'a, A>,
     funcs: &[Func<'a, A>],
 ) -> Result<Vec<FuncCode<'a, A>, A>, AllocError>
     requires { All IsNumerable funcs.now }

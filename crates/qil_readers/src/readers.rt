@@ -16,14 +16,14 @@ pub trait HasProgram<A: Allocator> {
     ghost program: { Self → Program A };
 }
 
-impl<'c, 'a, A: Allocator> HasProgram<A> for Code<'c, 'a, A> {
+impl<'c, A: Allocator> HasProgram<A> for Code<'c, A> {
     ghost program = { λ code. code };
 }
 
 /// The readers of a machine: what it runs, how the run stands, the calls that are not over, memory, and the output. Nothing
 /// here takes memory.
 ///
-/// A user is generic in `M: Readers<A, Code<'c, 'c, A>>`, under `A: Allocator + 'c`.
+/// A user is generic in `M: Readers<A, Code<'c, A>>`, under `A: Allocator + 'c`.
 pub trait Readers<A: Allocator, C: HasProgram<A>> {
     ghost whole: { Self → Whole A };
 
@@ -67,10 +67,10 @@ pub trait Readers<A: Allocator, C: HasProgram<A>> {
         ensures named { (name : List ℕ) → slice_get (head_names (whole self.now).program (whole self.now).frames) slot.index ≡ Some name → result ≡ temp_here (state_of (whole self.now)).frames name };
 }
 
-impl<'c, 'a, A: Allocator + Copy> Readers<A, Code<'c, 'a, A>> for Machine<'c, 'a, A> {
+impl<'c, A: Allocator + Copy> Readers<A, Code<'c, A>> for Machine<'c, A> {
     ghost whole = { λ machine. machine };
 
-    fn code(&self) -> &Code<'c, 'a, A> {
+    fn code(&self) -> &Code<'c, A> {
         Machine::code(self)
     }
 

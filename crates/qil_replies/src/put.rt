@@ -20,7 +20,7 @@ use qil_streams::{Put, PutError, put_line};
 use std::alloc::Allocator;
 
 /// Puts why a run stopped, and the place.
-fn put_stopped<'c, P: Put, A: Allocator + Copy + 'c, M: Readers<A, Code<'c, 'c, A>>>(
+fn put_stopped<'c, P: Put, A: Allocator + Copy + 'c, M: Readers<A, Code<'c, A>>>(
     out: &mut P,
     position: u64,
     machine: &M,
@@ -38,7 +38,7 @@ fn put_stopped<'c, P: Put, A: Allocator + Copy + 'c, M: Readers<A, Code<'c, 'c, 
 /// # Errors
 ///
 /// `PutError` where `out` stopped. Then a prefix of the text was put.
-pub fn put_reply<'c, P: Put, A: Allocator + Copy + 'c, M: Readers<A, Code<'c, 'c, A>>>(
+pub fn put_reply<'c, P: Put, A: Allocator + Copy + 'c, M: Readers<A, Code<'c, A>>>(
     out: &mut P,
     position: u64,
     machine: &M,

@@ -12,9 +12,9 @@ use qil_streams::{Put, PutError, put_line};
 use std::alloc::Allocator;
 
 /// Puts the line of each stop.
-fn put_listed<'c, 'a, P: Put, A: Allocator + Copy>(
+fn put_listed<'c, P: Put, A: Allocator + Copy>(
     out: &mut P,
-    code: &'c Code<'c, 'a, A>,
+    code: &'c Code<'c, A>,
     stops: &[NumberedStop],
 ) -> Result<(), PutError>
     requires { P.stops out.old < 2 ^ 64 - 1 }
@@ -27,9 +27,9 @@ fn put_listed<'c, 'a, P: Put, A: Allocator + Copy>(
 }
 
 /// Puts the line of each stop, or that there is none.
-pub fn put_stops<'c, 'a, P: Put, A: Allocator + Copy>(
+pub fn put_stops<'c, P: Put, A: Allocator + Copy>(
     out: &mut P,
-    code: &'c Code<'c, 'a, A>,
+    code: &'c Code<'c, A>,
     stops: &[NumberedStop],
 ) -> Result<(), PutError>
     requires { P.stops out.old < 2 ^ 64 - 1 }

@@ -19,7 +19,7 @@ use std::alloc::Allocator;
 /// The states of a run, and runs along them: many moves by one call, so that whatever keeps the states has the loop. A step
 /// and a poke are one move each. All that is a `History` of a machine runs by its single moves.
 ///
-/// A user is generic in `H: Runs<A, Code<'c, 'c, A>>`, under `A: Allocator + 'c`.
+/// A user is generic in `H: Runs<A, Code<'c, A>>`, under `A: Allocator + 'c`.
 pub trait Runs<A: Allocator, C: HasProgram<A>> {
     /// What the states are read from.
     type Machine: Readers<A, C>;

@@ -14,15 +14,13 @@ use std::alloc::Allocator;
 /// runs of its own, since a crate above may still make any type a `History`.
 pub trait Stepwise {}
 
-impl<'c, 'a, A: Allocator> Stepwise for Deltas<'c, 'a, A> {}
+impl<'c, A: Allocator> Stepwise for Deltas<'c, A> {}
 
-impl<'c, 'a, A: Allocator> Stepwise for Ring<'c, 'a, A> {}
+impl<'c, A: Allocator> Stepwise for Ring<'c, A> {}
 
-impl<'c, A: Allocator + Copy + 'c, H: History<A, Machine<'c, 'c, A>> + Stepwise> Runs<
-    A,
-    Code<'c, 'c, A>,
-> for H {
-    type Machine = Machine<'c, 'c, A>;
+impl<'c, A: Allocator + Copy + 'c, H: History<A, Machine<'c, A>> + Stepwise> Runs<A, Code<'c, A>>
+    for H {
+    type Machine = Machine<'c, A>;
 
     ghost program = { λ history. H.program history };
 
@@ -60,7 +58,7 @@ impl<'c, A: Allocator + Copy + 'c, H: History<A, Machine<'c, 'c, A>> + Stepwise>
         History::oldest(self)
     }
 
-    fn machine(&self) -> &Machine<'c, 'c, A> {
+    fn machine(&self) -> &Machine<'c, A> {
         History::machine(self)
     }
 }

@@ -23,7 +23,7 @@ pub enum IoFault {
 }
 
 /// Answers the lines of a script in order, up to a `quit`. No read is made after the end or after a `quit`.
-pub fn serve_lines<'c, A: Allocator + Copy + 'c, H: Runs<A, Code<'c, 'c, A>>, S: Source, P: Put>(
+pub fn serve_lines<'c, A: Allocator + Copy + 'c, H: Runs<A, Code<'c, A>>, S: Source, P: Put>(
     session: &mut Session<A, H>,
     source: &mut S,
     out: &mut P,
@@ -70,7 +70,7 @@ pub fn serve_lines<'c, A: Allocator + Copy + 'c, H: Runs<A, Code<'c, 'c, A>>, S:
 ///
 /// `Read` and `Write` where the device failed, and `TooLong` where the script passes 2^24 bytes. The session is where the
 /// lines before moved it, and where a write failed its line moved it all the same.
-pub fn serve<'c, A: Allocator + Copy + 'c, H: Runs<A, Code<'c, 'c, A>>, S: Source, W: Sink>(
+pub fn serve<'c, A: Allocator + Copy + 'c, H: Runs<A, Code<'c, A>>, S: Source, W: Sink>(
     session: &mut Session<A, H>,
     source: &mut S,
     sink: &mut W,
@@ -104,7 +104,7 @@ pub fn serve<'c, A: Allocator + Copy + 'c, H: Runs<A, Code<'c, 'c, A>>, S: Sourc
 pub fn serve_in_turn<
     'c,
     A: Allocator + Copy + 'c,
-    H: Runs<A, Code<'c, 'c, A>>,
+    H: Runs<A, Code<'c, A>>,
     S: Source,
     T: Source,
     W: Sink,

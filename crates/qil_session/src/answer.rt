@@ -15,7 +15,7 @@ use qil_streams::{Put, PutError};
 use std::alloc::Allocator;
 
 /// Answers a line, of which the prefix is kept: a `quit` is no more than reported.
-pub fn answer_line<'c, A: Allocator + Copy + 'c, H: Runs<A, Code<'c, 'c, A>>, P: Put>(
+pub fn answer_line<'c, A: Allocator + Copy + 'c, H: Runs<A, Code<'c, A>>, P: Put>(
     session: &mut Session<A, H>,
     kept: &[u8],
     out: &mut P,

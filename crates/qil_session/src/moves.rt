@@ -17,14 +17,14 @@ use qil_stops::Stops;
 use std::alloc::Allocator;
 
 /// Whether the run is over.
-fn is_over<'c, A: Allocator + Copy + 'c, M: Readers<A, Code<'c, 'c, A>>>(machine: &M) -> bool
+fn is_over<'c, A: Allocator + Copy + 'c, M: Readers<A, Code<'c, A>>>(machine: &M) -> bool
     ensures { result ≡ is_final (state_of (M.whole machine.now)).status }
 {
     machine.is_final()
 }
 
 /// Replies to `step N`.
-pub fn step<'c, 'r, A: Allocator + Copy + 'c, H: Runs<A, Code<'c, 'c, A>>>(
+pub fn step<'c, 'r, A: Allocator + Copy + 'c, H: Runs<A, Code<'c, A>>>(
     history: &mut H,
     count: u32,
 ) -> Reply<'r>
@@ -57,7 +57,7 @@ fn no_way_back(position: u64, oldest: u64) -> Option<CommandRefusal>
 }
 
 /// Replies to `back N`.
-pub fn back<'c, 'r, A: Allocator + Copy + 'c, H: Runs<A, Code<'c, 'c, A>>>(
+pub fn back<'c, 'r, A: Allocator + Copy + 'c, H: Runs<A, Code<'c, A>>>(
     history: &mut H,
     count: u32,
 ) -> Reply<'r>
@@ -74,7 +74,7 @@ pub fn back<'c, 'r, A: Allocator + Copy + 'c, H: Runs<A, Code<'c, 'c, A>>>(
 }
 
 /// Replies to `continue`.
-pub fn answer_continue<'c, 'r, A: Allocator + Copy + 'c, H: Runs<A, Code<'c, 'c, A>>>(
+pub fn answer_continue<'c, 'r, A: Allocator + Copy + 'c, H: Runs<A, Code<'c, A>>>(
     history: &mut H,
     stops: &Stops<A>,
     limit: u64,
@@ -94,7 +94,7 @@ pub fn answer_continue<'c, 'r, A: Allocator + Copy + 'c, H: Runs<A, Code<'c, 'c,
 }
 
 /// Replies to `reverse`.
-pub fn answer_reverse<'c, 'r, A: Allocator + Copy + 'c, H: Runs<A, Code<'c, 'c, A>>>(
+pub fn answer_reverse<'c, 'r, A: Allocator + Copy + 'c, H: Runs<A, Code<'c, A>>>(
     history: &mut H,
     stops: &Stops<A>,
     limit: u64,

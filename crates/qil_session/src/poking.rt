@@ -18,7 +18,7 @@ use qil_tree::Width;
 use std::alloc::Allocator;
 
 /// Replies to `set %x N`.
-pub fn set<'c, 'r, A: Allocator + Copy + 'c, H: Runs<A, Code<'c, 'c, A>>>(
+pub fn set<'c, 'r, A: Allocator + Copy + 'c, H: Runs<A, Code<'c, A>>>(
     history: &mut H,
     name: &[u8],
     value: u64,
@@ -39,7 +39,7 @@ pub fn set<'c, 'r, A: Allocator + Copy + 'c, H: Runs<A, Code<'c, 'c, A>>>(
 }
 
 /// Replies to `poke b ADDR N`.
-pub fn poke<'c, 'r, A: Allocator + Copy + 'c, H: Runs<A, Code<'c, 'c, A>>>(
+pub fn poke<'c, 'r, A: Allocator + Copy + 'c, H: Runs<A, Code<'c, A>>>(
     history: &mut H,
     width: Width,
     address: Address<'_>,

@@ -88,7 +88,7 @@ impl<A: Allocator, H> Session<A, H> {
     }
 }
 
-impl<'c, A: Allocator + Copy + 'c, H: Runs<A, Code<'c, 'c, A>>> Session<A, H> {
+impl<'c, A: Allocator + Copy + 'c, H: Runs<A, Code<'c, A>>> Session<A, H> {
     /// Puts the line of the place where the session stands.
     pub fn put_now<P: Put>(&self, out: &mut P) -> Result<(), PutError>
         requires { P.stops out.old < 2 ^ 64 - 1 }
@@ -195,7 +195,7 @@ impl<'c, A: Allocator + Copy + 'c, H: Runs<A, Code<'c, 'c, A>>> Session<A, H> {
 }
 
 /// Runs over calls. No command makes one: a front end keeps it as the `step N` or `back N` that makes the same moves.
-impl<'c, A: Allocator + Copy + 'c, H: History<A, Machine<'c, 'c, A>>> Session<A, H> {
+impl<'c, A: Allocator + Copy + 'c, H: History<A, Machine<'c, A>>> Session<A, H> {
     /// Moves forward to the first place, after a move, where at most `most` calls are open, or to a stop, the end, the limit, or
     /// where there is no memory for a move. Gives why, and how many moves were made.
     pub fn run_to_depth(&mut self, most: usize) -> (DepthEnd, u64)

@@ -12,7 +12,7 @@ use std::alloc::Allocator;
 
 /// Replies to `mem ADDR N`.
 pub fn show_bytes<'r, A: Allocator + Copy>(
-    code: &Code<'_, '_, A>,
+    code: &Code<'_, A>,
     address: &Address<'_>,
     count: u32,
 ) -> Reply<'r>

@@ -28,9 +28,9 @@ fn made_reply<'r>(made: Result<u64, StopError>, kind: StopKind) -> Reply<'r>
 }
 
 /// Replies to `break $f @b K`.
-pub fn add_break<'c, 'a, 'r, A: Allocator + Copy>(
+pub fn add_break<'c, 'r, A: Allocator + Copy>(
     stops: &mut Stops<A>,
-    code: &'c Code<'c, 'a, A>,
+    code: &'c Code<'c, A>,
     func: &[u8],
     at: Option<BreakPlace<'_>>,
 ) -> Reply<'r>
@@ -45,9 +45,9 @@ pub fn add_break<'c, 'a, 'r, A: Allocator + Copy>(
 }
 
 /// Replies to `watch b ADDR`.
-pub fn watch_bytes<'c, 'a, 'r, A: Allocator + Copy>(
+pub fn watch_bytes<'c, 'r, A: Allocator + Copy>(
     stops: &mut Stops<A>,
-    code: &'c Code<'c, 'a, A>,
+    code: &'c Code<'c, A>,
     width: Width,
     address: Address<'_>,
 ) -> Reply<'r>
@@ -64,9 +64,9 @@ pub fn watch_bytes<'c, 'a, 'r, A: Allocator + Copy>(
 }
 
 /// Replies to `watch $f %x`.
-pub fn watch_temp<'c, 'a, 'r, A: Allocator + Copy>(
+pub fn watch_temp<'c, 'r, A: Allocator + Copy>(
     stops: &mut Stops<A>,
-    code: &'c Code<'c, 'a, A>,
+    code: &'c Code<'c, A>,
     func: &[u8],
     name: &[u8],
 ) -> Reply<'r>

@@ -26,7 +26,7 @@ pub fn width_bytes(width: Width) -> u64
 
 /// The address that a word says, if the program has its global.
 pub fn resolved_address<A: Allocator + Copy>(
-    code: &Code<'_, '_, A>,
+    code: &Code<'_, A>,
     address: &Address<'_>,
 ) -> Option<u64>
     ensures { result ≡ resolved_address code.now address.now }
@@ -42,7 +42,7 @@ pub fn resolved_address<A: Allocator + Copy>(
 
 /// The place that `break` says, if the program has the function and the block.
 pub fn resolved_place<A: Allocator + Copy>(
-    code: &Code<'_, '_, A>,
+    code: &Code<'_, A>,
     func: &[u8],
     at: &Option<BreakPlace<'_>>,
 ) -> Option<Place>
@@ -71,7 +71,7 @@ pub fn resolved_place<A: Allocator + Copy>(
 
 /// The temporary that `watch` says, if the program has it.
 pub fn resolved_temp<A: Allocator + Copy>(
-    code: &Code<'_, '_, A>,
+    code: &Code<'_, A>,
     func: &[u8],
     name: &[u8],
 ) -> Option<Watched>

@@ -17,12 +17,12 @@ use std::marker::Model;
 /// A machine, and a clone of it from before each move, the latest last. It is slow and large, and simple: other histories
 /// are compared with it.
 #[derive(Drop)]
-pub struct Snapshots<'c, 'a, A: Allocator> {
-    machine: Machine<'c, 'a, A>,
-    clones: Vec<Machine<'c, 'a, A>, A>,
+pub struct Snapshots<'c, A: Allocator> {
+    machine: Machine<'c, A>,
+    clones: Vec<Machine<'c, A>, A>,
 }
 
-impl<'c, 'a, A: Allocator> Model for Snapshots<'c, 'a, A> {
+impl<'c, A: Allocator> Model for Snapshots<'c, A> {
     ghost use Rattle.std.specs.Prelude.{reverse};
     ghost use Rattle.qil_snapshots.specs.Kept.{Cloned, AllRun};
 
@@ -34,9 +34,9 @@ impl<'c, 'a, A: Allocator> Model for Snapshots<'c, 'a, A> {
 }
 
 /// Adds a clone of a machine as the latest, if there is memory for it.
-fn keep_clone<'c, 'a, A: Allocator + Copy>(
-    machine: &Machine<'c, 'a, A>,
-    clones: &mut Vec<Machine<'c, 'a, A>, A>,
+fn keep_clone<'c, A: Allocator + Copy>(
+    machine: &Machine<'c, A>,
+    clones: &mut Vec<Machine<'c, A>, A>,
 ) -> Result<(), AllocError>
     ensures kept { OnOk result (clones.new.items ≡ clones.old.items ++ machine.now ∷ []) }
     ensures same { OnErr result (clones.new.items ≡ clones.old.items) }
@@ -48,16 +48,16 @@ fn keep_clone<'c, 'a, A: Allocator + Copy>(
 }
 
 /// Takes the latest clone away.
-fn forget_latest<'c, 'a, A: Allocator + Copy>(clones: &mut Vec<Machine<'c, 'a, A>, A>)
+fn forget_latest<'c, A: Allocator + Copy>(clones: &mut Vec<Machine<'c, A>, A>)
     ensures { clones.new.items ≡ take (length clones.old.items - 1) clones.old.items }
 {
     let _ = clones.pop();
 }
 
 /// Puts the latest clone in the place of a machine, if there is one.
-fn take_latest<'c, 'a, A: Allocator + Copy>(
-    machine: &mut Machine<'c, 'a, A>,
-    clones: &mut Vec<Machine<'c, 'a, A>, A>,
+fn take_latest<'c, A: Allocator + Copy>(
+    machine: &mut Machine<'c, A>,
+    clones: &mut Vec<Machine<'c, A>, A>,
 ) -> Result<(), BackError>
     ensures ok { OnOk result (clones.old.items ≡ clones.new.items ++ machine.new ∷ []) }
     ensures start { OnErr result (result ≡ Err BackError.AtStart) }
@@ -75,7 +75,7 @@ fn take_latest<'c, 'a, A: Allocator + Copy>(
 }
 
 /// Makes a step, and keeps nothing of it.
-fn step<A: Allocator + Copy>(machine: &mut Machine<'_, '_, A>) -> Result<(), MoveError>
+fn step<A: Allocator + Copy>(machine: &mut Machine<'_, A>) -> Result<(), MoveError>
     ensures program { machine.new.program ≡ machine.old.program }
     ensures step { OnOk result (state_of machine.new ≡ step_of machine.old.program (state_of machine.old)) }
     ensures end { (result ≡ Err MoveError.AtEnd) ↔ (machine.old.status ≢ Status.Running) }
@@ -89,7 +89,7 @@ fn step<A: Allocator + Copy>(machine: &mut Machine<'_, '_, A>) -> Result<(), Mov
 
 /// Pokes, and keeps nothing of it.
 fn poke_alone<A: Allocator + Copy>(
-    machine: &mut Machine<'_, '_, A>,
+    machine: &mut Machine<'_, A>,
     poke: Poke<'_>,
 ) -> Result<(), PokeError>
     requires { HasWidth poke }
@@ -105,9 +105,9 @@ fn poke_alone<A: Allocator + Copy>(
 }
 
 /// Pokes a machine whose clone is the latest. Where the poke is refused, the clone goes.
-fn poke_cloned<'c, 'a, A: Allocator + Copy>(
-    machine: &mut Machine<'c, 'a, A>,
-    clones: &mut Vec<Machine<'c, 'a, A>, A>,
+fn poke_cloned<'c, A: Allocator + Copy>(
+    machine: &mut Machine<'c, A>,
+    clones: &mut Vec<Machine<'c, A>, A>,
     poke: Poke<'_>,
 ) -> Result<(), PokeError>
     requires { HasWidth poke }
@@ -125,9 +125,9 @@ fn poke_cloned<'c, 'a, A: Allocator + Copy>(
     Ok(())
 }
 
-impl<'c, 'a, A: Allocator + Copy> Snapshots<'c, 'a, A> {
+impl<'c, A: Allocator + Copy> Snapshots<'c, A> {
     /// A history that begins at a machine. It takes no memory.
-    pub fn new(alloc: A, machine: Machine<'c, 'a, A>) -> Snapshots<'c, 'a, A>
+    pub fn new(alloc: A, machine: Machine<'c, A>) -> Snapshots<'c, A>
         ensures program { result.machine.program ≡ machine.entry.program }
         ensures begun { cloned_timeline result ≡ begun None (state_of machine.entry) }
     {
@@ -153,7 +153,7 @@ impl<'c, 'a, A: Allocator + Copy> Snapshots<'c, 'a, A> {
     }
 }
 
-impl<'c, 'a, A: Allocator + Copy> History<A, Machine<'c, 'a, A>> for Snapshots<'c, 'a, A> {
+impl<'c, A: Allocator + Copy> History<A, Machine<'c, A>> for Snapshots<'c, A> {
     ghost program = { λ h. h.machine.program };
 
     ghost timeline = { cloned_timeline };
@@ -204,7 +204,7 @@ impl<'c, 'a, A: Allocator + Copy> History<A, Machine<'c, 'a, A>> for Snapshots<'
         None
     }
 
-    fn machine(&self) -> &Machine<'c, 'a, A> {
+    fn machine(&self) -> &Machine<'c, A> {
         &self.machine
     }
 }

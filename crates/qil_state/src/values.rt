@@ -179,17 +179,17 @@ pub fn evaluate<A: Allocator + Copy>(
     memory: &Memory<A>,
     slots: &[Option<u64>],
     class: Class,
-    expr: NumberedExpr,
+    expr: &NumberedExpr,
 ) -> Result<u64, Fault>
-    requires { ExprInRange (length slots.now) expr }
-    ensures { (p : Program A) (ns : List Name) → AreSlots ns slots.now → reported ns result ≡ evaluated p (live memory.now) (temps_of ns slots.now) class (named_expr ns expr) }
+    requires { ExprInRange (length slots.now) expr.now }
+    ensures { (p : Program A) (ns : List Name) → AreSlots ns slots.now → reported ns result ≡ evaluated p (live memory.now) (temps_of ns slots.now) class (named_expr ns expr.now) }
 {
     match expr {
-        NumberedExpr::Unary(op, a) => unary_value::<A>(slots, op, class, a),
-        NumberedExpr::Binary(op, a, b) => binary_value::<A>(slots, op, class, a, b),
-        NumberedExpr::Compare(op, of, a, b) => compare_value::<A>(slots, op, of, a, b),
-        NumberedExpr::Extend(op, a) => extend_value::<A>(slots, op, a),
-        NumberedExpr::Load(op, a) => load_value(memory, slots, op, a),
+        NumberedExpr::Unary(op, a) => unary_value::<A>(slots, *op, class, *a),
+        NumberedExpr::Binary(op, a, b) => binary_value::<A>(slots, *op, class, *a, *b),
+        NumberedExpr::Compare(op, of, a, b) => compare_value::<A>(slots, *op, *of, *a, *b),
+        NumberedExpr::Extend(op, a) => extend_value::<A>(slots, *op, *a),
+        NumberedExpr::Load(op, a) => load_value(memory, slots, *op, *a),
     }
 }
 

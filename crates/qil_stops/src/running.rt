@@ -17,7 +17,7 @@ use std::alloc::Allocator;
 
 /// Moves forward to the first place where there is a reason to stop, and gives the reason and how many moves were made: at
 /// the end of the run, where a stop holds after a move, or after `limit` moves; or where there is no memory for a move.
-pub fn run<'c, A: Allocator + Copy + 'c, H: History<A, Machine<'c, 'c, A>>>(
+pub fn run<'c, A: Allocator + Copy + 'c, H: History<A, Machine<'c, A>>>(
     history: &mut H,
     stops: &[NumberedStop],
     limit: u64,
@@ -41,7 +41,7 @@ pub fn run<'c, A: Allocator + Copy + 'c, H: History<A, Machine<'c, 'c, A>>>(
 
 /// Moves forward where there are no stops.
 #[inline(never)]
-fn run_freely<'c, A: Allocator + Copy + 'c, H: History<A, Machine<'c, 'c, A>>>(
+fn run_freely<'c, A: Allocator + Copy + 'c, H: History<A, Machine<'c, A>>>(
     history: &mut H,
     limit: u64,
 ) -> (Reason, u64)
@@ -61,7 +61,7 @@ fn run_freely<'c, A: Allocator + Copy + 'c, H: History<A, Machine<'c, 'c, A>>>(
 
 /// Moves forward, and looks for a stop after each move.
 #[inline(never)]
-fn run_watching<'c, A: Allocator + Copy + 'c, H: History<A, Machine<'c, 'c, A>>>(
+fn run_watching<'c, A: Allocator + Copy + 'c, H: History<A, Machine<'c, A>>>(
     history: &mut H,
     list: &[NumberedStop],
     limit: u64,
@@ -88,7 +88,7 @@ fn run_watching<'c, A: Allocator + Copy + 'c, H: History<A, Machine<'c, 'c, A>>>
 
 /// The stop that holds where the history stands, after a move from a state that is reported by what was read there.
 #[inline(always)]
-pub fn stopped_here<'c, A: Allocator + Copy + 'c, H: History<A, Machine<'c, 'c, A>>>(
+pub fn stopped_here<'c, A: Allocator + Copy + 'c, H: History<A, Machine<'c, A>>>(
     history: &H,
     list: &[NumberedStop],
     before: &[Option<u64>],
@@ -101,7 +101,7 @@ pub fn stopped_here<'c, A: Allocator + Copy + 'c, H: History<A, Machine<'c, 'c, 
 }
 
 /// Why a run stops after a move: the end comes before each other reason.
-pub fn end_or<'c, A: Allocator + Copy + 'c, H: History<A, Machine<'c, 'c, A>>>(
+pub fn end_or<'c, A: Allocator + Copy + 'c, H: History<A, Machine<'c, A>>>(
     history: &H,
     other: Reason,
 ) -> Reason
@@ -116,7 +116,7 @@ pub fn end_or<'c, A: Allocator + Copy + 'c, H: History<A, Machine<'c, 'c, A>>>(
 
 /// Moves back to the first place where there is a reason to stop, and gives the reason and how many moves were made: at the
 /// oldest state that is kept, where a stop holds after a move, or after `limit` moves. Takes no memory.
-pub fn run_back<'c, A: Allocator + Copy + 'c, H: History<A, Machine<'c, 'c, A>>>(
+pub fn run_back<'c, A: Allocator + Copy + 'c, H: History<A, Machine<'c, A>>>(
     history: &mut H,
     stops: &[NumberedStop],
     limit: u64,
@@ -140,7 +140,7 @@ pub fn run_back<'c, A: Allocator + Copy + 'c, H: History<A, Machine<'c, 'c, A>>>
 
 /// Moves back where there are no stops.
 #[inline(never)]
-fn back_freely<'c, A: Allocator + Copy + 'c, H: History<A, Machine<'c, 'c, A>>>(
+fn back_freely<'c, A: Allocator + Copy + 'c, H: History<A, Machine<'c, A>>>(
     history: &mut H,
     limit: u64,
 ) -> (Reason, u64)
@@ -159,7 +159,7 @@ fn back_freely<'c, A: Allocator + Copy + 'c, H: History<A, Machine<'c, 'c, A>>>(
 
 /// Moves back, and looks for a stop after each move.
 #[inline(never)]
-fn back_watching<'c, A: Allocator + Copy + 'c, H: History<A, Machine<'c, 'c, A>>>(
+fn back_watching<'c, A: Allocator + Copy + 'c, H: History<A, Machine<'c, A>>>(
     history: &mut H,
     list: &[NumberedStop],
     limit: u64,
@@ -184,7 +184,7 @@ fn back_watching<'c, A: Allocator + Copy + 'c, H: History<A, Machine<'c, 'c, A>>
 }
 
 /// Why a run back stops after its last move, where no stop holds.
-pub fn bottom_or_limit<'c, A: Allocator + Copy + 'c, H: History<A, Machine<'c, 'c, A>>>(
+pub fn bottom_or_limit<'c, A: Allocator + Copy + 'c, H: History<A, Machine<'c, A>>>(
     history: &H,
 ) -> Reason
     ensures { result ≡ unwrap_or (bottom (H.timeline history.now) 0) Reason.Limit }

@@ -50,8 +50,8 @@ pub struct NumberedStop {
 
 /// What a watch reads of memory. Eight bytes are read as one word, without a look at how many they are.
 #[inline(always)]
-fn bytes_reading<'c, 'a, A: Allocator + Copy>(
-    machine: &Machine<'c, 'a, A>,
+fn bytes_reading<'c, A: Allocator + Copy>(
+    machine: &Machine<'c, A>,
     address: u64,
     width: u64,
 ) -> Option<u64>
@@ -68,10 +68,7 @@ fn bytes_reading<'c, 'a, A: Allocator + Copy>(
 /// What a watch reads: the number in the bytes, or the value of the temporary. Nothing where the bytes are dead, or the
 /// temporary is unset or isn't there.
 #[inline(always)]
-fn reading<'c, 'a, A: Allocator + Copy>(
-    watched: Watched,
-    machine: &Machine<'c, 'a, A>,
-) -> Option<u64>
+fn reading<'c, A: Allocator + Copy>(watched: Watched, machine: &Machine<'c, A>) -> Option<u64>
     requires { HasWidth watched }
     ensures { TellsWatched machine.now.program (state_of machine.now) watched result }
 {
@@ -84,10 +81,7 @@ fn reading<'c, 'a, A: Allocator + Copy>(
 impl StopKind {
     /// What it reads; a breakpoint reads nothing.
     #[inline(always)]
-    pub(crate) fn read<'c, 'a, A: Allocator + Copy>(
-        &self,
-        machine: &Machine<'c, 'a, A>,
-    ) -> Option<u64>
+    pub(crate) fn read<'c, A: Allocator + Copy>(&self, machine: &Machine<'c, A>) -> Option<u64>
         requires { IsReadable self.now }
         ensures { Tells machine.now.program (state_of machine.now) self.now result }
     {
@@ -99,7 +93,7 @@ impl StopKind {
 
     /// Whether it is a breakpoint, and the run stands there.
     #[inline(always)]
-    pub(crate) fn is_held<'c, 'a, A: Allocator + Copy>(&self, machine: &Machine<'c, 'a, A>) -> bool
+    pub(crate) fn is_held<'c, A: Allocator + Copy>(&self, machine: &Machine<'c, A>) -> bool
         ensures { result ≡ passes (is_held (state_of machine.now)) (named_kind machine.now.program self.now) }
     {
         match *self {

@@ -63,7 +63,7 @@ fn index_of(stops: &[NumberedStop], number: u64) -> Option<usize>
 }
 
 /// Whether the code has a place.
-fn has_place<A: Allocator + Copy>(code: &Code<'_, '_, A>, place: Place) -> bool
+fn has_place<A: Allocator + Copy>(code: &Code<'_, A>, place: Place) -> bool
     ensures { result ≡ has_place code.now place }
 {
     match code.source(place.func, place.block) {
@@ -73,7 +73,7 @@ fn has_place<A: Allocator + Copy>(code: &Code<'_, '_, A>, place: Place) -> bool
 }
 
 /// Whether the code has what is watched: memory is always there.
-fn has_watched<A: Allocator + Copy>(code: &Code<'_, '_, A>, watched: Watched) -> bool
+fn has_watched<A: Allocator + Copy>(code: &Code<'_, A>, watched: Watched) -> bool
     ensures { result ≡ has_watched code.now watched }
 {
     match watched {
@@ -154,7 +154,7 @@ impl<A: Allocator + Copy> Stops<A> {
     /// `UnknownPlace` where the code has no such place. Else `TooMany` where there are 64 stops, or 2^62 numbers were given.
     pub fn add_break(
         &mut self,
-        code: &Code<'_, '_, A>,
+        code: &Code<'_, A>,
         func: FuncId,
         block: BlockId,
         index: u64,
@@ -178,7 +178,7 @@ impl<A: Allocator + Copy> Stops<A> {
     /// # Errors
     ///
     /// `UnknownPlace` where the code has no such function or slot. Else `TooMany`, as for a breakpoint.
-    pub fn add_watch(&mut self, code: &Code<'_, '_, A>, watched: Watched) -> Result<u64, StopError>
+    pub fn add_watch(&mut self, code: &Code<'_, A>, watched: Watched) -> Result<u64, StopError>
         requires { HasWidth watched }
         ensures number { IfOk result (λ n. n ≡ self.old.given + 1) }
         ensures ok { OnOk result (self.new ≡ added (StopKind.Watch watched) self.old) }

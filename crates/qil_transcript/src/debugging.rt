@@ -27,6 +27,7 @@ use qil_flat::{FlatCode, flatten};
 use qil_flatmachine::{CopiedMachine, FlatMachine, Replaying, RestorableMachine};
 use qil_history::History;
 use qil_laying::layout;
+use qil_layout::Image;
 use qil_loading::{LoadError, Loaded, Refusal, check_text, put_loaded_line, put_refusal_line};
 use qil_machine::{Machine, StartError};
 use qil_meaning::StartFault;
@@ -80,7 +81,7 @@ fn refuse<P: Put>(out: &mut P, error: LoadError) -> Outcome
 }
 
 /// Puts the load lines of a session.
-fn put_loaded<'c, A: Allocator + Copy + 'c, H: Runs<A, Code<'c, 'c, A>>, P: Put>(
+fn put_loaded<'c, A: Allocator + Copy + 'c, H: Runs<A, Code<'c, A>>, P: Put>(
     session: &Session<A, H>,
     loaded: &Loaded<'_>,
     out: &mut P,
@@ -96,7 +97,7 @@ fn put_loaded<'c, A: Allocator + Copy + 'c, H: Runs<A, Code<'c, 'c, A>>, P: Put>
 }
 
 /// Puts the load lines of a session, and serves a script on it.
-fn run<'c, A: Allocator + Copy + 'c, H: Runs<A, Code<'c, 'c, A>> + Drop, S: Source, P: Put>(
+fn run<'c, A: Allocator + Copy + 'c, H: Runs<A, Code<'c, A>> + Drop, S: Source, P: Put>(
     mut session: Session<A, H>,
     loaded: &Loaded<'_>,
     source: &mut S,
@@ -129,14 +130,7 @@ fn run<'c, A: Allocator + Copy + 'c, H: Runs<A, Code<'c, 'c, A>> + Drop, S: Sour
 
 /// Debugs over the states of a run, of which no move was made. `code` is of a type that names the lifetime of the code, if that of
 /// the history doesn't: so a caller knows that the allocator outlives it.
-fn debug_runs<
-    'c,
-    A: Allocator + Copy + 'c,
-    H: Runs<A, Code<'c, 'c, A>> + Drop,
-    K,
-    S: Source,
-    P: Put,
->(
+fn debug_runs<'c, A: Allocator + Copy + 'c, H: Runs<A, Code<'c, A>> + Drop, K, S: Source, P: Put>(
     alloc: A,
     history: H,
     _code: Option<&K>,
@@ -168,7 +162,7 @@ fn debug_runs<
 fn debug_history<
     'c,
     A: Allocator + Copy + 'c,
-    H: History<A, Machine<'c, 'c, A>> + Stepwise + Drop,
+    H: History<A, Machine<'c, A>> + Stepwise + Drop,
     S: Source,
     P: Put,
 >(alloc: A, history: H, loaded: &Loaded<'_>, limit: u64, source: &mut S, out: &mut P) -> Outcome
@@ -191,7 +185,7 @@ fn debug_history<
 /// Debugs from a machine at its start: over all its deltas, or over the newest where there is a bound.
 fn debug_machine<'c, A: Allocator + Copy + 'c, S: Source, P: Put>(
     alloc: A,
-    machine: Machine<'c, 'c, A>,
+    machine: Machine<'c, A>,
     loaded: &Loaded<'_>,
     request: &Request<'_>,
     source: &mut S,
@@ -226,7 +220,7 @@ fn debug_machine<'c, A: Allocator + Copy + 'c, S: Source, P: Put>(
 fn debug_copies<
     'c,
     A: Allocator + Copy + 'c,
-    M: CopiedMachine<A, FlatMachine<'c, 'c, A>> + Drop,
+    M: CopiedMachine<A, FlatMachine<'c, A>> + Drop,
     S: Source,
     P: Put,
 >(
@@ -251,7 +245,7 @@ fn debug_copies<
     ensures counted { CountsDebug result (S.failures source.old) (S.failures source.new) (P.stops out.old) (P.stops out.new) }
     ensures device { P.device out.new ≡ P.device out.old }
 {
-    let code: Option<&'c Code<'c, 'c, A>> = None;
+    let code: Option<&'c Code<'c, A>> = None;
     match Checkpoints::new(alloc, Replaying { machine }, budget as usize) {
         Ok(history) => debug_runs(alloc, history, code, loaded, request.limit, source, out),
         Err(_) => Outcome::Memory,
@@ -261,7 +255,7 @@ fn debug_copies<
 /// Debugs a program whose code is flat.
 fn debug_flat<'c, A: Allocator + Copy + 'c, S: Source, P: Put>(
     alloc: A,
-    code: &'c FlatCode<'c, 'c, A>,
+    code: &'c FlatCode<'c, A>,
     loaded: &Loaded<'_>,
     request: &Request<'_>,
     budget: u64,
@@ -293,7 +287,7 @@ fn debug_flat<'c, A: Allocator + Copy + 'c, S: Source, P: Put>(
 /// Debugs a program that is numbered, over undo records.
 fn debug_records<'c, A: Allocator + Copy + 'c, S: Source, P: Put>(
     alloc: A,
-    code: &'c Code<'c, 'c, A>,
+    code: &'c Code<'c, A>,
     loaded: &Loaded<'_>,
     request: &Request<'_>,
     source: &mut S,
@@ -321,7 +315,7 @@ fn debug_records<'c, A: Allocator + Copy + 'c, S: Source, P: Put>(
 /// Debugs a program that is numbered.
 fn debug_code<'c, A: Allocator + Copy + 'c, S: Source, P: Put>(
     alloc: A,
-    code: &'c Code<'c, 'c, A>,
+    code: &'c Code<'c, A>,
     loaded: &Loaded<'_>,
     request: &Request<'_>,
     source: &mut S,
@@ -350,6 +344,40 @@ fn debug_code<'c, A: Allocator + Copy + 'c, S: Source, P: Put>(
     }
 }
 
+/// Debugs a program that is laid out.
+fn debug_laid_out<'c, A: Allocator + Copy, S: Source, P: Put>(
+    alloc: A,
+    keys: RandomState,
+    checked: &'c Checked<'c, A>,
+    image: &'c Image<'c, A>,
+    request: &Request<'_>,
+    source: &mut S,
+    out: &mut P,
+) -> Outcome
+    requires reads { S.failures source.old < 2 ^ 64 - 1 }
+    requires writes { P.stops out.old < 2 ^ 64 - 1 }
+    requires limit { request.now.limit ≤ 4294967295 }
+    requires bound { IfSome request.now.bound (λ n. (1 ≤ n) × (n ≤ 1000000)) }
+    requires replay { IfSome request.now.replay (λ _. request.now.bound ≡ None) }
+    requires image { image.now ≡ checked.now.program }
+    requires lies { fault_of checked.now.program ≡ None }
+    ensures written { (text : List ℕ) → Checks text checked.now
+        → Written A result (setup_of text request.now) (S.remaining source.old) (S.remaining source.new) (P.written out.old) (P.written out.new) }
+    ensures only_started { (start : State) → start_of checked.now.program request.now.func.now request.now.args.now ≡ Ok start → result ≢ Outcome.Refused }
+    ensures only_refused { (fault : StartFault) → start_of checked.now.program request.now.func.now request.now.args.now ≡ Err fault → IsNoSession result }
+    ensures untouched { IsUntouched result source.old source.new }
+    ensures few { IfSome (S.remaining source.old) (λ script. TakesFew script (S.remaining source.new)) }
+    ensures counted { CountsDebug result (S.failures source.old) (S.failures source.new) (P.stops out.old) (P.stops out.new) }
+    ensures device { P.device out.new ≡ P.device out.old }
+{
+    let code = match number(alloc, keys, checked, image) {
+        Ok(code) => code,
+        Err(_) => return Outcome::Memory,
+    };
+    let loaded = Loaded::new(checked, image);
+    debug_code(alloc, &code, &loaded, request, source, out)
+}
+
 /// Debugs a program that is checked.
 fn debug_checked<'a, A: Allocator + Copy, S: Source, P: Put>(
     alloc: A,
@@ -375,16 +403,10 @@ fn debug_checked<'a, A: Allocator + Copy, S: Source, P: Put>(
     ensures counted { CountsDebug result (S.failures source.old) (S.failures source.new) (P.stops out.old) (P.stops out.new) }
     ensures device { P.device out.new ≡ P.device out.old }
 {
-    let image = match layout(alloc, keys, checked) {
-        Ok(image) => image,
-        Err(error) => return refuse(out, LoadError::from(error)),
-    };
-    let code = match number(alloc, keys, checked, &image) {
-        Ok(code) => code,
-        Err(_) => return Outcome::Memory,
-    };
-    let loaded = Loaded::new(checked, &image);
-    debug_code(alloc, &code, &loaded, request, source, out)
+    match layout(alloc, keys, checked) {
+        Ok(image) => debug_laid_out(alloc, keys, checked, &image, request, source, out),
+        Err(error) => refuse(out, LoadError::from(error)),
+    }
 }
 
 /// Loads a program and answers a script.

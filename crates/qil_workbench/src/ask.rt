@@ -42,7 +42,7 @@ fn ask_code<R: Print, A: Allocator + Copy>(
     question: Question,
     behind: &[u8],
     checked: &Checked<'_, A>,
-    code: &Code<'_, '_, A>,
+    code: &Code<'_, A>,
 ) -> Answer {
     match question {
         Question::ReadBack if behind.is_empty() => {
@@ -55,14 +55,14 @@ fn ask_code<R: Print, A: Allocator + Copy>(
 }
 
 /// Numbers a program, and asks its code.
-fn ask_laid_out<'c, 'a, R: Print, A: Allocator + Copy>(
+fn ask_laid_out<'c, R: Print, A: Allocator + Copy>(
     rt: &R,
     alloc: A,
     keys: RandomState,
     question: Question,
     behind: &[u8],
-    checked: &'c Checked<'a, A>,
-    image: &'c Image<'c, 'a, A>,
+    checked: &'c Checked<'c, A>,
+    image: &'c Image<'c, A>,
 ) -> Answer
     requires { image.now ≡ checked.now.program }
 {

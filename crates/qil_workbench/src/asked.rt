@@ -29,7 +29,7 @@ fn number(words: &mut SplitWhitespace<'_>) -> Option<u64> {
 
 /// The address that two words say: a global's name without its sigil, or `-`, and how many bytes after it.
 fn address<A: Allocator + Copy>(
-    image: &Image<'_, '_, A>,
+    image: &Image<'_, A>,
     words: &mut SplitWhitespace<'_>,
 ) -> Option<u64> {
     let name = words.next()?;
@@ -46,7 +46,7 @@ fn set<'w>(words: &mut SplitWhitespace<'w>) -> Option<Asked<'w>> {
 }
 
 fn poke<'w, A: Allocator + Copy>(
-    image: &Image<'_, '_, A>,
+    image: &Image<'_, A>,
     words: &mut SplitWhitespace<'_>,
 ) -> Option<Asked<'w>> {
     let width = number(words)?;
@@ -56,7 +56,7 @@ fn poke<'w, A: Allocator + Copy>(
 
 /// The move that a line asks for: `forward`, `back`, `set NAME VALUE` or `poke BYTES NAME OFFSET VALUE`.
 pub fn read_line<'w, A: Allocator + Copy>(
-    image: &Image<'_, '_, A>,
+    image: &Image<'_, A>,
     line: &'w str,
 ) -> Option<Asked<'w>> {
     let mut words = line.split_whitespace();
@@ -132,7 +132,7 @@ impl Came {
 const MOST: u64 = 1_000_000;
 
 /// Pokes memory, where it is 1, 2, 4 or 8 bytes.
-fn poke_bytes<'c, A: Allocator + Copy + 'c, H: History<A, Machine<'c, 'c, A>>>(
+fn poke_bytes<'c, A: Allocator + Copy + 'c, H: History<A, Machine<'c, A>>>(
     history: &mut H,
     width: u64,
     address: u64,
@@ -152,7 +152,7 @@ fn poke_bytes<'c, A: Allocator + Copy + 'c, H: History<A, Machine<'c, 'c, A>>>(
 }
 
 /// Asks a history for a move.
-pub fn ask_one<'c, A: Allocator + Copy + 'c, H: History<A, Machine<'c, 'c, A>>>(
+pub fn ask_one<'c, A: Allocator + Copy + 'c, H: History<A, Machine<'c, A>>>(
     history: &mut H,
     asked: Asked<'_>,
 ) -> Came

@@ -15,20 +15,17 @@ use std::alloc::Allocator;
 
 /// Whether two histories hold the same: the first as many records as the other moves, and a machine that is equal in all that
 /// it holds.
-fn are_same<'c, A: Allocator + Copy + 'c>(
-    deltas: &Deltas<'c, 'c, A>,
-    clones: &Snapshots<'c, 'c, A>,
-) -> bool
+fn are_same<'c, A: Allocator + Copy + 'c>(deltas: &Deltas<'c, A>, clones: &Snapshots<'c, A>) -> bool
     requires { deltas.now.machine.program ≡ clones.now.machine.program }
 {
-    let (machine, records): (&Machine<'_, '_, A>, &[Delta<A>]) = deltas.parts();
+    let (machine, records): (&Machine<'_, A>, &[Delta<A>]) = deltas.parts();
     records.len() as u64 == clones.position() && machine.same(clones.machine())
 }
 
 /// Asks both histories for a move: what came of it, if that is the same of both, and they hold the same.
 fn ask_both<'c, A: Allocator + Copy + 'c>(
-    deltas: &mut Deltas<'c, 'c, A>,
-    clones: &mut Snapshots<'c, 'c, A>,
+    deltas: &mut Deltas<'c, A>,
+    clones: &mut Snapshots<'c, A>,
     asked: Asked<'_>,
 ) -> Option<Came>
     requires { deltas.old.machine.program ≡ clones.old.machine.program }
@@ -49,9 +46,9 @@ fn is_told<R: Print>(rt: &R, position: u64, came: Came) -> bool {
 /// Asks the histories for the move of a line, and tells where they stand after it; what is wrong, if something is.
 fn ask_line<'c, R: Print, A: Allocator + Copy + 'c>(
     rt: &R,
-    image: &Image<'_, '_, A>,
-    deltas: &mut Deltas<'c, 'c, A>,
-    clones: &mut Snapshots<'c, 'c, A>,
+    image: &Image<'_, A>,
+    deltas: &mut Deltas<'c, A>,
+    clones: &mut Snapshots<'c, A>,
     line: &str,
 ) -> Option<Answer>
     requires { deltas.old.machine.program ≡ clones.old.machine.program }
@@ -71,9 +68,9 @@ fn ask_line<'c, R: Print, A: Allocator + Copy + 'c>(
 /// Asks the histories for the move of each line, up to the first where something is wrong.
 fn ask_lines<'c, R: Print, A: Allocator + Copy + 'c>(
     rt: &R,
-    image: &Image<'_, '_, A>,
-    deltas: &mut Deltas<'c, 'c, A>,
-    clones: &mut Snapshots<'c, 'c, A>,
+    image: &Image<'_, A>,
+    deltas: &mut Deltas<'c, A>,
+    clones: &mut Snapshots<'c, A>,
     lines: &str,
 ) -> Answer
     requires { deltas.old.machine.program ≡ clones.old.machine.program }
@@ -90,9 +87,9 @@ fn ask_lines<'c, R: Print, A: Allocator + Copy + 'c>(
 fn ask_begun<'c, R: Print, A: Allocator + Copy + 'c>(
     rt: &R,
     alloc: A,
-    image: &Image<'_, '_, A>,
-    machine: Machine<'c, 'c, A>,
-    other: Machine<'c, 'c, A>,
+    image: &Image<'_, A>,
+    machine: Machine<'c, A>,
+    other: Machine<'c, A>,
     lines: &str,
 ) -> Answer
     requires { machine.program ≡ other.program }
@@ -106,8 +103,8 @@ fn ask_begun<'c, R: Print, A: Allocator + Copy + 'c>(
 fn ask_started<'c, R: Print, A: Allocator + Copy + 'c>(
     rt: &R,
     alloc: A,
-    image: &Image<'_, '_, A>,
-    machine: Machine<'c, 'c, A>,
+    image: &Image<'_, A>,
+    machine: Machine<'c, A>,
     lines: &str,
 ) -> Answer {
     match machine.try_clone() {
@@ -120,7 +117,7 @@ fn ask_started<'c, R: Print, A: Allocator + Copy + 'c>(
 fn ask_text<'c, R: Print, A: Allocator + Copy + 'c>(
     rt: &R,
     alloc: A,
-    code: &'c Code<'c, 'c, A>,
+    code: &'c Code<'c, A>,
     lines: &str,
 ) -> Answer {
     match Machine::start(alloc, code, b"main", &[]) {
@@ -130,10 +127,10 @@ fn ask_text<'c, R: Print, A: Allocator + Copy + 'c>(
 }
 
 /// Asks both histories for moves, from the start of the program's run on.
-pub fn ask_histories<'c, 'a, R: Print, A: Allocator + Copy>(
+pub fn ask_histories<'c, R: Print, A: Allocator + Copy>(
     rt: &R,
     alloc: A,
-    code: &'c Code<'c, 'a, A>,
+    code: &'c Code<'c, A>,
     words: &[u8],
 ) -> Answer {
     match str::from_utf8(words) {

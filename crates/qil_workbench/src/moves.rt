@@ -29,13 +29,13 @@ fn is_poke_told<R: Print, A: Allocator + Copy>(rt: &R, poke: Result<Delta<A>, Po
 }
 
 /// Sets the first temporary and the first four bytes of the data, where they are there.
-fn are_pokes_told<R: Print, A: Allocator + Copy>(rt: &R, machine: &mut Machine<'_, '_, A>) -> bool {
+fn are_pokes_told<R: Print, A: Allocator + Copy>(rt: &R, machine: &mut Machine<'_, A>) -> bool {
     is_poke_told(rt, machine.poke_temp(Slot { index: 0 }, 7))
         && is_poke_told(rt, machine.poke_memory(DATA_BASE, 4, u64::MAX))
 }
 
 /// Makes a move, and tells of it.
-fn is_move_told<R: Print, A: Allocator + Copy>(rt: &R, machine: &mut Machine<'_, '_, A>) -> bool {
+fn is_move_told<R: Print, A: Allocator + Copy>(rt: &R, machine: &mut Machine<'_, A>) -> bool {
     match machine.advance() {
         Ok(delta) => is_told(rt, delta),
         Err(_) => false,
@@ -43,7 +43,7 @@ fn is_move_told<R: Print, A: Allocator + Copy>(rt: &R, machine: &mut Machine<'_,
 }
 
 /// Tells of each move of a machine, up to the end of its run.
-fn are_moves_told<R: Print, A: Allocator + Copy>(rt: &R, machine: &mut Machine<'_, '_, A>) -> bool {
+fn are_moves_told<R: Print, A: Allocator + Copy>(rt: &R, machine: &mut Machine<'_, A>) -> bool {
     for _ in 0..MOST {
         if machine.is_final() {
             return true;
@@ -68,11 +68,7 @@ fn are_sizes_told<R: Print>(rt: &R) -> bool {
 }
 
 /// Tells of a start, of pokes there, and of each move after it, up to the end of the run.
-pub fn each_move<R: Print, A: Allocator + Copy>(
-    rt: &R,
-    alloc: A,
-    code: &Code<'_, '_, A>,
-) -> Answer {
+pub fn each_move<R: Print, A: Allocator + Copy>(rt: &R, alloc: A, code: &Code<'_, A>) -> Answer {
     match Machine::start(alloc, code, b"main", &[]) {
         Ok(mut machine) => reported(
             are_sizes_told(rt)

@@ -9,7 +9,7 @@ use std::alloc::Allocator;
 use std::hash::RandomState;
 
 /// Whether each function of a tree is read back as it stands there.
-pub fn compare<A: Allocator + Copy>(code: &Code<'_, '_, A>, tree: &[Func<'_, A>]) -> Answer {
+pub fn compare<A: Allocator + Copy>(code: &Code<'_, A>, tree: &[Func<'_, A>]) -> Answer {
     for func in tree {
         if let Some(line) = difference(code, func) {
             return Answer::DiffersAtLine(line);
@@ -23,7 +23,7 @@ pub fn compare_text<R: Print, A: Allocator + Copy>(
     rt: &R,
     alloc: A,
     keys: RandomState,
-    code: &Code<'_, '_, A>,
+    code: &Code<'_, A>,
     text: &[u8],
 ) -> Answer {
     match checked(rt, alloc, keys, text) {

@@ -10,12 +10,7 @@ use qil_tree::{
 };
 use std::alloc::Allocator;
 
-fn is_temp<A: Allocator + Copy>(
-    code: &Code<'_, '_, A>,
-    func: FuncId,
-    slot: Slot,
-    name: &[u8],
-) -> bool {
+fn is_temp<A: Allocator + Copy>(code: &Code<'_, A>, func: FuncId, slot: Slot, name: &[u8]) -> bool {
     match code.name_of(func, slot) {
         Some(found) => found.bytes() == name && code.slot_of(func, name) == Some(slot),
         None => false,
@@ -23,7 +18,7 @@ fn is_temp<A: Allocator + Copy>(
 }
 
 fn is_label<A: Allocator + Copy>(
-    code: &Code<'_, '_, A>,
+    code: &Code<'_, A>,
     func: FuncId,
     block: BlockId,
     label: &[u8],
@@ -36,7 +31,7 @@ fn is_label<A: Allocator + Copy>(
 
 /// Whether a temporary of the tree has a slot, of its class.
 fn is_typed<A: Allocator + Copy>(
-    code: &Code<'_, '_, A>,
+    code: &Code<'_, A>,
     func: FuncId,
     slot: Slot,
     name: &[u8],
@@ -46,7 +41,7 @@ fn is_typed<A: Allocator + Copy>(
 }
 
 fn is_operand<A: Allocator + Copy>(
-    code: &Code<'_, '_, A>,
+    code: &Code<'_, A>,
     func: FuncId,
     source: NumberedOperand,
     operand: &Operand<'_>,
@@ -65,7 +60,7 @@ fn is_operand<A: Allocator + Copy>(
 
 /// Whether two operands are what the tree has as two.
 fn are_operands<A: Allocator + Copy>(
-    code: &Code<'_, '_, A>,
+    code: &Code<'_, A>,
     func: FuncId,
     sources: (NumberedOperand, NumberedOperand),
     first: &Operand<'_>,
@@ -75,7 +70,7 @@ fn are_operands<A: Allocator + Copy>(
 }
 
 fn is_expr<A: Allocator + Copy>(
-    code: &Code<'_, '_, A>,
+    code: &Code<'_, A>,
     func: FuncId,
     found: NumberedExpr,
     expr: &Expr<'_>,
@@ -101,7 +96,7 @@ fn is_expr<A: Allocator + Copy>(
 }
 
 fn is_target<A: Allocator + Copy>(
-    code: &Code<'_, '_, A>,
+    code: &Code<'_, A>,
     func: FuncId,
     class: Class,
     slot: Slot,
@@ -111,7 +106,7 @@ fn is_target<A: Allocator + Copy>(
 }
 
 fn is_receiver<A: Allocator + Copy>(
-    code: &Code<'_, '_, A>,
+    code: &Code<'_, A>,
     func: FuncId,
     found: Option<Receiver>,
     to: &Option<CallResult<'_>>,
@@ -133,7 +128,7 @@ fn is_receiver<A: Allocator + Copy>(
 }
 
 fn are_arguments<A: Allocator + Copy>(
-    code: &Code<'_, '_, A>,
+    code: &Code<'_, A>,
     func: FuncId,
     found: &[NumberedArgument],
     arguments: &[Argument<'_>],
@@ -154,7 +149,7 @@ fn are_arguments<A: Allocator + Copy>(
 }
 
 fn is_inst<A: Allocator + Copy>(
-    code: &Code<'_, '_, A>,
+    code: &Code<'_, A>,
     func: FuncId,
     found: &NumberedInst<A>,
     kind: &InstKind<'_, A>,
@@ -186,7 +181,7 @@ fn is_inst<A: Allocator + Copy>(
 
 /// Whether a move is what a phi does where the block of a label is left.
 fn is_move<A: Allocator + Copy>(
-    code: &Code<'_, '_, A>,
+    code: &Code<'_, A>,
     func: FuncId,
     found: &PhiMove,
     phi: &Phi<'_, A>,
@@ -203,7 +198,7 @@ fn is_move<A: Allocator + Copy>(
 
 /// Whether moves are what the phis of a block do where the block of a label is left.
 fn are_moves<A: Allocator + Copy>(
-    code: &Code<'_, '_, A>,
+    code: &Code<'_, A>,
     func: FuncId,
     moves: &[PhiMove],
     phis: &[Phi<'_, A>],
@@ -220,7 +215,7 @@ fn are_moves<A: Allocator + Copy>(
 
 /// Whether an edge from a block leads to that of a label, and does what the phis there do.
 fn is_edge<A: Allocator + Copy>(
-    code: &Code<'_, '_, A>,
+    code: &Code<'_, A>,
     func: FuncId,
     tree: &Func<'_, A>,
     from: (BlockId, &[u8]),
@@ -242,7 +237,7 @@ fn is_edge<A: Allocator + Copy>(
 }
 
 fn is_value<A: Allocator + Copy>(
-    code: &Code<'_, '_, A>,
+    code: &Code<'_, A>,
     func: FuncId,
     found: Option<NumberedOperand>,
     value: &Option<Operand<'_>>,
@@ -255,7 +250,7 @@ fn is_value<A: Allocator + Copy>(
 }
 
 fn is_jump<A: Allocator + Copy>(
-    code: &Code<'_, '_, A>,
+    code: &Code<'_, A>,
     func: FuncId,
     tree: &Func<'_, A>,
     from: (BlockId, &[u8]),
@@ -279,7 +274,7 @@ fn is_jump<A: Allocator + Copy>(
 
 /// The line of the first instruction of a block that is read back otherwise, or of its jump.
 fn inst_difference<A: Allocator + Copy>(
-    code: &Code<'_, '_, A>,
+    code: &Code<'_, A>,
     func: FuncId,
     id: BlockId,
     block: &Block<'_, A>,
@@ -297,7 +292,7 @@ fn inst_difference<A: Allocator + Copy>(
 }
 
 fn jump_difference<A: Allocator + Copy>(
-    code: &Code<'_, '_, A>,
+    code: &Code<'_, A>,
     func: FuncId,
     tree: &Func<'_, A>,
     id: BlockId,
@@ -319,7 +314,7 @@ fn jump_difference<A: Allocator + Copy>(
 
 /// The first line of a block that is read back otherwise.
 fn block_difference<A: Allocator + Copy>(
-    code: &Code<'_, '_, A>,
+    code: &Code<'_, A>,
     func: FuncId,
     tree: &Func<'_, A>,
     block: &Block<'_, A>,
@@ -333,11 +328,7 @@ fn block_difference<A: Allocator + Copy>(
     }
 }
 
-fn are_params<A: Allocator + Copy>(
-    code: &Code<'_, '_, A>,
-    func: FuncId,
-    params: &[Param<'_>],
-) -> bool {
+fn are_params<A: Allocator + Copy>(code: &Code<'_, A>, func: FuncId, params: &[Param<'_>]) -> bool {
     let found = code.params(func);
     for (index, param) in params.iter().enumerate() {
         match found.get(index) {
@@ -355,7 +346,7 @@ fn are_params<A: Allocator + Copy>(
 }
 
 /// The first line of a function that is read back otherwise.
-pub fn difference<A: Allocator + Copy>(code: &Code<'_, '_, A>, tree: &Func<'_, A>) -> Option<u32> {
+pub fn difference<A: Allocator + Copy>(code: &Code<'_, A>, tree: &Func<'_, A>) -> Option<u32> {
     let Some(func) = code.func_named(tree.name.bytes()) else {
         return Some(tree.line)
     };

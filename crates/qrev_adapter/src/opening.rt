@@ -1,6 +1,7 @@
 //! The opening of a session: from the arguments of a launch to a debuggee.
 
 ghost use Rattle.std.specs.Prelude.{◌≡◌, ◌≤◌, None, Some, IfSome};
+ghost use Rattle.qil_meaning.specs.qil_layout.Layout.{fault_of};
 ghost use Rattle.qil_loading.specs.Load.{Checks};
 ghost use Rattle.qrev_recorder.specs.Record.{setup_of, IsBeginning};
 ghost use Rattle.qrev_notices.specs.Conversation.{asked_by};
@@ -13,6 +14,7 @@ use qil_deltas::{Deltas, Ring};
 use qil_laying::layout;
 use qil_loading::{LoadError, Loaded, check_text};
 use qil_machine::Machine;
+use qil_meaning::Image;
 use qil_numbering::number;
 use qil_rules::Checked;
 use qil_streams::{Sink, Source};
@@ -36,7 +38,7 @@ fn open_session<
     'a,
     'l,
     A: Allocator + Copy + 'c,
-    L: HasMachine<A, Machine<'c, 'c, A>> + Drop,
+    L: HasMachine<A, Machine<'c, A>> + Drop,
     S: Source,
     W: Sink,
     F: Files<A>,
@@ -80,7 +82,7 @@ fn open_session<
 
 /// Serves from a machine at its start, over all its deltas.
 fn open_whole<'c, 'p, 'a, 'l, A: Allocator + Copy + 'c, S: Source, W: Sink, F: Files<A>>(
-    machine: Machine<'c, 'c, A>,
+    machine: Machine<'c, A>,
     opening: Opening<'l>,
     program: &'p Program<'a, A>,
     loaded: &Loaded<'_>,
@@ -107,7 +109,7 @@ fn open_whole<'c, 'p, 'a, 'l, A: Allocator + Copy + 'c, S: Source, W: Sink, F: F
 
 /// Serves from a machine at its start, over the newest of its deltas.
 fn open_bounded<'c, 'p, 'a, 'l, A: Allocator + Copy + 'c, S: Source, W: Sink, F: Files<A>>(
-    machine: Machine<'c, 'c, A>,
+    machine: Machine<'c, A>,
     bound: u64,
     opening: Opening<'l>,
     program: &'p Program<'a, A>,
@@ -140,7 +142,7 @@ fn open_bounded<'c, 'p, 'a, 'l, A: Allocator + Copy + 'c, S: Source, W: Sink, F:
 
 /// Serves from a machine at its start: over all its deltas, or over the newest if there is a bound.
 fn open_machine<'c, 'p, 'a, 'l, A: Allocator + Copy + 'c, S: Source, W: Sink, F: Files<A>>(
-    machine: Machine<'c, 'c, A>,
+    machine: Machine<'c, A>,
     opening: Opening<'l>,
     program: &'p Program<'a, A>,
     loaded: &Loaded<'_>,
@@ -166,7 +168,7 @@ fn open_machine<'c, 'p, 'a, 'l, A: Allocator + Copy + 'c, S: Source, W: Sink, F:
 
 /// Serves a program that is numbered.
 fn open_code<'c, 'p, 'a, 'l, A: Allocator + Copy + 'c, S: Source, W: Sink, F: Files<A>>(
-    code: &'c Code<'c, 'c, A>,
+    code: &'c Code<'c, A>,
     opening: Opening<'l>,
     program: &'p Program<'a, A>,
     loaded: &Loaded<'_>,
@@ -204,6 +206,38 @@ fn opening_of<'l, A: Allocator>(text: &'l [u8], launch: &'l Launch<A>) -> Openin
     }
 }
 
+/// Serves a program that is laid out.
+fn open_laid_out<'c, 'l, A: Allocator + Copy, S: Source, W: Sink, F: Files<A>>(
+    keys: RandomState,
+    opening: Opening<'l>,
+    checked: &'c Checked<'c, A>,
+    image: &'c Image<'c, A>,
+    launch: &'l Launch<A>,
+    request: Request<'_>,
+    files: &F,
+    line: &mut Line<A, S, W>,
+) -> Result<Closed<A>, Ended>
+    requires limit { opening.limit ≤ 4294967295 }
+    requires bound { IfSome opening.bound (λ n. (1 ≤ n) × (n ≤ 1000000)) }
+    requires checks { Checks opening.text.now checked.now }
+    requires image { image.now ≡ checked.now.program }
+    requires lies { fault_of checked.now.program ≡ None }
+    ensures { Serves result (asked_by request.entry) (heard S.remaining W.contents line.old) (heard S.remaining W.contents line.new) }
+{
+    let code = match number(line.alloc, keys, checked, image) {
+        Ok(code) => code,
+        Err(_) => {
+            request.end();
+            return Err(Ended::OutOfMemory);
+        }
+    };
+    let loaded = Loaded::new(checked, image);
+    let program = checked.program();
+    open_code(
+        &code, opening, program, &loaded, launch, request, files, line,
+    )
+}
+
 /// Serves a program that is checked.
 fn open_checked<'a, 'l, A: Allocator + Copy, S: Source, W: Sink, F: Files<A>>(
     keys: RandomState,
@@ -219,23 +253,12 @@ fn open_checked<'a, 'l, A: Allocator + Copy, S: Source, W: Sink, F: Files<A>>(
     requires checks { Checks opening.text.now checked.now }
     ensures { Serves result (asked_by request.entry) (heard S.remaining W.contents line.old) (heard S.remaining W.contents line.new) }
 {
-    let alloc = line.alloc;
-    let image = match layout(alloc, keys, checked) {
-        Ok(image) => image,
-        Err(error) => return refuse_load(LoadError::from(error), launch, request, line),
-    };
-    let code = match number(alloc, keys, checked, &image) {
-        Ok(code) => code,
-        Err(_) => {
-            request.end();
-            return Err(Ended::OutOfMemory);
-        }
-    };
-    let loaded = Loaded::new(checked, &image);
-    let program = checked.program();
-    open_code(
-        &code, opening, program, &loaded, launch, request, files, line,
-    )
+    match layout(line.alloc, keys, checked) {
+        Ok(image) => open_laid_out(
+            keys, opening, &*checked, &image, launch, request, files, line,
+        ),
+        Err(error) => refuse_load(LoadError::from(error), launch, request, line),
+    }
 }
 
 /// Loads a text and serves it, until the session is closed.

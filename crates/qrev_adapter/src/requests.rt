@@ -63,7 +63,7 @@ fn put_threads<A: Allocator>(body: Body<A>) -> Result<Body<A>, AllocError> {
 }
 
 /// Adds what is known of the fault that ended the run.
-fn exception_info<'c, A: Allocator + Copy + 'c, L: HasMachine<A, Machine<'c, 'c, A>>>(
+fn exception_info<'c, A: Allocator + Copy + 'c, L: HasMachine<A, Machine<'c, A>>>(
     debuggee: &Debuggee<'_, '_, '_, A, L>,
     body: Body<A>,
 ) -> Result<Body<A>, Failure> {
@@ -79,7 +79,7 @@ fn exception_info<'c, A: Allocator + Copy + 'c, L: HasMachine<A, Machine<'c, 'c,
 }
 
 /// The move to the beginning of the call of a frame.
-fn restart_frame<'c, A: Allocator + Copy + 'c, L: HasMachine<A, Machine<'c, 'c, A>>>(
+fn restart_frame<'c, A: Allocator + Copy + 'c, L: HasMachine<A, Machine<'c, A>>>(
     debuggee: &Debuggee<'_, '_, '_, A, L>,
     asked: Arguments<'_, '_, A>,
 ) -> Result<Then, Failure> {
@@ -114,7 +114,7 @@ fn motion_asked<A: Allocator + Copy>(
 }
 
 /// Does what a request asks that neither looks nor sets, and says what follows.
-fn control<'c, A: Allocator + Copy + 'c, L: HasMachine<A, Machine<'c, 'c, A>>>(
+fn control<'c, A: Allocator + Copy + 'c, L: HasMachine<A, Machine<'c, A>>>(
     debuggee: &Debuggee<'_, '_, '_, A, L>,
     command: &str,
     asked: Arguments<'_, '_, A>,
@@ -137,7 +137,7 @@ fn control<'c, A: Allocator + Copy + 'c, L: HasMachine<A, Machine<'c, 'c, A>>>(
 }
 
 /// Does what a request asks that looks.
-fn look<'c, A: Allocator + Copy + 'c, L: HasMachine<A, Machine<'c, 'c, A>>>(
+fn look<'c, A: Allocator + Copy + 'c, L: HasMachine<A, Machine<'c, A>>>(
     debuggee: &Debuggee<'_, '_, '_, A, L>,
     command: &str,
     asked: Arguments<'_, '_, A>,
@@ -159,7 +159,7 @@ fn look<'c, A: Allocator + Copy + 'c, L: HasMachine<A, Machine<'c, 'c, A>>>(
 }
 
 /// Does what a request asks, adds the members of its body, and says what follows.
-fn answer<'c, A: Allocator + Copy + 'c, L: HasMachine<A, Machine<'c, 'c, A>>>(
+fn answer<'c, A: Allocator + Copy + 'c, L: HasMachine<A, Machine<'c, A>>>(
     debuggee: &mut Debuggee<'_, '_, '_, A, L>,
     command: &str,
     asked: Arguments<'_, '_, A>,
@@ -184,7 +184,7 @@ fn answer<'c, A: Allocator + Copy + 'c, L: HasMachine<A, Machine<'c, 'c, A>>>(
 }
 
 /// Responds that a request isn't done, and why.
-pub fn refuse<'c, A: Allocator + Copy + 'c, L: HasMachine<A, Machine<'c, 'c, A>>, W: Sink>(
+pub fn refuse<'c, A: Allocator + Copy + 'c, L: HasMachine<A, Machine<'c, A>>, W: Sink>(
     debuggee: &Debuggee<'_, '_, '_, A, L>,
     port: &mut Port<A, W>,
     request: Request<'_>,
@@ -204,7 +204,7 @@ pub fn refuse<'c, A: Allocator + Copy + 'c, L: HasMachine<A, Machine<'c, 'c, A>>
 }
 
 /// Does what a request asks, as far as that comes before its response, and gives the body of that.
-fn prepare<'c, A: Allocator + Copy + 'c, L: HasMachine<A, Machine<'c, 'c, A>>>(
+fn prepare<'c, A: Allocator + Copy + 'c, L: HasMachine<A, Machine<'c, A>>>(
     debuggee: &mut Debuggee<'_, '_, '_, A, L>,
     request: &Request<'_>,
     asked: Arguments<'_, '_, A>,
@@ -214,7 +214,7 @@ fn prepare<'c, A: Allocator + Copy + 'c, L: HasMachine<A, Machine<'c, 'c, A>>>(
 }
 
 /// Responds to a request, and says what follows.
-pub fn respond<'c, A: Allocator + Copy + 'c, L: HasMachine<A, Machine<'c, 'c, A>>, W: Sink>(
+pub fn respond<'c, A: Allocator + Copy + 'c, L: HasMachine<A, Machine<'c, A>>, W: Sink>(
     debuggee: &mut Debuggee<'_, '_, '_, A, L>,
     port: &mut Port<A, W>,
     request: Request<'_>,
@@ -234,7 +234,7 @@ pub fn respond<'c, A: Allocator + Copy + 'c, L: HasMachine<A, Machine<'c, 'c, A>
 }
 
 /// Makes a move, and tells that the run stands.
-pub fn move_and_tell<'c, A: Allocator + Copy + 'c, L: HasMachine<A, Machine<'c, 'c, A>>, W: Sink>(
+pub fn move_and_tell<'c, A: Allocator + Copy + 'c, L: HasMachine<A, Machine<'c, A>>, W: Sink>(
     debuggee: &mut Debuggee<'_, '_, '_, A, L>,
     port: &mut Port<A, W>,
     motion: Motion,

@@ -19,7 +19,7 @@ use qrev_requests::{Arguments, Launch};
 use std::alloc::Allocator;
 
 /// Begins the run: the editor has made its breakpoints.
-fn begin<'c, A: Allocator + Copy + 'c, L: HasMachine<A, Machine<'c, 'c, A>>, W: Sink>(
+fn begin<'c, A: Allocator + Copy + 'c, L: HasMachine<A, Machine<'c, A>>, W: Sink>(
     debuggee: &mut Debuggee<'_, '_, '_, A, L>,
     port: &mut Port<A, W>,
     request: Request<'_>,
@@ -35,7 +35,7 @@ fn begin<'c, A: Allocator + Copy + 'c, L: HasMachine<A, Machine<'c, 'c, A>>, W: 
 }
 
 /// Tells what follows a response.
-fn follow<'c, A: Allocator + Copy + 'c, L: HasMachine<A, Machine<'c, 'c, A>>, W: Sink>(
+fn follow<'c, A: Allocator + Copy + 'c, L: HasMachine<A, Machine<'c, A>>, W: Sink>(
     debuggee: &mut Debuggee<'_, '_, '_, A, L>,
     port: &mut Port<A, W>,
     then: Then,
@@ -59,7 +59,7 @@ struct Stage {
 }
 
 /// Begins the run, where it hasn't begun.
-fn begin_once<'c, A: Allocator + Copy + 'c, L: HasMachine<A, Machine<'c, 'c, A>>, W: Sink>(
+fn begin_once<'c, A: Allocator + Copy + 'c, L: HasMachine<A, Machine<'c, A>>, W: Sink>(
     debuggee: &mut Debuggee<'_, '_, '_, A, L>,
     port: &mut Port<A, W>,
     stage: &mut Stage,
@@ -80,7 +80,7 @@ fn begin_once<'c, A: Allocator + Copy + 'c, L: HasMachine<A, Machine<'c, 'c, A>>
 }
 
 /// Answers one request, and says how the session ends if it does.
-fn answer_one<'c, A: Allocator + Copy + 'c, L: HasMachine<A, Machine<'c, 'c, A>>, W: Sink>(
+fn answer_one<'c, A: Allocator + Copy + 'c, L: HasMachine<A, Machine<'c, A>>, W: Sink>(
     debuggee: &mut Debuggee<'_, '_, '_, A, L>,
     port: &mut Port<A, W>,
     stage: &mut Stage,
@@ -110,7 +110,7 @@ enum Next {
 }
 
 /// Answers one message, and says what comes after it.
-fn answer_message<'c, A: Allocator + Copy + 'c, L: HasMachine<A, Machine<'c, 'c, A>>, W: Sink>(
+fn answer_message<'c, A: Allocator + Copy + 'c, L: HasMachine<A, Machine<'c, A>>, W: Sink>(
     debuggee: &mut Debuggee<'_, '_, '_, A, L>,
     port: &mut Port<A, W>,
     stage: &mut Stage,
@@ -142,7 +142,7 @@ fn answer_message<'c, A: Allocator + Copy + 'c, L: HasMachine<A, Machine<'c, 'c,
 fn answer_messages<
     'c,
     A: Allocator + Copy + 'c,
-    L: HasMachine<A, Machine<'c, 'c, A>>,
+    L: HasMachine<A, Machine<'c, A>>,
     S: Source,
     W: Sink,
 >(
@@ -176,7 +176,7 @@ fn answer_messages<
 fn close<
     'c,
     A: Allocator + Copy + 'c,
-    L: HasMachine<A, Machine<'c, 'c, A>>,
+    L: HasMachine<A, Machine<'c, A>>,
     S: Source,
     W: Sink,
     F: Files<A>,
@@ -209,7 +209,7 @@ fn close<
 pub fn serve_session<
     'c,
     A: Allocator + Copy + 'c,
-    L: HasMachine<A, Machine<'c, 'c, A>> + Drop,
+    L: HasMachine<A, Machine<'c, A>> + Drop,
     S: Source,
     W: Sink,
     F: Files<A>,

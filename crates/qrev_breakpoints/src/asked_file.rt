@@ -47,7 +47,7 @@ fn source_named<A: Allocator + Copy>(
 }
 
 /// The source that a request is about.
-fn source_asked<'c, A: Allocator + Copy + 'c, L: HasMachine<A, Machine<'c, 'c, A>>>(
+fn source_asked<'c, A: Allocator + Copy + 'c, L: HasMachine<A, Machine<'c, A>>>(
     debuggee: &Debuggee<'_, '_, '_, A, L>,
     path: &str,
 ) -> Result<AskedFile<A>, Failure> {
@@ -62,7 +62,7 @@ fn source_asked<'c, A: Allocator + Copy + 'c, L: HasMachine<A, Machine<'c, 'c, A
 }
 
 /// The file that a request is about: the program's, or a source that its text came from.
-pub fn file_asked<'c, A: Allocator + Copy + 'c, L: HasMachine<A, Machine<'c, 'c, A>>>(
+pub fn file_asked<'c, A: Allocator + Copy + 'c, L: HasMachine<A, Machine<'c, A>>>(
     debuggee: &Debuggee<'_, '_, '_, A, L>,
     source: Arguments<'_, '_, A>,
 ) -> Result<AskedFile<A>, Failure> {

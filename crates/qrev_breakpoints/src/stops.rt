@@ -111,7 +111,7 @@ enum Made {
 }
 
 /// Deletes the stops of a family, the lowest number first.
-fn delete_stops<'c, A: Allocator + Copy + 'c, L: HasMachine<A, Machine<'c, 'c, A>>>(
+fn delete_stops<'c, A: Allocator + Copy + 'c, L: HasMachine<A, Machine<'c, A>>>(
     debuggee: &mut Debuggee<'_, '_, '_, A, L>,
     family: StopFamily,
 ) -> Result<(), Failure> {
@@ -129,7 +129,7 @@ fn delete_stops<'c, A: Allocator + Copy + 'c, L: HasMachine<A, Machine<'c, 'c, A
 }
 
 /// Deletes a stop, if it is still there.
-fn delete_stop<'c, A: Allocator + Copy + 'c, L: HasMachine<A, Machine<'c, 'c, A>>>(
+fn delete_stop<'c, A: Allocator + Copy + 'c, L: HasMachine<A, Machine<'c, A>>>(
     debuggee: &mut Debuggee<'_, '_, '_, A, L>,
     number: u64,
 ) -> Result<(), Failure> {
@@ -140,7 +140,7 @@ fn delete_stop<'c, A: Allocator + Copy + 'c, L: HasMachine<A, Machine<'c, 'c, A>
 }
 
 /// Makes a stop by a line.
-fn make_stop<'c, A: Allocator + Copy + 'c, L: HasMachine<A, Machine<'c, 'c, A>>>(
+fn make_stop<'c, A: Allocator + Copy + 'c, L: HasMachine<A, Machine<'c, A>>>(
     debuggee: &mut Debuggee<'_, '_, '_, A, L>,
     family: StopFamily,
     line: &[Fragment<'_>],
@@ -159,7 +159,7 @@ fn make_stop<'c, A: Allocator + Copy + 'c, L: HasMachine<A, Machine<'c, 'c, A>>>
 }
 
 /// Adds a stop that the session refused.
-fn put_answered<'c, A: Allocator + Copy + 'c, L: HasMachine<A, Machine<'c, 'c, A>>>(
+fn put_answered<'c, A: Allocator + Copy + 'c, L: HasMachine<A, Machine<'c, A>>>(
     debuggee: &Debuggee<'_, '_, '_, A, L>,
     list: BreakpointList<A>,
     from: usize,
@@ -169,7 +169,7 @@ fn put_answered<'c, A: Allocator + Copy + 'c, L: HasMachine<A, Machine<'c, 'c, A
 }
 
 /// Makes a breakpoint at a place, which is shown on a line of a file.
-fn break_at<'c, A: Allocator + Copy + 'c, L: HasMachine<A, Machine<'c, 'c, A>>>(
+fn break_at<'c, A: Allocator + Copy + 'c, L: HasMachine<A, Machine<'c, A>>>(
     debuggee: &mut Debuggee<'_, '_, '_, A, L>,
     list: BreakpointList<A>,
     family: StopFamily,
@@ -206,7 +206,7 @@ fn break_at<'c, A: Allocator + Copy + 'c, L: HasMachine<A, Machine<'c, 'c, A>>>(
 }
 
 /// Makes a breakpoint at the place that a line of the text means.
-fn break_in_text<'c, A: Allocator + Copy + 'c, L: HasMachine<A, Machine<'c, 'c, A>>>(
+fn break_in_text<'c, A: Allocator + Copy + 'c, L: HasMachine<A, Machine<'c, A>>>(
     debuggee: &mut Debuggee<'_, '_, '_, A, L>,
     list: BreakpointList<A>,
     line: u64,
@@ -221,7 +221,7 @@ fn break_in_text<'c, A: Allocator + Copy + 'c, L: HasMachine<A, Machine<'c, 'c, 
 
 /// Makes a breakpoint at the place that a line of a source means: that of the first line of the text which came from it, or
 /// from the least line after it of which there is one.
-fn break_in_source<'c, A: Allocator + Copy + 'c, L: HasMachine<A, Machine<'c, 'c, A>>>(
+fn break_in_source<'c, A: Allocator + Copy + 'c, L: HasMachine<A, Machine<'c, A>>>(
     debuggee: &mut Debuggee<'_, '_, '_, A, L>,
     list: BreakpointList<A>,
     source: &AskedSource<A>,
@@ -249,7 +249,7 @@ fn break_in_source<'c, A: Allocator + Copy + 'c, L: HasMachine<A, Machine<'c, 'c
 }
 
 /// Makes one breakpoint at a line of a file.
-fn set_line<'c, A: Allocator + Copy + 'c, L: HasMachine<A, Machine<'c, 'c, A>>>(
+fn set_line<'c, A: Allocator + Copy + 'c, L: HasMachine<A, Machine<'c, A>>>(
     debuggee: &mut Debuggee<'_, '_, '_, A, L>,
     list: BreakpointList<A>,
     file: &AskedFile<A>,
@@ -268,7 +268,7 @@ fn set_line<'c, A: Allocator + Copy + 'c, L: HasMachine<A, Machine<'c, 'c, A>>>(
 }
 
 /// Makes breakpoints at lines of a file in place of those that are there.
-pub fn set_breakpoints<'c, A: Allocator + Copy + 'c, L: HasMachine<A, Machine<'c, 'c, A>>>(
+pub fn set_breakpoints<'c, A: Allocator + Copy + 'c, L: HasMachine<A, Machine<'c, A>>>(
     debuggee: &mut Debuggee<'_, '_, '_, A, L>,
     asked: Arguments<'_, '_, A>,
     body: Body<A>,
@@ -290,7 +290,7 @@ pub fn set_breakpoints<'c, A: Allocator + Copy + 'c, L: HasMachine<A, Machine<'c
 }
 
 /// Makes one stop by the words that a request says.
-fn set_words<'c, A: Allocator + Copy + 'c, L: HasMachine<A, Machine<'c, 'c, A>>>(
+fn set_words<'c, A: Allocator + Copy + 'c, L: HasMachine<A, Machine<'c, A>>>(
     debuggee: &mut Debuggee<'_, '_, '_, A, L>,
     list: BreakpointList<A>,
     family: StopFamily,
@@ -323,7 +323,7 @@ fn set_words<'c, A: Allocator + Copy + 'c, L: HasMachine<A, Machine<'c, 'c, A>>>
 }
 
 /// Makes the stops of a family that words say, in place of those that are there.
-pub fn set_by_words<'c, A: Allocator + Copy + 'c, L: HasMachine<A, Machine<'c, 'c, A>>>(
+pub fn set_by_words<'c, A: Allocator + Copy + 'c, L: HasMachine<A, Machine<'c, A>>>(
     debuggee: &mut Debuggee<'_, '_, '_, A, L>,
     asked: Arguments<'_, '_, A>,
     family: StopFamily,

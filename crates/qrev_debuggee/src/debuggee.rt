@@ -54,14 +54,14 @@ impl From<LineError> for Failure {
     }
 }
 
-impl<'c, 'p, 'a, 'l, A: Allocator + Copy + 'c, L: HasMachine<A, Machine<'c, 'c, A>>> Debuggee<
+impl<'c, 'p, 'a, 'l, A: Allocator + Copy + 'c, L: HasMachine<A, Machine<'c, A>>> Debuggee<
     'p,
     'a,
     'l,
     A,
     L,
 > {
-    pub fn machine(&self) -> &Machine<'c, 'c, A> {
+    pub fn machine(&self) -> &Machine<'c, A> {
         self.recorder.live().machine()
     }
 

@@ -88,7 +88,7 @@ fn last_word(text: &str) -> (&str, usize) {
 /// Offers the temporaries of a frame.
 fn offer_temps<'w, A: Allocator + Copy>(
     offer: Offer<'w, A>,
-    machine: &Machine<'_, '_, A>,
+    machine: &Machine<'_, A>,
     number: u64,
 ) -> Result<Offer<'w, A>, AllocError> {
     let Some(frame) = frame_of(machine, number) else {
@@ -108,7 +108,7 @@ fn offer_temps<'w, A: Allocator + Copy>(
 /// Offers the labels of the function of a frame.
 fn offer_labels<'w, A: Allocator + Copy>(
     offer: Offer<'w, A>,
-    machine: &Machine<'_, '_, A>,
+    machine: &Machine<'_, A>,
     program: &Program<'_, A>,
     number: u64,
 ) -> Result<Offer<'w, A>, AllocError> {
@@ -155,7 +155,7 @@ fn offer_commands<'w, A: Allocator + Copy>(
 }
 
 /// Adds what may stand in place of the word that ends at a column of a line.
-pub fn completions<'c, A: Allocator + Copy + 'c, L: HasMachine<A, Machine<'c, 'c, A>>>(
+pub fn completions<'c, A: Allocator + Copy + 'c, L: HasMachine<A, Machine<'c, A>>>(
     debuggee: &Debuggee<'_, '_, '_, A, L>,
     asked: Arguments<'_, '_, A>,
     body: Body<A>,

@@ -58,7 +58,7 @@ fn has_quit(text: &str) -> bool {
 
 /// The temporary of a name, without its sigil, in the frame of a number.
 fn temp_named<A: Allocator + Copy>(
-    machine: &Machine<'_, '_, A>,
+    machine: &Machine<'_, A>,
     number: u64,
     name: &[u8],
 ) -> Option<Named> {
@@ -68,14 +68,14 @@ fn temp_named<A: Allocator + Copy>(
 }
 
 /// The data or the function of a name, without its sigil.
-fn global_named<A: Allocator + Copy>(machine: &Machine<'_, '_, A>, name: &[u8]) -> Option<Named> {
+fn global_named<A: Allocator + Copy>(machine: &Machine<'_, A>, name: &[u8]) -> Option<Named> {
     let address = machine.code().image().address(name)?;
     Some(Named::Address(address))
 }
 
 /// What an expression names: `%x`, `$name`, and where an editor leaves sigils out the name alone.
 fn named_by<A: Allocator + Copy>(
-    machine: &Machine<'_, '_, A>,
+    machine: &Machine<'_, A>,
     number: u64,
     expression: &[u8],
     is_bare: bool,
@@ -92,7 +92,7 @@ fn named_by<A: Allocator + Copy>(
 }
 
 /// Answers lines of commands, adds their answers, and says why the run stands if one of them moved the session.
-fn console<'c, A: Allocator + Copy + 'c, L: HasMachine<A, Machine<'c, 'c, A>>>(
+fn console<'c, A: Allocator + Copy + 'c, L: HasMachine<A, Machine<'c, A>>>(
     debuggee: &mut Debuggee<'_, '_, '_, A, L>,
     text: &str,
     body: Body<A>,
@@ -114,7 +114,7 @@ fn console<'c, A: Allocator + Copy + 'c, L: HasMachine<A, Machine<'c, 'c, A>>>(
 }
 
 /// Adds the value of an expression, or in the console the answers to commands.
-pub fn evaluate<'c, A: Allocator + Copy + 'c, L: HasMachine<A, Machine<'c, 'c, A>>>(
+pub fn evaluate<'c, A: Allocator + Copy + 'c, L: HasMachine<A, Machine<'c, A>>>(
     debuggee: &mut Debuggee<'_, '_, '_, A, L>,
     asked: Arguments<'_, '_, A>,
     body: Body<A>,

@@ -12,7 +12,7 @@ use std::alloc::Allocator;
 
 /// What a frame holds of the temporary of a name, without its sigil, and its class.
 pub fn temp_in<A: Allocator + Copy>(
-    machine: &Machine<'_, '_, A>,
+    machine: &Machine<'_, A>,
     frame: &Frame<A>,
     name: &[u8],
 ) -> Option<(Option<u64>, Option<Class>)> {
@@ -34,7 +34,7 @@ fn page_said<A: Allocator + Copy>(asked: Arguments<'_, '_, A>, start: &str, coun
 }
 
 /// Adds the frames of the page that a request asks for.
-pub fn stack_trace<'c, A: Allocator + Copy + 'c, L: HasMachine<A, Machine<'c, 'c, A>>>(
+pub fn stack_trace<'c, A: Allocator + Copy + 'c, L: HasMachine<A, Machine<'c, A>>>(
     debuggee: &Debuggee<'_, '_, '_, A, L>,
     asked: Arguments<'_, '_, A>,
     body: Body<A>,
@@ -53,7 +53,7 @@ pub fn stack_trace<'c, A: Allocator + Copy + 'c, L: HasMachine<A, Machine<'c, 'c
 }
 
 /// Adds the scopes of a frame.
-pub fn scopes<'c, A: Allocator + Copy + 'c, L: HasMachine<A, Machine<'c, 'c, A>>>(
+pub fn scopes<'c, A: Allocator + Copy + 'c, L: HasMachine<A, Machine<'c, A>>>(
     debuggee: &Debuggee<'_, '_, '_, A, L>,
     asked: Arguments<'_, '_, A>,
     body: Body<A>,
@@ -69,7 +69,7 @@ pub fn scopes<'c, A: Allocator + Copy + 'c, L: HasMachine<A, Machine<'c, 'c, A>>
 }
 
 /// Adds the variables of a scope.
-pub fn variables<'c, A: Allocator + Copy + 'c, L: HasMachine<A, Machine<'c, 'c, A>>>(
+pub fn variables<'c, A: Allocator + Copy + 'c, L: HasMachine<A, Machine<'c, A>>>(
     debuggee: &Debuggee<'_, '_, '_, A, L>,
     asked: Arguments<'_, '_, A>,
     body: Body<A>,

@@ -56,7 +56,7 @@ fn number_of(bytes: &[u8]) -> u64 {
 /// The live bytes from an address on, up to the first dead one, and at most so many.
 fn live_bytes<A: Allocator + Copy>(
     alloc: A,
-    machine: &Machine<'_, '_, A>,
+    machine: &Machine<'_, A>,
     start: u64,
     most: u64,
 ) -> Result<Vec<u8, A>, Failure> {
@@ -74,7 +74,7 @@ fn live_bytes<A: Allocator + Copy>(
 }
 
 /// Adds the bytes from an address on.
-pub fn read_memory<'c, A: Allocator + Copy + 'c, L: HasMachine<A, Machine<'c, 'c, A>>>(
+pub fn read_memory<'c, A: Allocator + Copy + 'c, L: HasMachine<A, Machine<'c, A>>>(
     debuggee: &Debuggee<'_, '_, '_, A, L>,
     asked: Arguments<'_, '_, A>,
     body: Body<A>,
@@ -102,7 +102,7 @@ pub fn read_memory<'c, A: Allocator + Copy + 'c, L: HasMachine<A, Machine<'c, 'c
 }
 
 /// Whether so many bytes from an address on are live.
-fn are_live<A: Allocator + Copy>(machine: &Machine<'_, '_, A>, start: u64, count: usize) -> bool {
+fn are_live<A: Allocator + Copy>(machine: &Machine<'_, A>, start: u64, count: usize) -> bool {
     for offset in 0..count {
         if machine.byte(start.wrapping_add(offset as u64)).is_none() {
             return false;
@@ -112,7 +112,7 @@ fn are_live<A: Allocator + Copy>(machine: &Machine<'_, '_, A>, start: u64, count
 }
 
 /// Pokes bytes, as wide as they fit.
-fn poke_all<'c, A: Allocator + Copy + 'c, L: HasMachine<A, Machine<'c, 'c, A>>>(
+fn poke_all<'c, A: Allocator + Copy + 'c, L: HasMachine<A, Machine<'c, A>>>(
     debuggee: &mut Debuggee<'_, '_, '_, A, L>,
     start: u64,
     bytes: &[u8],
@@ -140,7 +140,7 @@ fn poke_all<'c, A: Allocator + Copy + 'c, L: HasMachine<A, Machine<'c, 'c, A>>>(
 }
 
 /// Writes bytes from an address on, if all are live.
-pub fn write_memory<'c, A: Allocator + Copy + 'c, L: HasMachine<A, Machine<'c, 'c, A>>>(
+pub fn write_memory<'c, A: Allocator + Copy + 'c, L: HasMachine<A, Machine<'c, A>>>(
     debuggee: &mut Debuggee<'_, '_, '_, A, L>,
     asked: Arguments<'_, '_, A>,
     body: Body<A>,

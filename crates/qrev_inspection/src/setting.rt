@@ -22,7 +22,7 @@ fn put_value<A: Allocator + Copy>(
 }
 
 /// Sets a temporary of the innermost frame, and adds its value after that.
-fn set_temp<'c, 'x, A: Allocator + Copy + 'c, L: HasMachine<A, Machine<'c, 'c, A>>>(
+fn set_temp<'c, 'x, A: Allocator + Copy + 'c, L: HasMachine<A, Machine<'c, A>>>(
     debuggee: &mut Debuggee<'_, '_, '_, A, L>,
     name: &'x [u8],
     value: &'x [u8],
@@ -45,7 +45,7 @@ fn set_temp<'c, 'x, A: Allocator + Copy + 'c, L: HasMachine<A, Machine<'c, 'c, A
 }
 
 /// Writes the shown word of a data object, and adds its value after that.
-fn set_data<'c, 'x, A: Allocator + Copy + 'c, L: HasMachine<A, Machine<'c, 'c, A>>>(
+fn set_data<'c, 'x, A: Allocator + Copy + 'c, L: HasMachine<A, Machine<'c, A>>>(
     debuggee: &mut Debuggee<'_, '_, '_, A, L>,
     name: &'x [u8],
     value: &'x [u8],
@@ -71,7 +71,7 @@ fn set_data<'c, 'x, A: Allocator + Copy + 'c, L: HasMachine<A, Machine<'c, 'c, A
 }
 
 /// Sets a variable.
-pub fn set_variable<'c, A: Allocator + Copy + 'c, L: HasMachine<A, Machine<'c, 'c, A>>>(
+pub fn set_variable<'c, A: Allocator + Copy + 'c, L: HasMachine<A, Machine<'c, A>>>(
     debuggee: &mut Debuggee<'_, '_, '_, A, L>,
     asked: Arguments<'_, '_, A>,
     body: Body<A>,

@@ -71,11 +71,7 @@ fn put_unwatchable<A: Allocator>(body: Body<A>, why: &str) -> Result<Body<A>, Al
 }
 
 /// Whether the frame of a number is the innermost one of its function.
-fn is_innermost<A: Allocator + Copy>(
-    machine: &Machine<'_, '_, A>,
-    number: u64,
-    func: FuncId,
-) -> bool {
+fn is_innermost<A: Allocator + Copy>(machine: &Machine<'_, A>, number: u64, func: FuncId) -> bool {
     for inner in 1..number {
         if let Some(other) = frame_of(machine, inner) {
             if other.func() == func {
@@ -89,7 +85,7 @@ fn is_innermost<A: Allocator + Copy>(
 /// Adds what watches a temporary of a frame.
 fn temp_watch<A: Allocator + Copy>(
     alloc: A,
-    machine: &Machine<'_, '_, A>,
+    machine: &Machine<'_, A>,
     number: u64,
     name: &[u8],
     body: Body<A>,
@@ -128,7 +124,7 @@ fn data_watch<A: Allocator + Copy>(
 }
 
 /// Adds which stop would watch a variable.
-pub fn data_breakpoint_info<'c, A: Allocator + Copy + 'c, L: HasMachine<A, Machine<'c, 'c, A>>>(
+pub fn data_breakpoint_info<'c, A: Allocator + Copy + 'c, L: HasMachine<A, Machine<'c, A>>>(
     debuggee: &Debuggee<'_, '_, '_, A, L>,
     asked: Arguments<'_, '_, A>,
     body: Body<A>,

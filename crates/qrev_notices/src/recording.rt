@@ -95,7 +95,7 @@ fn transcript_name<A: Allocator + Copy>(alloc: A, record: &str) -> Result<String
 }
 
 /// Writes a record, and says whether it could.
-fn write<'c, A: Allocator + Copy + 'c, L: HasMachine<A, Machine<'c, 'c, A>>, F: Files<A>>(
+fn write<'c, A: Allocator + Copy + 'c, L: HasMachine<A, Machine<'c, A>>, F: Files<A>>(
     debuggee: &Debuggee<'_, '_, '_, A, L>,
     record: &str,
     files: &F,
@@ -113,7 +113,7 @@ fn write<'c, A: Allocator + Copy + 'c, L: HasMachine<A, Machine<'c, 'c, A>>, F: 
 }
 
 /// Writes the record of a session, if one was asked for, and tells nothing of it.
-pub fn keep_record<'c, A: Allocator + Copy + 'c, L: HasMachine<A, Machine<'c, 'c, A>>, F: Files<A>>(
+pub fn keep_record<'c, A: Allocator + Copy + 'c, L: HasMachine<A, Machine<'c, A>>, F: Files<A>>(
     debuggee: &Debuggee<'_, '_, '_, A, L>,
     launch: &Launch<A>,
     files: &F,
@@ -125,7 +125,7 @@ pub fn keep_record<'c, A: Allocator + Copy + 'c, L: HasMachine<A, Machine<'c, 'c
 }
 
 /// Writes a record, and gives what the editor is told of it.
-fn record_text<'c, A: Allocator + Copy + 'c, L: HasMachine<A, Machine<'c, 'c, A>>, F: Files<A>>(
+fn record_text<'c, A: Allocator + Copy + 'c, L: HasMachine<A, Machine<'c, A>>, F: Files<A>>(
     debuggee: &Debuggee<'_, '_, '_, A, L>,
     launch: &Launch<A>,
     record: &str,
@@ -142,7 +142,7 @@ fn record_text<'c, A: Allocator + Copy + 'c, L: HasMachine<A, Machine<'c, 'c, A>
 pub fn write_record<
     'c,
     A: Allocator + Copy + 'c,
-    L: HasMachine<A, Machine<'c, 'c, A>>,
+    L: HasMachine<A, Machine<'c, A>>,
     F: Files<A>,
     W: Sink,
 >(

@@ -70,7 +70,7 @@ fn tell_difference<A: Allocator + Copy, W: Sink>(
 }
 
 /// Tells what is new of the output. After a move back that is nothing until the output is longer than what was told.
-fn tell_output<'c, A: Allocator + Copy + 'c, L: HasMachine<A, Machine<'c, 'c, A>>, W: Sink>(
+fn tell_output<'c, A: Allocator + Copy + 'c, L: HasMachine<A, Machine<'c, A>>, W: Sink>(
     debuggee: &mut Debuggee<'_, '_, '_, A, L>,
     port: &mut Port<A, W>,
 ) -> Result<(), Trouble>
@@ -164,7 +164,7 @@ fn stopped_event<A: Allocator + Copy>(
 }
 
 /// The message that says that the run stands.
-fn stopped_message<'c, A: Allocator + Copy + 'c, L: HasMachine<A, Machine<'c, 'c, A>>>(
+fn stopped_message<'c, A: Allocator + Copy + 'c, L: HasMachine<A, Machine<'c, A>>>(
     debuggee: &Debuggee<'_, '_, '_, A, L>,
     why: Why,
 ) -> Result<Object<A, Whole>, AllocError>
@@ -178,7 +178,7 @@ fn stopped_message<'c, A: Allocator + Copy + 'c, L: HasMachine<A, Machine<'c, 'c
 }
 
 /// Tells what is new of the output, and that the run stands.
-pub fn tell_stopped<'c, A: Allocator + Copy + 'c, L: HasMachine<A, Machine<'c, 'c, A>>, W: Sink>(
+pub fn tell_stopped<'c, A: Allocator + Copy + 'c, L: HasMachine<A, Machine<'c, A>>, W: Sink>(
     debuggee: &mut Debuggee<'_, '_, '_, A, L>,
     why: Why,
     port: &mut Port<A, W>,

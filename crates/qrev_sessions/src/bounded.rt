@@ -19,12 +19,12 @@ use std::alloc::{AllocError, Allocator};
 /// A session that keeps the newest moves.
 #[derive(Drop)]
 pub struct BoundedSession<'c, A: Allocator> {
-    session: Session<A, Ring<'c, 'c, A>>,
+    session: Session<A, Ring<'c, A>>,
 }
 
 impl<'c, A: Allocator + Copy + 'c> BoundedSession<'c, A> {
     /// A session without stops.
-    pub fn new(alloc: A, history: Ring<'c, 'c, A>, limit: u64) -> Result<Self, AllocError>
+    pub fn new(alloc: A, history: Ring<'c, A>, limit: u64) -> Result<Self, AllocError>
         ensures { IfOk result (λ s. session_state (λ h. h.machine.program) recent_timeline s.session
             ≡ session_at history.entry.machine.program (recent_timeline history.entry) (record { given = 0; kept = [] }) limit) }
     {
@@ -71,8 +71,8 @@ impl<'c, A: Allocator + Copy + 'c> Debugged<A> for BoundedSession<'c, A> {
     }
 }
 
-impl<'c, A: Allocator + Copy + 'c> HasMachine<A, Machine<'c, 'c, A>> for BoundedSession<'c, A> {
-    fn machine(&self) -> &Machine<'c, 'c, A> {
+impl<'c, A: Allocator + Copy + 'c> HasMachine<A, Machine<'c, A>> for BoundedSession<'c, A> {
+    fn machine(&self) -> &Machine<'c, A> {
         self.session.history().machine()
     }
 }

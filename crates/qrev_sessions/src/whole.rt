@@ -19,12 +19,12 @@ use std::alloc::{AllocError, Allocator};
 /// A session that keeps every move.
 #[derive(Drop)]
 pub struct WholeSession<'c, A: Allocator> {
-    session: Session<A, Deltas<'c, 'c, A>>,
+    session: Session<A, Deltas<'c, A>>,
 }
 
 impl<'c, A: Allocator + Copy + 'c> WholeSession<'c, A> {
     /// A session without stops.
-    pub fn new(alloc: A, history: Deltas<'c, 'c, A>, limit: u64) -> Result<Self, AllocError>
+    pub fn new(alloc: A, history: Deltas<'c, A>, limit: u64) -> Result<Self, AllocError>
         ensures { IfOk result (λ s. session_state (λ h. h.machine.program) moved_timeline s.session
             ≡ session_at history.entry.machine.program (moved_timeline history.entry) (record { given = 0; kept = [] }) limit) }
     {
@@ -71,8 +71,8 @@ impl<'c, A: Allocator + Copy + 'c> Debugged<A> for WholeSession<'c, A> {
     }
 }
 
-impl<'c, A: Allocator + Copy + 'c> HasMachine<A, Machine<'c, 'c, A>> for WholeSession<'c, A> {
-    fn machine(&self) -> &Machine<'c, 'c, A> {
+impl<'c, A: Allocator + Copy + 'c> HasMachine<A, Machine<'c, A>> for WholeSession<'c, A> {
+    fn machine(&self) -> &Machine<'c, A> {
         self.session.history().machine()
     }
 }

@@ -55,11 +55,7 @@ pub fn data_word<A: Allocator>(data: &Data<'_, A>) -> (&'static str, u64)
 }
 
 /// The number in 1, 2, 4 or 8 bytes from an address on, if all of them are live.
-fn value_at<A: Allocator + Copy>(
-    machine: &Machine<'_, '_, A>,
-    address: u64,
-    width: u64,
-) -> Option<u64>
+fn value_at<A: Allocator + Copy>(machine: &Machine<'_, A>, address: u64, width: u64) -> Option<u64>
     requires { IsWidth width }
     ensures { result ≡ value_of (loaded (live machine.now.memory) address width) }
 {
@@ -73,7 +69,7 @@ fn value_at<A: Allocator + Copy>(
 fn put_object<A: Allocator + Copy, U: Drop>(
     alloc: A,
     list: Array<A, U>,
-    machine: &Machine<'_, '_, A>,
+    machine: &Machine<'_, A>,
     data: &Data<'_, A>,
 ) -> Result<Array<A, U>, AllocError>
     ensures { IfOk result (λ l. Adds list.out l.out (data_tokens machine.now.program (live machine.now.memory) data.now)) }
@@ -98,7 +94,7 @@ fn put_object<A: Allocator + Copy, U: Drop>(
 pub fn put_data<A: Allocator + Copy, U: Drop>(
     alloc: A,
     list: Array<A, U>,
-    machine: &Machine<'_, '_, A>,
+    machine: &Machine<'_, A>,
     program: &Program<'_, A>,
     page: Page,
 ) -> Result<Array<A, U>, AllocError>

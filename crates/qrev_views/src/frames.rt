@@ -74,7 +74,7 @@ pub fn put_source<A: Allocator, U: Drop>(
 
 /// The frame of a number.
 pub fn frame_of<'m, A: Allocator + Copy>(
-    machine: &'m Machine<'_, '_, A>,
+    machine: &'m Machine<'_, A>,
     number: u64,
 ) -> Option<&'m Frame<A>>
     ensures { MatchOption result ((number ≡ 0) ⊎ (length machine.now.frames < number)) (λ frame. slice_get machine.now.frames (number - 1) ≡ Some frame.now) }
@@ -120,7 +120,7 @@ fn line_of_frame<A: Allocator>(program: &Program<'_, A>, frame: &Frame<A>, numbe
 /// The name of a frame: its function, its block, and the index where it stands.
 fn frame_name<A: Allocator + Copy>(
     alloc: A,
-    machine: &Machine<'_, '_, A>,
+    machine: &Machine<'_, A>,
     frame: &Frame<A>,
 ) -> Result<String<A>, AllocError>
     ensures { (callers : List SlotFrame) → IfOk result (λ name. string_bytes name ≡ shown_name (frame_state machine.now.program callers frame.now)) }
@@ -195,7 +195,7 @@ fn put_line<A: Allocator + Copy, U: Drop>(
 fn put_frame<A: Allocator + Copy, U: Drop>(
     alloc: A,
     list: Array<A, U>,
-    machine: &Machine<'_, '_, A>,
+    machine: &Machine<'_, A>,
     program: &Program<'_, A>,
     shown: Shown<'_>,
     source_map: Option<&SourceMap<A>>,
@@ -225,7 +225,7 @@ fn put_end<A: Allocator + Copy, U: Drop>(
     alloc: A,
     list: Array<A, U>,
     position: u64,
-    machine: &Machine<'_, '_, A>,
+    machine: &Machine<'_, A>,
 ) -> Result<Array<A, U>, AllocError>
     ensures { IfOk result (λ l. Adds list.out l.out (end_item position (state_of machine.now))) }
 {
@@ -242,7 +242,7 @@ fn put_end<A: Allocator + Copy, U: Drop>(
 }
 
 /// A frame, counted from the innermost one.
-fn frame_at<'m, A: Allocator + Copy>(machine: &'m Machine<'_, '_, A>, inner: usize) -> &'m Frame<A>
+fn frame_at<'m, A: Allocator + Copy>(machine: &'m Machine<'_, A>, inner: usize) -> &'m Frame<A>
     requires { inner < length machine.now.frames }
     ensures { slice_get machine.now.frames inner ≡ Some result.now }
 {
@@ -254,7 +254,7 @@ fn frame_at<'m, A: Allocator + Copy>(machine: &'m Machine<'_, '_, A>, inner: usi
 fn put_page<A: Allocator + Copy, U: Drop>(
     alloc: A,
     list: Array<A, U>,
-    machine: &Machine<'_, '_, A>,
+    machine: &Machine<'_, A>,
     program: &Program<'_, A>,
     shown: Shown<'_>,
     source_map: Option<&SourceMap<A>>,
@@ -287,7 +287,7 @@ pub fn put_frames<A: Allocator + Copy, U: Drop>(
     alloc: A,
     body: Object<A, U>,
     position: u64,
-    machine: &Machine<'_, '_, A>,
+    machine: &Machine<'_, A>,
     program: &Program<'_, A>,
     shown: Shown<'_>,
     source_map: Option<&SourceMap<A>>,

@@ -33,7 +33,7 @@ fn put_nth<A: Allocator + Copy, U: Drop>(
     list: Array<A, U>,
     position: u64,
     oldest: u64,
-    machine: &Machine<'_, '_, A>,
+    machine: &Machine<'_, A>,
     number: usize,
 ) -> Result<Array<A, U>, AllocError>
     ensures { (row : List ℕ × List ℕ) → slice_get (machine_rows position oldest (state_of machine.now)) number ≡ Some row
@@ -65,7 +65,7 @@ pub fn put_machine<A: Allocator + Copy, U: Drop>(
     list: Array<A, U>,
     position: u64,
     oldest: u64,
-    machine: &Machine<'_, '_, A>,
+    machine: &Machine<'_, A>,
     page: Page,
 ) -> Result<Array<A, U>, AllocError>
     ensures { IfOk result (λ l. Adds list.out l.out (flat_map fixed_tokens (page_of page (machine_rows position oldest (state_of machine.now))))) }

@@ -30,7 +30,7 @@ pub fn class_letter(class: Option<Class>) -> &'static str
 /// Adds a reference to the memory at a value, if that is the address of a live byte.
 fn add_live_address<A: Allocator + Copy, U: Drop>(
     alloc: A,
-    machine: &Machine<'_, '_, A>,
+    machine: &Machine<'_, A>,
     variable: Object<A, InArray<U>>,
     value: Option<u64>,
 ) -> Result<Object<A, InArray<U>>, AllocError>
@@ -50,7 +50,7 @@ fn add_live_address<A: Allocator + Copy, U: Drop>(
 fn put_temp<A: Allocator + Copy, U: Drop>(
     alloc: A,
     list: Array<A, U>,
-    machine: &Machine<'_, '_, A>,
+    machine: &Machine<'_, A>,
     frame: &Frame<A>,
     slot: Slot,
     value: Option<u64>,
@@ -76,7 +76,7 @@ fn put_temp<A: Allocator + Copy, U: Drop>(
 pub fn put_temps<A: Allocator + Copy, U: Drop>(
     alloc: A,
     list: Array<A, U>,
-    machine: &Machine<'_, '_, A>,
+    machine: &Machine<'_, A>,
     frame: &Frame<A>,
     can_be_set: bool,
     page: Page,

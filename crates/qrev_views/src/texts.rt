@@ -57,7 +57,7 @@ pub fn number_text<A: Allocator + Copy>(alloc: A, number: u64) -> Result<String<
 pub fn place_text<A: Allocator + Copy>(
     alloc: A,
     position: u64,
-    machine: &Machine<'_, '_, A>,
+    machine: &Machine<'_, A>,
 ) -> Result<String<A>, AllocError>
     ensures { IfOk result (λ text. string_bytes text
         ≡ shown_text (without_end (state_line position (state_of machine.now).frames (state_of machine.now).status))) }

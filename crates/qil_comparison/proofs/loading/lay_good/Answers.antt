@@ -20,43 +20,20 @@ pub returns-in-Err-clause-only_begun : goal.returns-in-Err-clause-only_begun
 returns-in-Err-clause-only_begun g c = λ q s t none ok accepts starts.
     rw c.not_loaded.ensures (layout-shortage c.args.checked.now.program c.in-Err.error c.from.result none c.in-Err.ensures.fault c.from.ensures)
 
-pub returns-in-Err-can_start-clause-unloaded : goal.returns-in-Err-can_start-clause-unloaded
-returns-in-Err-can_start-clause-unloaded g c = λ one checks.
-    let r = c.args.request.now in
-    rw c.not_loaded-in-Err-can_start.ensures (good_unloaded g.row.A.Denot (setup_of one c.args.bad.now r) c.in-Err-can_start.error
-    (unstarted one r c.args.checked.now c.in-Ok-number.code c.in-Err-can_start.error
-    (record { checks = checks; lies = c.in-Ok.ensures.no_fault }) c.in-Ok-number.ensures c.in-Err-can_start.ensures.fault))
+pub returns-in-Ok-clause-written : goal.returns-in-Ok-clause-written
+returns-in-Ok-clause-written g c = λ one checks. c.number_good.ensures.written one checks
 
-pub returns-in-Err-can_start-clause-only_begun : goal.returns-in-Err-can_start-clause-only_begun
-returns-in-Err-can_start-clause-only_begun g c = λ q s t none ok accepts starts.
-    let r = c.args.request.now in
-    starts_refused (start_of c.in-Ok-number.code r.func.now r.args.now) s c.in-Err-can_start.error
-    (ap (λ (p : Program g.row.A.Denot). start_of p r.func.now r.args.now) c.in-Ok-number.ensures ∙ ok) c.in-Err-can_start.ensures.fault
+pub returns-in-Ok-clause-unloaded : goal.returns-in-Ok-clause-unloaded
+returns-in-Ok-clause-unloaded g c = λ one checks. c.number_good.ensures.unloaded one checks
 
-pub returns-in-Ok-load_bad-clause-written : goal.returns-in-Ok-load_bad-clause-written
-returns-in-Ok-load_bad-clause-written g c = λ one checks.
-    c.in-Ok-load_bad.ensures.written one (record { checks = checks; lies = c.in-Ok.ensures.no_fault })
+pub returns-in-Ok-clause-only_begun : goal.returns-in-Ok-clause-only_begun
+returns-in-Ok-clause-only_begun g c = λ q s t none ok accepts starts. c.number_good.ensures.only_begun q s t ok accepts starts
 
-pub returns-in-Ok-load_bad-clause-only_laid_out : goal.returns-in-Ok-load_bad-clause-only_laid_out
-returns-in-Ok-load_bad-clause-only_laid_out g c = λ code line fault. lies_not c.args.checked.now.program code line c.in-Ok.ensures.no_fault fault
+pub returns-in-Ok-clause-only_laid_out : goal.returns-in-Ok-clause-only_laid_out
+returns-in-Ok-clause-only_laid_out g c = λ code line fault. lies_not c.args.checked.now.program code line c.in-Ok.ensures.no_fault fault
 
-pub returns-in-Ok-load_bad-clause-only_started : goal.returns-in-Ok-load_bad-clause-only_started
-returns-in-Ok-load_bad-clause-only_started g c = λ fault refused.
-    let r = c.args.request.now in
-    ok_is_no_fault (start_of c.in-Ok-number.code r.func.now r.args.now) fault c.in-Ok-can_start.ensures.starts
-    (ap (λ (p : Program g.row.A.Denot). start_of p r.func.now r.args.now) c.in-Ok-number.ensures ∙ refused)
+pub returns-in-Ok-clause-only_started : goal.returns-in-Ok-clause-only_started
+returns-in-Ok-clause-only_started g c = λ fault refused. c.number_good.ensures.only_started fault refused
 
-pub returns-in-Ok-load_bad-clause-only_refused : goal.returns-in-Ok-load_bad-clause-only_refused
-returns-in-Ok-load_bad-clause-only_refused g c = λ refusal refuses. c.in-Ok-load_bad.ensures.only_refused refusal refuses
-
-pub returns-clause-unloaded : goal.returns-clause-unloaded
-returns-clause-unloaded g c = λ one checks.
-    let r = c.args.request.now in
-    let setup = setup_of one c.args.bad.now r in
-    let accepts : Accepts one.bytes.now c.args.checked.now = record { checks = checks; lies = c.in-Ok.ensures.no_fault } in
-    rw c.not_loaded-in-Err-load_bad.ensures (bad_unloaded setup c.in-Err-load_bad.error c.args.checked.now
-    (good_begins setup c.args.checked.now c.in-Ok-number.code accepts c.in-Ok-number.ensures c.in-Ok-can_start.ensures.starts)
-    c.in-Err-load_bad.ensures.unloaded)
-
-pub returns-clause-only_begun : goal.returns-clause-only_begun
-returns-clause-only_begun g c = λ q s t none ok accepts starts. rw c.not_loaded-in-Err-load_bad.ensures (c.in-Err-load_bad.ensures.only_begun q t accepts starts)
+pub returns-in-Ok-clause-only_refused : goal.returns-in-Ok-clause-only_refused
+returns-in-Ok-clause-only_refused g c = λ refusal refuses. c.number_good.ensures.only_refused refusal refuses

@@ -23,17 +23,11 @@ returns-in-Err-clause-only_refused g c = λ fault e. refused-no_session c.refuse
 pub returns-in-Err-clause-only_laid_out : goal.returns-in-Err-clause-only_laid_out
 returns-in-Err-clause-only_laid_out g c = λ code line e. refused-no_session c.refuse.result c.from.result _ _ c.refuse.ensures.refused
 
-pub returns-clause-written : goal.returns-clause-written
-returns-clause-written g c = λ text checks.
-    c.debug_code.ensures.written text c.args.checked.now (record { checks = checks; lies = c.in-Ok.ensures.no_fault })
-    c.new-loaded.ensures c.in-Ok-number.ensures
+pub returns-in-Ok-clause-written : goal.returns-in-Ok-clause-written
+returns-in-Ok-clause-written g c = λ text checks. c.debug_laid_out.ensures.written text checks
 
-pub returns-clause-only_started : goal.returns-clause-only_started
-returns-clause-only_started g c = λ start none ok.
-    c.debug_code.ensures.only_started start
-    (ap (λ (p : Program g.row.A.Denot). start_of p c.args.request.now.func.now c.args.request.now.args.now) c.in-Ok-number.ensures ∙ ok)
+pub returns-in-Ok-clause-only_started : goal.returns-in-Ok-clause-only_started
+returns-in-Ok-clause-only_started g c = λ start none ok. c.debug_laid_out.ensures.only_started start ok
 
-pub returns-clause-only_refused : goal.returns-clause-only_refused
-returns-clause-only_refused g c = λ fault e.
-    c.debug_code.ensures.only_refused fault
-    (ap (λ (p : Program g.row.A.Denot). start_of p c.args.request.now.func.now c.args.request.now.args.now) c.in-Ok-number.ensures ∙ e)
+pub returns-in-Ok-clause-only_refused : goal.returns-in-Ok-clause-only_refused
+returns-in-Ok-clause-only_refused g c = λ fault e. c.debug_laid_out.ensures.only_refused fault e

@@ -4,15 +4,15 @@ use Rattle.qil_deltas.proofs.ring.RingHistoryMachine.back.Goals as goal
 
 pub undo_latest-requires : goal.undo_latest-requires
 undo_latest-requires g c =
-    latest_fits c.self.inside.machine c.self.inside.machine c.self.inside.deltas.items c.take_latest.new.items.items c.in-Some.delta c.take_latest.result c.self.inside.forgotten c.self.inside.deltas.capacity c.self.inside.deltas.capacity
+    latest_fits c.self.inside.machine c.self.inside.machine c.self.inside.newest.deltas.items c.take_latest.new.items.items c.in-Some.delta c.take_latest.result c.self.inside.newest.gone c.self.inside.newest.deltas.capacity c.self.inside.newest.deltas.capacity
     c.take_latest.ensures.items c.in-Some.is c.self.invariant
 
 pub invariant_of-self : goal.invariant_of-self
 invariant_of-self g c =
-    stays_back c.self.inside.machine c.undo_latest.new.machine c.self.inside.deltas.items c.take_latest.new.items.items c.in-Some.delta c.take_latest.result c.self.inside.forgotten c.self.inside.deltas.capacity c.take_latest.new.items.capacity
+    stays_back c.self.inside.machine c.undo_latest.new.machine c.self.inside.newest.deltas.items c.take_latest.new.items.items c.in-Some.delta c.take_latest.result c.self.inside.newest.gone c.self.inside.newest.deltas.capacity c.take_latest.new.items.capacity
     c.take_latest.ensures.items c.in-Some.is c.undo_latest.ensures c.take_latest.ensures.capacity c.self.invariant
 
 pub returns-in-Some-clause-ok : goal.returns-in-Some-clause-ok
 returns-in-Some-clause-ok g c =
-    goes_back c.self.inside.machine c.undo_latest.new.machine c.self.inside.deltas.items c.take_latest.new.items.items c.in-Some.delta c.take_latest.result c.self.inside.forgotten c.self.inside.deltas.capacity c.take_latest.new.items.capacity
+    goes_back c.self.inside.machine c.undo_latest.new.machine c.self.inside.newest.deltas.items c.take_latest.new.items.items c.in-Some.delta c.take_latest.result c.self.inside.newest.gone c.self.inside.newest.deltas.capacity c.take_latest.new.items.capacity
     c.args.self.now c.self.view_is c.take_latest.ensures.items c.in-Some.is c.undo_latest.ensures c.take_latest.ensures.capacity

@@ -1,5 +1,5 @@
-use Rattle.std.proofs.Common.{ap, ◌∙◌, [], ◌∷◌, ◌++◌}
-use Rattle.qil_machine.proofs.Weights.{weighs_one, least_cost}
+use Rattle.std.proofs.Common.{subst}
+use Rattle.qil_machine.proofs.Weights.{least_cost}
 use Rattle.qil_machine.proofs.Advancing.{step_done, step_faulted}
 use Rattle.qil_machine.proofs.machine.Machine.advance_into.Goals as goal
 
@@ -15,4 +15,4 @@ returns-in-Ok-clause-cost g c = c.in-Ok.ensures.weighs
 
 pub returns-in-Err-Fault-clause-cost : goal.returns-in-Err-Fault-clause-cost
 returns-in-Err-Fault-clause-cost g c =
-    weighs_one _ _ c.end.result _ (c.keep.ensures ∙ ap (λ x. g.K.DeltaSink.kept x ++ c.end.result ∷ []) c.in-Err-Fault.ensures.none) (rw c.end.ensures.weighs (least_cost c.args.self.now.program _))
+    (c.end.result, subst (λ k. g.K.DeltaSink.takes k c.keep.new.self c.end.result) c.in-Err-Fault.ensures.none c.keep.ensures, rw c.end.ensures.weighs (least_cost c.args.self.now.program _))

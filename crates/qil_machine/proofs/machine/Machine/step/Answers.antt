@@ -3,7 +3,6 @@ use Rattle.std.proofs.Common.{sym, subst, ◌≡◌, Ok, OnOk, IfErr}
 use Rattle.qil_state.specs.State.{state_of, head_names}
 use Rattle.qil_machine.specs.Results.{Explains}
 use Rattle.qil_machine.proofs.Advancing.{inst_found, jump_found}
-use Rattle.qil_machine.proofs.Keeping.{kept_does, kept_made, kept_weighs, kept_fault, kept_same}
 use Rattle.qil_machine.proofs.machine.Machine.step.Goals as goal
 
 pub perform-requires-clause-range : goal.perform-requires-clause-range
@@ -25,27 +24,18 @@ returns-in-Some-clause-fault g c =
 
 pub returns-in-None-clause-does : goal.returns-in-None-clause-does
 returns-in-None-clause-does g c =
-    kept_does _ c.leave.result c.keep_made.result _ _ c.keep_made.ensures.kept
-    (subst (λ o. OnOk c.leave.result (o ≡ Ok (state_of c.leave.new.self))) (sym (jump_found c.args.self.now c.here-index.result.0.now c.here-index.result.1 c.here-index.ensures (rw c.as_slice.ensures at c.in-None.ensures))) c.leave.ensures.does)
-
-pub returns-in-None-clause-made : goal.returns-in-None-clause-made
-returns-in-None-clause-made g c = kept_made _ _ c.leave.result c.keep_made.result _ _ c.keep_made.ensures.kept c.leave.ensures.made
+    subst (λ o. OnOk c.leave.result (o ≡ Ok (state_of c.leave.new.self))) (sym (jump_found c.args.self.now c.here-index.result.0.now c.here-index.result.1 c.here-index.ensures (rw c.as_slice.ensures at c.in-None.ensures))) c.leave.ensures.does
 
 pub returns-in-None-clause-fault : goal.returns-in-None-clause-fault
 returns-in-None-clause-fault g c =
-    kept_fault _ c.leave.result c.keep_made.result _ _ c.keep_made.ensures.kept
-    (subst (λ o. IfErr c.leave.result (Explains (head_names c.args.self.now.program c.args.self.now.frames) o)) (sym (jump_found c.args.self.now c.here-index.result.0.now c.here-index.result.1 c.here-index.ensures (rw c.as_slice.ensures at c.in-None.ensures))) c.leave.ensures.fault)
-
-pub returns-in-None-clause-err : goal.returns-in-None-clause-err
-returns-in-None-clause-err g c = kept_same _ c.leave.result c.keep_made.result _ _ c.keep_made.ensures.kept c.leave.ensures.err
+    subst (λ o. IfErr c.leave.result (Explains (head_names c.args.self.now.program c.args.self.now.frames) o)) (sym (jump_found c.args.self.now c.here-index.result.0.now c.here-index.result.1 c.here-index.ensures (rw c.as_slice.ensures at c.in-None.ensures))) c.leave.ensures.fault
 
 pub returns-in-Some-clause-weighs : goal.returns-in-Some-clause-weighs
 returns-in-Some-clause-weighs g c =
-    perform_costs _ c.args.self.now c.perform.new.self c.here-index.result.0.now c.in-Some.inst.now c.here-index.result.1 _ _ c.perform.result c.self.view_is c.self.invariant c.here-index.ensures (rw c.as_slice.ensures at c.in-Some.ensures)
+    perform_costs _ c.args.self.now c.perform.new.self c.here-index.result.0.now c.in-Some.inst.now c.here-index.result.1 _ c.perform.result c.self.view_is c.self.invariant c.here-index.ensures (rw c.as_slice.ensures at c.in-Some.ensures)
     c.perform.ensures.does c.perform.ensures.weighs
 
 pub returns-in-None-clause-weighs : goal.returns-in-None-clause-weighs
 returns-in-None-clause-weighs g c =
-    kept_weighs _ c.leave.result c.keep_made.result _ _ c.keep_made.ensures.kept
-    (leave_costs _ c.args.self.now c.leave.new.self c.here-index.result.0.now c.here-index.result.1 c.leave.result c.self.view_is c.self.invariant c.here-index.ensures (rw c.as_slice.ensures at c.in-None.ensures)
-    c.leave.ensures.does c.leave.ensures.weighs)
+    leave_costs _ c.args.self.now c.leave.new.self c.here-index.result.0.now c.here-index.result.1 _ c.leave.result c.self.view_is c.self.invariant c.here-index.ensures (rw c.as_slice.ensures at c.in-None.ensures)
+    c.leave.ensures.does c.leave.ensures.weighs
