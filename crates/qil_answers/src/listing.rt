@@ -117,7 +117,7 @@ fn put_rows<P: Put, A: Allocator>(
 /// Puts the line that says in which block a frame is.
 fn put_head<'c, P: Put, A: Allocator + Copy>(
     out: &mut P,
-    code: &'c Code<'c, A>,
+    code: &Code<'c, A>,
     frame: &FrameView<'_>,
 ) -> Result<(), PutError>
     requires { P.stops out.old < 2 ^ 64 - 1 }
@@ -138,7 +138,7 @@ fn put_head<'c, P: Put, A: Allocator + Copy>(
 /// Puts the rows of the block that a frame is in.
 fn put_block_of<'c, P: Put, A: Allocator + Copy>(
     out: &mut P,
-    code: &'c Code<'c, A>,
+    code: &Code<'c, A>,
     frame: &FrameView<'_>,
 ) -> Result<(), PutError>
     requires { P.stops out.old < 2 ^ 64 - 1 }
@@ -172,8 +172,7 @@ pub fn put_block<'c, P: Put, A: Allocator + Copy + 'c, M: Readers<A, Code<'c, A>
         return put_line(out, b"no: no frame");
     };
     let code = machine.code();
-    // Its clauses say that names find the block.
-    let _known = code.func(frame.func());
+    code.names_are_distinct();
     put_head(out, code, &frame)?;
     put_block_of(out, code, &frame)
 }

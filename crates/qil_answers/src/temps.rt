@@ -68,7 +68,7 @@ pub fn put_printed<'c, P: Put, A: Allocator + Copy + 'c, M: Readers<A, Code<'c, 
 /// Puts a line for each slot of a frame.
 fn put_slots<'c, P: Put, A: Allocator + Copy>(
     out: &mut P,
-    code: &'c Code<'c, A>,
+    code: &Code<'c, A>,
     frame: &FrameView<'_>,
 ) -> Result<(), PutError>
     requires stops { P.stops out.old < 2 ^ 64 - 1 }
@@ -101,8 +101,7 @@ pub fn put_temps<'c, P: Put, A: Allocator + Copy + 'c, M: Readers<A, Code<'c, A>
         return put_line(out, b"no: no frame");
     };
     let code = machine.code();
-    // Its clauses say that names find the function.
-    let _known = code.func(frame.func());
+    code.names_are_distinct();
     if code.slot_count(frame.func()) == 0 {
         return put_line(out, b"none");
     }

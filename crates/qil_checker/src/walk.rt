@@ -104,6 +104,17 @@ fn inst_target<'a, A: Allocator>(kind: &InstKind<'a, A>) -> Option<Target<'a>>
     }
 }
 
+fn push_mention<'p, 'a, A: Allocator + Copy>(
+    out: &mut Vec<Mention<'p, 'a>, A>,
+    line: u32,
+    what: MentionKind<'p, 'a>,
+) -> Result<(), AllocError>
+    ensures { OnOk result (out.new.items ≡ out.old.items ++ on line what.entry ∷ []) }
+{
+    out.push(Mention { what, line })?;
+    Ok(())
+}
+
 fn push_operand<'p, 'a, A: Allocator + Copy>(
     out: &mut Vec<Mention<'p, 'a>, A>,
     line: u32,
@@ -113,17 +124,10 @@ fn push_operand<'p, 'a, A: Allocator + Copy>(
     ensures { OnOk result (out.new.items ≡ out.old.items ++ operand_mentions line class operand.now) }
 {
     match operand {
-        Operand::Number(_) => {}
-        Operand::Global(name) => {
-            let what = MentionKind::Global(same(name));
-            out.push(Mention { what, line })?;
-        }
-        Operand::Temp(name) => {
-            let what = MentionKind::Uses(same(name), class);
-            out.push(Mention { what, line })?;
-        }
+        Operand::Number(_) => Ok(()),
+        Operand::Global(name) => push_mention(out, line, MentionKind::Global(same(name))),
+        Operand::Temp(name) => push_mention(out, line, MentionKind::Uses(same(name), class)),
     }
-    Ok(())
 }
 
 /// Two operands, from the left.
@@ -208,11 +212,12 @@ fn push_target<'p, 'a, A: Allocator + Copy>(
 ) -> Result<(), AllocError>
     ensures { OnOk result (out.new.items ≡ out.old.items ++ target_mentions line target.entry) }
 {
-    if let Some(Target { name, class }) = target {
-        let what = MentionKind::Defines(name, class);
-        out.push(Mention { what, line })?;
+    match target {
+        Some(Target { name, class }) => {
+            push_mention(out, line, MentionKind::Defines(name, class))
+        }
+        None => Ok(()),
     }
-    Ok(())
 }
 
 fn push_long<'p, 'a, A: Allocator + Copy>(
@@ -222,11 +227,10 @@ fn push_long<'p, 'a, A: Allocator + Copy>(
 ) -> Result<(), AllocError>
     ensures { OnOk result (out.new.items ≡ out.old.items ++ long_mentions line class) }
 {
-    if let Some(class) = class {
-        let what = MentionKind::Long(class);
-        out.push(Mention { what, line })?;
+    match class {
+        Some(class) => push_mention(out, line, MentionKind::Long(class)),
+        None => Ok(()),
     }
-    Ok(())
 }
 
 fn push_kind<'p, 'a, A: Allocator + Copy>(
@@ -261,8 +265,7 @@ fn push_source<'p, 'a, A: Allocator + Copy>(
 ) -> Result<(), AllocError>
     ensures { OnOk result (out.new.items ≡ out.old.items ++ source_mentions line class source.now) }
 {
-    let what = MentionKind::PhiLabel(same(&source.label));
-    out.push(Mention { what, line })?;
+    push_mention(out, line, MentionKind::PhiLabel(same(&source.label)))?;
     push_operand(out, line, class, &source.value)
 }
 
@@ -290,10 +293,9 @@ fn push_phi<'p, 'a, A: Allocator + Copy>(
     let line = phi.line;
     push_sources(out, line, phi.target.class, phi.sources.as_slice())?;
     let what = MentionKind::PhiOf(same(block), PhiSources::new(phi.sources.as_slice()));
-    out.push(Mention { what, line })?;
+    push_mention(out, line, what)?;
     let what = MentionKind::Defines(same(&phi.target.name), phi.target.class);
-    out.push(Mention { what, line })?;
-    Ok(())
+    push_mention(out, line, what)
 }
 
 fn push_phis<'p, 'a, A: Allocator + Copy>(
@@ -318,9 +320,7 @@ fn push_edge<'p, 'a, A: Allocator + Copy>(
 ) -> Result<(), AllocError>
     ensures { OnOk result (out.new.items ≡ out.old.items ++ on line (Edge block.now label.now) ∷ []) }
 {
-    let what = MentionKind::Edge(same(block), same(label));
-    out.push(Mention { what, line })?;
-    Ok(())
+    push_mention(out, line, MentionKind::Edge(same(block), same(label)))
 }
 
 fn push_jump<'p, 'a, A: Allocator + Copy>(
@@ -333,21 +333,19 @@ fn push_jump<'p, 'a, A: Allocator + Copy>(
     ensures { OnOk result (out.new.items ≡ out.old.items ++ jump_mentions returns block.now line kind.now) }
 {
     match kind {
-        JumpKind::Jmp(label) => push_edge(out, line, block, label)?,
+        JumpKind::Jmp(label) => push_edge(out, line, block, label),
         JumpKind::Jnz(operand, label, other) => {
             push_operand(out, line, Class::W, operand)?;
             push_edge(out, line, block, label)?;
-            push_edge(out, line, block, other)?;
+            push_edge(out, line, block, other)
         }
-        JumpKind::Ret(None) => {}
+        JumpKind::Ret(None) => Ok(()),
         JumpKind::Ret(Some(operand)) => {
             push_operand(out, line, returned_class(returns), operand)?;
-            let what = MentionKind::Returns(returns);
-            out.push(Mention { what, line })?;
+            push_mention(out, line, MentionKind::Returns(returns))
         }
-        JumpKind::Hlt => {}
+        JumpKind::Hlt => Ok(()),
     }
-    Ok(())
 }
 
 fn push_block<'p, 'a, A: Allocator + Copy>(
@@ -357,11 +355,7 @@ fn push_block<'p, 'a, A: Allocator + Copy>(
 ) -> Result<(), AllocError>
     ensures { OnOk result (out.new.items ≡ out.old.items ++ block_mentions returns block.now) }
 {
-    let what = MentionKind::Label(same(&block.label));
-    out.push(Mention {
-        what,
-        line: block.line,
-    })?;
+    push_mention(out, block.line, MentionKind::Label(same(&block.label)))?;
     push_phis(out, &block.label, block.phis.as_slice())?;
     push_insts(out, block.insts.as_slice())?;
     push_jump(
@@ -395,7 +389,7 @@ fn push_params<'p, 'a, A: Allocator + Copy>(
 {
     for param in params {
         let what = MentionKind::Defines(same(&param.name), param.abi_type.class());
-        out.push(Mention { what, line })?;
+        push_mention(out, line, what)?;
     }
     Ok(())
 }
@@ -409,10 +403,7 @@ pub fn func_mentions<'p, 'a, A: Allocator + Copy>(
 {
     let mut out = Vec::new(alloc);
     let what = MentionKind::FunctionName(same(&func.name));
-    out.push(Mention {
-        what,
-        line: func.line,
-    })?;
+    push_mention(&mut out, func.line, what)?;
     push_params(&mut out, func.line, func.params.as_slice())?;
     push_blocks(&mut out, func.returns, func.blocks.as_slice())?;
     Ok(out)
@@ -425,11 +416,10 @@ fn push_item<'p, 'a, A: Allocator + Copy>(
 ) -> Result<(), AllocError>
     ensures { OnOk result (out.new.items ≡ out.old.items ++ item_mentions line item.now) }
 {
-    if let Item::Address(name, _) = item {
-        let what = MentionKind::Global(same(name));
-        out.push(Mention { what, line })?;
+    match item {
+        Item::Address(name, _) => push_mention(out, line, MentionKind::Global(same(name))),
+        _ => Ok(()),
     }
-    Ok(())
 }
 
 fn push_items<'p, 'a, A: Allocator + Copy>(
@@ -480,10 +470,7 @@ pub fn data_mentions<'p, 'a, A: Allocator + Copy>(
 {
     let mut out = Vec::new(alloc);
     let what = MentionKind::DataName(same(&object.name));
-    out.push(Mention {
-        what,
-        line: object.line,
-    })?;
+    push_mention(&mut out, object.line, what)?;
     push_fields(&mut out, object.line, object.fields.as_slice())?;
     Ok(out)
 }

@@ -51,7 +51,3 @@ alike_swapped p q n alike i lt = let at = alike i lt in (at.0, at.2, at.1)
 
 pub alike_as : {A : Type 0} (p q r s : Program A) (n : ℕ) → p ≡ r → q ≡ s → AreNamedAlike p q n → AreNamedAlike r s n
 alike_as {A} p q r s n ep eq alike = subst (λ (x : Program A). AreNamedAlike x s n) ep (subst (λ (y : Program A). AreNamedAlike p y n) eq alike)
-
--- of images, of code that has them, and of machines that run it
-pub alike_of : {A : Type 0} (o u p q k l v w : Program A) (n : ℕ) → o ≡ k → u ≡ l → k ≡ v → l ≡ w → v ≡ p → w ≡ q → AreNamedAlike o u n → AreNamedAlike p q n
-alike_of o u p q k l v w n eo eu ek el ev ew alike = alike_as o u p q n (eo ∙ ek ∙ ev) (eu ∙ el ∙ ew) alike

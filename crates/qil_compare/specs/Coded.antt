@@ -22,7 +22,7 @@ value_of (seens.Function name) = function name.now
 
 -- the tree is that of the program that the machine runs
 abbrev pub StandsIn : {A : Type 0} → Stand A → Type 0
-StandsIn stand = stand.side.now.program.now ≡ stand.machine.now.program
+StandsIn stand = stand.program.now ≡ stand.machine.now.program
 
 -- two sides are compared in the same kinds of events, each with the program of the other
 pub record AreSides {A : Type 0} (good bad : Side A) : Type 0 where

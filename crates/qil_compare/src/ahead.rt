@@ -24,7 +24,7 @@ ghost use Rattle.qil_compare.specs.Ahead.{writes_ahead, value_ahead, JumpReads, 
 use crate::event::Kinds;
 use qil_code::{Code, NumberedInst, NumberedJump, NumberedOperand};
 use qil_frames::Frame;
-use qil_layout::FuncId;
+use qil_layout::{FuncId, Image};
 use qil_machine::Machine;
 use qil_state::{fitted, value};
 use qil_tree::{AbiType, Class, Width};
@@ -184,6 +184,14 @@ pub fn innermost<'m, A: Allocator + Copy>(machine: &'m Machine<'_, A>) -> Option
     ensures machine { IsMachine machine.now }
 {
     machine.frames().last()
+}
+
+/// The image of the program that a machine runs.
+#[inline(always)]
+pub fn image_of<'c, A: Allocator + Copy>(machine: &Machine<'c, A>) -> &'c Image<'c, A>
+    ensures { result.now ≡ machine.now.program }
+{
+    machine.code().image()
 }
 
 /// How many calls are open.

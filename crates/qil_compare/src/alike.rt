@@ -10,7 +10,7 @@ ghost use Rattle.qil_state.specs.State.{func_name, state_of};
 ghost use Rattle.qil_compare.specs.Coded.{name_at, AreNamedAlike};
 ghost use Rattle.qil_compare.specs.Events.{has_func, call_name};
 
-use crate::ahead::innermost;
+use crate::ahead::{image_of, innermost};
 use crate::calls::call_name;
 use crate::seen::func_name;
 use qil_code::Code;
@@ -70,7 +70,7 @@ fn has_func<A: Allocator + Copy>(code: &Code<'_, A>, func: FuncId, name: &[u8]) 
 #[inline(always)]
 pub fn has_like<'c, A: Allocator + Copy>(
     code: &Code<'_, A>,
-    image: &'c Image<'c, A>,
+    image: &Image<'c, A>,
     func: FuncId,
     alike: u16,
 ) -> bool
@@ -94,7 +94,7 @@ pub fn has_called<'c, A: Allocator + Copy>(
     ensures { result ≡ has_func code.now (call_name (state_of machine.now).frames) }
 {
     match innermost(machine) {
-        Some(frame) => has_like(code, machine.code().image(), frame.func(), alike),
+        Some(frame) => has_like(code, image_of(machine), frame.func(), alike),
         None => has_func(code, FuncId { index: 0 }, b""),
     }
 }
@@ -110,8 +110,8 @@ fn is_alike(func: FuncId, second: FuncId, alike: u16) -> bool
 /// Whether two functions, each of a program of its own, have the same name, byte by byte.
 #[inline(never)]
 fn are_names_same<'c, A: Allocator + Copy>(
-    image: &'c Image<'c, A>,
-    other: &'c Image<'c, A>,
+    image: &Image<'c, A>,
+    other: &Image<'c, A>,
     func: FuncId,
     second: FuncId,
 ) -> bool
@@ -123,8 +123,8 @@ fn are_names_same<'c, A: Allocator + Copy>(
 /// Whether two functions, each of a program of its own, have the same name.
 #[inline(always)]
 pub fn same_names<'c, A: Allocator + Copy>(
-    image: &'c Image<'c, A>,
-    other: &'c Image<'c, A>,
+    image: &Image<'c, A>,
+    other: &Image<'c, A>,
     func: FuncId,
     second: FuncId,
     alike: u16,

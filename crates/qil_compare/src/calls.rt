@@ -5,11 +5,13 @@ ghost use Rattle.qil_state.specs.State.{state_of};
 ghost use Rattle.qil_compare.specs.Coded.{held_or_zero, value_of};
 ghost use Rattle.qil_compare.specs.Seen.{seen};
 ghost use Rattle.qil_compare.specs.Events.{call_name, call_params};
+ghost use Rattle.qil_compare.specs.Next.{returns_of};
 
-use crate::ahead::innermost;
+use crate::ahead::{image_of, innermost};
 use crate::seen::{Seen, func_name, value_seen};
 use qil_code::Slot;
 use qil_frames::Frame;
+use qil_layout::FuncId;
 use qil_machine::Machine;
 use qil_tree::{AbiType, Program};
 use std::alloc::Allocator;
@@ -19,7 +21,7 @@ pub fn call_name<'c, A: Allocator + Copy>(machine: &Machine<'c, A>) -> &'c [u8]
     ensures { result.now ≡ call_name (state_of machine.now).frames }
 {
     match innermost(machine) {
-        Some(frame) => func_name(machine.code().image(), frame.func()),
+        Some(frame) => func_name(image_of(machine), frame.func()),
         None => b"",
     }
 }
@@ -34,6 +36,14 @@ pub fn param_count<A: Allocator + Copy>(machine: &Machine<'_, A>) -> usize
         Some(frame) => code.params(frame.func()).len(),
         None => 0,
     }
+}
+
+/// The type of what a function returns.
+#[inline(always)]
+pub fn returns_in<A: Allocator + Copy>(machine: &Machine<'_, A>, func: FuncId) -> AbiType
+    ensures { result ≡ returns_of machine.now.program func }
+{
+    machine.code().returns(func).unwrap_or(AbiType::W)
 }
 
 /// What a slot of a frame holds, or 0.
@@ -65,7 +75,7 @@ pub fn param_held<A: Allocator + Copy>(machine: &Machine<'_, A>, index: usize) -
 
 /// What one of its parameters is, counted from 0.
 pub fn param_seen<'c, A: Allocator + Copy>(
-    program: &'c Program<'c, A>,
+    program: &Program<'c, A>,
     machine: &Machine<'c, A>,
     index: usize,
 ) -> Seen<'c>
@@ -74,5 +84,5 @@ pub fn param_seen<'c, A: Allocator + Copy>(
     ensures { Some (value_of result) ≡ slice_get (call_params machine.now.program (state_of machine.now).frames) index }
 {
     let (abi_type, value) = param_held(machine, index);
-    value_seen(program, machine.code().image(), abi_type, value)
+    value_seen(program, image_of(machine), abi_type, value)
 }

@@ -7,12 +7,14 @@ ghost use Rattle.qil_compare.specs.declared.event.Found.TheVariants as founds;
 ghost use Rattle.qil_compare.specs.Coded.{AreSides, AreNamedAlike, StandsIn};
 ghost use Rattle.qil_compare.specs.Answer.{Agrees, Judges, IsAnswered};
 
+use crate::ahead::image_of;
 use crate::alike::named_alike;
 use crate::event::Found;
 use crate::happened::Side;
-use crate::running::{next_event, written};
+use crate::running::{machine_of, next_event, written};
 use crate::same::{Stand, same_event};
 use qil_history::History;
+use qil_layout::Image;
 use qil_machine::Machine;
 use std::alloc::Allocator;
 
@@ -117,6 +119,23 @@ fn judge<'c, A: Allocator + Copy>(
     }
 }
 
+/// The machine of a history, as its events are told.
+#[inline(always)]
+fn stand_of<'s, 'c, A: Allocator + Copy + 'c, H: History<A, Machine<'c, A>>>(
+    history: &'s H,
+    side: &Side<'c, A>,
+) -> Stand<'s, 'c, A>
+    requires { side.now.program.now ≡ H.program history.now }
+    ensures stands { StandsIn result }
+    ensures now { state_of result.machine.now ≡ (H.timeline history.now).now }
+    ensures program { result.machine.now.program ≡ H.program history.now }
+{
+    Stand {
+        program: side.program,
+        machine: machine_of(history),
+    }
+}
+
 /// What comes of two runs where they stand, or nothing where they found the same event.
 #[inline(always)]
 fn judge_here<
@@ -138,15 +157,30 @@ fn judge_here<
     requires alike { AreNamedAlike (H.program good.now) (K.program bad.now) alike }
     ensures { Judges (H.program good.now) (K.program bad.now) (H.timeline good.now).now (K.timeline bad.now).now one other result }
 {
-    let left = Stand {
-        side: good_side,
-        machine: good.machine(),
-    };
-    let right = Stand {
-        side: bad_side,
-        machine: bad.machine(),
-    };
+    let left = stand_of(good, good_side);
+    let right = stand_of(bad, bad_side);
     judge(&left, &right, one, other, alike)
+}
+
+/// The image of the program of a history.
+fn image_in<'c, A: Allocator + Copy + 'c, H: History<A, Machine<'c, A>>>(
+    history: &H,
+) -> &'c Image<'c, A>
+    ensures { result.now ≡ H.program history.now }
+{
+    image_of(machine_of(history))
+}
+
+/// At how many numbers, from the first on, the programs of two histories have functions of the same names.
+fn names_alike<
+    'c,
+    A: Allocator + Copy + 'c,
+    H: History<A, Machine<'c, A>>,
+    K: History<A, Machine<'c, A>>,
+>(good: &H, bad: &K) -> u16
+    ensures { AreNamedAlike (H.program good.now) (K.program bad.now) result }
+{
+    named_alike(image_in(good), image_in(bad))
 }
 
 /// Whether one of two runs has made so many moves that no further event is looked for.
@@ -198,7 +232,7 @@ pub fn compare<
     ensures near { (position (H.timeline good.new) < 2 ^ 60) × (position (K.timeline bad.new) < 2 ^ 60) }
     ensures answer { IsAnswered good_side.now.kinds (H.program good.old) (K.program bad.old) (H.timeline good.old) (H.timeline good.new) (K.timeline bad.old) (K.timeline bad.new) result }
 {
-    let alike = named_alike(good.machine().code().image(), bad.machine().code().image());
+    let alike = names_alike(good, bad);
     let mut good_told = written(good);
     let mut bad_told = written(bad);
     for events in 0..u64::MAX {

@@ -9,7 +9,7 @@ ghost use Rattle.qil_compare.specs.Coded.{AreNamedAlike};
 ghost use Rattle.qil_compare.specs.Next.{event_at, AreTold};
 ghost use Rattle.qil_compare.specs.Ahead.{value_ahead, writes_ahead, IsAhead, IsFuncOf, HasHappened};
 
-use crate::ahead::{Ahead, Before, depth};
+use crate::ahead::{Ahead, Before, depth, image_of};
 use crate::alike::{has_called, has_like};
 use crate::event::{Event, Kinds, Told};
 use crate::seen::data_place;
@@ -102,7 +102,7 @@ fn returned<'c, A: Allocator + Copy>(
     if !side.kinds.calls {
         return None;
     }
-    if !has_like(side.other, machine.code().image(), before.func, alike) {
+    if !has_like(side.other, image_of(machine), before.func, alike) {
         return None;
     }
     told(
@@ -142,7 +142,7 @@ fn wrote_at<'c, A: Allocator + Copy>(
     ensures { AreTold machine.now.program side.now.kinds (state_of machine.now)
         (write_in side.now.other.now (state_of machine.now) (record { start = start; count = count }) (data_place machine.now.program start)) result }
 {
-    let Some(place) = data_place(side.program, machine.code().image(), start) else {
+    let Some(place) = data_place(side.program, image_of(machine), start) else {
         return None;
     };
     if !has_data(side.other.image(), place.object) {

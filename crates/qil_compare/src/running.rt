@@ -1,34 +1,84 @@
 //! A run to its next event.
 
-ghost use Rattle.std.specs.Prelude.{◌≡◌, ◌+◌, ◌≤◌, ◌^◌, cond, length};
+ghost use Rattle.std.specs.Prelude.{◌≡◌, ◌+◌, ◌≤◌, ◌^◌, cond, false, length};
 ghost use Rattle.qil_meaning.specs.Timeline.{position, at_end};
 ghost use Rattle.qil_compare.specs.declared.event.Found.TheVariants as founds;
+ghost use Rattle.qil_state.specs.State.{state_of};
+ghost use Rattle.qil_compare.specs.Ahead.{HasHappened, IsKept};
 ghost use Rattle.qil_compare.specs.Coded.{AreNamedAlike};
 ghost use Rattle.qil_compare.specs.Next.{IsNext, RunsToEvent};
 
-use crate::ahead::kept_before;
-use crate::event::Found;
+use crate::ahead::{Before, kept_before};
+use crate::event::{Found, Told};
 use crate::happened::{Side, byte_out, happened, is_over};
 use qil_history::History;
 use qil_machine::{Machine, MoveError};
 use std::alloc::Allocator;
 
+/// The machine of a history. It is asked for here alone: what a trait's call means of a machine makes each check dear.
+#[inline(always)]
+pub fn machine_of<'c, A: Allocator + Copy + 'c, H: History<A, Machine<'c, A>>>(
+    history: &H,
+) -> &Machine<'c, A>
+    ensures now { state_of result.now ≡ (H.timeline history.now).now }
+    ensures program { result.now.program ≡ H.program history.now }
+{
+    history.machine()
+}
+
 /// How many bytes of output there are.
 pub fn written<'c, A: Allocator + Copy + 'c, H: History<A, Machine<'c, A>>>(history: &H) -> usize
     ensures { result ≡ length (H.timeline history.now).now.output }
 {
-    history.machine().output().len()
+    machine_of(history).output().len()
+}
+
+/// Whether the run is over.
+#[inline(always)]
+fn is_at_end<'c, A: Allocator + Copy + 'c, H: History<A, Machine<'c, A>>>(history: &H) -> bool
+    ensures { result ≡ at_end (H.timeline history.now) }
+{
+    is_over(machine_of(history))
 }
 
 /// Why a run ends that had no event on its last move.
 fn over_or_limit<'c, A: Allocator + Copy + 'c, H: History<A, Machine<'c, A>>>(history: &H) -> Found
     ensures { result ≡ cond (at_end (H.timeline history.now)) founds.Over founds.Limit }
 {
-    if is_over(history.machine()) {
+    if is_at_end(history) {
         Found::Over
     } else {
         Found::Limit
     }
+}
+
+/// What is kept of a run before a move.
+#[inline(always)]
+fn before_move<'c, A: Allocator + Copy + 'c, H: History<A, Machine<'c, A>>>(
+    history: &H,
+    side: &Side<'c, A>,
+) -> Before
+    requires { at_end (H.timeline history.now) ≡ false }
+    ensures { IsKept (H.program history.now) side.now.kinds (H.timeline history.now).now result }
+{
+    let kinds = side.kinds;
+    kept_before(machine_of(history), kinds)
+}
+
+/// The first event of a move, by the run behind it.
+#[inline(always)]
+fn happened_now<'c, A: Allocator + Copy + 'c, H: History<A, Machine<'c, A>>>(
+    history: &H,
+    side: &Side<'c, A>,
+    before: Before,
+    alike: u16,
+) -> Option<Told>
+    requires side { side.now.program.now ≡ H.program history.now }
+    requires alike { AreNamedAlike (H.program history.now) side.now.other.now alike }
+    ensures { HasHappened (H.program history.now) side.now.other.now side.now.kinds before (H.timeline history.now).now result }
+{
+    let machine = machine_of(history);
+    happened(side, machine, before, alike)
 }
 
 /// Moves forward to the next event, and gives it: after the least number of moves with one, or after `limit` moves; at the
@@ -47,16 +97,16 @@ fn run_to_event<'c, A: Allocator + Copy + 'c, H: History<A, Machine<'c, A>>>(
     ensures run { RunsToEvent (H.program history.old) side.now.other.now side.now.kinds limit (H.timeline history.old) (H.timeline history.new) result.1 result.0 }
 {
     for _ in 0..limit {
-        if is_over(history.machine()) {
+        if is_at_end(history) {
             return (Found::Over, written(history));
         }
-        let before = kept_before(history.machine(), side.kinds);
+        let before = before_move(history, side);
         match history.forward() {
             Ok(()) => {}
             Err(MoveError::AtEnd) => return (Found::Over, before.written),
             Err(MoveError::OutOfMemory) => return (Found::OutOfMemory, before.written),
         }
-        if let Some(first) = happened(side, history.machine(), before, alike) {
+        if let Some(first) = happened_now(history, side, before, alike) {
             return (Found::Event(first.event), first.told);
         }
     }
@@ -79,7 +129,8 @@ pub fn next_event<'c, A: Allocator + Copy + 'c, H: History<A, Machine<'c, A>>>(
     ensures next { IsNext (H.program history.old) side.now.other.now side.now.kinds limit (H.timeline history.old) (H.timeline history.new) told.old told.new result }
     ensures near { position (H.timeline history.new) ≤ position (H.timeline history.old) + limit }
 {
-    if let Some(first) = byte_out(history.machine(), side.kinds, *told) {
+    let kinds = side.kinds;
+    if let Some(first) = byte_out(machine_of(history), kinds, *told) {
         *told = first.told;
         return Found::Event(first.event);
     }

@@ -1,6 +1,6 @@
 //! Whether two events are the same, each read of the machine that stands behind it. Nothing here takes memory.
 
-ghost use Rattle.std.specs.Prelude.{◌≡◌, ◌≢◌, ◌↔◌, ◌+◌, List, IsTrue, option_map, unwrap_or};
+ghost use Rattle.std.specs.Prelude.{◌≡◌, ◌≢◌, ◌↔◌, ◌+◌, ◌<◌, List, IsTrue, Some, length, option_map, slice_get, unwrap_or};
 ghost use Rattle.qil_tree.specs.declared.ops.AbiType.TheVariants as types;
 ghost use Rattle.qil_memory.specs.Live.{live};
 ghost use Rattle.qil_meaning.specs.State.{Name};
@@ -13,38 +13,58 @@ ghost use Rattle.qil_compare.specs.Coded.{StandsIn, AreNamedAlike, offset_of, va
 ghost use Rattle.qil_compare.specs.Events.{bytes_from, call_params, cause_of};
 ghost use Rattle.qil_compare.specs.Next.{nowhere, returns_of, event_at};
 
+use crate::ahead::image_of;
 use crate::alike::{same_call_names, same_names};
-use crate::calls::{param_count, param_held};
+use crate::calls::{param_count, param_held, returns_in};
 use crate::event::Event;
-use crate::happened::Side;
 use crate::seen::{
     DataPlace, Seen, address_seen, data_place, func_name, same_place, same_seen, value_seen,
 };
-use qil_layout::FuncId;
+use qil_layout::{FuncId, Image};
 use qil_machine::Machine;
 use qil_state::{Fault, Status};
-use qil_tree::AbiType;
+use qil_tree::{AbiType, Program};
 use std::alloc::Allocator;
 
-/// A machine behind an event, and what tells its events.
+/// A machine behind an event, and the tree of its program, by which its events are told.
 #[derive(Drop)]
 pub struct Stand<'s, 'c, A: Allocator> {
-    pub side: &'s Side<'c, A>,
+    pub program: &'s Program<'c, A>,
     pub machine: &'s Machine<'c, A>,
 }
 
 impl<'s, 'c, A: Allocator + Copy> Stand<'s, 'c, A> {
+    /// The tree of the program. It is read here alone, since each place that reads a field makes a check dear.
+    #[inline(always)]
+    fn program(&self) -> &'s Program<'c, A>
+        requires { StandsIn self.now }
+        ensures { result.now ≡ self.now.machine.now.program }
+    {
+        self.program
+    }
+
+    /// The machine, which is read here alone for the same reason.
+    #[inline(always)]
+    fn machine(&self) -> &'s Machine<'c, A>
+        ensures { result.now ≡ self.now.machine.now }
+    {
+        self.machine
+    }
+
+    /// The image of the program.
+    #[inline(always)]
+    fn image(&self) -> &'c Image<'c, A>
+        ensures { result.now ≡ self.now.machine.now.program }
+    {
+        image_of(self.machine())
+    }
+
     /// What a value of a type is.
     pub fn seen(&self, abi_type: AbiType, value: u64) -> Seen<'c>
         requires { StandsIn self.now }
         ensures { value_of result ≡ seen self.now.machine.now.program abi_type value }
     {
-        value_seen(
-            self.side.program,
-            self.machine.code().image(),
-            abi_type,
-            value,
-        )
+        value_seen(self.program(), self.image(), abi_type, value)
     }
 
     /// What an address is.
@@ -52,7 +72,7 @@ impl<'s, 'c, A: Allocator + Copy> Stand<'s, 'c, A> {
         requires { StandsIn self.now }
         ensures { value_of result ≡ address_seen self.now.machine.now.program address }
     {
-        address_seen(self.side.program, self.machine.code().image(), address)
+        address_seen(self.program(), self.image(), address)
     }
 
     /// The place of the data that an address belongs to, if there is one.
@@ -60,7 +80,7 @@ impl<'s, 'c, A: Allocator + Copy> Stand<'s, 'c, A> {
         requires { StandsIn self.now }
         ensures { option_map offset_of result ≡ data_place self.now.machine.now.program address }
     {
-        data_place(self.side.program, self.machine.code().image(), address)
+        data_place(self.program(), self.image(), address)
     }
 
     /// The same, or that of no object.
@@ -81,14 +101,39 @@ impl<'s, 'c, A: Allocator + Copy> Stand<'s, 'c, A> {
     pub fn func_name(&self, func: FuncId) -> &'c [u8]
         ensures { result.now ≡ func_name (func_at self.now.machine.now.program func.index) }
     {
-        func_name(self.machine.code().image(), func)
+        func_name(self.image(), func)
     }
 
     /// The type of what a function returns.
     pub fn returns(&self, func: FuncId) -> AbiType
         ensures { result ≡ returns_of self.now.machine.now.program func }
     {
-        self.machine.code().returns(func).unwrap_or(AbiType::W)
+        returns_in(self.machine(), func)
+    }
+
+    /// How many parameters the innermost frame has.
+    #[inline(always)]
+    fn param_count(&self) -> usize
+        ensures { result ≡ length (call_params self.now.machine.now.program (state_of self.now.machine.now).frames) }
+    {
+        param_count(self.machine())
+    }
+
+    /// The type of one of these, counted from 0, and the value that its slot holds.
+    #[inline(always)]
+    fn param_held(&self, index: usize) -> (AbiType, u64)
+        requires { index < length (call_params self.now.machine.now.program (state_of self.now.machine.now).frames) }
+        ensures { Some (seen self.now.machine.now.program result.0 result.1) ≡ slice_get (call_params self.now.machine.now.program (state_of self.now.machine.now).frames) index }
+    {
+        param_held(self.machine(), index)
+    }
+
+    /// How the run stands.
+    #[inline(always)]
+    fn status(&self) -> Status
+        ensures { result ≡ self.now.machine.now.status }
+    {
+        self.machine().status()
     }
 }
 
@@ -171,13 +216,13 @@ fn same_params<'c, A: Allocator + Copy>(left: &Stand<'_, 'c, A>, right: &Stand<'
     requires bad { StandsIn right.now }
     ensures { IsTrue result ↔ (call_params left.now.machine.now.program (state_of left.now.machine.now).frames ≡ call_params right.now.machine.now.program (state_of right.now.machine.now).frames) }
 {
-    let count = param_count(left.machine);
-    if count != param_count(right.machine) {
+    let count = left.param_count();
+    if count != right.param_count() {
         return false;
     }
     for i in 0..count {
-        let value = param_held(left.machine, i);
-        let second = param_held(right.machine, i);
+        let value = left.param_held(i);
+        let second = right.param_held(i);
         if !same_typed(left, right, value, second) {
             return false;
         }
@@ -197,7 +242,7 @@ fn same_calls<'c, A: Allocator + Copy>(
     requires alike { AreNamedAlike left.now.machine.now.program right.now.machine.now.program alike }
     ensures { IsTrue result ↔ (event_at left.now.machine.now.program (state_of left.now.machine.now) coded.Call ≡ event_at right.now.machine.now.program (state_of right.now.machine.now) coded.Call) }
 {
-    same_call_names(left.machine, right.machine, alike) && same_params(left, right)
+    same_call_names(left.machine(), right.machine(), alike) && same_params(left, right)
 }
 
 /// The byte so far after an address, if it is live. After the last address there is none.
@@ -253,7 +298,7 @@ fn same_writes<'c, A: Allocator + Copy>(
     if !same_place(left.place_or_nowhere(start), right.place_or_nowhere(second)) {
         return false;
     }
-    same_bytes(left.machine, right.machine, start, second, count)
+    same_bytes(left.machine(), right.machine(), start, second, count)
 }
 
 /// Whether two returns are the same: of one function, with one value or none.
@@ -272,9 +317,7 @@ fn same_returns<'c, A: Allocator + Copy>(
     requires alike { AreNamedAlike left.now.machine.now.program right.now.machine.now.program alike }
     ensures { IsTrue result ↔ (event_at left.now.machine.now.program (state_of left.now.machine.now) (coded.Return func value) ≡ event_at right.now.machine.now.program (state_of right.now.machine.now) (coded.Return second returned)) }
 {
-    let image = left.machine.code().image();
-    let other = right.machine.code().image();
-    same_names(image, other, func, second, alike)
+    same_names(left.image(), right.image(), func, second, alike)
         && same_returned(left, right, func, second, value, returned)
 }
 
@@ -332,14 +375,14 @@ fn same_ends<'c, A: Allocator + Copy>(
     requires bad { StandsIn right.now }
     ensures { IsTrue result ↔ (event_at left.now.machine.now.program (state_of left.now.machine.now) (coded.End func) ≡ event_at right.now.machine.now.program (state_of right.now.machine.now) (coded.End second)) }
 {
-    match left.machine.status() {
-        Status::Running => right.machine.status() == Status::Running,
-        Status::Done(value) => match right.machine.status() {
+    match left.status() {
+        Status::Running => right.status() == Status::Running,
+        Status::Done(value) => match right.status() {
             Status::Done(other) => same_returned(left, right, func, second, value, other),
             _ => false,
         },
-        Status::Exited(word) => right.machine.status() == Status::Exited(word),
-        Status::Faulted(fault) => match right.machine.status() {
+        Status::Exited(word) => right.status() == Status::Exited(word),
+        Status::Faulted(fault) => match right.status() {
             Status::Faulted(other) => same_faults(left, right, fault, other),
             _ => false,
         },

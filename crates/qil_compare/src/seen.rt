@@ -51,11 +51,11 @@ fn start_of<'d, A: Allocator + Copy>(image: &Image<'d, A>, object: &Data<'d, A>)
 }
 
 /// The last object that begins at an address or before it.
-fn last_object<'d, A: Allocator + Copy>(
+fn last_object<'s, 'd, A: Allocator + Copy>(
     image: &Image<'d, A>,
-    datas: &'d [Data<'d, A>],
+    datas: &'s [Data<'d, A>],
     address: u64,
-) -> Option<&'d Data<'d, A>>
+) -> Option<&'s Data<'d, A>>
     ensures { option_copied result ≡ find (starts_by image.now address) (reverse datas.now) }
 {
     let mut left = datas.len();
@@ -72,7 +72,7 @@ fn last_object<'d, A: Allocator + Copy>(
 /// The data object that an address belongs to: the last that begins at it or before it. The first address after all data
 /// belongs to the last object.
 pub fn data_place<'d, A: Allocator + Copy>(
-    program: &'d Program<'d, A>,
+    program: &Program<'d, A>,
     image: &Image<'d, A>,
     address: u64,
 ) -> Option<DataPlace<'d>>
@@ -92,7 +92,7 @@ pub fn data_place<'d, A: Allocator + Copy>(
 }
 
 /// The name of a function of the program, without its sigil.
-pub fn func_name<'d, A: Allocator + Copy>(image: &'d Image<'d, A>, func: FuncId) -> &'d [u8]
+pub fn func_name<'d, A: Allocator + Copy>(image: &Image<'d, A>, func: FuncId) -> &'d [u8]
     ensures { result.now ≡ func_name (slice_get image.now.funcs func.index) }
 {
     match image.name_of(func) {
@@ -102,7 +102,7 @@ pub fn func_name<'d, A: Allocator + Copy>(image: &'d Image<'d, A>, func: FuncId)
 }
 
 /// The name of what a call goes to, without its sigil.
-fn callee_name<'d, A: Allocator + Copy>(image: &'d Image<'d, A>, callee: Callee) -> &'d [u8]
+fn callee_name<'d, A: Allocator + Copy>(image: &Image<'d, A>, callee: Callee) -> &'d [u8]
     ensures { result.now ≡ callee_name image.now callee }
 {
     match callee {
@@ -115,8 +115,8 @@ fn callee_name<'d, A: Allocator + Copy>(image: &'d Image<'d, A>, callee: Callee)
 
 /// What an address is.
 pub fn address_seen<'d, A: Allocator + Copy>(
-    program: &'d Program<'d, A>,
-    image: &'d Image<'d, A>,
+    program: &Program<'d, A>,
+    image: &Image<'d, A>,
     address: u64,
 ) -> Seen<'d>
     requires { image.now ≡ program.now }
@@ -136,8 +136,8 @@ pub fn address_seen<'d, A: Allocator + Copy>(
 
 /// What a value of a type is: only one of 64 bits can be an address.
 pub fn value_seen<'d, A: Allocator + Copy>(
-    program: &'d Program<'d, A>,
-    image: &'d Image<'d, A>,
+    program: &Program<'d, A>,
+    image: &Image<'d, A>,
     abi_type: AbiType,
     value: u64,
 ) -> Seen<'d>

@@ -175,9 +175,9 @@ fn put_params<P: Put, A: Allocator + Copy>(
     if count == 0 {
         return Ok(());
     }
-    put_seen(out, param_seen(stand.side.program, stand.machine, 0))?;
+    put_seen(out, param_seen(stand.program, stand.machine, 0))?;
     for i in 1..count {
-        put_next_seen(out, param_seen(stand.side.program, stand.machine, i))?;
+        put_next_seen(out, param_seen(stand.program, stand.machine, i))?;
     }
     Ok(())
 }

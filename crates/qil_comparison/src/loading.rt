@@ -193,13 +193,13 @@ fn start_bad<'c, 'g, 'i, A: Allocator + Copy + 'c, S: Source, W: Sink>(
 }
 
 /// Numbers the bad program next to the good one, and runs both.
-fn number_bad<'c, 'g, 'i, A: Allocator + Copy + 'c, S: Source, W: Sink>(
+fn number_bad<'c, 'g, 'i, 't, A: Allocator + Copy + 'c, S: Source, W: Sink>(
     alloc: A,
     keys: RandomState,
     good: &'c Checked<'g, A>,
     good_code: &'c Code<'g, A>,
-    checked: &'i Checked<'i, A>,
-    image: &'i Image<'i, A>,
+    checked: &'i Checked<'t, A>,
+    image: &'i Image<'t, A>,
     request: &Request<'_>,
     source: &mut S,
     sink: &mut W,
@@ -319,11 +319,11 @@ fn load_bad<'c, 'g, 't, A: Allocator + Copy + 'c, S: Source, W: Sink>(
 }
 
 /// Numbers the good program, and loads the bad text next to it.
-fn number_good<'c, 't, A: Allocator + Copy + 'c, S: Source, W: Sink>(
+fn number_good<'c, 'g, 't, A: Allocator + Copy + 'c, S: Source, W: Sink>(
     alloc: A,
     keys: RandomState,
-    checked: &'c Checked<'c, A>,
-    image: &'c Image<'c, A>,
+    checked: &'c Checked<'g, A>,
+    image: &'c Image<'g, A>,
     bad: &Text<'t>,
     request: &Request<'_>,
     source: &mut S,

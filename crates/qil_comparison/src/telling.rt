@@ -89,7 +89,10 @@ fn put_side<'c, A: Allocator + Copy + 'c, H: History<A, Machine<'c, A>>, P: Put>
     ensures { HasPut P.written P.stops P.device result out.old out.new (side_text name.now (H.program history.now) (H.timeline history.now) found) }
 {
     let machine = history.machine();
-    let stand = Stand { side, machine };
+    let stand = Stand {
+        program: side.program,
+        machine,
+    };
     out.put(name)?;
     put_found(out, &stand, found)?;
     put_stand(out, history.position(), machine)

@@ -10,12 +10,8 @@ use qil_rules::Checked;
 use std::alloc::{AllocError, Allocator};
 use std::hash::RandomState;
 
-/// Numbers a checked program, which lies as its image says. `keys` are those of the tables by name.
-///
-/// # Errors
-///
-/// Only out of memory.
-pub fn number<'c, A: Allocator + Copy>(
+/// The code of a program, where all that it refers to is lent for one lifetime.
+fn numbered<'c, A: Allocator + Copy>(
     alloc: A,
     keys: RandomState,
     checked: &'c Checked<'c, A>,
@@ -28,4 +24,23 @@ pub fn number<'c, A: Allocator + Copy>(
     let names = funcs_of(alloc, keys, program.funcs.as_slice())?;
     let funcs = funcs_code(alloc, keys, image, program.funcs.as_slice())?;
     Ok(Code::new(program, image, names, funcs))
+}
+
+/// Numbers a checked program, which lies as its image says. `keys` are those of the tables by name.
+///
+/// # Errors
+///
+/// Only out of memory.
+// The text may live longer than the program and its image are lent. They are taken at one lifetime here, once: at the calls in
+// front of this one, next to all that is alive there, each would cost a check of minutes.
+pub fn number<'c, 't, A: Allocator + Copy>(
+    alloc: A,
+    keys: RandomState,
+    checked: &'c Checked<'t, A>,
+    image: &'c Image<'t, A>,
+) -> Result<Code<'c, A>, AllocError>
+    requires { image.now ≡ checked.now.program }
+    ensures { IfOk result (λ code. code ≡ checked.entry.now.program) }
+{
+    numbered(alloc, keys, checked, image)
 }

@@ -28,9 +28,9 @@ const INDEX_LIMIT: usize = 1 << 32;
 
 /// The blocks of a function, with what the phis of each do for each block that may be left.
 #[derive(Drop)]
-pub struct Shape<'r, 'c, A: Allocator> {
-    resolver: &'r Resolver<'r, 'c, A>,
-    blocks: &'r [Block<'c, A>],
+pub struct Shape<'s, 'r, 'c, A: Allocator> {
+    resolver: &'s Resolver<'r, 'c, A>,
+    blocks: &'s [Block<'c, A>],
     moves: Vec<Groups<'c, PhiMove, A>, A>,
     ghost labels_are: { resolver.now.labels.now ≡ labels_in blocks.now },
     ghost each_block: { length moves.items ≡ length blocks.now },
@@ -69,7 +69,7 @@ fn copied<A: Allocator + Copy>(alloc: A, moves: &[PhiMove]) -> Result<Vec<PhiMov
     Ok(out)
 }
 
-impl<'r, 'c, A: Allocator + Copy> Shape<'r, 'c, A> {
+impl<'s, 'r, 'c, A: Allocator + Copy> Shape<'s, 'r, 'c, A> {
     fn moves(&self, alloc: A, left: &Name<'c>, number: usize) -> Result<Vec<PhiMove, A>, AllocError>
         requires { number < length self.now.blocks.now }
         ensures moves { (b : Block A) → slice_get self.now.blocks.now number ≡ Some b → IfOk result (λ v. v.items ≡ block_moves self.now.resolver.now.image.now self.now.resolver.now.temps.now left.now b) }

@@ -10,7 +10,7 @@ use Rattle.qil_tree.specs.declared.tree.Phi.{Phi}
 use Rattle.qil_tree.specs.declared.tree.Inst.{Inst}
 use Rattle.qil_parser.specs.declared.cursor_error.CursorError.{CursorError}
 use Rattle.qil_parser.specs.declared.cursor_error.CursorError.TheVariants as ends
-use Rattle.qil_parser.specs.Token.{Tok, seen, index}
+use Rattle.qil_parser.specs.Token.{Tok, index}
 use Rattle.qil_parser.specs.Functions.{target_of, phi_of}
 use Rattle.qil_parser.specs.Outcome.{Fails}
 use Rattle.qil_parser.specs.Parsing.{the, classes, class_word, before}
@@ -100,9 +100,9 @@ module _ {A : Type 0} where
       go (got is us) = ap (λ (l : List (Phi A)). got (l, i ∷ is) us) (append-nil prefix)
       go (failed e us) = refl
 
-  pub insts_end : (e : CursorError) (prefix : List (Phi A)) (o : Read Tok (List (Inst A))) (total : Read Tok (Lines A)) → total ≡ with_insts prefix o → Fails e o → Fails e total
-  insts_end ends.Memory prefix o total h f = tt
-  insts_end (ends.Refused k at) prefix o total h f = h ∙ ap (with_insts prefix) f
+  pub insts_end : (e : CursorError) (left : List Tok) (prefix : List (Phi A)) (o : Read Tok (List (Inst A))) (total : Read Tok (Lines A)) → total ≡ with_insts prefix o → Fails e left o → Fails e left total
+  insts_end ends.Memory left prefix o total h f = tt
+  insts_end (ends.Refused k) left prefix o total h f = h ∙ ap (with_insts prefix) f
 
   module _ (prefix : List (Phi A)) (ts : List Tok) (total : Read Tok (Lines A)) (so_far : with_phis prefix (body ts) ≡ total) where
     module _ (temp : starts index (the terminals.Temp) ts ≡ true) where
@@ -135,13 +135,13 @@ module _ {A : Type 0} where
               let three : after_class body vs ≡ consed phi_more ss (body rest) = rw (h, g) refl in
               sym (ap (with_phis prefix) (at_class ∙ ap (λ (o : Read Tok (Class → ℕ × List ℕ → Lines A)). consed with_dest to (consed in_class class o)) three) ∙ regroup prefix to class ss (body rest)) ∙ so_far
 
-          pub phi_ends : (e : CursorError) → starts index (the terminals.Phi) vs ≡ true → Fails e (source_lines vs) → Fails e total
-          phi_ends ends.Memory h g = tt
-          phi_ends (ends.Refused k at) h g = phi_fails k (seen at.now) h g
+          pub phi_ends : (e : CursorError) (left : List Tok) → starts index (the terminals.Phi) vs ≡ true → Fails e left (source_lines vs) → Fails e left total
+          phi_ends ends.Memory left h g = tt
+          phi_ends (ends.Refused k) left h g = phi_fails k left h g
 
-      pub dest_ends : (e : CursorError) → Fails e (dest ts) → Fails e total
-      dest_ends ends.Memory f = tt
-      dest_ends (ends.Refused k at) f = dest_fails k (seen at.now) f
+      pub dest_ends : (e : CursorError) (left : List Tok) → Fails e left (dest ts) → Fails e left total
+      dest_ends ends.Memory left f = tt
+      dest_ends (ends.Refused k) left f = dest_fails k left f
 
     pub plain_last : starts index (the terminals.Temp) ts ≡ false → total ≡ with_insts prefix (plain_lines ts)
     plain_last h =

@@ -3,15 +3,16 @@ use Rattle.std.proofs.Common.{◌≡◌, ℕ, ◌<◌, Bool, true, false, ◌||�
 use Rattle.qil_lexer.specs.declared.token.Token.{Token}
 use Rattle.qil_language.specs.Reading.{Read, got, taken, starts, many, tail}
 use Rattle.qil_language.specs.Reads.{Takes}
-use Rattle.qil_language.proofs.Loop.{with_prefix, many_fails, past, past_goes_on, past_fails, past_stops, items_then, separated_fails, separated_breaks}
+use Rattle.qil_language.proofs.Loop.{with_prefix, many_fails, past, past_goes_on, past_fails, past_stops, items_then, separated_fails}
 use Rattle.qil_parser.specs.declared.cursor_error.CursorError.{CursorError}
 use Rattle.qil_parser.specs.declared.cursor_error.CursorError.TheVariants as ends
+use Rattle.qil_parser.specs.declared.terminal.Terminal.{Terminal}
 use Rattle.qil_parser.specs.declared.terminal.Terminal.TheVariants as terminals
 use Rattle.qil_parser.specs.Token.{Tok, tok, seen, code, index}
 use Rattle.qil_parser.specs.Parsing.{the, word}
 use Rattle.qil_parser.specs.FunctionParsing as functions
 use Rattle.qil_parser.specs.Functions.{jump_or}
-use Rattle.qil_parser.specs.DataParsing.{newlines}
+use Rattle.qil_parser.specs.DataParsing.{loose, newlines}
 use Rattle.qil_parser.specs.Outcome.{Fails}
 use Rattle.qil_parser.proofs.DataProductions.{newline_takes}
 
@@ -22,21 +23,17 @@ seen_length (t ∷ ts) = omega (arith, seen_length ts)
 pub fewer_left : (ts us : List Token) → length (seen us) < length (seen ts) → length us < length ts
 fewer_left ts us h = omega (arith, seen_length ts, seen_length us)
 
-pub many_ends : {A : Type 0} (index : Tok → ℕ) (set : List ℕ) (r : List Tok → Read Tok A) (takes : Takes r) (e : CursorError) (prefix : List A) (ts : List Tok) (total : Read Tok (List A)) → starts index set ts ≡ true → Fails e (r ts) → with_prefix prefix (many index set r ts) ≡ total → Fails e total
-many_ends index set r takes ends.Memory prefix ts total h f so_far = tt
-many_ends index set r takes (ends.Refused k at) prefix ts total h f so_far = many_fails index set r takes prefix ts k (seen at.now) total h f so_far
+pub many_ends : {A : Type 0} (index : Tok → ℕ) (set : List ℕ) (r : List Tok → Read Tok A) (takes : Takes r) (e : CursorError) (left : List Tok) (prefix : List A) (ts : List Tok) (total : Read Tok (List A)) → starts index set ts ≡ true → Fails e left (r ts) → with_prefix prefix (many index set r ts) ≡ total → Fails e left total
+many_ends index set r takes ends.Memory left prefix ts total h f so_far = tt
+many_ends index set r takes (ends.Refused k) left prefix ts total h f so_far = many_fails index set r takes prefix ts k left total h f so_far
 
-pub past_ends : {A : Type 0} (index : Tok → ℕ) (set : List ℕ) (r : List Tok → Read Tok A) (takes : Takes r) (e : CursorError) (ts : List Tok) → starts index set ts ≡ true → Fails e (r ts) → Fails e (past index set r ts)
-past_ends index set r takes ends.Memory ts h f = tt
-past_ends index set r takes (ends.Refused k at) ts h f = past_fails index set r takes ts k (seen at.now) h f
+pub past_ends : {A : Type 0} (index : Tok → ℕ) (set : List ℕ) (r : List Tok → Read Tok A) (takes : Takes r) (e : CursorError) (left : List Tok) (ts : List Tok) → starts index set ts ≡ true → Fails e left (r ts) → Fails e left (past index set r ts)
+past_ends index set r takes ends.Memory left ts h f = tt
+past_ends index set r takes (ends.Refused k) left ts h f = past_fails index set r takes ts k left h f
 
-pub separated_ends : {A : Type 0} (index : Tok → ℕ) (sep set : List ℕ) (c : List Tok → Read Tok (Unit {0})) (r : List Tok → Read Tok A) (takes_sep : Takes c) (takes : Takes r) (e : CursorError) (prefix : List A) (ts : List Tok) (total : Read Tok (List A)) → starts index set ts ≡ true → Fails e (r ts) → with_prefix prefix (items_then index sep set c r takes_sep takes (tail index sep set c r) ts) ≡ total → Fails e total
-separated_ends index sep set c r takes_sep takes ends.Memory prefix ts total h f so_far = tt
-separated_ends index sep set c r takes_sep takes (ends.Refused k at) prefix ts total h f so_far = separated_fails index sep set c r takes_sep takes prefix ts k (seen at.now) total h f so_far
-
-pub separated_breaks_off : {A : Type 0} (index : Tok → ℕ) (sep set : List ℕ) (c : List Tok → Read Tok (Unit {0})) (r : List Tok → Read Tok A) (takes_sep : Takes c) (takes : Takes r) (e : CursorError) (prefix : List A) (ts : List Tok) (a : A) (rest : List Tok) (total : Read Tok (List A)) → starts index set ts ≡ true → r ts ≡ got a rest → starts index sep rest ≡ true → Fails e (c rest) → with_prefix prefix (items_then index sep set c r takes_sep takes (tail index sep set c r) ts) ≡ total → Fails e total
-separated_breaks_off index sep set c r takes_sep takes ends.Memory prefix ts a rest total h g k f so_far = tt
-separated_breaks_off index sep set c r takes_sep takes (ends.Refused b at) prefix ts a rest total h g k f so_far = separated_breaks index sep set c r takes_sep takes prefix ts a rest b (seen at.now) total h g k f so_far
+pub separated_ends : {A : Type 0} (index : Tok → ℕ) (sep set : List ℕ) (c : List Tok → Read Tok (Unit {0})) (r : List Tok → Read Tok A) (takes_sep : Takes c) (takes : Takes r) (e : CursorError) (left : List Tok) (prefix : List A) (ts : List Tok) (total : Read Tok (List A)) → starts index set ts ≡ true → Fails e left (r ts) → with_prefix prefix (items_then index sep set c r takes_sep takes (tail index sep set c r) ts) ≡ total → Fails e left total
+separated_ends index sep set c r takes_sep takes ends.Memory left prefix ts total h f so_far = tt
+separated_ends index sep set c r takes_sep takes (ends.Refused k) left prefix ts total h f so_far = separated_fails index sep set c r takes_sep takes prefix ts k left total h f so_far
 
 pub fewer_still : (ts us vs : List Token) → length (seen us) < length (seen ts) → length (seen vs) < length (seen us) → length vs < length ts
 fewer_still ts us vs h k = omega (arith, seen_length ts, seen_length vs)
@@ -44,7 +41,7 @@ fewer_still ts us vs h k = omega (arith, seen_length ts, seen_length vs)
 pub fewest_left : (ts us vs ws : List Token) → length (seen us) < length (seen ts) → length (seen vs) < length (seen us) → length (seen ws) < length (seen vs) → length ws < length ts
 fewest_left ts us vs ws h k l = omega (arith, seen_length ts, seen_length us, seen_length vs, seen_length ws, h, k, l)
 
--- ---- newlines
+-- ---- a word that is known to come next
 
 abbrev got_word : List Tok → Read Tok (Unit {0})
 got_word ts = got tt ts
@@ -56,10 +53,18 @@ word_at : (b : Bool) (t : Tok) (ts : List Tok) → b || false ≡ true → taken
 word_at true t ts h = refl
 word_at false t ts h = absurd cc
 
+pub word_passed : (m : Terminal) (ts : List Token) → starts index (the m) (seen ts) ≡ true → word m (seen ts) ≡ got tt (seen (drop 1 ts))
+word_passed m [] h = absurd cc
+word_passed m (t ∷ ts) h = word_at (eqb (code m) (index (tok t))) (tok t) (seen ts) h
+
+pub loose_comma : (ts us vs : List Tok) → word terminals.Comma ts ≡ got tt us → newlines us ≡ got tt vs → loose (word terminals.Comma) ts ≡ got tt vs
+loose_comma ts us vs comma ends = rw (comma, ends) refl
+
+-- ---- newlines
+
 pub newlines_continue : (ts : List Token) → starts index (the terminals.Newline) (seen ts) ≡ true → newlines (seen (drop 1 ts)) ≡ newlines (seen ts)
 unfolding newlines
-newlines_continue [] h = absurd cc
-newlines_continue (t ∷ ts) h = past_goes_on index (the terminals.Newline) (word terminals.Newline) newline_takes (seen (t ∷ ts)) tt (seen ts) h (word_at (eqb (code terminals.Newline) (index (tok t))) (tok t) (seen ts) h)
+newlines_continue ts h = past_goes_on index (the terminals.Newline) (word terminals.Newline) newline_takes (seen ts) tt (seen (drop 1 ts)) h (word_passed terminals.Newline ts h)
 
 pub newlines_stop : (ts : List Token) → starts index (the terminals.Newline) (seen ts) ≡ false → newlines (seen ts) ≡ got tt (seen ts)
 unfolding newlines

@@ -7,7 +7,7 @@ use Rattle.qil_tree.specs.declared.tree.Program.{Program}
 use Rattle.qil_parser.specs.declared.program_cursor.Defined.{Defined}
 use Rattle.qil_parser.specs.declared.cursor_error.CursorError.{CursorError}
 use Rattle.qil_parser.specs.declared.cursor_error.CursorError.TheVariants as ends
-use Rattle.qil_parser.specs.Token.{Tok, index, seen}
+use Rattle.qil_parser.specs.Token.{Tok, index}
 use Rattle.qil_parser.specs.Programs.{program_of, datas_in, funcs_in, definition_in}
 use Rattle.qil_parser.specs.DataParsing.{defs, def_line, def_firsts}
 use Rattle.qil_parser.specs.Outcome.{Fails, extended}
@@ -59,6 +59,6 @@ defs_stop p ts total h so_far =
     let one : defs ts ≡ got [] ts = unrolled index def_firsts def_line def_line_takes ts ∙ rw h refl in
     sym so_far ∙ ap (extending p) one ∙ ap (λ (q : Program _). got q ts) (none_more p)
 
-pub defs_end : {A : Type 0} (e : CursorError) (p : Program A) (ts : List Tok) (total : Read Tok (Program A)) → starts index def_firsts ts ≡ true → Fails e (def_line {A = A} ts) → extending p (defs ts) ≡ total → Fails e total
-defs_end ends.Memory p ts total h f so_far = tt
-defs_end (ends.Refused k at) p ts total h f so_far = defs_fail p ts k (seen at.now) total h f so_far
+pub defs_end : {A : Type 0} (e : CursorError) (left : List Tok) (p : Program A) (ts : List Tok) (total : Read Tok (Program A)) → starts index def_firsts ts ≡ true → Fails e left (def_line {A = A} ts) → extending p (defs ts) ≡ total → Fails e left total
+defs_end ends.Memory left p ts total h f so_far = tt
+defs_end (ends.Refused k) left p ts total h f so_far = defs_fail p ts k left total h f so_far

@@ -13,7 +13,7 @@ use Rattle.qil_tree.specs.declared.tree.Program.{Program}
 use Rattle.qil_parser.specs.Words.{left_out}
 use Rattle.qil_parser.specs.declared.program_cursor.Defined.{Defined}
 use Rattle.qil_parser.specs.Programs.{program_of}
-use Rattle.qil_parser.specs.Token.{Tok, seen}
+use Rattle.qil_parser.specs.Token.{Tok}
 use Rattle.qil_parser.specs.Fault.{TokenFault, last_line}
 
 -- ---- parse
@@ -37,15 +37,15 @@ IsRefusedAt code line (Err errors.OutOfMemory) = Unit {0}
 
 -- ---- what stands below it
 
--- unless memory ran out, reading fails there
-abbrev pub Fails : {A : Type 0} → CursorError → Read Tok A → Type 0
-Fails ends.Memory read = Unit {0}
-Fails (ends.Refused marked at) read = read ≡ failed marked (seen at.now)
+-- unless memory ran out, reading fails, and these tokens are left
+abbrev pub Fails : {A : Type 0} → CursorError → List Tok → Read Tok A → Type 0
+Fails ends.Memory rest read = Unit {0}
+Fails (ends.Refused marked) rest read = read ≡ failed marked rest
 
 -- unless memory ran out, reading gives what was returned, and these tokens are left
 abbrev pub Gives : {X A : Type 0} → (X → A) → List Tok → Result X CursorError → Read Tok A → Type 0
 Gives value rest (Ok x) read = read ≡ got (value x) rest
-Gives value rest (Err e) read = Fails e read
+Gives value rest (Err e) read = Fails e rest read
 
 abbrev pub closes : TokenKind → Bool
 closes kinds.CloseBrace = true
@@ -71,4 +71,4 @@ extended p q = record { datas = p.datas ++ q.datas; funcs = p.funcs ++ q.funcs; 
 abbrev pub Adds : {A : Type 0} → Program A → Defined A → Program A → Result (Unit {0}) CursorError → Type 0
 Adds before def after (Ok x) = after ≡ extended before (program_of (def ∷ []))
 Adds before def after (Err ends.Memory) = Unit {0}
-Adds before def after (Err (ends.Refused marked at)) = ⊥
+Adds before def after (Err (ends.Refused marked)) = ⊥

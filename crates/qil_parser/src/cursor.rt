@@ -1,7 +1,7 @@
 //! A cursor over the tokens, with a method for each phrase.
 
-ghost use Rattle.std.specs.Prelude.{◌≡◌, drop};
-ghost use Rattle.qil_language.specs.Reading.{starts};
+ghost use Rattle.std.specs.Prelude.{◌≡◌, drop, true};
+ghost use Rattle.qil_language.specs.Reading.{starts, got};
 ghost use Rattle.qil_parser.specs.Token.{HasNumbers, HasStrings, seen, index};
 ghost use Rattle.qil_parser.specs.Parsing as parsing;
 ghost use Rattle.qil_parser.specs.Grammar.{is_signed};
@@ -65,7 +65,7 @@ impl<'t, 'a> Cursor<'t, 'a> {
         }
     }
 
-    pub fn word(&mut self, wanted: Terminal) -> Result<(), CursorError<'t, 'a>>
+    pub fn word(&mut self, wanted: Terminal) -> Result<(), CursorError>
         ensures { Gives (λ x. tt) (seen self.new.rest.now) result (parsing.word wanted (seen self.old.rest.now)) }
     {
         match self.rest {
@@ -73,11 +73,11 @@ impl<'t, 'a> Cursor<'t, 'a> {
                 self.skip();
                 Ok(())
             }
-            _ => Err(CursorError::Refused(false, self.rest)),
+            _ => Err(CursorError::Refused(false)),
         }
     }
 
-    pub fn word_line(&mut self, wanted: Terminal) -> Result<u32, CursorError<'t, 'a>>
+    pub fn word_line(&mut self, wanted: Terminal) -> Result<u32, CursorError>
         ensures { Gives (λ x. x) (seen self.new.rest.now) result (parsing.word_line wanted (seen self.old.rest.now)) }
     {
         match self.rest {
@@ -85,11 +85,11 @@ impl<'t, 'a> Cursor<'t, 'a> {
                 self.skip();
                 Ok(first.line)
             }
-            _ => Err(CursorError::Refused(false, self.rest)),
+            _ => Err(CursorError::Refused(false)),
         }
     }
 
-    pub fn temp_name(&mut self) -> Result<(u32, Name<'a>), CursorError<'t, 'a>>
+    pub fn temp_name(&mut self) -> Result<(u32, Name<'a>), CursorError>
         ensures { Gives (λ x. (x.0, x.1)) (seen self.new.rest.now) result (parsing.temp_name (seen self.old.rest.now)) }
     {
         match self.rest {
@@ -97,11 +97,11 @@ impl<'t, 'a> Cursor<'t, 'a> {
                 self.skip();
                 Ok((first.line, token_name(first)))
             }
-            _ => Err(CursorError::Refused(false, self.rest)),
+            _ => Err(CursorError::Refused(false)),
         }
     }
 
-    pub fn label_name(&mut self) -> Result<(u32, Name<'a>), CursorError<'t, 'a>>
+    pub fn label_name(&mut self) -> Result<(u32, Name<'a>), CursorError>
         ensures { Gives (λ x. (x.0, x.1)) (seen self.new.rest.now) result (parsing.label_name (seen self.old.rest.now)) }
     {
         match self.rest {
@@ -109,11 +109,11 @@ impl<'t, 'a> Cursor<'t, 'a> {
                 self.skip();
                 Ok((first.line, token_name(first)))
             }
-            _ => Err(CursorError::Refused(false, self.rest)),
+            _ => Err(CursorError::Refused(false)),
         }
     }
 
-    pub fn global_name(&mut self) -> Result<(u32, Name<'a>), CursorError<'t, 'a>>
+    pub fn global_name(&mut self) -> Result<(u32, Name<'a>), CursorError>
         ensures { Gives (λ x. (x.0, x.1)) (seen self.new.rest.now) result (parsing.global_name (seen self.old.rest.now)) }
     {
         match self.rest {
@@ -121,24 +121,24 @@ impl<'t, 'a> Cursor<'t, 'a> {
                 self.skip();
                 Ok((first.line, token_name(first)))
             }
-            _ => Err(CursorError::Refused(false, self.rest)),
+            _ => Err(CursorError::Refused(false)),
         }
     }
 
-    pub fn class(&mut self) -> Result<Class, CursorError<'t, 'a>>
+    pub fn class(&mut self) -> Result<Class, CursorError>
         ensures { Gives (λ x. x) (seen self.new.rest.now) result (parsing.class_word (seen self.old.rest.now)) }
     {
         let class = match self.next() {
             Terminal::W => Class::W,
             Terminal::L => Class::L,
-            _ => return Err(CursorError::Refused(false, self.rest)),
+            _ => return Err(CursorError::Refused(false)),
         };
         self.skip();
         Ok(class)
     }
 
     /// One of the types that are parts of a word.
-    pub fn sub_word(&mut self) -> Result<AbiType, CursorError<'t, 'a>>
+    pub fn sub_word(&mut self) -> Result<AbiType, CursorError>
         ensures { Gives (λ x. x) (seen self.new.rest.now) result (parsing.sub_word (seen self.old.rest.now)) }
     {
         let abi_type = match self.next() {
@@ -146,14 +146,14 @@ impl<'t, 'a> Cursor<'t, 'a> {
             Terminal::Ub => AbiType::Ub,
             Terminal::Sh => AbiType::Sh,
             Terminal::Uh => AbiType::Uh,
-            _ => return Err(CursorError::Refused(false, self.rest)),
+            _ => return Err(CursorError::Refused(false)),
         };
         self.skip();
         Ok(abi_type)
     }
 
     #[tactic(auto, unfolding(crate::specs::Parsing::type_word))]
-    pub fn abi_type(&mut self) -> Result<AbiType, CursorError<'t, 'a>>
+    pub fn abi_type(&mut self) -> Result<AbiType, CursorError>
         ensures { Gives (λ x. x) (seen self.new.rest.now) result (parsing.type_word (seen self.old.rest.now)) }
     {
         if self.starts_class() {
@@ -163,7 +163,7 @@ impl<'t, 'a> Cursor<'t, 'a> {
         self.sub_word()
     }
 
-    pub fn perhaps_type(&mut self) -> Result<Option<AbiType>, CursorError<'t, 'a>>
+    pub fn perhaps_type(&mut self) -> Result<Option<AbiType>, CursorError>
         ensures { Gives (λ x. x) (seen self.new.rest.now) result (parsing.perhaps parsing.types parsing.type_word (seen self.old.rest.now)) }
     {
         if self.starts_type() {
@@ -173,7 +173,7 @@ impl<'t, 'a> Cursor<'t, 'a> {
     }
 
     #[tactic(auto, using(crate::proofs::Numbers::first_shape, crate::proofs::Numbers::first_range))]
-    pub fn val(&mut self) -> Result<Operand<'a>, CursorError<'t, 'a>>
+    pub fn val(&mut self) -> Result<Operand<'a>, CursorError>
         ensures { Gives (λ x. x) (seen self.new.rest.now) result (parsing.val (seen self.old.rest.now)) }
     {
         match self.rest {
@@ -191,13 +191,13 @@ impl<'t, 'a> Cursor<'t, 'a> {
                     self.skip();
                     Ok(Operand::Temp(token_name(first)))
                 }
-                _ => Err(CursorError::Refused(false, self.rest)),
+                _ => Err(CursorError::Refused(false)),
             },
-            [] => Err(CursorError::Refused(false, self.rest)),
+            [] => Err(CursorError::Refused(false)),
         }
     }
 
-    pub fn perhaps_val(&mut self) -> Result<Option<Operand<'a>>, CursorError<'t, 'a>>
+    pub fn perhaps_val(&mut self) -> Result<Option<Operand<'a>>, CursorError>
         ensures { Gives (λ x. x) (seen self.new.rest.now) result (parsing.perhaps parsing.values parsing.val (seen self.old.rest.now)) }
     {
         match self.next() {
@@ -208,7 +208,7 @@ impl<'t, 'a> Cursor<'t, 'a> {
 
     /// A number without sign.
     #[tactic(auto, using(crate::proofs::Numbers::first_shape, crate::proofs::Numbers::first_range))]
-    pub fn count(&mut self) -> Result<u64, CursorError<'t, 'a>>
+    pub fn count(&mut self) -> Result<u64, CursorError>
         ensures { Gives (λ x. x) (seen self.new.rest.now) result (parsing.count (seen self.old.rest.now)) }
     {
         match self.rest {
@@ -217,12 +217,12 @@ impl<'t, 'a> Cursor<'t, 'a> {
                 self.skip();
                 Ok(value)
             }
-            _ => Err(CursorError::Refused(false, self.rest)),
+            _ => Err(CursorError::Refused(false)),
         }
     }
 
     #[tactic(auto, unfolding(crate::specs::Parsing::two))]
-    pub fn two(&mut self) -> Result<(Operand<'a>, Operand<'a>), CursorError<'t, 'a>>
+    pub fn two(&mut self) -> Result<(Operand<'a>, Operand<'a>), CursorError>
         ensures { Gives (λ x. (x.0, x.1)) (seen self.new.rest.now) result (parsing.two (seen self.old.rest.now)) }
     {
         let left = self.val()?;
@@ -231,20 +231,19 @@ impl<'t, 'a> Cursor<'t, 'a> {
         Ok((left, right))
     }
 
-    /// The comma after an item of a list: another item may come after it, or none.
-    pub fn separator(&mut self) -> Result<(), CursorError<'t, 'a>>
-        ensures { Gives (λ x. tt) (seen self.new.rest.now) result (parsing.word comma (seen self.old.rest.now)) }
+    /// Goes past the comma after an item of a list, which comes next: another item may come after it, or none.
+    pub fn separator(&mut self)
+        ensures { starts index (parsing.the comma) (seen self.old.rest.now) ≡ true → parsing.word comma (seen self.old.rest.now) ≡ got tt (seen self.new.rest.now) }
     {
-        let comma = Terminal::Comma;
-        self.word(comma)
+        self.skip();
     }
 
     #[tactic(auto, unfolding(crate::specs::Parsing::line))]
-    pub fn line(&mut self) -> Result<(), CursorError<'t, 'a>>
+    pub fn line(&mut self) -> Result<(), CursorError>
         ensures { Gives (λ x. tt) (seen self.new.rest.now) result (parsing.line (seen self.old.rest.now)) }
     {
         if self.starts_with(Terminal::Newline) {
-            self.word(Terminal::Newline)?;
+            self.skip();
         }
         Ok(())
     }

@@ -3,18 +3,17 @@
 ghost use Rattle.std.specs.Prelude.{◌≡◌};
 ghost use Rattle.qil_parser.specs.declared.cursor_error.CursorError.TheVariants.{Memory};
 
-use qil_lexer::Token;
 use std::alloc::{AllocError, AllocFailed};
 
 /// Why reading stopped.
-#[derive(Drop)]
-pub enum CursorError<'t, 'a> {
+#[derive(Clone, Copy)]
+pub enum CursorError {
     Memory,
-    /// The token that fits nothing is the first of these; whether a block without a jump came before it.
-    Refused(bool, &'t [Token<'a>]),
+    /// The next token fits nothing; whether a block without a jump came before it.
+    Refused(bool),
 }
 
-impl From<AllocError> for CursorError<'_, '_> {
+impl From<AllocError> for CursorError {
     ghost from_gives = { λ _ e. e ≡ Memory };
 
     fn from(_error: AllocError) -> Self {
@@ -22,7 +21,7 @@ impl From<AllocError> for CursorError<'_, '_> {
     }
 }
 
-impl<T: Drop> From<AllocFailed<T>> for CursorError<'_, '_> {
+impl<T: Drop> From<AllocFailed<T>> for CursorError {
     ghost from_gives = { λ _ e. e ≡ Memory };
 
     fn from(_error: AllocFailed<T>) -> Self {

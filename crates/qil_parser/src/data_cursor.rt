@@ -26,7 +26,7 @@ impl<'t, 'a> Cursor<'t, 'a> {
         }
     }
 
-    fn loose_word(&mut self, wanted: Terminal) -> Result<(), CursorError<'t, 'a>>
+    fn loose_word(&mut self, wanted: Terminal) -> Result<(), CursorError>
         ensures { Gives (λ x. tt) (seen self.new.rest.now) result (reading.loose (parsing.word wanted) (seen self.old.rest.now)) }
     {
         self.word(wanted)?;
@@ -34,7 +34,7 @@ impl<'t, 'a> Cursor<'t, 'a> {
         Ok(())
     }
 
-    fn loose_name(&mut self) -> Result<(u32, Name<'a>), CursorError<'t, 'a>>
+    fn loose_name(&mut self) -> Result<(u32, Name<'a>), CursorError>
         ensures { Gives (λ x. (x.0, x.1)) (seen self.new.rest.now) result (reading.loose parsing.global_name (seen self.old.rest.now)) }
     {
         let name = self.global_name()?;
@@ -44,7 +44,7 @@ impl<'t, 'a> Cursor<'t, 'a> {
 
     /// A constant, as its 64 bits.
     #[tactic(auto, using(crate::proofs::Numbers::first_shape, crate::proofs::Numbers::first_range))]
-    fn constant(&mut self) -> Result<u64, CursorError<'t, 'a>>
+    fn constant(&mut self) -> Result<u64, CursorError>
         ensures { Gives (λ x. x) (seen self.new.rest.now) result (reading.constant (seen self.old.rest.now)) }
     {
         match self.rest {
@@ -53,11 +53,11 @@ impl<'t, 'a> Cursor<'t, 'a> {
                 self.skip();
                 Ok(value)
             }
-            _ => Err(CursorError::Refused(false, self.rest)),
+            _ => Err(CursorError::Refused(false)),
         }
     }
 
-    fn loose_count(&mut self) -> Result<u64, CursorError<'t, 'a>>
+    fn loose_count(&mut self) -> Result<u64, CursorError>
         ensures { Gives (λ x. x) (seen self.new.rest.now) result (reading.loose parsing.count (seen self.old.rest.now)) }
     {
         let value = self.count()?;
@@ -67,7 +67,7 @@ impl<'t, 'a> Cursor<'t, 'a> {
 
     /// A string, as the bytes that it represents.
     #[tactic(auto, using(crate::proofs::Strings::first_string, crate::proofs::Strings::string_is))]
-    fn text<A: Allocator + Copy>(&mut self, alloc: A) -> Result<Items<u8, A>, CursorError<'t, 'a>>
+    fn text<A: Allocator + Copy>(&mut self, alloc: A) -> Result<Items<u8, A>, CursorError>
         ensures { Gives (λ x. x) (seen self.new.rest.now) result (reading.text (seen self.old.rest.now)) }
     {
         match self.rest {
@@ -76,12 +76,12 @@ impl<'t, 'a> Cursor<'t, 'a> {
                 self.skip();
                 Ok(Items::new(bytes))
             }
-            _ => Err(CursorError::Refused(false, self.rest)),
+            _ => Err(CursorError::Refused(false)),
         }
     }
 
     #[tactic(auto, unfolding(crate::specs::DataParsing::number_item))]
-    fn number_item<A: Allocator + Copy>(&mut self) -> Result<Item<'a, A>, CursorError<'t, 'a>>
+    fn number_item<A: Allocator + Copy>(&mut self) -> Result<Item<'a, A>, CursorError>
         ensures { Gives (λ x. x) (seen self.new.rest.now) result (reading.number_item (seen self.old.rest.now)) }
     {
         let value = self.constant()?;
@@ -90,10 +90,7 @@ impl<'t, 'a> Cursor<'t, 'a> {
     }
 
     #[tactic(auto, unfolding(crate::specs::DataParsing::text_item))]
-    fn text_item<A: Allocator + Copy>(
-        &mut self,
-        alloc: A,
-    ) -> Result<Item<'a, A>, CursorError<'t, 'a>>
+    fn text_item<A: Allocator + Copy>(&mut self, alloc: A) -> Result<Item<'a, A>, CursorError>
         ensures { Gives (λ x. x) (seen self.new.rest.now) result (reading.text_item (seen self.old.rest.now)) }
     {
         let bytes = self.text(alloc)?;
@@ -103,18 +100,19 @@ impl<'t, 'a> Cursor<'t, 'a> {
 
     /// What is added to an address, 0 where nothing is.
     #[tactic(auto, unfolding(crate::specs::DataParsing::offset))]
-    fn offset(&mut self) -> Result<u64, CursorError<'t, 'a>>
+    fn offset(&mut self) -> Result<u64, CursorError>
         ensures { Gives (λ x. x) (seen self.new.rest.now) result (reading.offset (seen self.old.rest.now)) }
     {
         if !self.starts_with(Terminal::Plus) {
             return Ok(0);
         }
-        self.loose_word(Terminal::Plus)?;
+        self.skip();
+        self.newlines();
         self.loose_count()
     }
 
     #[tactic(auto, unfolding(crate::specs::DataParsing::address_item))]
-    fn address_item<A: Allocator + Copy>(&mut self) -> Result<Item<'a, A>, CursorError<'t, 'a>>
+    fn address_item<A: Allocator + Copy>(&mut self) -> Result<Item<'a, A>, CursorError>
         ensures { Gives (λ x. x) (seen self.new.rest.now) result (reading.address_item (seen self.old.rest.now)) }
     {
         let (_, name) = self.loose_name()?;
@@ -138,7 +136,7 @@ impl<'t, 'a> Cursor<'t, 'a> {
         &mut self,
         alloc: A,
         width: Width,
-    ) -> Result<Item<'a, A>, CursorError<'t, 'a>>
+    ) -> Result<Item<'a, A>, CursorError>
         ensures { Gives (λ x. x) (seen self.new.rest.now) result (reading.item width (seen self.old.rest.now)) }
     {
         if self.starts_with(Terminal::Number) {
@@ -157,7 +155,7 @@ impl<'t, 'a> Cursor<'t, 'a> {
         width: Width,
         first: Item<'a, A>,
         alloc: A,
-    ) -> Result<Items<Item<'a, A>, A>, CursorError<'t, 'a>>
+    ) -> Result<Items<Item<'a, A>, A>, CursorError>
         ensures { Gives (λ x. x) (seen self.new.rest.now) result (joined (first.entry ∷ []) (reading.items_of width (seen self.old.rest.now))) }
     {
         let mut items = Vec::new(alloc);
@@ -176,7 +174,7 @@ impl<'t, 'a> Cursor<'t, 'a> {
         alloc: A,
         width: Width,
         word: Terminal,
-    ) -> Result<Field<'a, A>, CursorError<'t, 'a>>
+    ) -> Result<Field<'a, A>, CursorError>
         requires { word ≡ width_mark width }
         ensures { Gives (λ x. x) (seen self.new.rest.now) result (reading.values width (seen self.old.rest.now)) }
     {
@@ -187,7 +185,7 @@ impl<'t, 'a> Cursor<'t, 'a> {
     }
 
     #[tactic(auto, unfolding(crate::specs::DataParsing::zeros))]
-    fn zeros<A: Allocator + Copy>(&mut self) -> Result<Field<'a, A>, CursorError<'t, 'a>>
+    fn zeros<A: Allocator + Copy>(&mut self) -> Result<Field<'a, A>, CursorError>
         ensures { Gives (λ x. x) (seen self.new.rest.now) result (reading.zeros (seen self.old.rest.now)) }
     {
         self.loose_word(Terminal::Z)?;
@@ -205,7 +203,7 @@ impl<'t, 'a> Cursor<'t, 'a> {
     }
 
     #[tactic(auto, unfolding(crate::specs::DataParsing::field))]
-    fn field<A: Allocator + Copy>(&mut self, alloc: A) -> Result<Field<'a, A>, CursorError<'t, 'a>>
+    fn field<A: Allocator + Copy>(&mut self, alloc: A) -> Result<Field<'a, A>, CursorError>
         ensures { Gives (λ x. x) (seen self.new.rest.now) result (reading.field (seen self.old.rest.now)) }
     {
         match self.next() {
@@ -221,7 +219,7 @@ impl<'t, 'a> Cursor<'t, 'a> {
     fn fields<A: Allocator + Copy>(
         &mut self,
         alloc: A,
-    ) -> Result<Items<Field<'a, A>, A>, CursorError<'t, 'a>>
+    ) -> Result<Items<Field<'a, A>, A>, CursorError>
         ensures { Gives (λ x. x) (seen self.new.rest.now) result (reading.fields_of (seen self.old.rest.now)) }
     {
         let mut items = Vec::new(alloc);
@@ -231,19 +229,21 @@ impl<'t, 'a> Cursor<'t, 'a> {
             if !self.starts_with(Terminal::Comma) {
                 return Ok(Items::new(items));
             }
-            self.loose_word(Terminal::Comma)?;
+            self.separator();
+            self.newlines();
         }
         Ok(Items::new(items))
     }
 
     #[tactic(auto, unfolding(crate::specs::DataParsing::alignment))]
-    fn alignment(&mut self) -> Result<Option<u64>, CursorError<'t, 'a>>
+    fn alignment(&mut self) -> Result<Option<u64>, CursorError>
         ensures { Gives (λ x. x) (seen self.new.rest.now) result (reading.alignment (seen self.old.rest.now)) }
     {
         if !self.starts_with(Terminal::Align) {
             return Ok(None);
         }
-        self.loose_word(Terminal::Align)?;
+        self.skip();
+        self.newlines();
         let align = self.loose_count()?;
         Ok(Some(align))
     }
@@ -252,7 +252,7 @@ impl<'t, 'a> Cursor<'t, 'a> {
     fn inside_data<A: Allocator + Copy>(
         &mut self,
         alloc: A,
-    ) -> Result<(Option<u64>, Items<Field<'a, A>, A>), CursorError<'t, 'a>>
+    ) -> Result<(Option<u64>, Items<Field<'a, A>, A>), CursorError>
         ensures { Gives (λ x. (x.0, x.1)) (seen self.new.rest.now) result (reading.inside_data (seen self.old.rest.now)) }
     {
         let align = self.alignment()?;
@@ -266,7 +266,7 @@ impl<'t, 'a> Cursor<'t, 'a> {
     pub fn data_definition<A: Allocator + Copy>(
         &mut self,
         alloc: A,
-    ) -> Result<Data<'a, A>, CursorError<'t, 'a>>
+    ) -> Result<Data<'a, A>, CursorError>
         ensures { Gives (λ x. x) (seen self.new.rest.now) result (reading.data_definition (seen self.old.rest.now)) }
     {
         self.loose_word(Terminal::Data)?;

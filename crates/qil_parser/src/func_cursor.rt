@@ -45,7 +45,7 @@ impl<'t, 'a> Cursor<'t, 'a> {
     }
 
     #[tactic(auto, unfolding(crate::specs::FunctionParsing::source))]
-    fn source(&mut self) -> Result<PhiSource<'a>, CursorError<'t, 'a>>
+    fn source(&mut self) -> Result<PhiSource<'a>, CursorError>
         ensures { Gives (λ x. x) (seen self.new.rest.now) result (functions.source (seen self.old.rest.now)) }
     {
         let (_, label) = self.label_name()?;
@@ -53,7 +53,7 @@ impl<'t, 'a> Cursor<'t, 'a> {
         Ok(PhiSource { label, value })
     }
 
-    fn next_source(&mut self) -> Result<PhiSource<'a>, CursorError<'t, 'a>>
+    fn next_source(&mut self) -> Result<PhiSource<'a>, CursorError>
         ensures { Gives (λ x. x) (seen self.new.rest.now) result (parsing.after comma functions.source (seen self.old.rest.now)) }
     {
         self.word(Terminal::Comma)?;
@@ -63,7 +63,7 @@ impl<'t, 'a> Cursor<'t, 'a> {
     fn more_sources<A: Allocator + Copy>(
         &mut self,
         mut items: Vec<PhiSource<'a>, A>,
-    ) -> Result<Items<PhiSource<'a>, A>, CursorError<'t, 'a>>
+    ) -> Result<Items<PhiSource<'a>, A>, CursorError>
         ensures { Gives (λ x. x) (seen self.new.rest.now) result (joined items.entry.items (functions.more_sources (seen self.old.rest.now))) }
     {
         'each: while self.starts_with(Terminal::Comma) {
@@ -78,7 +78,7 @@ impl<'t, 'a> Cursor<'t, 'a> {
     fn sources_line<A: Allocator + Copy>(
         &mut self,
         alloc: A,
-    ) -> Result<Items<PhiSource<'a>, A>, CursorError<'t, 'a>>
+    ) -> Result<Items<PhiSource<'a>, A>, CursorError>
         ensures { Gives (λ x. x) (seen self.new.rest.now) result (parsing.before functions.sources newline (seen self.old.rest.now)) }
     {
         self.word(Terminal::Phi)?;
@@ -94,7 +94,7 @@ impl<'t, 'a> Cursor<'t, 'a> {
         &mut self,
         mut items: Vec<Inst<'a, A>, A>,
         alloc: A,
-    ) -> Result<Items<Inst<'a, A>, A>, CursorError<'t, 'a>>
+    ) -> Result<Items<Inst<'a, A>, A>, CursorError>
         ensures { Gives (λ x. x) (seen self.new.rest.now) result (joined items.entry.items (functions.lines (seen self.old.rest.now))) }
     {
         'each: while self.starts_inst() {
@@ -109,7 +109,7 @@ impl<'t, 'a> Cursor<'t, 'a> {
         &mut self,
         first: Inst<'a, A>,
         alloc: A,
-    ) -> Result<Items<Inst<'a, A>, A>, CursorError<'t, 'a>>
+    ) -> Result<Items<Inst<'a, A>, A>, CursorError>
         ensures { Gives (λ x. x) (seen self.new.rest.now) result (joined (first.entry ∷ []) (parsing.after newline functions.lines (seen self.old.rest.now))) }
     {
         self.word(Terminal::Newline)?;
@@ -126,7 +126,7 @@ impl<'t, 'a> Cursor<'t, 'a> {
         name: Name<'a>,
         class: Class,
         alloc: A,
-    ) -> Result<Items<Inst<'a, A>, A>, CursorError<'t, 'a>>
+    ) -> Result<Items<Inst<'a, A>, A>, CursorError>
         ensures { Gives (λ x. x) (seen self.new.rest.now) result (functions.class_lines (line, name.entry) class (seen self.old.rest.now)) }
     {
         let first = self.of_class(line, name, class, alloc)?;
@@ -140,7 +140,7 @@ impl<'t, 'a> Cursor<'t, 'a> {
         line: u32,
         name: Name<'a>,
         alloc: A,
-    ) -> Result<Items<Inst<'a, A>, A>, CursorError<'t, 'a>>
+    ) -> Result<Items<Inst<'a, A>, A>, CursorError>
         ensures { Gives (λ x. x) (seen self.new.rest.now) result (functions.sub_lines (line, name.entry) (seen self.old.rest.now)) }
     {
         let first = self.of_sub(line, name, alloc)?;
@@ -152,7 +152,7 @@ impl<'t, 'a> Cursor<'t, 'a> {
     fn plain_lines<A: Allocator + Copy>(
         &mut self,
         alloc: A,
-    ) -> Result<Items<Inst<'a, A>, A>, CursorError<'t, 'a>>
+    ) -> Result<Items<Inst<'a, A>, A>, CursorError>
         ensures { Gives (λ x. x) (seen self.new.rest.now) result (functions.plain_lines (seen self.old.rest.now)) }
     {
         if self.starts_plain() {
@@ -166,7 +166,7 @@ impl<'t, 'a> Cursor<'t, 'a> {
     fn body<A: Allocator + Copy>(
         &mut self,
         alloc: A,
-    ) -> Result<(Items<Phi<'a, A>, A>, Items<Inst<'a, A>, A>), CursorError<'t, 'a>>
+    ) -> Result<(Items<Phi<'a, A>, A>, Items<Inst<'a, A>, A>), CursorError>
         ensures { Gives (λ x. (x.0, x.1)) (seen self.new.rest.now) result (functions.body (seen self.old.rest.now)) }
     {
         let mut phis = Vec::new(alloc);
@@ -202,7 +202,7 @@ impl<'t, 'a> Cursor<'t, 'a> {
             (u32, Name<'a>),
             (Items<Phi<'a, A>, A>, Items<Inst<'a, A>, A>),
         ),
-        CursorError<'t, 'a>,
+        CursorError,
     >
         ensures { Gives (λ x. ((x.0.0, x.0.1), (x.1.0, x.1.1))) (seen self.new.rest.now) result (functions.head (seen self.old.rest.now)) }
     {
@@ -213,7 +213,7 @@ impl<'t, 'a> Cursor<'t, 'a> {
     }
 
     #[tactic(auto, unfolding(crate::specs::FunctionParsing::jnz))]
-    fn jnz(&mut self) -> Result<Jump<'a>, CursorError<'t, 'a>>
+    fn jnz(&mut self) -> Result<Jump<'a>, CursorError>
         ensures { Gives (λ x. x) (seen self.new.rest.now) result (functions.jnz (seen self.old.rest.now)) }
     {
         let line = self.word_line(Terminal::Jnz)?;
@@ -228,7 +228,7 @@ impl<'t, 'a> Cursor<'t, 'a> {
         })
     }
 
-    fn jmp(&mut self) -> Result<Jump<'a>, CursorError<'t, 'a>>
+    fn jmp(&mut self) -> Result<Jump<'a>, CursorError>
         ensures { Gives (λ x. x) (seen self.new.rest.now) result (functions.jmp (seen self.old.rest.now)) }
     {
         let line = self.word_line(Terminal::Jmp)?;
@@ -239,7 +239,7 @@ impl<'t, 'a> Cursor<'t, 'a> {
         })
     }
 
-    fn ret(&mut self) -> Result<Jump<'a>, CursorError<'t, 'a>>
+    fn ret(&mut self) -> Result<Jump<'a>, CursorError>
         ensures { Gives (λ x. x) (seen self.new.rest.now) result (functions.ret (seen self.old.rest.now)) }
     {
         let line = self.word_line(Terminal::Ret)?;
@@ -250,7 +250,7 @@ impl<'t, 'a> Cursor<'t, 'a> {
         })
     }
 
-    fn hlt(&mut self) -> Result<Jump<'a>, CursorError<'t, 'a>>
+    fn hlt(&mut self) -> Result<Jump<'a>, CursorError>
         ensures { Gives (λ x. x) (seen self.new.rest.now) result (functions.hlt (seen self.old.rest.now)) }
     {
         let line = self.word_line(Terminal::Hlt)?;
@@ -261,7 +261,7 @@ impl<'t, 'a> Cursor<'t, 'a> {
     }
 
     #[tactic(auto, unfolding(crate::specs::FunctionParsing::jump))]
-    fn jump(&mut self) -> Result<Jump<'a>, CursorError<'t, 'a>>
+    fn jump(&mut self) -> Result<Jump<'a>, CursorError>
         ensures { Gives (λ x. x) (seen self.new.rest.now) result (functions.jump (seen self.old.rest.now)) }
     {
         match self.next() {
@@ -272,7 +272,7 @@ impl<'t, 'a> Cursor<'t, 'a> {
         }
     }
 
-    fn jump_line(&mut self) -> Result<Jump<'a>, CursorError<'t, 'a>>
+    fn jump_line(&mut self) -> Result<Jump<'a>, CursorError>
         ensures { Gives (λ x. x) (seen self.new.rest.now) result (functions.jump_line (seen self.old.rest.now)) }
     {
         let jump = self.jump()?;
@@ -282,7 +282,7 @@ impl<'t, 'a> Cursor<'t, 'a> {
 
     /// How a block ends: by a jump, or before the label of the next one.
     #[tactic(auto, unfolding(crate::specs::FunctionParsing::ending))]
-    fn ending(&mut self) -> Result<Jump<'a>, CursorError<'t, 'a>>
+    fn ending(&mut self) -> Result<Jump<'a>, CursorError>
         ensures { Gives (λ x. x) (seen self.new.rest.now) result (functions.ending (seen self.old.rest.now)) }
     {
         if self.starts_jump() {
@@ -293,12 +293,12 @@ impl<'t, 'a> Cursor<'t, 'a> {
                 line: first.line,
                 kind: JumpKind::Jmp(token_name(first)),
             }),
-            _ => Err(CursorError::Refused(true, self.rest)),
+            _ => Err(CursorError::Refused(true)),
         }
     }
 
     #[tactic(auto, unfolding(crate::specs::FunctionParsing::block))]
-    fn block<A: Allocator + Copy>(&mut self, alloc: A) -> Result<Block<'a, A>, CursorError<'t, 'a>>
+    fn block<A: Allocator + Copy>(&mut self, alloc: A) -> Result<Block<'a, A>, CursorError>
         ensures { Gives (λ x. x) (seen self.new.rest.now) result (functions.block (seen self.old.rest.now)) }
     {
         let ((line, label), (phis, insts)) = self.head(alloc)?;
@@ -316,7 +316,7 @@ impl<'t, 'a> Cursor<'t, 'a> {
         &mut self,
         mut items: Vec<Block<'a, A>, A>,
         alloc: A,
-    ) -> Result<Items<Block<'a, A>, A>, CursorError<'t, 'a>>
+    ) -> Result<Items<Block<'a, A>, A>, CursorError>
         ensures { Gives (λ x. x) (seen self.new.rest.now) result (joined items.entry.items (functions.more_blocks (seen self.old.rest.now))) }
     {
         'each: while self.starts_with(Terminal::Label) {
@@ -330,7 +330,7 @@ impl<'t, 'a> Cursor<'t, 'a> {
     fn blocks<A: Allocator + Copy>(
         &mut self,
         alloc: A,
-    ) -> Result<Items<Block<'a, A>, A>, CursorError<'t, 'a>>
+    ) -> Result<Items<Block<'a, A>, A>, CursorError>
         ensures { Gives (λ x. x) (seen self.new.rest.now) result (functions.blocks (seen self.old.rest.now)) }
     {
         let first = self.block(alloc)?;
@@ -340,7 +340,7 @@ impl<'t, 'a> Cursor<'t, 'a> {
     }
 
     #[tactic(auto, unfolding(crate::specs::FunctionParsing::param))]
-    fn param(&mut self) -> Result<Param<'a>, CursorError<'t, 'a>>
+    fn param(&mut self) -> Result<Param<'a>, CursorError>
         ensures { Gives (λ x. x) (seen self.new.rest.now) result (functions.param (seen self.old.rest.now)) }
     {
         let abi_type = self.abi_type()?;
@@ -349,10 +349,7 @@ impl<'t, 'a> Cursor<'t, 'a> {
     }
 
     /// Parameters with commas between them, and perhaps one at the end.
-    fn params<A: Allocator + Copy>(
-        &mut self,
-        alloc: A,
-    ) -> Result<Items<Param<'a>, A>, CursorError<'t, 'a>>
+    fn params<A: Allocator + Copy>(&mut self, alloc: A) -> Result<Items<Param<'a>, A>, CursorError>
         ensures { Gives (λ x. x) (seen self.new.rest.now) result (functions.params (seen self.old.rest.now)) }
     {
         let mut items = Vec::new(alloc);
@@ -362,7 +359,7 @@ impl<'t, 'a> Cursor<'t, 'a> {
             if !self.starts_with(Terminal::Comma) {
                 return Ok(Items::new(items));
             }
-            self.separator()?;
+            self.separator();
         }
         Ok(Items::new(items))
     }
@@ -371,7 +368,7 @@ impl<'t, 'a> Cursor<'t, 'a> {
     fn all_params<A: Allocator + Copy>(
         &mut self,
         alloc: A,
-    ) -> Result<Items<Param<'a>, A>, CursorError<'t, 'a>>
+    ) -> Result<Items<Param<'a>, A>, CursorError>
         ensures { Gives (λ x. x) (seen self.new.rest.now) result (functions.all_params (seen self.old.rest.now)) }
     {
         self.word(Terminal::OpenParen)?;
@@ -381,7 +378,7 @@ impl<'t, 'a> Cursor<'t, 'a> {
     }
 
     #[tactic(auto, unfolding(crate::specs::FunctionParsing::opening))]
-    fn opening(&mut self) -> Result<(), CursorError<'t, 'a>>
+    fn opening(&mut self) -> Result<(), CursorError>
         ensures { Gives (λ x. tt) (seen self.new.rest.now) result (functions.opening (seen self.old.rest.now)) }
     {
         self.line()?;
@@ -394,7 +391,7 @@ impl<'t, 'a> Cursor<'t, 'a> {
     fn top<A: Allocator + Copy>(
         &mut self,
         alloc: A,
-    ) -> Result<(Option<AbiType>, ((u32, Name<'a>), Items<Param<'a>, A>)), CursorError<'t, 'a>>
+    ) -> Result<(Option<AbiType>, ((u32, Name<'a>), Items<Param<'a>, A>)), CursorError>
         ensures { Gives (λ x. (x.0, ((x.1.0.0, x.1.0.1), x.1.1))) (seen self.new.rest.now) result (functions.top (seen self.old.rest.now)) }
     {
         self.word(Terminal::Function)?;
@@ -406,10 +403,7 @@ impl<'t, 'a> Cursor<'t, 'a> {
     }
 
     #[tactic(auto, unfolding(crate::specs::FunctionParsing::func))]
-    pub fn func<A: Allocator + Copy>(
-        &mut self,
-        alloc: A,
-    ) -> Result<Func<'a, A>, CursorError<'t, 'a>>
+    pub fn func<A: Allocator + Copy>(&mut self, alloc: A) -> Result<Func<'a, A>, CursorError>
         ensures { Gives (λ x. x) (seen self.new.rest.now) result (functions.func (seen self.old.rest.now)) }
     {
         let (returns, ((line, name), params)) = self.top(alloc)?;

@@ -12,87 +12,13 @@ use crate::cursor::Cursor;
 use crate::cursor_error::CursorError;
 use crate::terminal::Terminal;
 use qil_tree::{
-    AbiType, AllocOp, Argument, BinaryOp, CallResult, Class, CompareOp, Expr, Extension, Inst,
-    InstKind, Items, LoadOp, Name, Operand, Target, UnaryOp, Width,
+    AbiType, Argument, CallResult, Class, Expr, Inst, InstKind, Items, Name, Operand, Target, Width,
 };
 use std::alloc::Allocator;
 
 impl<'t, 'a> Cursor<'t, 'a> {
-    fn unary_word(&mut self) -> Result<UnaryOp, CursorError<'t, 'a>>
-        ensures { Gives (λ x. x) (seen self.new.rest.now) result (functions.unary_word (seen self.old.rest.now)) }
-    {
-        match self.next() {
-            Terminal::Unary(op) => {
-                self.skip();
-                Ok(op)
-            }
-            _ => Err(CursorError::Refused(false, self.rest)),
-        }
-    }
-
-    fn binary_word(&mut self) -> Result<BinaryOp, CursorError<'t, 'a>>
-        ensures { Gives (λ x. x) (seen self.new.rest.now) result (functions.binary_word (seen self.old.rest.now)) }
-    {
-        match self.next() {
-            Terminal::Binary(op) => {
-                self.skip();
-                Ok(op)
-            }
-            _ => Err(CursorError::Refused(false, self.rest)),
-        }
-    }
-
-    /// A comparison and the class of its operands.
-    fn compare_word(&mut self) -> Result<(CompareOp, Class), CursorError<'t, 'a>>
-        ensures { Gives (λ x. (x.0, x.1)) (seen self.new.rest.now) result (functions.compare_word (seen self.old.rest.now)) }
-    {
-        match self.next() {
-            Terminal::Compare(op, class) => {
-                self.skip();
-                Ok((op, class))
-            }
-            _ => Err(CursorError::Refused(false, self.rest)),
-        }
-    }
-
-    fn extend_word(&mut self) -> Result<Extension, CursorError<'t, 'a>>
-        ensures { Gives (λ x. x) (seen self.new.rest.now) result (functions.extend_word (seen self.old.rest.now)) }
-    {
-        match self.next() {
-            Terminal::Extend(op) => {
-                self.skip();
-                Ok(op)
-            }
-            _ => Err(CursorError::Refused(false, self.rest)),
-        }
-    }
-
-    fn load_word(&mut self) -> Result<LoadOp, CursorError<'t, 'a>>
-        ensures { Gives (λ x. x) (seen self.new.rest.now) result (functions.load_word (seen self.old.rest.now)) }
-    {
-        match self.next() {
-            Terminal::Load(op) => {
-                self.skip();
-                Ok(op)
-            }
-            _ => Err(CursorError::Refused(false, self.rest)),
-        }
-    }
-
-    fn alloc_word(&mut self) -> Result<AllocOp, CursorError<'t, 'a>>
-        ensures { Gives (λ x. x) (seen self.new.rest.now) result (functions.alloc_word (seen self.old.rest.now)) }
-    {
-        match self.next() {
-            Terminal::Alloc(op) => {
-                self.skip();
-                Ok(op)
-            }
-            _ => Err(CursorError::Refused(false, self.rest)),
-        }
-    }
-
     /// How wide a store is, and the line of its word.
-    fn store_word(&mut self) -> Result<(u32, Width), CursorError<'t, 'a>>
+    fn store_word(&mut self) -> Result<(u32, Width), CursorError>
         ensures { Gives (λ x. (x.0, x.1)) (seen self.new.rest.now) result (functions.store_word (seen self.old.rest.now)) }
     {
         match (self.next(), self.rest) {
@@ -100,13 +26,13 @@ impl<'t, 'a> Cursor<'t, 'a> {
                 self.skip();
                 Ok((first.line, width))
             }
-            _ => Err(CursorError::Refused(false, self.rest)),
+            _ => Err(CursorError::Refused(false)),
         }
     }
 
     /// A temporary and `=`, with the line of the temporary.
     #[tactic(auto, unfolding(crate::specs::FunctionParsing::dest))]
-    pub fn dest(&mut self) -> Result<(u32, Name<'a>), CursorError<'t, 'a>>
+    pub fn dest(&mut self) -> Result<(u32, Name<'a>), CursorError>
         ensures { Gives (λ x. (x.0, x.1)) (seen self.new.rest.now) result (functions.dest (seen self.old.rest.now)) }
     {
         let (line, name) = self.temp_name()?;
@@ -115,40 +41,41 @@ impl<'t, 'a> Cursor<'t, 'a> {
     }
 
     #[tactic(auto, unfolding(crate::specs::FunctionParsing::extend_or_load))]
-    fn extend_or_load(&mut self) -> Result<Expr<'a>, CursorError<'t, 'a>>
+    fn extend_or_load(&mut self) -> Result<Expr<'a>, CursorError>
         ensures { Gives (λ x. x) (seen self.new.rest.now) result (functions.extend_or_load (seen self.old.rest.now)) }
     {
         match self.next() {
-            Terminal::Extend(_) => {
-                let op = self.extend_word()?;
+            Terminal::Extend(op) => {
+                self.skip();
                 let value = self.val()?;
                 Ok(Expr::Extend(op, value))
             }
-            _ => {
-                let op = self.load_word()?;
+            Terminal::Load(op) => {
+                self.skip();
                 let at = self.val()?;
                 Ok(Expr::Load(op, at))
             }
+            _ => Err(CursorError::Refused(false)),
         }
     }
 
     #[tactic(auto, unfolding(crate::specs::FunctionParsing::expr))]
-    fn expr(&mut self) -> Result<Expr<'a>, CursorError<'t, 'a>>
+    fn expr(&mut self) -> Result<Expr<'a>, CursorError>
         ensures { Gives (λ x. x) (seen self.new.rest.now) result (functions.expr (seen self.old.rest.now)) }
     {
         match self.next() {
-            Terminal::Unary(_) => {
-                let op = self.unary_word()?;
+            Terminal::Unary(op) => {
+                self.skip();
                 let value = self.val()?;
                 Ok(Expr::Unary(op, value))
             }
-            Terminal::Binary(_) => {
-                let op = self.binary_word()?;
+            Terminal::Binary(op) => {
+                self.skip();
                 let (left, right) = self.two()?;
                 Ok(Expr::Binary(op, left, right))
             }
-            Terminal::Compare(_, _) => {
-                let (op, class) = self.compare_word()?;
+            Terminal::Compare(op, class) => {
+                self.skip();
                 let (left, right) = self.two()?;
                 Ok(Expr::Compare(op, class, left, right))
             }
@@ -157,7 +84,7 @@ impl<'t, 'a> Cursor<'t, 'a> {
     }
 
     #[tactic(auto, unfolding(crate::specs::FunctionParsing::argument))]
-    fn argument(&mut self) -> Result<Argument<'a>, CursorError<'t, 'a>>
+    fn argument(&mut self) -> Result<Argument<'a>, CursorError>
         ensures { Gives (λ x. x) (seen self.new.rest.now) result (functions.argument (seen self.old.rest.now)) }
     {
         let abi_type = self.abi_type()?;
@@ -169,7 +96,7 @@ impl<'t, 'a> Cursor<'t, 'a> {
     fn arguments<A: Allocator + Copy>(
         &mut self,
         alloc: A,
-    ) -> Result<Items<Argument<'a>, A>, CursorError<'t, 'a>>
+    ) -> Result<Items<Argument<'a>, A>, CursorError>
         ensures { Gives (λ x. x) (seen self.new.rest.now) result (functions.arguments (seen self.old.rest.now)) }
     {
         let mut items = Vec::new(alloc);
@@ -179,7 +106,7 @@ impl<'t, 'a> Cursor<'t, 'a> {
             if !self.starts_with(Terminal::Comma) {
                 return Ok(Items::new(items));
             }
-            self.separator()?;
+            self.separator();
         }
         let all = Items::new(items);
         Ok(all)
@@ -190,7 +117,7 @@ impl<'t, 'a> Cursor<'t, 'a> {
     fn callee<A: Allocator + Copy>(
         &mut self,
         alloc: A,
-    ) -> Result<(Operand<'a>, Items<Argument<'a>, A>), CursorError<'t, 'a>>
+    ) -> Result<(Operand<'a>, Items<Argument<'a>, A>), CursorError>
         ensures { Gives (λ x. (x.0, x.1)) (seen self.new.rest.now) result (functions.callee (seen self.old.rest.now)) }
     {
         let callee = self.val()?;
@@ -204,15 +131,14 @@ impl<'t, 'a> Cursor<'t, 'a> {
     fn called<A: Allocator + Copy>(
         &mut self,
         alloc: A,
-    ) -> Result<(Operand<'a>, Items<Argument<'a>, A>), CursorError<'t, 'a>>
+    ) -> Result<(Operand<'a>, Items<Argument<'a>, A>), CursorError>
         ensures { Gives (λ x. (x.0, x.1)) (seen self.new.rest.now) result (functions.called (seen self.old.rest.now)) }
     {
         self.word(Terminal::Call)?;
-        let (callee, arguments) = self.callee(alloc)?;
-        Ok((callee, arguments))
+        self.callee(alloc)
     }
 
-    fn store<A: Allocator + Copy>(&mut self) -> Result<Inst<'a, A>, CursorError<'t, 'a>>
+    fn store<A: Allocator + Copy>(&mut self) -> Result<Inst<'a, A>, CursorError>
         ensures { Gives (λ x. x) (seen self.new.rest.now) result (functions.store (seen self.old.rest.now)) }
     {
         let (line, width) = self.store_word()?;
@@ -223,7 +149,7 @@ impl<'t, 'a> Cursor<'t, 'a> {
         })
     }
 
-    fn blit<A: Allocator + Copy>(&mut self) -> Result<Inst<'a, A>, CursorError<'t, 'a>>
+    fn blit<A: Allocator + Copy>(&mut self) -> Result<Inst<'a, A>, CursorError>
         ensures { Gives (λ x. x) (seen self.new.rest.now) result (functions.blit (seen self.old.rest.now)) }
     {
         let line = self.word_line(Terminal::Blit)?;
@@ -236,10 +162,7 @@ impl<'t, 'a> Cursor<'t, 'a> {
         })
     }
 
-    fn plain_call<A: Allocator + Copy>(
-        &mut self,
-        alloc: A,
-    ) -> Result<Inst<'a, A>, CursorError<'t, 'a>>
+    fn plain_call<A: Allocator + Copy>(&mut self, alloc: A) -> Result<Inst<'a, A>, CursorError>
         ensures { Gives (λ x. x) (seen self.new.rest.now) result (functions.plain_call (seen self.old.rest.now)) }
     {
         let line = self.word_line(Terminal::Call)?;
@@ -252,10 +175,7 @@ impl<'t, 'a> Cursor<'t, 'a> {
 
     /// An instruction without a destination.
     #[tactic(auto, unfolding(crate::specs::FunctionParsing::plain))]
-    pub fn plain<A: Allocator + Copy>(
-        &mut self,
-        alloc: A,
-    ) -> Result<Inst<'a, A>, CursorError<'t, 'a>>
+    pub fn plain<A: Allocator + Copy>(&mut self, alloc: A) -> Result<Inst<'a, A>, CursorError>
         ensures { Gives (λ x. x) (seen self.new.rest.now) result (functions.plain (seen self.old.rest.now)) }
     {
         match self.next() {
@@ -273,7 +193,7 @@ impl<'t, 'a> Cursor<'t, 'a> {
         name: Name<'a>,
         class: Class,
         alloc: A,
-    ) -> Result<Inst<'a, A>, CursorError<'t, 'a>>
+    ) -> Result<Inst<'a, A>, CursorError>
         ensures { Gives (λ x. x) (seen self.new.rest.now) result (image (λ f. f class (line, name.entry)) functions.of_class (seen self.old.rest.now)) }
     {
         match self.next() {
@@ -288,8 +208,8 @@ impl<'t, 'a> Cursor<'t, 'a> {
                     kind: InstKind::Assign(Target { name, class }, value),
                 })
             }
-            Terminal::Alloc(_) => {
-                let op = self.alloc_word()?;
+            Terminal::Alloc(op) => {
+                self.skip();
                 let size = self.val()?;
                 Ok(Inst {
                     line,
@@ -314,7 +234,7 @@ impl<'t, 'a> Cursor<'t, 'a> {
         line: u32,
         name: Name<'a>,
         alloc: A,
-    ) -> Result<Inst<'a, A>, CursorError<'t, 'a>>
+    ) -> Result<Inst<'a, A>, CursorError>
         ensures { Gives (λ x. x) (seen self.new.rest.now) result (image (λ f. f (line, name.entry)) functions.of_sub (seen self.old.rest.now)) }
     {
         let abi_type = self.sub_word()?;
@@ -331,7 +251,7 @@ impl<'t, 'a> Cursor<'t, 'a> {
         line: u32,
         name: Name<'a>,
         alloc: A,
-    ) -> Result<Inst<'a, A>, CursorError<'t, 'a>>
+    ) -> Result<Inst<'a, A>, CursorError>
         ensures { Gives (λ x. x) (seen self.new.rest.now) result (image (λ f. f (line, name.entry)) functions.of_dest (seen self.old.rest.now)) }
     {
         if self.starts_class() {
@@ -342,7 +262,7 @@ impl<'t, 'a> Cursor<'t, 'a> {
     }
 
     #[tactic(auto, unfolding(crate::specs::FunctionParsing::inst))]
-    fn inst<A: Allocator + Copy>(&mut self, alloc: A) -> Result<Inst<'a, A>, CursorError<'t, 'a>>
+    fn inst<A: Allocator + Copy>(&mut self, alloc: A) -> Result<Inst<'a, A>, CursorError>
         ensures { Gives (λ x. x) (seen self.new.rest.now) result (functions.inst (seen self.old.rest.now)) }
     {
         if self.starts_with(Terminal::Temp) {
@@ -352,10 +272,7 @@ impl<'t, 'a> Cursor<'t, 'a> {
         self.plain(alloc)
     }
 
-    pub fn inst_line<A: Allocator + Copy>(
-        &mut self,
-        alloc: A,
-    ) -> Result<Inst<'a, A>, CursorError<'t, 'a>>
+    pub fn inst_line<A: Allocator + Copy>(&mut self, alloc: A) -> Result<Inst<'a, A>, CursorError>
         ensures { Gives (λ x. x) (seen self.new.rest.now) result (parsing.before functions.inst newline (seen self.old.rest.now)) }
     {
         let inst = self.inst(alloc)?;

@@ -109,7 +109,7 @@ pub fn parse<'a, A: Allocator + Copy>(
     match cursor.program(alloc) {
         Ok(program) => whole(tokens, program, cursor.rest),
         Err(CursorError::Memory) => Err(ParseError::OutOfMemory),
-        Err(CursorError::Refused(marked, left)) => Err(refusal(tokens, marked, left)),
+        Err(CursorError::Refused(marked)) => Err(refusal(tokens, marked, cursor.rest)),
     }
 }
 

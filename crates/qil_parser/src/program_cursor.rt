@@ -50,7 +50,7 @@ impl<'a, A: Allocator + Copy> Parts<'a, A> {
     }
 
     /// Adds a definition at the end.
-    fn add<'t>(&mut self, def: Defined<'a, A>) -> Result<(), CursorError<'t, 'a>>
+    fn add(&mut self, def: Defined<'a, A>) -> Result<(), CursorError>
         ensures { Adds self.old def.entry self.new result }
     {
         match def {
@@ -79,17 +79,17 @@ impl<'a, A: Allocator + Copy> Parts<'a, A> {
 
 impl<'t, 'a> Cursor<'t, 'a> {
     #[tactic(auto, unfolding(crate::specs::DataParsing::link))]
-    fn link(&mut self) -> Result<(), CursorError<'t, 'a>>
+    fn link(&mut self) -> Result<(), CursorError>
         ensures { Gives (λ x. tt) (seen self.new.rest.now) result (reading.link (seen self.old.rest.now)) }
     {
         if self.starts_with(Terminal::Export) {
-            self.word(Terminal::Export)?;
+            self.skip();
             return self.line();
         }
         self.word(Terminal::Section)?;
         self.word(Terminal::Quoted)?;
         if self.starts_with(Terminal::Quoted) {
-            self.word(Terminal::Quoted)?;
+            self.skip();
         }
         self.line()
     }
@@ -100,7 +100,7 @@ impl<'t, 'a> Cursor<'t, 'a> {
         matches!(self.next(), Terminal::Export | Terminal::Section)
     }
 
-    fn links(&mut self) -> Result<(), CursorError<'t, 'a>>
+    fn links(&mut self) -> Result<(), CursorError>
         ensures { Gives (λ x. tt) (seen self.new.rest.now) result (reading.links (seen self.old.rest.now)) }
     {
         'each: while self.starts_link() {
@@ -110,10 +110,7 @@ impl<'t, 'a> Cursor<'t, 'a> {
     }
 
     #[tactic(auto, unfolding(crate::specs::DataParsing::thing))]
-    fn thing<A: Allocator + Copy>(
-        &mut self,
-        alloc: A,
-    ) -> Result<Defined<'a, A>, CursorError<'t, 'a>>
+    fn thing<A: Allocator + Copy>(&mut self, alloc: A) -> Result<Defined<'a, A>, CursorError>
         ensures { Gives (λ x. x) (seen self.new.rest.now) result (reading.thing (seen self.old.rest.now)) }
     {
         if self.starts_with(Terminal::Data) {
@@ -125,10 +122,7 @@ impl<'t, 'a> Cursor<'t, 'a> {
     }
 
     #[tactic(auto, unfolding(crate::specs::DataParsing::def_line, crate::specs::DataParsing::def))]
-    fn def_line<A: Allocator + Copy>(
-        &mut self,
-        alloc: A,
-    ) -> Result<Defined<'a, A>, CursorError<'t, 'a>>
+    fn def_line<A: Allocator + Copy>(&mut self, alloc: A) -> Result<Defined<'a, A>, CursorError>
         ensures { Gives (λ x. x) (seen self.new.rest.now) result (reading.def_line (seen self.old.rest.now)) }
     {
         self.links()?;
@@ -147,17 +141,14 @@ impl<'t, 'a> Cursor<'t, 'a> {
     }
 
     #[tactic(auto, unfolding(crate::specs::DataParsing::program))]
-    pub fn program<A: Allocator + Copy>(
-        &mut self,
-        alloc: A,
-    ) -> Result<Program<'a, A>, CursorError<'t, 'a>>
+    pub fn program<A: Allocator + Copy>(&mut self, alloc: A) -> Result<Program<'a, A>, CursorError>
         ensures { Gives (λ x. x) (seen self.new.rest.now) result (reading.program (seen self.old.rest.now)) }
     {
         self.line()?;
         self.defs(alloc)
     }
 
-    fn defs<A: Allocator + Copy>(&mut self, alloc: A) -> Result<Program<'a, A>, CursorError<'t, 'a>>
+    fn defs<A: Allocator + Copy>(&mut self, alloc: A) -> Result<Program<'a, A>, CursorError>
         ensures { Gives (λ x. x) (seen self.new.rest.now) result (image program_of reading.defs (seen self.old.rest.now)) }
     {
         let mut parts = Parts::new(alloc);

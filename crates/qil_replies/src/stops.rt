@@ -14,7 +14,7 @@ use std::alloc::Allocator;
 /// Puts the line of each stop.
 fn put_listed<'c, P: Put, A: Allocator + Copy>(
     out: &mut P,
-    code: &'c Code<'c, A>,
+    code: &Code<'c, A>,
     stops: &[NumberedStop],
 ) -> Result<(), PutError>
     requires { P.stops out.old < 2 ^ 64 - 1 }
@@ -29,7 +29,7 @@ fn put_listed<'c, P: Put, A: Allocator + Copy>(
 /// Puts the line of each stop, or that there is none.
 pub fn put_stops<'c, P: Put, A: Allocator + Copy>(
     out: &mut P,
-    code: &'c Code<'c, A>,
+    code: &Code<'c, A>,
     stops: &[NumberedStop],
 ) -> Result<(), PutError>
     requires { P.stops out.old < 2 ^ 64 - 1 }

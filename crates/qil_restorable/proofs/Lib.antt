@@ -1,2 +1,3 @@
 -- The lemmas.
 pub mod Told
+pub mod Unbroken

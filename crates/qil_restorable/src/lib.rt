@@ -6,8 +6,6 @@ mod looking;
 mod restorable;
 mod watchable;
 
-pub use looking::{
-    first_break, first_watch, is_over, may_stop, may_stop_alone, read_again, readings, stopped,
-};
+pub use looking::{first_break, first_watch, is_over, may_hold, read_again, readings, stopped};
 pub use restorable::Restorable;
 pub use watchable::{HasCopies, Watchable};

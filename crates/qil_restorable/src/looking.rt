@@ -89,7 +89,7 @@ pub fn readings<A: Allocator + Copy, C: HasProgram<A>, M: Watchable<A, C>>(
 /// Whether the first of the stops may hold: where there is no other, whether any may. Without a loop, it costs little in the
 /// loop of a run.
 #[inline(always)]
-pub fn may_stop_alone<A: Allocator + Copy, C: HasProgram<A>, M: Watchable<A, C>>(
+fn may_stop_alone<A: Allocator + Copy, C: HasProgram<A>, M: Watchable<A, C>>(
     stops: &[NumberedStop],
     before: &[Option<u64>],
     machine: &M,
@@ -195,8 +195,9 @@ fn may_be_met<A: Allocator + Copy, C: HasProgram<A>, M: Watchable<A, C>>(
 
 /// Whether any stop may hold. Where none may, what was read before is what is read now, and no breakpoint is there. It looks at
 /// each stop once.
-#[inline(always)]
-pub fn may_stop<A: Allocator + Copy, C: HasProgram<A>, M: Watchable<A, C>>(
+// A function of its own: its loop would take the processor's registers from that of a run.
+#[inline(never)]
+fn may_stop<A: Allocator + Copy, C: HasProgram<A>, M: Watchable<A, C>>(
     stops: &[NumberedStop],
     before: &[Option<u64>],
     machine: &M,
@@ -213,6 +214,28 @@ pub fn may_stop<A: Allocator + Copy, C: HasProgram<A>, M: Watchable<A, C>>(
         }
     }
     false
+}
+
+/// The same, as a run asks it behind each step: without stops, and with one, there is no call.
+#[inline(always)]
+pub fn may_hold<A: Allocator + Copy, C: HasProgram<A>, M: Watchable<A, C>>(
+    stops: &[NumberedStop],
+    before: &[Option<u64>],
+    machine: &M,
+) -> bool
+    requires count { length before.now ≡ length stops.now }
+    requires readable { AreReadable stops.now }
+    ensures quiet { result ≡ false → AllTell (M.present machine.now).program (state_of (M.present machine.now)) stops.now before.now }
+    ensures unbroken { result ≡ false → first_break (state_of (M.present machine.now)) (named_stops (M.present machine.now).program stops.now) ≡ None }
+    ensures none { length stops.now ≡ 0 → result ≡ false }
+{
+    if stops.is_empty() {
+        return false;
+    }
+    if stops.len() > 1 {
+        return may_stop(stops, before, machine);
+    }
+    may_stop_alone(stops, before, machine)
 }
 
 /// The number of the first watch that reads otherwise than before. What was read before is then what is read now.

@@ -30,7 +30,7 @@ fn made_reply<'r>(made: Result<u64, StopError>, kind: StopKind) -> Reply<'r>
 /// Replies to `break $f @b K`.
 pub fn add_break<'c, 'r, A: Allocator + Copy>(
     stops: &mut Stops<A>,
-    code: &'c Code<'c, A>,
+    code: &Code<'c, A>,
     func: &[u8],
     at: Option<BreakPlace<'_>>,
 ) -> Reply<'r>
@@ -47,7 +47,7 @@ pub fn add_break<'c, 'r, A: Allocator + Copy>(
 /// Replies to `watch b ADDR`.
 pub fn watch_bytes<'c, 'r, A: Allocator + Copy>(
     stops: &mut Stops<A>,
-    code: &'c Code<'c, A>,
+    code: &Code<'c, A>,
     width: Width,
     address: Address<'_>,
 ) -> Reply<'r>
@@ -66,7 +66,7 @@ pub fn watch_bytes<'c, 'r, A: Allocator + Copy>(
 /// Replies to `watch $f %x`.
 pub fn watch_temp<'c, 'r, A: Allocator + Copy>(
     stops: &mut Stops<A>,
-    code: &'c Code<'c, A>,
+    code: &Code<'c, A>,
     func: &[u8],
     name: &[u8],
 ) -> Reply<'r>

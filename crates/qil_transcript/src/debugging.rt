@@ -253,9 +253,9 @@ fn debug_copies<
 }
 
 /// Debugs a program whose code is flat.
-fn debug_flat<'c, A: Allocator + Copy + 'c, S: Source, P: Put>(
+fn debug_flat<'c, 't, A: Allocator + Copy + 'c, S: Source, P: Put>(
     alloc: A,
-    code: &'c FlatCode<'c, A>,
+    code: &'c FlatCode<'t, A>,
     loaded: &Loaded<'_>,
     request: &Request<'_>,
     budget: u64,
@@ -285,9 +285,9 @@ fn debug_flat<'c, A: Allocator + Copy + 'c, S: Source, P: Put>(
 }
 
 /// Debugs a program that is numbered, over undo records.
-fn debug_records<'c, A: Allocator + Copy + 'c, S: Source, P: Put>(
+fn debug_records<'c, 't, A: Allocator + Copy + 'c, S: Source, P: Put>(
     alloc: A,
-    code: &'c Code<'c, A>,
+    code: &'c Code<'t, A>,
     loaded: &Loaded<'_>,
     request: &Request<'_>,
     source: &mut S,
@@ -313,9 +313,9 @@ fn debug_records<'c, A: Allocator + Copy + 'c, S: Source, P: Put>(
 }
 
 /// Debugs a program that is numbered.
-fn debug_code<'c, A: Allocator + Copy + 'c, S: Source, P: Put>(
+fn debug_code<'c, 't, A: Allocator + Copy + 'c, S: Source, P: Put>(
     alloc: A,
-    code: &'c Code<'c, A>,
+    code: &'c Code<'t, A>,
     loaded: &Loaded<'_>,
     request: &Request<'_>,
     source: &mut S,
@@ -345,11 +345,11 @@ fn debug_code<'c, A: Allocator + Copy + 'c, S: Source, P: Put>(
 }
 
 /// Debugs a program that is laid out.
-fn debug_laid_out<'c, A: Allocator + Copy, S: Source, P: Put>(
+fn debug_laid_out<'t, A: Allocator + Copy, S: Source, P: Put>(
     alloc: A,
     keys: RandomState,
-    checked: &'c Checked<'c, A>,
-    image: &'c Image<'c, A>,
+    checked: &Checked<'t, A>,
+    image: &Image<'t, A>,
     request: &Request<'_>,
     source: &mut S,
     out: &mut P,

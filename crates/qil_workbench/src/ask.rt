@@ -55,14 +55,14 @@ fn ask_code<R: Print, A: Allocator + Copy>(
 }
 
 /// Numbers a program, and asks its code.
-fn ask_laid_out<'c, R: Print, A: Allocator + Copy>(
+fn ask_laid_out<'t, R: Print, A: Allocator + Copy>(
     rt: &R,
     alloc: A,
     keys: RandomState,
     question: Question,
     behind: &[u8],
-    checked: &'c Checked<'c, A>,
-    image: &'c Image<'c, A>,
+    checked: &Checked<'t, A>,
+    image: &Image<'t, A>,
 ) -> Answer
     requires { image.now ≡ checked.now.program }
 {

@@ -114,10 +114,10 @@ fn ask_started<'c, R: Print, A: Allocator + Copy + 'c>(
 }
 
 /// Starts a machine, and asks both histories from there on.
-fn ask_text<'c, R: Print, A: Allocator + Copy + 'c>(
+fn ask_text<'c, 't, R: Print, A: Allocator + Copy + 'c>(
     rt: &R,
     alloc: A,
-    code: &'c Code<'c, A>,
+    code: &'c Code<'t, A>,
     lines: &str,
 ) -> Answer {
     match Machine::start(alloc, code, b"main", &[]) {
@@ -127,10 +127,10 @@ fn ask_text<'c, R: Print, A: Allocator + Copy + 'c>(
 }
 
 /// Asks both histories for moves, from the start of the program's run on.
-pub fn ask_histories<'c, R: Print, A: Allocator + Copy>(
+pub fn ask_histories<'c, 't, R: Print, A: Allocator + Copy>(
     rt: &R,
     alloc: A,
-    code: &'c Code<'c, A>,
+    code: &'c Code<'t, A>,
     words: &[u8],
 ) -> Answer {
     match str::from_utf8(words) {

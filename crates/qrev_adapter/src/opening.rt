@@ -167,8 +167,8 @@ fn open_machine<'c, 'p, 'a, 'l, A: Allocator + Copy + 'c, S: Source, W: Sink, F:
 }
 
 /// Serves a program that is numbered.
-fn open_code<'c, 'p, 'a, 'l, A: Allocator + Copy + 'c, S: Source, W: Sink, F: Files<A>>(
-    code: &'c Code<'c, A>,
+fn open_code<'c, 't, 'p, 'a, 'l, A: Allocator + Copy + 'c, S: Source, W: Sink, F: Files<A>>(
+    code: &'c Code<'t, A>,
     opening: Opening<'l>,
     program: &'p Program<'a, A>,
     loaded: &Loaded<'_>,
@@ -207,11 +207,11 @@ fn opening_of<'l, A: Allocator>(text: &'l [u8], launch: &'l Launch<A>) -> Openin
 }
 
 /// Serves a program that is laid out.
-fn open_laid_out<'c, 'l, A: Allocator + Copy, S: Source, W: Sink, F: Files<A>>(
+fn open_laid_out<'c, 't, 'l, A: Allocator + Copy, S: Source, W: Sink, F: Files<A>>(
     keys: RandomState,
     opening: Opening<'l>,
-    checked: &'c Checked<'c, A>,
-    image: &'c Image<'c, A>,
+    checked: &'c Checked<'t, A>,
+    image: &'c Image<'t, A>,
     launch: &'l Launch<A>,
     request: Request<'_>,
     files: &F,

@@ -1,11 +1,12 @@
 //! `completions`: the commands, and the names that a sigil begins.
 
 use qil_answers::temp_name;
-use qil_code::Slot;
+use qil_code::{Code, Slot};
+use qil_layout::FuncId;
 use qil_machine::Machine;
-use qil_tree::Program;
+use qil_tree::{Block, Data, Func, Program};
 use qrev_debuggee::{Body, Debuggee, Failure, HasMachine};
-use qrev_protocol::{Array, InObject, Whole};
+use qrev_protocol::{Array, InArray, InObject, Object, Whole};
 use qrev_requests::Arguments;
 use qrev_views::{as_text, frame_of};
 use std::alloc::{AllocError, Allocator};
@@ -18,19 +19,46 @@ const COMMANDS: [&str; 16] = [
     "step", "stops", "temps", "watch", "where",
 ];
 
+/// The list of what is offered.
+type Targets<A> = Array<A, InObject<InObject<Whole>>>;
+
+/// An item of it.
+type Target<A> = Object<A, InArray<InObject<InObject<Whole>>>>;
+
 /// The list that is filled, the word that is to be completed, and where it begins.
 #[derive(Drop)]
 struct Offer<'w, A: Allocator> {
     alloc: A,
-    list: Array<A, InObject<InObject<Whole>>>,
+    list: Targets<A>,
     word: &'w str,
     start: u64,
     count: usize,
 }
 
+/// Begins an item with a label.
+fn begin_target<A: Allocator>(
+    list: Targets<A>,
+    label: &str,
+    kind: &str,
+) -> Result<Target<A>, AllocError> {
+    list.object()?.text("label", label)?.text("type", kind)
+}
+
+/// Ends it with what the label stands in place of.
+fn end_target<A: Allocator>(
+    target: Target<A>,
+    start: u64,
+    length: usize,
+) -> Result<Targets<A>, AllocError> {
+    target
+        .number("start", start)?
+        .number("length", length as u64)?
+        .end_item()
+}
+
 impl<'w, A: Allocator + Copy> Offer<'w, A> {
-    /// Adds a label, if the word is how it begins.
-    fn add(self, label: &str, kind: &str) -> Result<Self, AllocError> {
+    /// Adds a label that begins with the word.
+    fn put(self, label: &str, kind: &str) -> Result<Self, AllocError> {
         let Offer {
             alloc,
             list,
@@ -38,43 +66,57 @@ impl<'w, A: Allocator + Copy> Offer<'w, A> {
             start,
             count,
         } = self;
-        if count >= MOST || !label.starts_with(word) {
-            return Ok(Offer {
-                alloc,
-                list,
-                word,
-                start,
-                count,
-            });
-        }
-        let list = list
-            .object()?
-            .text("label", label)?
-            .text("type", kind)?
-            .number("start", start)?
-            .number("length", word.len() as u64)?
-            .end_item()?;
+        let list = end_target(begin_target(list, label, kind)?, start, word.len())?;
         Ok(Offer {
             alloc,
             list,
             word,
             start,
-            count: count + 1,
+            count: count.saturating_add(1),
         })
+    }
+
+    /// Adds a label, if the word is how it begins.
+    fn add(self, label: &str, kind: &str) -> Result<Self, AllocError> {
+        if self.count >= MOST || !label.starts_with(self.word) {
+            return Ok(self);
+        }
+        self.put(label, kind)
     }
 
     /// Adds a name after its sigil, with which the word begins. What doesn't fit the word is passed over before a text is made of it.
     fn add_name(self, sigil: &str, name: &[u8], kind: &str) -> Result<Self, AllocError> {
-        if let Some((_, wanted)) = self.word.as_bytes().split_first() {
-            if self.count >= MOST || !name.starts_with(wanted) {
-                return Ok(self);
-            }
+        if !could_begin(self.word, self.count, name) {
+            return Ok(self);
         }
-        let mut label = String::from_str(self.alloc, sigil)?;
-        let name = as_text(self.alloc, name)?;
-        label.push_str(name.as_str())?;
+        self.add_fitting(sigil, name, kind)
+    }
+
+    /// Adds such a name, if the word is how the text of both begins.
+    fn add_fitting(self, sigil: &str, name: &[u8], kind: &str) -> Result<Self, AllocError> {
+        let label = sigiled(self.alloc, sigil, name)?;
         self.add(label.as_str(), kind)
     }
+}
+
+/// Whether a word may be how a name begins after its sigil, and there is room for it.
+fn could_begin(word: &str, count: usize, name: &[u8]) -> bool {
+    match word.as_bytes().split_first() {
+        Some((_, wanted)) => count < MOST && name.starts_with(wanted),
+        None => true,
+    }
+}
+
+/// A name after its sigil.
+fn sigiled<A: Allocator + Copy>(
+    alloc: A,
+    sigil: &str,
+    name: &[u8],
+) -> Result<String<A>, AllocError> {
+    let name = as_text(alloc, name)?;
+    let mut label = String::from_str(alloc, sigil)?;
+    label.push_str(name.as_str())?;
+    Ok(label)
 }
 
 /// The word that ends a text, and how many bytes stand before it.
@@ -85,24 +127,58 @@ fn last_word(text: &str) -> (&str, usize) {
     }
 }
 
+/// Offers as many temporaries of a function.
+fn offer_temps_of<'w, A: Allocator + Copy>(
+    offer: Offer<'w, A>,
+    code: &Code<'_, A>,
+    func: FuncId,
+    count: u16,
+) -> Result<Offer<'w, A>, AllocError> {
+    let mut offer = offer;
+    for index in 0..count {
+        offer = offer.add_name("%", temp_name(code, func, Slot { index }), "variable")?;
+    }
+    Ok(offer)
+}
+
+/// The function of a frame, and how many temporaries it has, if there is such a frame.
+fn temps_in<A: Allocator + Copy>(machine: &Machine<'_, A>, number: u64) -> Option<(FuncId, u16)> {
+    let frame = frame_of(machine, number)?;
+    Some((frame.func(), frame.slots().len() as u16))
+}
+
 /// Offers the temporaries of a frame.
 fn offer_temps<'w, A: Allocator + Copy>(
     offer: Offer<'w, A>,
     machine: &Machine<'_, A>,
     number: u64,
 ) -> Result<Offer<'w, A>, AllocError> {
-    let Some(frame) = frame_of(machine, number) else {
-        return Ok(offer);
-    };
-    let code = machine.code();
+    match temps_in(machine, number) {
+        Some((func, count)) => offer_temps_of(offer, machine.code(), func, count),
+        None => Ok(offer),
+    }
+}
+
+/// Offers the labels of blocks.
+fn offer_labels_of<'w, A: Allocator + Copy>(
+    offer: Offer<'w, A>,
+    blocks: &[Block<'_, A>],
+) -> Result<Offer<'w, A>, AllocError> {
     let mut offer = offer;
-    for index in 0..frame.slots().len() {
-        let slot = Slot {
-            index: index as u16,
-        };
-        offer = offer.add_name("%", temp_name(code, frame.func(), slot), "variable")?;
+    for block in blocks {
+        offer = offer.add_name("@", block.label.bytes(), "reference")?;
     }
     Ok(offer)
+}
+
+/// The text of the function of a frame, if there is such a frame.
+fn func_of<'p, 'a, A: Allocator + Copy>(
+    machine: &Machine<'_, A>,
+    program: &'p Program<'a, A>,
+    number: u64,
+) -> Option<&'p Func<'a, A>> {
+    let index = frame_of(machine, number)?.func().index;
+    program.funcs.as_slice().get(usize::from(index))
 }
 
 /// Offers the labels of the function of a frame.
@@ -112,18 +188,32 @@ fn offer_labels<'w, A: Allocator + Copy>(
     program: &Program<'_, A>,
     number: u64,
 ) -> Result<Offer<'w, A>, AllocError> {
-    let Some(frame) = frame_of(machine, number) else {
-        return Ok(offer);
-    };
+    match func_of(machine, program, number) {
+        Some(func) => offer_labels_of(offer, func.blocks.as_slice()),
+        None => Ok(offer),
+    }
+}
+
+/// Offers functions.
+fn offer_funcs<'w, A: Allocator + Copy>(
+    offer: Offer<'w, A>,
+    funcs: &[Func<'_, A>],
+) -> Result<Offer<'w, A>, AllocError> {
     let mut offer = offer;
-    if let Some(func) = program
-        .funcs
-        .as_slice()
-        .get(usize::from(frame.func().index))
-    {
-        for block in func.blocks.as_slice() {
-            offer = offer.add_name("@", block.label.bytes(), "reference")?;
-        }
+    for func in funcs {
+        offer = offer.add_name("$", func.name.bytes(), "function")?;
+    }
+    Ok(offer)
+}
+
+/// Offers data.
+fn offer_datas<'w, A: Allocator + Copy>(
+    offer: Offer<'w, A>,
+    datas: &[Data<'_, A>],
+) -> Result<Offer<'w, A>, AllocError> {
+    let mut offer = offer;
+    for data in datas {
+        offer = offer.add_name("$", data.name.bytes(), "variable")?;
     }
     Ok(offer)
 }
@@ -133,14 +223,10 @@ fn offer_globals<'w, A: Allocator + Copy>(
     offer: Offer<'w, A>,
     program: &Program<'_, A>,
 ) -> Result<Offer<'w, A>, AllocError> {
-    let mut offer = offer;
-    for func in program.funcs.as_slice() {
-        offer = offer.add_name("$", func.name.bytes(), "function")?;
-    }
-    for data in program.datas.as_slice() {
-        offer = offer.add_name("$", data.name.bytes(), "variable")?;
-    }
-    Ok(offer)
+    offer_datas(
+        offer_funcs(offer, program.funcs.as_slice())?,
+        program.datas.as_slice(),
+    )
 }
 
 /// Offers the commands.
@@ -154,36 +240,92 @@ fn offer_commands<'w, A: Allocator + Copy>(
     Ok(offer)
 }
 
+/// The word that is to be completed, where it begins, and whether nothing stands before it.
+#[derive(Clone, Copy)]
+struct Typed<'w> {
+    word: &'w str,
+    start: u64,
+    is_first: bool,
+}
+
+/// The word that ends at a column of a line. The first column has this number.
+fn typed_in<'q, A: Allocator + Copy>(asked: Arguments<'_, 'q, A>, first: u64) -> Typed<'q> {
+    let text = asked.text("text").unwrap_or("");
+    let column = asked
+        .number("column")
+        .unwrap_or(u64::MAX)
+        .saturating_sub(first);
+    let end = column.min(text.len() as u64) as usize;
+    let (word, before) = last_word(text.get(..end).unwrap_or(text));
+    Typed {
+        word,
+        start: (before as u64).saturating_add(first),
+        is_first: before == 0,
+    }
+}
+
+/// Offers what no frame has, if the word asks for it.
+fn offer_outside<'w, A: Allocator + Copy>(
+    offer: Offer<'w, A>,
+    typed: Typed<'_>,
+    program: &Program<'_, A>,
+) -> Result<Offer<'w, A>, AllocError> {
+    match typed.word.as_bytes().first() {
+        Some(b'$') => offer_globals(offer, program),
+        _ if typed.is_first => offer_commands(offer),
+        _ => Ok(offer),
+    }
+}
+
+/// Offers what the sigil of the word asks for: of the frame of a number, or of the program.
+fn offer_fitting<'w, A: Allocator + Copy>(
+    offer: Offer<'w, A>,
+    typed: Typed<'_>,
+    machine: &Machine<'_, A>,
+    program: &Program<'_, A>,
+    number: u64,
+) -> Result<Offer<'w, A>, AllocError> {
+    match typed.word.as_bytes().first() {
+        Some(b'%') => offer_temps(offer, machine, number),
+        Some(b'@') => offer_labels(offer, machine, program, number),
+        _ => offer_outside(offer, typed, program),
+    }
+}
+
+/// Adds what may stand in place of a word.
+fn put_targets<A: Allocator + Copy>(
+    alloc: A,
+    body: Body<A>,
+    typed: Typed<'_>,
+    machine: &Machine<'_, A>,
+    program: &Program<'_, A>,
+    number: u64,
+) -> Result<Body<A>, AllocError> {
+    let offer = Offer {
+        alloc,
+        list: body.array("targets")?,
+        word: typed.word,
+        start: typed.start,
+        count: 0,
+    };
+    let Offer { list, .. } = offer_fitting(offer, typed, machine, program, number)?;
+    list.end()
+}
+
 /// Adds what may stand in place of the word that ends at a column of a line.
 pub fn completions<'c, A: Allocator + Copy + 'c, L: HasMachine<A, Machine<'c, A>>>(
     debuggee: &Debuggee<'_, '_, '_, A, L>,
     asked: Arguments<'_, '_, A>,
     body: Body<A>,
 ) -> Result<Body<A>, Failure> {
-    let text = asked.text("text").unwrap_or("");
-    let first = u64::from(debuggee.shown.numbering.first_column);
-    let column = asked
-        .number("column")
-        .unwrap_or(u64::MAX)
-        .saturating_sub(first);
-    let end = column.min(text.len() as u64) as usize;
-    let text = text.get(..end).unwrap_or(text);
-    let (word, before) = last_word(text);
+    let typed = typed_in(asked, u64::from(debuggee.shown.numbering.first_column));
     let number = asked.number("frameId").unwrap_or(1);
-    let offer = Offer {
-        alloc: debuggee.alloc,
-        list: body.array("targets")?,
-        word,
-        start: (before as u64).saturating_add(first),
-        count: 0,
-    };
-    let offer = match word.as_bytes().first() {
-        Some(b'%') => offer_temps(offer, debuggee.machine(), number)?,
-        Some(b'@') => offer_labels(offer, debuggee.machine(), debuggee.program, number)?,
-        Some(b'$') => offer_globals(offer, debuggee.program)?,
-        _ if before == 0 => offer_commands(offer)?,
-        _ => offer,
-    };
-    let Offer { list, .. } = offer;
-    Ok(list.end()?)
+    Ok(put_targets(
+        debuggee.alloc,
+        body,
+        typed,
+        debuggee.machine(),
+        debuggee.program,
+        number,
+    )?)
 }

@@ -23,6 +23,27 @@ enum Named {
     Address(u64),
 }
 
+/// Adds what a temporary holds.
+fn put_temp<A: Allocator + Copy>(
+    alloc: A,
+    body: Body<A>,
+    value: Option<u64>,
+    class: Option<Class>,
+) -> Result<Body<A>, AllocError> {
+    let value = value_text(alloc, value)?;
+    put_result(body, value.as_str())?.text("type", class_letter(class))
+}
+
+/// Adds an address.
+fn put_address<A: Allocator + Copy>(
+    alloc: A,
+    body: Body<A>,
+    address: u64,
+) -> Result<Body<A>, AllocError> {
+    let address = number_text(alloc, address)?;
+    put_result(body, address.as_str())?.text("memoryReference", address.as_str())
+}
+
 /// Adds what an expression names.
 fn put_named<A: Allocator + Copy>(
     alloc: A,
@@ -30,14 +51,8 @@ fn put_named<A: Allocator + Copy>(
     named: Named,
 ) -> Result<Body<A>, AllocError> {
     match named {
-        Named::Temp(value, class) => {
-            let value = value_text(alloc, value)?;
-            put_result(body, value.as_str())?.text("type", class_letter(class))
-        }
-        Named::Address(address) => {
-            let address = number_text(alloc, address)?;
-            put_result(body, address.as_str())?.text("memoryReference", address.as_str())
-        }
+        Named::Temp(value, class) => put_temp(alloc, body, value, class),
+        Named::Address(address) => put_address(alloc, body, address),
     }
 }
 
@@ -91,16 +106,11 @@ fn named_by<A: Allocator + Copy>(
     }
 }
 
-/// Answers lines of commands, adds their answers, and says why the run stands if one of them moved the session.
-fn console<'c, A: Allocator + Copy + 'c, L: HasMachine<A, Machine<'c, A>>>(
+/// Answers lines of commands, and says why the run stands if one of them moved the session.
+fn answer_lines<'c, A: Allocator + Copy + 'c, L: HasMachine<A, Machine<'c, A>>>(
     debuggee: &mut Debuggee<'_, '_, '_, A, L>,
     text: &str,
-    body: Body<A>,
-) -> Result<(Body<A>, Option<Why>), Failure> {
-    if has_quit(text) {
-        return Err(Failure::Because(Cause::QuitInConsole));
-    }
-    let from = debuggee.answered();
+) -> Result<Option<Why>, Failure> {
     let mut why = None;
     for line in text.split('\n') {
         match debuggee.line(line.as_bytes())? {
@@ -109,8 +119,45 @@ fn console<'c, A: Allocator + Copy + 'c, L: HasMachine<A, Machine<'c, A>>>(
             _ => {}
         }
     }
-    let answers = as_text(debuggee.alloc, debuggee.answers_from(from))?;
-    Ok((put_result(body, answers.as_str())?, why))
+    Ok(why)
+}
+
+/// Adds answers as a result.
+fn put_answers<A: Allocator + Copy>(
+    alloc: A,
+    body: Body<A>,
+    answers: &[u8],
+) -> Result<Body<A>, AllocError> {
+    let answers = as_text(alloc, answers)?;
+    put_result(body, answers.as_str())
+}
+
+/// Answers lines of commands, adds their answers, and says why the run stands if one of them moved the session.
+fn console<'c, A: Allocator + Copy + 'c, L: HasMachine<A, Machine<'c, A>>>(
+    debuggee: &mut Debuggee<'_, '_, '_, A, L>,
+    text: &str,
+    body: Body<A>,
+) -> Result<(Body<A>, Option<Why>), Failure> {
+    let from = debuggee.answered();
+    let why = answer_lines(debuggee, text)?;
+    let body = put_answers(debuggee.alloc, body, debuggee.answers_from(from))?;
+    Ok((body, why))
+}
+
+/// What is made of an expression that names nothing: in the console it is lines of commands.
+fn answer_unnamed<'c, A: Allocator + Copy + 'c, L: HasMachine<A, Machine<'c, A>>>(
+    debuggee: &mut Debuggee<'_, '_, '_, A, L>,
+    context: &str,
+    text: &str,
+    body: Body<A>,
+) -> Result<(Body<A>, Option<Why>), Failure> {
+    if context != "repl" {
+        return Err(Failure::Because(Cause::NoSuchName));
+    }
+    if has_quit(text) {
+        return Err(Failure::Because(Cause::QuitInConsole));
+    }
+    console(debuggee, text, body)
 }
 
 /// Adds the value of an expression, or in the console the answers to commands.
@@ -125,7 +172,6 @@ pub fn evaluate<'c, A: Allocator + Copy + 'c, L: HasMachine<A, Machine<'c, A>>>(
     let is_bare = context == "hover";
     match named_by(debuggee.machine(), number, expression.as_bytes(), is_bare) {
         Some(named) => Ok((put_named(debuggee.alloc, body, named)?, None)),
-        None if context == "repl" => console(debuggee, expression, body),
-        None => Err(Failure::Because(Cause::NoSuchName)),
+        None => answer_unnamed(debuggee, context, expression, body),
     }
 }

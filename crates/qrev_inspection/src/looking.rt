@@ -8,7 +8,7 @@ use qrev_requests::Arguments;
 use qrev_views::{
     DATA, MACHINE, Page, frame_of, put_data, put_frames, put_machine, put_scopes, put_temps,
 };
-use std::alloc::Allocator;
+use std::alloc::{AllocError, Allocator};
 
 /// What a frame holds of the temporary of a name, without its sigil, and its class.
 pub fn temp_in<A: Allocator + Copy>(
@@ -52,6 +52,20 @@ pub fn stack_trace<'c, A: Allocator + Copy + 'c, L: HasMachine<A, Machine<'c, A>
     )?)
 }
 
+/// Adds the scopes of the frame of a number. Where no call is open, the first one stands for the end of the run.
+fn frame_scopes<A: Allocator + Copy>(
+    machine: &Machine<'_, A>,
+    number: u64,
+    datas: usize,
+    body: Body<A>,
+) -> Result<Body<A>, Failure> {
+    let frame = frame_of(machine, number);
+    if frame.is_none() && (number != 1 || !machine.frames().is_empty()) {
+        return Err(Failure::Because(Cause::NoSuchFrame));
+    }
+    Ok(put_scopes(body, frame, number, datas)?)
+}
+
 /// Adds the scopes of a frame.
 pub fn scopes<'c, A: Allocator + Copy + 'c, L: HasMachine<A, Machine<'c, A>>>(
     debuggee: &Debuggee<'_, '_, '_, A, L>,
@@ -59,13 +73,68 @@ pub fn scopes<'c, A: Allocator + Copy + 'c, L: HasMachine<A, Machine<'c, A>>>(
     body: Body<A>,
 ) -> Result<Body<A>, Failure> {
     let number = asked.number("frameId").unwrap_or(0);
-    let frame = frame_of(debuggee.machine(), number);
-    let is_end = number == 1 && debuggee.depth() == 0;
-    if frame.is_none() && !is_end {
-        return Err(Failure::Because(Cause::NoSuchFrame));
-    }
     let datas = debuggee.program.datas.as_slice().len();
-    Ok(put_scopes(body, frame, number, datas)?)
+    frame_scopes(debuggee.machine(), number, datas, body)
+}
+
+/// Adds the variables of the machine.
+fn machine_variables<'c, A: Allocator + Copy + 'c, L: HasMachine<A, Machine<'c, A>>>(
+    debuggee: &Debuggee<'_, '_, '_, A, L>,
+    page: Page,
+    body: Body<A>,
+) -> Result<Body<A>, AllocError> {
+    put_machine(
+        debuggee.alloc,
+        body.array("variables")?,
+        debuggee.position(),
+        debuggee.oldest(),
+        debuggee.machine(),
+        page,
+    )?
+    .end()
+}
+
+/// Adds the data of the program.
+fn data_variables<'c, A: Allocator + Copy + 'c, L: HasMachine<A, Machine<'c, A>>>(
+    debuggee: &Debuggee<'_, '_, '_, A, L>,
+    page: Page,
+    body: Body<A>,
+) -> Result<Body<A>, AllocError> {
+    put_data(
+        debuggee.alloc,
+        body.array("variables")?,
+        debuggee.machine(),
+        debuggee.program,
+        page,
+    )?
+    .end()
+}
+
+/// Adds the temporaries of a frame. Those of the innermost one can be set.
+fn temp_variables<A: Allocator + Copy>(
+    alloc: A,
+    machine: &Machine<'_, A>,
+    frame: &Frame<A>,
+    is_innermost: bool,
+    page: Page,
+    body: Body<A>,
+) -> Result<Body<A>, AllocError> {
+    let list = body.array("variables")?;
+    put_temps(alloc, list, machine, frame, is_innermost, page)?.end()
+}
+
+/// Adds the temporaries of the frame of a number, if there is one.
+fn frame_variables<A: Allocator + Copy>(
+    alloc: A,
+    machine: &Machine<'_, A>,
+    number: u64,
+    page: Page,
+    body: Body<A>,
+) -> Result<Body<A>, Failure> {
+    match frame_of(machine, number) {
+        Some(frame) => Ok(temp_variables(alloc, machine, frame, number == 1, page, body)?),
+        None => Err(Failure::Because(Cause::NoSuchVariables)),
+    }
 }
 
 /// Adds the variables of a scope.
@@ -74,25 +143,10 @@ pub fn variables<'c, A: Allocator + Copy + 'c, L: HasMachine<A, Machine<'c, A>>>
     asked: Arguments<'_, '_, A>,
     body: Body<A>,
 ) -> Result<Body<A>, Failure> {
-    let reference = asked.number("variablesReference").unwrap_or(0);
     let page = page_said(asked, "start", "count");
-    let alloc = debuggee.alloc;
-    let machine = debuggee.machine();
-    if reference == MACHINE {
-        let list = body.array("variables")?;
-        let position = debuggee.position();
-        let oldest = debuggee.oldest();
-        return Ok(put_machine(alloc, list, position, oldest, machine, page)?.end()?);
-    }
-    if reference == DATA {
-        let list = body.array("variables")?;
-        return Ok(put_data(alloc, list, machine, debuggee.program, page)?.end()?);
-    }
-    match frame_of(machine, reference) {
-        Some(frame) => {
-            let list = body.array("variables")?;
-            Ok(put_temps(alloc, list, machine, frame, reference == 1, page)?.end()?)
-        }
-        None => Err(Failure::Because(Cause::NoSuchVariables)),
+    match asked.number("variablesReference").unwrap_or(0) {
+        MACHINE => Ok(machine_variables(debuggee, page, body)?),
+        DATA => Ok(data_variables(debuggee, page, body)?),
+        number => frame_variables(debuggee.alloc, debuggee.machine(), number, page, body),
     }
 }

@@ -8,25 +8,32 @@ use qil_pieces::Fragment;
 use qrev_debuggee::{Body, Cause, Debuggee, Failure, HasMachine};
 use qrev_requests::Arguments;
 use qrev_views::number_text;
-use std::alloc::Allocator;
+use std::alloc::{AllocError, Allocator};
 
 /// The most bytes that one request reads.
 const READ_LIMIT: u64 = 65_536;
 
+/// The offset that is said: none is 0.
+fn offset_said<A: Allocator + Copy>(asked: Arguments<'_, '_, A>) -> Option<i64> {
+    match asked.get("offset") {
+        Some(_) => asked.signed("offset"),
+        None => Some(0),
+    }
+}
+
+/// The address at an offset from another.
+fn address_at(start: u64, offset: i64) -> u64 {
+    if offset < 0 {
+        start.wrapping_sub(offset.unsigned_abs())
+    } else {
+        start.wrapping_add(offset.unsigned_abs())
+    }
+}
+
 /// The address that a reference and an offset say.
 fn address_said<A: Allocator + Copy>(asked: Arguments<'_, '_, A>) -> Option<u64> {
     let start = asked.text("memoryReference")?.parse::<u64>().ok()?;
-    match asked.get("offset") {
-        None => Some(start),
-        Some(_) => {
-            let offset = asked.signed("offset")?;
-            Some(if offset < 0 {
-                start.wrapping_sub(offset.unsigned_abs())
-            } else {
-                start.wrapping_add(offset.unsigned_abs())
-            })
-        }
-    }
+    Some(address_at(start, offset_said(asked)?))
 }
 
 /// The widest poke that fits into so many bytes: its letter, and its width.
@@ -73,32 +80,81 @@ fn live_bytes<A: Allocator + Copy>(
     Ok(bytes)
 }
 
+/// Adds an address.
+fn put_address<A: Allocator + Copy>(
+    alloc: A,
+    body: Body<A>,
+    start: u64,
+) -> Result<Body<A>, AllocError> {
+    let address = number_text(alloc, start)?;
+    body.text("address", address.as_str())
+}
+
+/// Adds bytes.
+fn put_bytes<A: Allocator + Copy>(
+    alloc: A,
+    body: Body<A>,
+    bytes: &[u8],
+) -> Result<Body<A>, AllocError> {
+    let data = STANDARD.encode(alloc, bytes)?;
+    body.text("data", data.as_str())
+}
+
+/// Adds how many of the bytes that were asked for weren't read, if the first of them is dead.
+fn put_unreadable<A: Allocator>(
+    body: Body<A>,
+    count: u64,
+    read: u64,
+) -> Result<Body<A>, AllocError> {
+    if read < count.min(READ_LIMIT) {
+        body.number("unreadableBytes", count.saturating_sub(read))
+    } else {
+        Ok(body)
+    }
+}
+
+/// Adds bytes that were read from an address on, of so many that were asked for.
+fn put_read<A: Allocator + Copy>(
+    alloc: A,
+    body: Body<A>,
+    (start, count): (u64, u64),
+    bytes: &[u8],
+) -> Result<Body<A>, AllocError> {
+    let body = put_address(alloc, body, start)?;
+    let body = put_bytes(alloc, body, bytes)?;
+    put_unreadable(body, count, bytes.len() as u64)
+}
+
+/// Adds so many bytes from an address on.
+fn put_memory<A: Allocator + Copy>(
+    alloc: A,
+    machine: &Machine<'_, A>,
+    (start, count): (u64, u64),
+    body: Body<A>,
+) -> Result<Body<A>, Failure> {
+    let bytes = live_bytes(alloc, machine, start, count.min(READ_LIMIT))?;
+    Ok(put_read(alloc, body, (start, count), bytes.as_slice())?)
+}
+
+/// The address from which on bytes are asked for, and how many.
+fn span_said<A: Allocator + Copy>(asked: Arguments<'_, '_, A>) -> Result<(u64, u64), Failure> {
+    let Some(start) = address_said(asked) else {
+        return Err(Failure::Because(Cause::NoAddress));
+    };
+    match asked.number("count") {
+        Some(count) => Ok((start, count)),
+        None => Err(Failure::Because(Cause::NoCount)),
+    }
+}
+
 /// Adds the bytes from an address on.
 pub fn read_memory<'c, A: Allocator + Copy + 'c, L: HasMachine<A, Machine<'c, A>>>(
     debuggee: &Debuggee<'_, '_, '_, A, L>,
     asked: Arguments<'_, '_, A>,
     body: Body<A>,
 ) -> Result<Body<A>, Failure> {
-    let Some(start) = address_said(asked) else {
-        return Err(Failure::Because(Cause::NoAddress));
-    };
-    let Some(count) = asked.number("count") else {
-        return Err(Failure::Because(Cause::NoCount));
-    };
-    let most = count.min(READ_LIMIT);
-    let alloc = debuggee.alloc;
-    let bytes = live_bytes(alloc, debuggee.machine(), start, most)?;
-    let read = bytes.len() as u64;
-    let address = number_text(alloc, start)?;
-    let data = STANDARD.encode(alloc, bytes.as_slice())?;
-    let body = body
-        .text("address", address.as_str())?
-        .text("data", data.as_str())?;
-    if read < most {
-        Ok(body.number("unreadableBytes", count.saturating_sub(read))?)
-    } else {
-        Ok(body)
-    }
+    let span = span_said(asked)?;
+    put_memory(debuggee.alloc, debuggee.machine(), span, body)
 }
 
 /// Whether so many bytes from an address on are live.
@@ -139,22 +195,49 @@ fn poke_all<'c, A: Allocator + Copy + 'c, L: HasMachine<A, Machine<'c, A>>>(
     Ok(())
 }
 
+/// The bytes that are said.
+fn bytes_said<A: Allocator + Copy>(
+    alloc: A,
+    asked: Arguments<'_, '_, A>,
+) -> Result<Vec<u8, A>, Failure> {
+    let data = asked.text("data").unwrap_or("");
+    match STANDARD.decode(alloc, data.as_bytes()) {
+        Ok(bytes) => Ok(bytes),
+        Err(_) => Err(Failure::Because(Cause::NotBase64)),
+    }
+}
+
+/// Pokes bytes, if all that stand there are live.
+fn poke_live<'c, A: Allocator + Copy + 'c, L: HasMachine<A, Machine<'c, A>>>(
+    debuggee: &mut Debuggee<'_, '_, '_, A, L>,
+    start: u64,
+    bytes: &[u8],
+) -> Result<(), Failure> {
+    if !are_live(debuggee.machine(), start, bytes.len()) {
+        return Err(Failure::Because(Cause::DeadAddress));
+    }
+    poke_all(debuggee, start, bytes)
+}
+
+/// Writes the bytes that are said, and gives how many they are.
+fn write_said<'c, A: Allocator + Copy + 'c, L: HasMachine<A, Machine<'c, A>>>(
+    debuggee: &mut Debuggee<'_, '_, '_, A, L>,
+    asked: Arguments<'_, '_, A>,
+) -> Result<u64, Failure> {
+    let Some(start) = address_said(asked) else {
+        return Err(Failure::Because(Cause::NoAddress));
+    };
+    let bytes = bytes_said(debuggee.alloc, asked)?;
+    poke_live(debuggee, start, bytes.as_slice())?;
+    Ok(bytes.len() as u64)
+}
+
 /// Writes bytes from an address on, if all are live.
 pub fn write_memory<'c, A: Allocator + Copy + 'c, L: HasMachine<A, Machine<'c, A>>>(
     debuggee: &mut Debuggee<'_, '_, '_, A, L>,
     asked: Arguments<'_, '_, A>,
     body: Body<A>,
 ) -> Result<Body<A>, Failure> {
-    let Some(start) = address_said(asked) else {
-        return Err(Failure::Because(Cause::NoAddress));
-    };
-    let data = asked.text("data").unwrap_or("");
-    let Ok(bytes) = STANDARD.decode(debuggee.alloc, data.as_bytes()) else {
-        return Err(Failure::Because(Cause::NotBase64));
-    };
-    if !are_live(debuggee.machine(), start, bytes.len()) {
-        return Err(Failure::Because(Cause::DeadAddress));
-    }
-    poke_all(debuggee, start, bytes.as_slice())?;
-    Ok(body.number("bytesWritten", bytes.len() as u64)?)
+    let count = write_said(debuggee, asked)?;
+    Ok(body.number("bytesWritten", count)?)
 }

@@ -82,6 +82,36 @@ fn is_innermost<A: Allocator + Copy>(machine: &Machine<'_, A>, number: u64, func
     true
 }
 
+/// The function of the frame of a number, if it has a temporary of this name.
+fn func_with<A: Allocator + Copy>(
+    machine: &Machine<'_, A>,
+    number: u64,
+    temp: &[u8],
+) -> Option<FuncId> {
+    let func = frame_of(machine, number)?.func();
+    match machine.code().slot_of(func, temp) {
+        Some(_) => Some(func),
+        None => None,
+    }
+}
+
+/// Adds what watches a temporary of a function, if the frame that it is asked for is the innermost one.
+fn put_temp_watch<A: Allocator + Copy>(
+    alloc: A,
+    is_innermost: bool,
+    func: &[u8],
+    temp: &[u8],
+    body: Body<A>,
+) -> Result<Body<A>, AllocError> {
+    if is_innermost {
+        let id = temp_id(alloc, func, temp)?;
+        put_watchable(body, id.as_str())
+    } else {
+        let why = innermost_alone(alloc, func)?;
+        put_unwatchable(body, why.as_str())
+    }
+}
+
 /// Adds what watches a temporary of a frame.
 fn temp_watch<A: Allocator + Copy>(
     alloc: A,
@@ -91,19 +121,26 @@ fn temp_watch<A: Allocator + Copy>(
     body: Body<A>,
 ) -> Result<Body<A>, AllocError> {
     let plain = name.strip_prefix(b"%").unwrap_or(name);
-    let code = machine.code();
-    let Some(frame) = frame_of(machine, number) else {
-        return put_unwatchable(body, "nothing to watch");
-    };
-    if code.slot_of(frame.func(), plain).is_none() {
-        return put_unwatchable(body, "nothing to watch");
+    match func_with(machine, number, plain) {
+        Some(func) => put_temp_watch(
+            alloc,
+            is_innermost(machine, number, func),
+            func_name(machine.code(), func),
+            plain,
+            body,
+        ),
+        None => put_unwatchable(body, "nothing to watch"),
     }
-    let func = func_name(code, frame.func());
-    if !is_innermost(machine, number, frame.func()) {
-        let why = innermost_alone(alloc, func)?;
-        return put_unwatchable(body, why.as_str());
-    }
-    let id = temp_id(alloc, func, plain)?;
+}
+
+/// Adds what watches a data object of a letter.
+fn put_data_watch<A: Allocator + Copy>(
+    alloc: A,
+    letter: &str,
+    name: &[u8],
+    body: Body<A>,
+) -> Result<Body<A>, AllocError> {
+    let id = data_id(alloc, letter.as_bytes(), name)?;
     put_watchable(body, id.as_str())
 }
 
@@ -115,12 +152,53 @@ fn data_watch<A: Allocator + Copy>(
     body: Body<A>,
 ) -> Result<Body<A>, AllocError> {
     let plain = name.strip_prefix(b"$").unwrap_or(name);
-    let Some(data) = data_named(program, plain) else {
-        return put_unwatchable(body, "nothing to watch");
-    };
-    let (letter, _) = data_word(data);
-    let id = data_id(alloc, letter.as_bytes(), plain)?;
-    put_watchable(body, id.as_str())
+    match data_named(program, plain) {
+        Some(data) => put_data_watch(alloc, data_word(data).0, plain, body),
+        None => put_unwatchable(body, "nothing to watch"),
+    }
+}
+
+/// What is to be watched.
+#[derive(Clone, Copy)]
+enum Watched {
+    Data,
+    /// A temporary of the frame of this number.
+    Temp(u64),
+    Nothing,
+}
+
+/// What a name without a scope says, by its sigil.
+fn watched_by_sigil<A: Allocator + Copy>(asked: Arguments<'_, '_, A>, name: &[u8]) -> Watched {
+    match name.first() {
+        Some(b'$') => Watched::Data,
+        Some(b'%') => Watched::Temp(asked.number("frameId").unwrap_or(1)),
+        _ => Watched::Nothing,
+    }
+}
+
+/// What a name says, in the scope that is asked for.
+fn watched_by<A: Allocator + Copy>(asked: Arguments<'_, '_, A>, name: &[u8]) -> Watched {
+    match asked.number("variablesReference") {
+        Some(0) | None => watched_by_sigil(asked, name),
+        Some(DATA) => Watched::Data,
+        Some(reference) => Watched::Temp(reference),
+    }
+}
+
+/// Adds what watches a variable.
+fn put_watch<A: Allocator + Copy>(
+    alloc: A,
+    machine: &Machine<'_, A>,
+    program: &Program<'_, A>,
+    watched: Watched,
+    name: &[u8],
+    body: Body<A>,
+) -> Result<Body<A>, AllocError> {
+    match watched {
+        Watched::Data => data_watch(alloc, program, name, body),
+        Watched::Temp(number) => temp_watch(alloc, machine, number, name, body),
+        Watched::Nothing => put_unwatchable(body, "nothing to watch"),
+    }
 }
 
 /// Adds which stop would watch a variable.
@@ -129,19 +207,14 @@ pub fn data_breakpoint_info<'c, A: Allocator + Copy + 'c, L: HasMachine<A, Machi
     asked: Arguments<'_, '_, A>,
     body: Body<A>,
 ) -> Result<Body<A>, Failure> {
-    let alloc = debuggee.alloc;
-    let machine = debuggee.machine();
-    let program = debuggee.program;
     let name = asked.text("name").unwrap_or("").as_bytes();
-    let body = match asked.number("variablesReference") {
-        Some(0) | None if name.first() == Some(&b'$') => data_watch(alloc, program, name, body)?,
-        Some(0) | None if name.first() == Some(&b'%') => {
-            let number = asked.number("frameId").unwrap_or(1);
-            temp_watch(alloc, machine, number, name, body)?
-        }
-        Some(0) | None => put_unwatchable(body, "nothing to watch")?,
-        Some(reference) if reference == DATA => data_watch(alloc, program, name, body)?,
-        Some(reference) => temp_watch(alloc, machine, reference, name, body)?,
-    };
-    Ok(body)
+    let watched = watched_by(asked, name);
+    Ok(put_watch(
+        debuggee.alloc,
+        debuggee.machine(),
+        debuggee.program,
+        watched,
+        name,
+        body,
+    )?)
 }

@@ -64,6 +64,15 @@ pub fn numbering_said<A: Allocator + Copy>(asked: Arguments<'_, '_, A>) -> Numbe
     }
 }
 
+/// Why a command isn't served without a session.
+fn cause_of(command: &str) -> Cause {
+    if command == "attach" {
+        Cause::NotSupported
+    } else {
+        Cause::NoSession
+    }
+}
+
 /// Responds to a request that needs no session.
 pub fn respond_idle<A: Allocator + Copy, W: Sink>(
     alloc: A,
@@ -79,8 +88,5 @@ pub fn respond_idle<A: Allocator + Copy, W: Sink>(
     if command == "terminate" || command == "disconnect" {
         return port.accept(request);
     }
-    if command == "attach" {
-        return port.refuse(request, Cause::NotSupported.as_str());
-    }
-    port.refuse(request, Cause::NoSession.as_str())
+    port.refuse(request, cause_of(command).as_str())
 }

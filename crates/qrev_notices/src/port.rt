@@ -1,9 +1,12 @@
 //! Messages that go out: numbered from 1, each in a frame, which is written by one call.
 
-ghost use Rattle.std.specs.Prelude.{◌≡◌, ℕ, ◌+◌, ◌-◌, ◌^◌, ◌<◌, suc, IfOk, Err};
+ghost use Rattle.std.specs.Prelude.{◌≡◌, ℕ, ◌+◌, ◌-◌, ◌^◌, ◌<◌, ◌++◌, List, suc, IfOk, Err};
+ghost use Rattle.json.specs.Print.{print};
 ghost use Rattle.qrev_protocol.specs.Frame.{framed};
+ghost use Rattle.qrev_protocol.specs.Outgoing.{response_head};
+ghost use Rattle.qrev_protocol.specs.declared.outgoing.Outcome.TheVariants.{Done};
 ghost use Rattle.qrev_notices.specs.declared.trouble.Trouble.TheVariants.{OutOfMemory};
-ghost use Rattle.qrev_notices.specs.Conversation.{asked_by, message_text, spoken, Sends, Responds, Tells, IsEventSoFar};
+ghost use Rattle.qrev_notices.specs.Conversation.{asked_by, message_text, spoken, IsNumbered, Sends, Responds, Tells, IsEventSoFar};
 
 use crate::trouble::Trouble;
 use itoa::Buffer;
@@ -22,6 +25,25 @@ fn framed_text<A: Allocator>(alloc: A, text: &[u8]) -> Result<Vec<u8, A>, AllocE
     frame.extend_from_slice(b"\r\n\r\n")?;
     frame.extend_from_slice(text)?;
     Ok(frame)
+}
+
+/// How the text of the response to a request begins that is done.
+fn response_start<A: Allocator>(alloc: A, request: &Request<'_>) -> Result<Vec<u8, A>, AllocError>
+    ensures { IfOk result (λ start. start.items ≡ print (response_head request.now.seq request.now.command.now Done)) }
+{
+    let Object { out, .. } = response(alloc, request, Outcome::Done)?;
+    Ok(out.into_inner())
+}
+
+/// The text of the message of a number with this body, which has to begin so.
+fn text_after<A: Allocator>(start: &[u8], number: u64, body: Body<A>) -> Result<Vec<u8, A>, Trouble>
+    ensures { IfOk result (λ text. (more : List ℕ) × IsNumbered number text.items × (text.items ≡ start.now ++ more)) }
+{
+    let text = body.end()?.into_text(number)?;
+    if !text.as_slice().starts_with(start) {
+        return Err(Trouble::Device);
+    }
+    Ok(text)
 }
 
 /// Begins the body of a response that tells success.
@@ -101,15 +123,11 @@ impl<A: Allocator + Copy, W: Sink> Port<A, W> {
     pub fn respond(&mut self, request: Request<'_>, body: Body<A>) -> Result<(), Trouble>
         ensures { Responds result (asked_by request.entry) (spoken W.contents self.old) (spoken W.contents self.new) }
     {
-        let head = response(self.alloc, &request, Outcome::Done);
+        let start = response_start(self.alloc, &request);
         request.end();
-        let Object { out, .. } = head?;
-        let head = out.into_inner();
+        let start = start?;
         let number = self.next()?;
-        let text = body.end()?.into_text(number)?;
-        if !text.as_slice().starts_with(head.as_slice()) {
-            return Err(Trouble::Device);
-        }
+        let text = text_after(start.as_slice(), number, body)?;
         self.write(number, text.as_slice())
     }
 

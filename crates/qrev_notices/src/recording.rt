@@ -47,22 +47,42 @@ fn add_number<A: Allocator + Copy>(
     text.push_str(number.as_str())
 }
 
+/// Adds the program of a launch, and the arguments of its entry.
+fn add_program<A: Allocator + Copy>(
+    alloc: A,
+    text: &mut String<A>,
+    launch: &Launch<A>,
+) -> Result<(), AllocError> {
+    text.push_str(launch.program.as_str())?;
+    for argument in launch.args.as_slice() {
+        add_number(alloc, text, " ", *argument)?;
+    }
+    Ok(())
+}
+
+/// Adds its options.
+fn add_options<A: Allocator + Copy>(
+    alloc: A,
+    text: &mut String<A>,
+    launch: &Launch<A>,
+) -> Result<(), AllocError> {
+    text.push_str(" --entry ")?;
+    text.push_str(launch.entry.as_str())?;
+    add_number(alloc, text, " --limit ", launch.limit)?;
+    match launch.bound {
+        Some(bound) => add_number(alloc, text, " --history ", bound),
+        None => Ok(()),
+    }
+}
+
 /// The command line that plays a record, up to the record.
 fn command_text<A: Allocator + Copy>(
     alloc: A,
     launch: &Launch<A>,
 ) -> Result<String<A>, AllocError> {
     let mut text = String::from_str(alloc, "replay: qrev ")?;
-    text.push_str(launch.program.as_str())?;
-    for argument in launch.args.as_slice() {
-        add_number(alloc, &mut text, " ", *argument)?;
-    }
-    text.push_str(" --entry ")?;
-    text.push_str(launch.entry.as_str())?;
-    add_number(alloc, &mut text, " --limit ", launch.limit)?;
-    if let Some(bound) = launch.bound {
-        add_number(alloc, &mut text, " --history ", bound)?;
-    }
+    add_program(alloc, &mut text, launch)?;
+    add_options(alloc, &mut text, launch)?;
     Ok(text)
 }
 

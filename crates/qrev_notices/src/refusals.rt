@@ -6,13 +6,13 @@ ghost use Rattle.qrev_notices.specs.Reading.{heard, Serves, IsClosedBy};
 
 use crate::line::{Closed, Ended, Line};
 use crate::port::Port;
-use crate::stopped::tell_plain;
+use crate::stopped::{output_body, tell_plain};
 use crate::trouble::Trouble;
 use qil_loading::{LoadError, Refusal, put_refusal_line};
 use qil_machine::StartError;
 use qil_meaning::StartFault;
 use qil_streams::{Buffer, Sink, Source};
-use qrev_protocol::{Object, Request, Whole, event};
+use qrev_protocol::{Object, Request, Whole};
 use qrev_requests::{Launch, Unfit, unfit_words};
 use qrev_views::{Numbering, as_text, put_source};
 use std::alloc::{AllocError, Allocator};
@@ -37,6 +37,13 @@ fn refused_line(refusal: Refusal) -> Option<u32> {
     }
 }
 
+/// Words as a line.
+fn line_of<A: Allocator + Copy>(alloc: A, words: &str) -> Result<String<A>, AllocError> {
+    let mut text = String::from_str(alloc, words)?;
+    text.push_str("\n")?;
+    Ok(text)
+}
+
 /// The event that shows a refusal with its line, which editors make a link of.
 fn refusal_event<A: Allocator + Copy>(
     alloc: A,
@@ -46,12 +53,8 @@ fn refusal_event<A: Allocator + Copy>(
 ) -> Result<Object<A, Whole>, AllocError>
     ensures { IfOk result (λ o. IsEventSoFar o.out.tokens) }
 {
-    let mut text = String::from_str(alloc, words)?;
-    text.push_str("\n")?;
-    let body = event(alloc, "output")?
-        .object("body")?
-        .text("category", "stderr")?
-        .text("output", text.as_str())?;
+    let text = line_of(alloc, words)?;
+    let body = output_body(alloc, "stderr", text.as_str())?;
     let Some(line) = line else {
         let message = body.end()?;
         return Ok(message);
@@ -175,7 +178,7 @@ pub fn refuse_load<A: Allocator + Copy, S: Source, W: Sink>(
 }
 
 /// Why a file can't be read.
-fn unread_words<A: Allocator>(alloc: A, path: &str) -> Result<String<A>, AllocError> {
+pub fn unread_words<A: Allocator>(alloc: A, path: &str) -> Result<String<A>, AllocError> {
     let mut words = String::from_str(alloc, "cannot read ")?;
     words.push_str(path)?;
     Ok(words)

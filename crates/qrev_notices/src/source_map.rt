@@ -5,7 +5,7 @@ ghost use Rattle.qrev_notices.specs.Reading.{heard, Serves};
 
 use crate::line::{Closed, Ended, Line};
 use crate::recording::Files;
-use crate::refusals::{closed_by, refuse_with};
+use crate::refusals::{closed_by, refuse_with, unread_words};
 use qil_streams::{Sink, Source};
 use qrev_map::{Map, MapError};
 use qrev_protocol::Request;
@@ -70,30 +70,35 @@ pub fn read_sources<A: Allocator + Copy, F: Files<A>>(
     }
 }
 
+/// The words of a map that has no path and line where one has to stand, after so many lines.
+fn malformed_words<A: Allocator + Copy>(alloc: A, before: usize) -> Result<String<A>, AllocError> {
+    let line = number_text(alloc, (before as u64).saturating_add(1))?;
+    let mut words = String::from_str(alloc, "map: no path and line in line ")?;
+    words.push_str(line.as_str())?;
+    Ok(words)
+}
+
 /// Why a map isn't taken, in words.
 fn fault_words<A: Allocator + Copy>(
     alloc: A,
-    launch: &Launch<A>,
+    path: &str,
     fault: MapFault,
 ) -> Result<String<A>, AllocError> {
     match fault {
-        MapFault::Unread => {
-            let mut words = String::from_str(alloc, "cannot read ")?;
-            if let Some(path) = &launch.map {
-                words.push_str(path.as_str())?;
-            }
-            Ok(words)
-        }
+        MapFault::Unread => unread_words(alloc, path),
         MapFault::Refused(MapError::TooLong) => {
             String::from_str(alloc, "map: more than 16777216 bytes")
         }
-        MapFault::Refused(MapError::Malformed(before)) => {
-            let mut words = String::from_str(alloc, "map: no path and line in line ")?;
-            let line = number_text(alloc, (before as u64).saturating_add(1))?;
-            words.push_str(line.as_str())?;
-            Ok(words)
-        }
+        MapFault::Refused(MapError::Malformed(before)) => malformed_words(alloc, before),
         MapFault::Refused(MapError::OutOfMemory) => Err(AllocError),
+    }
+}
+
+/// The path of the map that a launch asks for, if it asks for one.
+fn path_asked<A: Allocator>(launch: &Launch<A>) -> &str {
+    match &launch.map {
+        Some(path) => path.as_str(),
+        None => "",
     }
 }
 
@@ -106,6 +111,6 @@ pub fn refuse_map<A: Allocator + Copy, S: Source, W: Sink>(
 ) -> Result<Closed<A>, Ended>
     ensures { Serves result (asked_by request.entry) (heard S.remaining W.contents line.old) (heard S.remaining W.contents line.new) }
 {
-    let words = fault_words(line.alloc, launch, fault);
+    let words = fault_words(line.alloc, path_asked(launch), fault);
     closed_by(refuse_with(&mut line.port, request, &words))
 }

@@ -9,10 +9,25 @@ use qil_machine::Machine;
 use qil_meaning::Reason;
 use qil_state::Status;
 use qil_streams::Sink;
-use qrev_debuggee::{Debuggee, HasMachine, RequestedStop, StopFamily, Why};
+use qrev_debuggee::{Body, Debuggee, HasMachine, RequestedStop, StopFamily, Why};
 use qrev_protocol::{Object, Whole, event};
 use qrev_views::{as_text, place_text};
 use std::alloc::{AllocError, Allocator};
+
+/// Such an event, up to the end of its body.
+pub fn output_body<A: Allocator + Copy>(
+    alloc: A,
+    category: &str,
+    text: &str,
+) -> Result<Body<A>, AllocError>
+    ensures { IfOk result (λ o. IsEventSoFar o.out.tokens) }
+{
+    let body = event(alloc, "output")?
+        .object("body")?
+        .text("category", category)?
+        .text("output", text)?;
+    Ok(body)
+}
 
 /// An event with a text, as the program's output or for the console.
 pub fn output_event<A: Allocator + Copy>(
@@ -22,11 +37,8 @@ pub fn output_event<A: Allocator + Copy>(
 ) -> Result<Object<A, Whole>, AllocError>
     ensures { IfOk result (λ o. IsEventSoFar o.out.tokens) }
 {
-    let message = event(alloc, "output")?
-        .object("body")?
-        .text("category", category)?
-        .text("output", text)?
-        .end()?;
+    let body = output_body(alloc, category, text)?;
+    let message = body.end()?;
     Ok(message)
 }
 
@@ -69,6 +81,40 @@ fn tell_difference<A: Allocator + Copy, W: Sink>(
     port.tell(output_event(alloc, "console", text)?)
 }
 
+/// Tells bytes of the output, which come after so many that were told.
+fn tell_more<A: Allocator + Copy, W: Sink>(
+    alloc: A,
+    new: &[u8],
+    same: usize,
+    told: &mut Vec<u8, A>,
+    port: &mut Port<A, W>,
+) -> Result<(), Trouble>
+    ensures { Tells result (spoken W.contents port.old) (spoken W.contents port.new) }
+{
+    let text = as_text(alloc, new)?;
+    told.truncate(same);
+    told.extend_from_slice(new)?;
+    port.tell(output_event(alloc, "stdout", text.as_str())?)
+}
+
+/// Tells what is new of an output.
+fn tell_new<A: Allocator + Copy, W: Sink>(
+    alloc: A,
+    output: &[u8],
+    told: &mut Vec<u8, A>,
+    port: &mut Port<A, W>,
+) -> Result<(), Trouble>
+    ensures { Tells result (spoken W.contents port.old) (spoken W.contents port.new) }
+{
+    let same = common(output, told.as_slice());
+    if same == output.len() {
+        return Ok(());
+    }
+    tell_difference(alloc, same < told.len(), port)?;
+    let (_, new) = output.split_at(same);
+    tell_more(alloc, new, same, told, port)
+}
+
 /// Tells what is new of the output. After a move back that is nothing until the output is longer than what was told.
 fn tell_output<'c, A: Allocator + Copy + 'c, L: HasMachine<A, Machine<'c, A>>, W: Sink>(
     debuggee: &mut Debuggee<'_, '_, '_, A, L>,
@@ -76,18 +122,8 @@ fn tell_output<'c, A: Allocator + Copy + 'c, L: HasMachine<A, Machine<'c, A>>, W
 ) -> Result<(), Trouble>
     ensures { Tells result (spoken W.contents port.old) (spoken W.contents port.new) }
 {
-    let alloc = debuggee.alloc;
     let output = debuggee.recorder.live().machine().output();
-    let same = common(output, debuggee.output.as_slice());
-    if same == output.len() {
-        return Ok(());
-    }
-    tell_difference(alloc, same < debuggee.output.len(), port)?;
-    let (_, new) = output.split_at(same);
-    let text = as_text(alloc, new)?;
-    debuggee.output.truncate(same);
-    debuggee.output.extend_from_slice(new)?;
-    port.tell(output_event(alloc, "stdout", text.as_str())?)
+    tell_new(debuggee.alloc, output, &mut debuggee.output, port)
 }
 
 /// The reason's word, the text next to it, and the number of the stop that was hit.
@@ -136,6 +172,53 @@ pub fn fault_in(place: &str) -> Option<&str> {
     }
 }
 
+/// Such an event, with its reason and the place.
+fn stopped_body<A: Allocator + Copy>(
+    alloc: A,
+    reason: &str,
+    place: &str,
+) -> Result<Body<A>, AllocError>
+    ensures { IfOk result (λ o. IsEventSoFar o.out.tokens) }
+{
+    let body = event(alloc, "stopped")?
+        .object("body")?
+        .text("reason", reason)?
+        .text("description", place)?;
+    Ok(body)
+}
+
+/// Adds the text next to the reason, and the thread, which is always the same.
+fn add_thread<A: Allocator>(body: Body<A>, text: &str) -> Result<Body<A>, AllocError>
+    requires { IsEventSoFar body.out.tokens }
+    ensures { IfOk result (λ o. IsEventSoFar o.out.tokens) }
+{
+    let body = body
+        .text("text", text)?
+        .number("threadId", 1)?
+        .flag("allThreadsStopped", true)?;
+    Ok(body)
+}
+
+/// Adds the number of a stop.
+fn add_stop<A: Allocator>(body: Body<A>, number: u64) -> Result<Body<A>, AllocError>
+    requires { IsEventSoFar body.out.tokens }
+    ensures { IfOk result (λ o. IsEventSoFar o.out.tokens) }
+{
+    let body = body.array("hitBreakpointIds")?.number(number)?.end()?;
+    Ok(body)
+}
+
+/// Adds the number of the stop that was hit, if one was.
+fn add_hit<A: Allocator>(body: Body<A>, stop: Option<u64>) -> Result<Body<A>, AllocError>
+    requires { IsEventSoFar body.out.tokens }
+    ensures { IfOk result (λ o. IsEventSoFar o.out.tokens) }
+{
+    match stop {
+        Some(number) => add_stop(body, number),
+        None => Ok(body),
+    }
+}
+
 /// The event that says that the run stands, why, and at which place.
 fn stopped_event<A: Allocator + Copy>(
     alloc: A,
@@ -144,22 +227,10 @@ fn stopped_event<A: Allocator + Copy>(
 ) -> Result<Object<A, Whole>, AllocError>
     ensures { IfOk result (λ o. IsEventSoFar o.out.tokens) }
 {
-    let body = event(alloc, "stopped")?
-        .object("body")?
-        .text("reason", words.reason)?
-        .text("description", place)?
-        .text("text", fault_in(place).unwrap_or(words.text))?
-        .number("threadId", 1)?
-        .flag("allThreadsStopped", true)?;
-    let Some(number) = words.stop else {
-        let message = body.end()?;
-        return Ok(message);
-    };
-    let message = body
-        .array("hitBreakpointIds")?
-        .number(number)?
-        .end()?
-        .end()?;
+    let body = stopped_body(alloc, words.reason, place)?;
+    let body = add_thread(body, fault_in(place).unwrap_or(words.text))?;
+    let body = add_hit(body, words.stop)?;
+    let message = body.end()?;
     Ok(message)
 }
 

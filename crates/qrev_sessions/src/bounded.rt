@@ -5,6 +5,7 @@ ghost use Rattle.qil_deltas.specs.Kept.{recent_timeline};
 ghost use Rattle.qil_session.specs.qil_replies.SessionState.{session_at};
 ghost use Rattle.qil_session.specs.Kept.{session_state};
 
+use crate::replying::{put_reply, reply};
 use qil_commands::{Command, Refused};
 use qil_deltas::Ring;
 use qil_depths::DepthEnd;
@@ -39,11 +40,11 @@ impl<'c, A: Allocator + Copy + 'c> Debugged<A> for BoundedSession<'c, A> {
     ghost state = { λ s. session_state (λ h. h.machine.program) recent_timeline s.session };
 
     fn reply<'t>(&mut self, said: Result<Option<Command<'t>>, Refused>) -> Reply<'t> {
-        self.session.reply(said)
+        reply(&mut self.session, said)
     }
 
     fn put_reply(&self, reply: Reply<'_>, out: &mut Buffer<A>) -> Result<(), PutError> {
-        self.session.put_reply(reply, out)
+        put_reply(&self.session, reply, out)
     }
 
     fn run_to_depth(&mut self, most: usize) -> (DepthEnd, u64) {

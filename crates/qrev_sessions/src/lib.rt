@@ -4,6 +4,7 @@
 #![tactic(auto)]
 
 mod bounded;
+mod replying;
 mod whole;
 
 pub use bounded::BoundedSession;

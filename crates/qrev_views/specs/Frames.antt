@@ -12,9 +12,17 @@ use Rattle.qrev_views.specs.declared.variable.Page.{Page}
 abbrev pub shown_name : Frame → List ℕ
 shown_name f = shown_text (text_of (codes "$" ∷ f.func ∷ codes " @" ∷ f.label ∷ codes " " ∷ decimal f.index ∷ []))
 
+-- the number of an item, and its name
+abbrev pub item_head : ℕ → List ℕ → List Token
+item_head n name = begin_object ∷ key (codes "id") ∷ number (decimal n) ∷ key (codes "name") ∷ string name ∷ []
+
 -- the number of a frame, and its name
 abbrev pub frame_head : ℕ → Frame → List Token
 frame_head n f = begin_object ∷ key (codes "id") ∷ number (decimal n) ∷ key (codes "name") ∷ string (shown_name f) ∷ []
+
+-- what stands behind the place of a frame
+abbrev pub frame_end : ℕ → List Token
+frame_end column = key (codes "column") ∷ number (decimal column) ∷ end_object ∷ []
 
 -- a source: its name, and the path of its file
 abbrev pub source_tokens : List ℕ → List ℕ → List Token
@@ -37,6 +45,11 @@ ShowsFrame n f item = ShowsFrameAt IsPlace n f item
 abbrev pub ShowsFrames : ℕ → List Frame → List Token → Type 0
 ShowsFrames n [] tokens = tokens ≡ []
 ShowsFrames n (f ∷ fs) tokens = (item others : List Token) × ShowsFrame n f item × ShowsFrames (suc n) fs others × (tokens ≡ item ++ others)
+
+-- what stands behind the name of an item that is no frame
+abbrev pub label_end : List Token
+label_end =
+    key (codes "line") ∷ number (decimal 0) ∷ key (codes "column") ∷ number (decimal 0) ∷ key (codes "presentationHint") ∷ string (codes "label") ∷ end_object ∷ []
 
 -- where no call is open there is one item, which tells how the run ended
 abbrev pub end_item : ℕ → State → List Token

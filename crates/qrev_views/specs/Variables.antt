@@ -34,6 +34,10 @@ abbrev pub variable_head : List ℕ → List ℕ → List Token
 variable_head name value =
     begin_object ∷ key (codes "name") ∷ string name ∷ key (codes "value") ∷ string value ∷ key (codes "variablesReference") ∷ number (decimal 0) ∷ []
 
+-- a variable with a name, a value, and a type
+abbrev pub typed_head : List ℕ → List ℕ → List ℕ → List Token
+typed_head name value type = variable_head name value ++ (text_member (codes "type") type ++ text_member (codes "evaluateName") name)
+
 -- that it can't be set
 abbrev pub read_only : List Token
 read_only = key (codes "presentationHint") ∷ begin_object ∷ key (codes "attributes") ∷ begin_array ∷ string (codes "readOnly") ∷ end_array ∷ end_object ∷ []

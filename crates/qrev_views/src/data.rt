@@ -8,8 +8,7 @@ ghost use Rattle.qrev_protocol.specs.Outgoing.{Adds};
 ghost use Rattle.qrev_views.specs.Pages.{page_of};
 ghost use Rattle.qrev_views.specs.Variables.{shown_width, width_letter, value_of, data_tokens};
 
-use crate::texts::sigiled;
-use crate::variable::{Page, add_address, begin_variable, value_text};
+use crate::variable::{Page, add_address, begin_typed};
 use qil_answers::Machine;
 use qil_tree::{Data, Field, Item, Program, Width};
 use qrev_protocol::Array;
@@ -81,11 +80,7 @@ fn put_object<A: Allocator + Copy, U: Drop>(
         .address(data.name.bytes())
         .unwrap_or(0);
     let value = value_at(machine, address, width);
-    let name = sigiled(alloc, b"$", data.name.bytes())?;
-    let shown = value_text(alloc, value)?;
-    let variable = begin_variable(list, name.as_str(), shown.as_str())?
-        .text("type", letter)?
-        .text("evaluateName", name.as_str())?;
+    let variable = begin_typed(alloc, list, b"$", data.name.bytes(), value, letter)?;
     let list = add_address(alloc, variable, address)?.end_item()?;
     Ok(list)
 }

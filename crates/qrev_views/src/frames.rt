@@ -5,7 +5,7 @@ ghost use Rattle.json.specs.Token.{Token};
 ghost use Rattle.qil_frames.specs.Frames.{SlotFrame};
 ghost use Rattle.qil_state.specs.State.{frame_state, frames_state, state_of};
 ghost use Rattle.qrev_protocol.specs.Outgoing.{Adds};
-ghost use Rattle.qrev_views.specs.Frames.{ShowsFrameAt, ShowsFrames, ShowsStack, end_item, shown_name, source_tokens};
+ghost use Rattle.qrev_views.specs.Frames.{ShowsFrameAt, ShowsFrames, ShowsStack, end_item, frame_end, item_head, label_end, shown_name, source_tokens};
 ghost use Rattle.qrev_views.specs.Pages.{page_of};
 ghost use Rattle.qrev_views.specs.Sources.{counted_line, shown_index, frame_line, origin_of, place_tokens, IsShownAt};
 
@@ -17,7 +17,7 @@ use qil_frames::Frame;
 use qil_lines::{Place, line_of};
 use qil_pieces::Fragment;
 use qil_tree::Program;
-use qrev_protocol::{Array, Object};
+use qrev_protocol::{Array, InArray, Object};
 use std::alloc::{AllocError, Allocator};
 
 /// The numbers that an editor gives the first line and the first column: 1 or 0.
@@ -191,6 +191,29 @@ fn put_line<A: Allocator + Copy, U: Drop>(
     Ok(item)
 }
 
+/// Begins an item with a number and a name.
+fn begin_item<A: Allocator, U: Drop>(
+    list: Array<A, U>,
+    number: u64,
+    name: &str,
+) -> Result<Object<A, InArray<U>>, AllocError>
+    ensures { IfOk result (λ o. Adds list.out o.out (item_head number name.now)) }
+{
+    let item = list.object()?.number("id", number)?.text("name", name)?;
+    Ok(item)
+}
+
+/// Ends the item of a frame with its column.
+fn end_frame<A: Allocator, U: Drop>(
+    item: Object<A, InArray<U>>,
+    column: u64,
+) -> Result<Array<A, U>, AllocError>
+    ensures { IfOk result (λ l. Adds item.out l.out (frame_end column)) }
+{
+    let list = item.number("column", column)?.end_item()?;
+    Ok(list)
+}
+
 /// Adds a frame.
 fn put_frame<A: Allocator + Copy, U: Drop>(
     alloc: A,
@@ -207,15 +230,22 @@ fn put_frame<A: Allocator + Copy, U: Drop>(
         number (frame_state machine.now.program callers frame.now) item
         × Adds list.out l.out item) }
 {
-    let name = frame_name(alloc, machine, frame)?;
     let line = line_of_frame(program, frame, number);
-    let item = list
-        .object()?
-        .number("id", number)?
-        .text("name", name.as_str())?;
+    let name = frame_name(alloc, machine, frame)?;
+    let item = begin_item(list, number, name.as_str())?;
     let item = put_line(alloc, item, shown, source_map, line)?;
+    let list = end_frame(item, u64::from(shown.numbering.first_column))?;
+    Ok(list)
+}
+
+/// Ends the item that stands in place of frames.
+fn end_label<A: Allocator, U: Drop>(item: Object<A, InArray<U>>) -> Result<Array<A, U>, AllocError>
+    ensures { IfOk result (λ l. Adds item.out l.out label_end) }
+{
     let list = item
-        .number("column", u64::from(shown.numbering.first_column))?
+        .number("line", 0)?
+        .number("column", 0)?
+        .text("presentationHint", "label")?
         .end_item()?;
     Ok(list)
 }
@@ -230,14 +260,8 @@ fn put_end<A: Allocator + Copy, U: Drop>(
     ensures { IfOk result (λ l. Adds list.out l.out (end_item position (state_of machine.now))) }
 {
     let place = place_text(alloc, position, machine)?;
-    let list = list
-        .object()?
-        .number("id", 1)?
-        .text("name", place.as_str())?
-        .number("line", 0)?
-        .number("column", 0)?
-        .text("presentationHint", "label")?
-        .end_item()?;
+    let item = begin_item(list, 1, place.as_str())?;
+    let list = end_label(item)?;
     Ok(list)
 }
 

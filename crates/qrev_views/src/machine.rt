@@ -1,9 +1,11 @@
 //! What a state has besides temporaries and data, as variables that can't be set.
 
-ghost use Rattle.std.specs.Prelude.{◌≡◌, List, ℕ, flat_map, slice_get, IfOk, Some};
+ghost use Rattle.std.specs.Prelude.{◌≡◌, List, ℕ, codes, decimal, flat_map, slice_get, IfOk, Some};
+ghost use Rattle.qil_answers.specs.Texts.{state_line};
 ghost use Rattle.qil_state.specs.State.{state_of};
 ghost use Rattle.qrev_protocol.specs.Outgoing.{Adds};
 ghost use Rattle.qrev_views.specs.Pages.{page_of};
+ghost use Rattle.qrev_views.specs.Texts.{shown_text, without_end};
 ghost use Rattle.qrev_views.specs.Variables.{fixed_tokens, machine_rows};
 
 use crate::texts::{as_text, number_text, place_text};
@@ -26,6 +28,48 @@ fn put_fixed<A: Allocator, U: Drop>(
     end_read_only(begin_variable(list, name, value)?)
 }
 
+/// Adds one whose value is a number.
+fn put_number<A: Allocator + Copy, U: Drop>(
+    alloc: A,
+    list: Array<A, U>,
+    name: &str,
+    value: u64,
+) -> Result<Array<A, U>, AllocError>
+    ensures { IfOk result (λ l. Adds list.out l.out (fixed_tokens (name.now, decimal value))) }
+{
+    let value = number_text(alloc, value)?;
+    let list = put_fixed(list, name, value.as_str())?;
+    Ok(list)
+}
+
+/// Adds the output.
+fn put_output<A: Allocator + Copy, U: Drop>(
+    alloc: A,
+    list: Array<A, U>,
+    output: &[u8],
+) -> Result<Array<A, U>, AllocError>
+    ensures { IfOk result (λ l. Adds list.out l.out (fixed_tokens (codes "output", shown_text output.now))) }
+{
+    let output = as_text(alloc, output)?;
+    let list = put_fixed(list, "output", output.as_str())?;
+    Ok(list)
+}
+
+/// Adds the place.
+fn put_place<A: Allocator + Copy, U: Drop>(
+    alloc: A,
+    list: Array<A, U>,
+    position: u64,
+    machine: &Machine<'_, A>,
+) -> Result<Array<A, U>, AllocError>
+    ensures { IfOk result (λ l. Adds list.out l.out (fixed_tokens
+        (codes "place", shown_text (without_end (state_line position (state_of machine.now).frames (state_of machine.now).status))))) }
+{
+    let place = place_text(alloc, position, machine)?;
+    let list = put_fixed(list, "place", place.as_str())?;
+    Ok(list)
+}
+
 /// Adds the variable of a number: the place, the position of the oldest state that is kept, the first dead address of the stack,
 /// and the output.
 fn put_nth<A: Allocator + Copy, U: Drop>(
@@ -40,22 +84,10 @@ fn put_nth<A: Allocator + Copy, U: Drop>(
         → IfOk result (λ l. Adds list.out l.out (fixed_tokens row)) }
 {
     match number {
-        0 => {
-            let place = place_text(alloc, position, machine)?;
-            put_fixed(list, "place", place.as_str())
-        }
-        1 => {
-            let oldest = number_text(alloc, oldest)?;
-            put_fixed(list, "oldest", oldest.as_str())
-        }
-        2 => {
-            let top = number_text(alloc, machine.top())?;
-            put_fixed(list, "top", top.as_str())
-        }
-        _ => {
-            let output = as_text(alloc, machine.output())?;
-            put_fixed(list, "output", output.as_str())
-        }
+        0 => put_place(alloc, list, position, machine),
+        1 => put_number(alloc, list, "oldest", oldest),
+        2 => put_number(alloc, list, "top", machine.top()),
+        _ => put_output(alloc, list, machine.output()),
     }
 }
 

@@ -16,6 +16,22 @@ pub const MACHINE: u64 = 1 << 30;
 /// The reference of the scope of the data objects.
 pub const DATA: u64 = (1 << 30) + 1;
 
+/// Ends a scope: by which reference its variables are asked for, and how many there are.
+fn end_scope<A: Allocator, U: Drop>(
+    scope: Object<A, InArray<U>>,
+    reference: u64,
+    count: usize,
+) -> Result<Array<A, U>, AllocError>
+    ensures { IfOk result (λ l. Adds scope.out l.out (scope_variables reference count)) }
+{
+    let list = scope
+        .number("variablesReference", reference)?
+        .number("namedVariables", count as u64)?
+        .flag("expensive", false)?
+        .end_item()?;
+    Ok(list)
+}
+
 /// Adds a scope.
 fn put_scope<A: Allocator, U: Drop>(
     list: Array<A, U>,
@@ -25,13 +41,8 @@ fn put_scope<A: Allocator, U: Drop>(
 ) -> Result<Array<A, U>, AllocError>
     ensures { IfOk result (λ l. Adds list.out l.out (scope_name name.now ++ scope_variables reference count)) }
 {
-    let list = list
-        .object()?
-        .text("name", name)?
-        .number("variablesReference", reference)?
-        .number("namedVariables", count as u64)?
-        .flag("expensive", false)?
-        .end_item()?;
+    let scope = list.object()?.text("name", name)?;
+    let list = end_scope(scope, reference, count)?;
     Ok(list)
 }
 
@@ -45,14 +56,11 @@ fn put_hinted<A: Allocator, U: Drop>(
 ) -> Result<Array<A, U>, AllocError>
     ensures { IfOk result (λ l. Adds list.out l.out (hinted_scope name.now hint.now reference count)) }
 {
-    let list = list
+    let scope = list
         .object()?
         .text("name", name)?
-        .text("presentationHint", hint)?
-        .number("variablesReference", reference)?
-        .number("namedVariables", count as u64)?
-        .flag("expensive", false)?
-        .end_item()?;
+        .text("presentationHint", hint)?;
+    let list = end_scope(scope, reference, count)?;
     Ok(list)
 }
 

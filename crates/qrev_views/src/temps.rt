@@ -8,8 +8,7 @@ ghost use Rattle.qrev_protocol.specs.Outgoing.{Adds};
 ghost use Rattle.qrev_views.specs.Pages.{page_of};
 ghost use Rattle.qrev_views.specs.Variables.{class_letter, live_reference, temp_tokens, temps_tokens};
 
-use crate::texts::sigiled;
-use crate::variable::{Page, add_address, begin_variable, end_variable, value_text};
+use crate::variable::{Page, add_address, begin_typed, end_variable};
 use qil_answers::{Machine, temp_name};
 use qil_code::Slot;
 use qil_frames::Frame;
@@ -60,12 +59,9 @@ fn put_temp<A: Allocator + Copy, U: Drop>(
         → IfOk result (λ l. Adds list.out l.out (temp_tokens (func_at machine.now.program frame.now.func) (live machine.now.memory) can_be_set x value)) }
 {
     let code = machine.code();
-    let name = sigiled(alloc, b"%", temp_name(code, frame.func(), slot))?;
-    let shown = value_text(alloc, value)?;
+    let name = temp_name(code, frame.func(), slot);
     let class = class_letter(code.class_of(frame.func(), slot));
-    let variable = begin_variable(list, name.as_str(), shown.as_str())?
-        .text("type", class)?
-        .text("evaluateName", name.as_str())?;
+    let variable = begin_typed(alloc, list, b"%", name, value, class)?;
     let variable = add_live_address(alloc, machine, variable, value)?;
     let list = end_variable(variable, can_be_set)?;
     Ok(list)

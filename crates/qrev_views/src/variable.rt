@@ -3,10 +3,10 @@
 ghost use Rattle.std.specs.Prelude.{◌≡◌, ◌+◌, [], ◌∷◌, ◌++◌, cond, IfOk, min, string_bytes};
 ghost use Rattle.json.specs.Token.{end_object};
 ghost use Rattle.qrev_protocol.specs.Outgoing.{Adds};
-ghost use Rattle.qrev_views.specs.Texts.{shown_value};
-ghost use Rattle.qrev_views.specs.Variables.{variable_head, read_only, reference};
+ghost use Rattle.qrev_views.specs.Texts.{shown_text, shown_value};
+ghost use Rattle.qrev_views.specs.Variables.{variable_head, typed_head, read_only, reference};
 
-use crate::texts::number_text;
+use crate::texts::{number_text, sigiled};
 use qrev_protocol::{Array, InArray, Object};
 use std::alloc::{AllocError, Allocator};
 
@@ -56,6 +56,52 @@ pub fn begin_variable<A: Allocator, U: Drop>(
         .text("name", name)?
         .text("value", value)?
         .number("variablesReference", 0)?;
+    Ok(variable)
+}
+
+/// Begins a variable with its name, by which it can be evaluated, its value and its type.
+fn begin_named<A: Allocator, U: Drop>(
+    list: Array<A, U>,
+    name: &str,
+    value: &str,
+    letter: &str,
+) -> Result<Object<A, InArray<U>>, AllocError>
+    ensures { IfOk result (λ o. Adds list.out o.out (typed_head name.now value.now letter.now)) }
+{
+    let variable = begin_variable(list, name, value)?
+        .text("type", letter)?
+        .text("evaluateName", name)?;
+    Ok(variable)
+}
+
+/// The same, of a value that is a number or unset.
+fn begin_valued<A: Allocator + Copy, U: Drop>(
+    alloc: A,
+    list: Array<A, U>,
+    name: &str,
+    value: Option<u64>,
+    letter: &str,
+) -> Result<Object<A, InArray<U>>, AllocError>
+    ensures { IfOk result (λ o. Adds list.out o.out (typed_head name.now (shown_value value) letter.now)) }
+{
+    let value = value_text(alloc, value)?;
+    let variable = begin_named(list, name, value.as_str(), letter)?;
+    Ok(variable)
+}
+
+/// The same, whose name has a sigil.
+pub fn begin_typed<A: Allocator + Copy, U: Drop>(
+    alloc: A,
+    list: Array<A, U>,
+    sigil: &[u8],
+    name: &[u8],
+    value: Option<u64>,
+    letter: &str,
+) -> Result<Object<A, InArray<U>>, AllocError>
+    ensures { IfOk result (λ o. Adds list.out o.out (typed_head (shown_text (sigil.now ++ name.now)) (shown_value value) letter.now)) }
+{
+    let name = sigiled(alloc, sigil, name)?;
+    let variable = begin_valued(alloc, list, name.as_str(), value, letter)?;
     Ok(variable)
 }
 

@@ -1,4 +1,6 @@
 -- A name that was not recorded before is recorded.
+use Rattle.std.proofs.lemmas.Grind.{common_steps}
+use borrow.Author.Differences.{ints}
 use Rattle.std.proofs.Common.{arith, ap, ◌∙◌}
 use Rattle.std.specs.Option.{option_or}
 use Rattle.qil_names.specs.Tables.{value_at, for_name}
@@ -12,3 +14,15 @@ loop-number-preserved g c = λ x.
 
 pub returns : goal.returns
 returns g c = λ x. all_recorded c.args.texts.now c.loop-number.number x (value_at c.loop-number.table.values x) _ (c.loop-number.invariant x) (omega arith)
+
+pub offset_bounds-texts-number : goal.offset_bounds-texts-number
+offset_bounds-texts-number c = grind (ints, arith, common_steps)
+
+pub bounds-texts-number : goal.bounds-texts-number
+bounds-texts-number c = grind (ints, arith, common_steps)
+
+pub returns-in_err-note : goal.returns-in_err-note
+returns-in_err-note c = grind (ints, arith, common_steps)
+
+pub loop-number-smaller : goal.loop-number-smaller
+loop-number-smaller c = grind (ints, arith, common_steps)

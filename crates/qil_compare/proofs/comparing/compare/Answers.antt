@@ -1,6 +1,6 @@
 -- Both sides go on to their next events, which are judged.
 use Rattle.std.proofs.Common.{◌∙◌, refl, sym, arith, Some, None}
-use Rattle.qil_compare.proofs.Likeness.{alike_as, alike_of, alike_swapped}
+use Rattle.qil_compare.proofs.Likeness.{alike_as, alike_swapped}
 use Rattle.qil_compare.proofs.Fronts.{alike_begun, both_found, alike_more, answered, next_as, judges_as}
 use Rattle.qil_compare.proofs.comparing.compare.Goals as goal
 
@@ -26,8 +26,8 @@ next_event-one-requires g c = λ lifetimes.
         omega (arith, near.0, limit),
         (
           c.requires.good ∙ sym i.good_program,
-          alike_as p q (g.H.History.program c.loop-events.good) c.args.good_side.now.other.now c.named_alike-alike.result (sym i.good_program) (sym (c.requires.sides.good_other ∙ c.requires.bad))
-              (alike_of c.image.result.now c.image-2.result.now p q c.code.result.now c.code-2.result.now c.machine.result.now.program c.machine-2.result.now.program c.named_alike-alike.result c.image.ensures c.image-2.ensures c.code.ensures c.code-2.ensures c.machine.ensures.program c.machine-2.ensures.program c.named_alike-alike.ensures),
+          alike_as p q (g.H.History.program c.loop-events.good) c.args.good_side.now.other.now c.names_alike-alike.result (sym i.good_program) (sym (c.requires.sides.good_other ∙ c.requires.bad))
+              c.names_alike-alike.ensures,
         ),
       ),
     )
@@ -44,9 +44,9 @@ next_event-other-requires g c = λ lifetimes.
         omega (arith, near.1, limit),
         (
           c.requires.bad ∙ sym i.bad_program,
-          alike_as q p (g.K.History.program c.loop-events.bad) c.args.bad_side.now.other.now c.named_alike-alike.result (sym i.bad_program) (sym (c.requires.sides.bad_other ∙ c.requires.good))
-              (alike_swapped p q c.named_alike-alike.result
-              (alike_of c.image.result.now c.image-2.result.now p q c.code.result.now c.code-2.result.now c.machine.result.now.program c.machine-2.result.now.program c.named_alike-alike.result c.image.ensures c.image-2.ensures c.code.ensures c.code-2.ensures c.machine.ensures.program c.machine-2.ensures.program c.named_alike-alike.ensures)),
+          alike_as q p (g.K.History.program c.loop-events.bad) c.args.bad_side.now.other.now c.names_alike-alike.result (sym i.bad_program) (sym (c.requires.sides.bad_other ∙ c.requires.good))
+              (alike_swapped p q c.names_alike-alike.result
+              c.names_alike-alike.ensures),
         ),
       ),
     )
@@ -63,8 +63,8 @@ judge_here-judged-requires g c = λ lifetimes.
         c.requires.good ∙ sym good,
         (
           c.requires.bad ∙ sym bad,
-          alike_as p q (g.H.History.program c.next_event-one.new.history) (g.K.History.program c.next_event-other.new.history) c.named_alike-alike.result (sym good) (sym bad)
-              (alike_of c.image.result.now c.image-2.result.now p q c.code.result.now c.code-2.result.now c.machine.result.now.program c.machine-2.result.now.program c.named_alike-alike.result c.image.ensures c.image-2.ensures c.code.ensures c.code-2.ensures c.machine.ensures.program c.machine-2.ensures.program c.named_alike-alike.ensures),
+          alike_as p q (g.H.History.program c.next_event-one.new.history) (g.K.History.program c.next_event-other.new.history) c.names_alike-alike.result (sym good) (sym bad)
+              c.names_alike-alike.ensures,
         ),
       ),
     )

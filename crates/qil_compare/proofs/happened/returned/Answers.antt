@@ -13,7 +13,7 @@ pub returns-then-not-side : goal.returns-then-not-side
 returns-then-not-side g c = λ due of ahead. unasked_return c.args.machine.now.program c.args.side.now.other.now c.args.side.now.kinds due c.if-not-side.true
 
 pub has_like-requires : goal.has_like-requires
-has_like-requires g c = subst (λ (q : Program _). AreNamedAlike q c.args.side.now.other.now c.args.alike) (sym (c.image.ensures ∙ c.code.ensures)) c.requires
+has_like-requires g c = subst (λ (q : Program _). AreNamedAlike q c.args.side.now.other.now c.args.alike) (sym c.image_of.ensures) c.requires
 
 pub returns-then-not-has_like : goal.returns-then-not-has_like
 returns-then-not-has_like g c = λ due of ahead.
@@ -21,7 +21,7 @@ returns-then-not-has_like g c = λ due of ahead.
     let other = c.args.side.now.other.now in
     let id = c.args.before.func in
     return_is p other c.args.side.now.kinds (state_of c.args.machine.now) due id c.args.before.ahead (func_name (func_at p id.index)) c.has_like.result _ c.if-not-side.false of ahead refl
-    (c.has_like.ensures ∙ ap (λ (q : Program _). has_func other (func_name (slice_get q.funcs id.index))) (c.image.ensures ∙ c.code.ensures)) refl
+    (c.has_like.ensures ∙ ap (λ (q : Program _). has_func other (func_name (slice_get q.funcs id.index))) c.image_of.ensures) refl
     ∙ if_not c.has_like.result _ c.if-not-has_like.true
 
 pub returns : goal.returns
@@ -32,6 +32,6 @@ returns g c = λ due of ahead.
     let s = state_of c.args.machine.now in
     told_as p c.args.side.now.kinds s c.told.result _ _
     (return_is p other c.args.side.now.kinds s due id c.args.before.ahead (func_name (func_at p id.index)) c.has_like.result c.returned_value.result c.if-not-side.false of ahead refl
-    (c.has_like.ensures ∙ ap (λ (q : Program _). has_func other (func_name (slice_get q.funcs id.index))) (c.image.ensures ∙ c.code.ensures)) c.returned_value.ensures
+    (c.has_like.ensures ∙ ap (λ (q : Program _). has_func other (func_name (slice_get q.funcs id.index))) c.image_of.ensures) c.returned_value.ensures
     ∙ if_so c.has_like.result _ c.if-not-has_like.false)
     (c.told.ensures c.args.side.now.kinds)

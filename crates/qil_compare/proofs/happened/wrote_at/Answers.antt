@@ -13,7 +13,7 @@ returns-in_default g c = write_none c.args.machine.now.program c.args.side.now.p
 pub returns-then-not-has_data : goal.returns-then-not-has_data
 returns-then-not-has_data g c =
     write_is c.args.machine.now.program c.args.side.now.program.now c.args.side.now.other.now (state_of c.args.machine.now) c.args.start c.args.count (offset_of c.in-Some.place) c.has_data.result c.requires c.in-Some.ensures
-    (c.has_data.ensures ∙ ap (λ (q : Program _). has_data q c.in-Some.place.object.now) c.image-2.ensures) ∙ if_not c.has_data.result _ c.if-not-has_data.true
+    (c.has_data.ensures ∙ ap (λ (q : Program _). has_data q c.in-Some.place.object.now) c.image.ensures) ∙ if_not c.has_data.result _ c.if-not-has_data.true
 
 pub returns : goal.returns
 returns g c =
@@ -21,5 +21,5 @@ returns g c =
     let s = state_of c.args.machine.now in
     told_as p c.args.side.now.kinds s c.told.result _ _
     (write_is p c.args.side.now.program.now c.args.side.now.other.now s c.args.start c.args.count (offset_of c.in-Some.place) c.has_data.result c.requires c.in-Some.ensures
-    (c.has_data.ensures ∙ ap (λ (q : Program _). has_data q c.in-Some.place.object.now) c.image-2.ensures) ∙ if_so c.has_data.result _ c.if-not-has_data.false)
+    (c.has_data.ensures ∙ ap (λ (q : Program _). has_data q c.in-Some.place.object.now) c.image.ensures) ∙ if_so c.has_data.result _ c.if-not-has_data.false)
     (c.told.ensures c.args.side.now.kinds)

@@ -1,8 +1,8 @@
 -- The images are those of the machines' programs.
-use Rattle.std.proofs.Common.{◌∙◌, sym}
+use Rattle.std.proofs.Common.{sym}
 use Rattle.qil_compare.proofs.Likeness.{alike_as}
 use Rattle.qil_compare.proofs.same.same_returns.Goals as goal
 
 pub same_names-requires : goal.same_names-requires
 same_names-requires g c =
-    alike_as c.args.left.now.machine.now.program c.args.right.now.machine.now.program c.image-image.result.now c.image-other.result.now c.args.alike (sym (c.image-image.ensures ∙ c.code.ensures)) (sym (c.image-other.ensures ∙ c.code-2.ensures)) c.requires.alike
+    alike_as c.args.left.now.machine.now.program c.args.right.now.machine.now.program c.image.result.now c.image-2.result.now c.args.alike (sym c.image.ensures) (sym c.image-2.ensures) c.requires.alike

@@ -9,7 +9,7 @@ pub invariant_of-cursor : goal.invariant_of-cursor
 invariant_of-cursor g c = record { numbers = cut_numbers c.requires.cut.0 c.args.tokens.now c.requires.cut.1; strings = cut_strings c.requires.cut.0 c.args.tokens.now c.requires.cut.1 }
 
 pub returns-in-Err-Refused-clause-fault : goal.returns-in-Err-Refused-clause-fault
-returns-in-Err-Refused-clause-fault g c = fault_at c.args.tokens.now c.in-Err-Refused.marked c.in-Err-Refused.left.now c.refusal.result (rw c.in-Err-Refused.field-0-is at c.in-Err-Refused.ensures) (rw (c.in-Err-Refused.marked-is, c.in-Err-Refused.left-is) at c.refusal.ensures)
+returns-in-Err-Refused-clause-fault g c = fault_at c.args.tokens.now c.in-Err-Refused.marked c.program.new.self.rest.now c.refusal.result (rw c.in-Err-Refused.field-0-is at c.in-Err-Refused.ensures) (rw c.in-Err-Refused.marked-is at c.refusal.ensures)
 
 pub returns-in-Err-Refused-clause-only_spelled : goal.returns-in-Err-Refused-clause-only_spelled
 returns-in-Err-Refused-clause-only_spelled g c = no_program (seen c.args.tokens.now) c.refusal.result (returns-in-Err-Refused-clause-fault g c)

@@ -1,4 +1,6 @@
 -- The first mention of a text that breaks the rule.
+use Rattle.std.proofs.lemmas.Grind.{common_steps, elements}
+use borrow.Author.Differences.{ints}
 use Rattle.std.proofs.Common.{◌≡◌, ap, subst, List, Some, slice_get, ◌<◌, IsTrue, length, arith, below_more}
 use Rattle.qil_rules.specs.declared.mention.Mention.{Mention}
 use Rattle.qil_rules.specs.Rules.{Breaks}
@@ -34,3 +36,27 @@ returns g c = λ k b.
     let l : k < length text = breaks_within c.args.rule (mentions_of c.args.self.now.texts.items) text c.args.visit.now.number k b in
     let e : length c.deref-mention-items.result.now ≡ length text = ap length c.deref-mention-items.ensures.value in
     c.loop-place.invariant.0 k (omega arith) b
+
+pub loop-place-init : goal.loop-place-init
+loop-place-init c = grind (ints, arith, common_steps)
+
+pub offset_bounds-mention-items-place : goal.offset_bounds-mention-items-place
+offset_bounds-mention-items-place c = grind (ints, arith, common_steps)
+
+pub bounds-mention-items-place : goal.bounds-mention-items-place
+bounds-mention-items-place c = grind (ints, arith, common_steps)
+
+pub breaks-requires-clause-there : goal.breaks-requires-clause-there
+breaks-requires-clause-there c = grind (ints, arith, elements)
+
+pub breaks-requires-clause-counted : goal.breaks-requires-clause-counted
+breaks-requires-clause-counted c = grind (ints, arith, common_steps)
+
+pub returns-in_err-breaks : goal.returns-in_err-breaks
+returns-in_err-breaks c = grind (ints, arith, common_steps)
+
+pub returns-then-branch : goal.returns-then-branch
+returns-then-branch c = grind (ints, arith, elements)
+
+pub loop-place-smaller : goal.loop-place-smaller
+loop-place-smaller c = grind (ints, arith, common_steps)

@@ -15,7 +15,7 @@ each-preserved g c = rw c.in_ok-add.ensures (defs_continue _ _ _ _ _ (sym c.star
 pub returns-in_err-def : goal.returns-in_err-def
 returns-in_err-def g c =
     let p = err_from_is_err_and c.from_residual.result c.from_residual.ensures.1 in
-    rw (p.1, p.2) (defs_end c.in_err-def.field-0.0 _ _ _ (sym c.starts_def.ensures ∙ c.each-test.true) c.in_err-def.ensures c.each.invariant)
+    rw (p.1, p.2) (defs_end c.in_err-def.field-0.0 _ _ _ _ (sym c.starts_def.ensures ∙ c.each-test.true) c.in_err-def.ensures c.each.invariant)
 
 pub returns : goal.returns
 returns g c = rw c.program.ensures (defs_stop _ _ _ (sym c.starts_def.ensures ∙ c.each-test.false) c.each.invariant)

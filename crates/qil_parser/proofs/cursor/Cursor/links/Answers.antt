@@ -19,7 +19,7 @@ pub returns-in_err-link : goal.returns-in_err-link
 unfolding reading.links
 returns-in_err-link c =
     let p = err_from_is_err_and c.from_residual.result c.from_residual.ensures.1 in
-    rw (p.1, p.2, sym c.each.invariant) (past_ends index reading.link_firsts reading.link link_takes c.in_err-link.field-0.0 _ (sym c.starts_link.ensures ∙ c.each-test.true) c.in_err-link.ensures)
+    rw (p.1, p.2, sym c.each.invariant) (past_ends index reading.link_firsts reading.link link_takes c.in_err-link.field-0.0 _ _ (sym c.starts_link.ensures ∙ c.each-test.true) c.in_err-link.ensures)
 
 pub returns : goal.returns
 unfolding reading.links

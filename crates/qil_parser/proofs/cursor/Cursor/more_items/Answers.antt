@@ -19,7 +19,7 @@ pub returns-in_err-item : goal.returns-in_err-item
 unfolding reading.items_of
 returns-in_err-item g c =
     let p = err_from_is_err_and c.from_residual-in_err-item.result c.from_residual-in_err-item.ensures.1 in
-    rw (p.1, p.2) (many_ends index (reading.item_firsts c.args.width) (reading.item c.args.width) (item_takes c.args.width) c.in_err-item.field-0.0 _ _ _ (sym c.starts_item.ensures ∙ c.each-test.true) c.in_err-item.ensures c.each.invariant)
+    rw (p.1, p.2) (many_ends index (reading.item_firsts c.args.width) (reading.item c.args.width) (item_takes c.args.width) c.in_err-item.field-0.0 _ _ _ _ (sym c.starts_item.ensures ∙ c.each-test.true) c.in_err-item.ensures c.each.invariant)
 
 pub returns : goal.returns
 unfolding reading.items_of

@@ -22,7 +22,7 @@ pub returns-in_err-item : goal.returns-in_err-item
 unfolding functions.lines
 returns-in_err-item g c =
     let p = err_from_is_err_and c.from_residual.result c.from_residual.ensures.1 in
-    rw (p.1, p.2) (many_ends index functions.inst_starts (parsing.before functions.inst terminals.Newline) inst_line_takes c.in_err-item.field-0.0 c.each.items.items (seen c.each.self.rest.now) _ (sym c.starts_inst.ensures ∙ c.each-test.true) c.in_err-item.ensures c.each.invariant)
+    rw (p.1, p.2) (many_ends index functions.inst_starts (parsing.before functions.inst terminals.Newline) inst_line_takes c.in_err-item.field-0.0 _ c.each.items.items (seen c.each.self.rest.now) _ (sym c.starts_inst.ensures ∙ c.each-test.true) c.in_err-item.ensures c.each.invariant)
 
 pub each-smaller : goal.each-smaller
 each-smaller g c = fewer_left _ _ (inst_line_takes.fewer (seen c.each.self.rest.now) _ _ c.in_ok-item.ensures)

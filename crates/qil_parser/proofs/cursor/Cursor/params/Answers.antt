@@ -13,7 +13,7 @@ use Rattle.qil_parser.proofs.cursor.Cursor.params.Goals as goal
 
 pub each-preserved : goal.each-preserved
 unfolding functions.params
-each-preserved g c = rw c.in_ok-push.ensures.items (separated_goes_on index (parsing.the terminals.Comma) parsing.types (parsing.word terminals.Comma) functions.param comma_takes param_takes _ _ _ _ _ _ (sym c.starts_type.ensures ∙ c.each-test.true) c.in_ok-item.ensures (sym c.starts_with.ensures ∙ c.if-not-starts_with.false) c.in_ok-separator.ensures c.each.invariant)
+each-preserved g c = rw c.in_ok-push.ensures.items (separated_goes_on index (parsing.the terminals.Comma) parsing.types (parsing.word terminals.Comma) functions.param comma_takes param_takes _ _ _ _ _ _ (sym c.starts_type.ensures ∙ c.each-test.true) c.in_ok-item.ensures (sym c.starts_with.ensures ∙ c.if-not-starts_with.false) (c.separator.ensures (sym c.starts_with.ensures ∙ c.if-not-starts_with.false)) c.each.invariant)
 
 pub returns-then-not-starts_with : goal.returns-then-not-starts_with
 unfolding functions.params
@@ -23,11 +23,11 @@ pub returns-in_err-item : goal.returns-in_err-item
 unfolding functions.params
 returns-in_err-item g c =
     let p = err_from_is_err_and c.from_residual.result c.from_residual.ensures.1 in
-    rw (p.1, p.2) (separated_ends index (parsing.the terminals.Comma) parsing.types (parsing.word terminals.Comma) functions.param comma_takes param_takes c.in_err-item.field-0.0 _ _ _ (sym c.starts_type.ensures ∙ c.each-test.true) c.in_err-item.ensures c.each.invariant)
+    rw (p.1, p.2) (separated_ends index (parsing.the terminals.Comma) parsing.types (parsing.word terminals.Comma) functions.param comma_takes param_takes c.in_err-item.field-0.0 _ _ _ _ (sym c.starts_type.ensures ∙ c.each-test.true) c.in_err-item.ensures c.each.invariant)
 
 pub returns : goal.returns
 unfolding functions.params
 returns g c = rw c.new-2.ensures (separated_stops index (parsing.the terminals.Comma) parsing.types (parsing.word terminals.Comma) functions.param comma_takes param_takes _ _ _ (sym c.starts_type.ensures ∙ c.each-test.false) c.each.invariant)
 
 pub each-smaller : goal.each-smaller
-each-smaller g c = fewer_still _ _ _ (param_takes.fewer _ _ _ c.in_ok-item.ensures) (comma_takes.fewer _ _ _ c.in_ok-separator.ensures)
+each-smaller g c = fewer_still _ _ _ (param_takes.fewer _ _ _ c.in_ok-item.ensures) (comma_takes.fewer _ _ _ (c.separator.ensures (sym c.starts_with.ensures ∙ c.if-not-starts_with.false)))

@@ -12,7 +12,7 @@ use Rattle.qil_numbering.proofs.Facts.{numerable, finds}
 use Rattle.qil_numbering.proofs.KnownLabels.{knows_labels}
 use Rattle.qil_code.proofs.KnownTemps.{knows_temps}
 use Rattle.qil_numbering.proofs.Whole.{codes-are}
-use Rattle.qil_numbering.proofs.numbering.number.Goals as goal
+use Rattle.qil_numbering.proofs.numbering.numbered.Goals as goal
 
 pub funcs_code-requires : goal.funcs_code-requires
 funcs_code-requires g c =

@@ -1,0 +1,7 @@
+-- The machine is in the state of the timeline.
+use Rattle.std.proofs.Common.{◌∙◌, ap}
+use Rattle.qil_meaning.specs.State.{State, is_final}
+use Rattle.qil_compare.proofs.running.is_at_end.Goals as goal
+
+pub returns : goal.returns
+returns g c = c.is_over.ensures ∙ ap (λ (s : State). is_final s.status) c.machine_of.ensures.now

@@ -1,0 +1,43 @@
+//! Replies of a session over any history that goes by single moves.
+//!
+//! A session asks that its history have runs. Where the history is known, all that runs promise is compared at such a call with all
+//! that is so of that history; here it is any `History`, of which less is asked.
+
+ghost use Rattle.std.specs.Prelude.{◌≡◌, ◌-◌, ◌^◌, ◌<◌, ◌≤◌};
+ghost use Rattle.qil_streams.specs.Device.{Puts};
+ghost use Rattle.qil_session.specs.Kept.{session_state};
+ghost use Rattle.qil_session.specs.qil_replies.Answers.{Replies};
+ghost use Rattle.qil_session.specs.qil_replies.SessionState.{text_in};
+ghost use Rattle.qil_meaning.specs.Timeline.{position};
+
+use qil_commands::{Command, Refused};
+use qil_history::History;
+use qil_machine::Machine;
+use qil_session::{Reply, Session, Stepwise};
+use qil_streams::{Buffer, Put, PutError};
+use std::alloc::Allocator;
+
+/// As `Session::reply`.
+pub fn reply<'c, 't, A: Allocator + Copy + 'c, H: History<A, Machine<'c, A>> + Stepwise>(
+    session: &mut Session<A, H>,
+    said: Result<Option<Command<'t>>, Refused>,
+) -> Reply<'t>
+    requires before { position (H.timeline session.old.history) < 2 ^ 61 }
+    requires limit { session.old.limit ≤ 4294967295 }
+    ensures limit { session.new.limit ≡ session.old.limit }
+    ensures replied { Replies (session_state H.program H.timeline session.old) (session_state H.program H.timeline session.new) said.entry result }
+{
+    session.reply(said)
+}
+
+/// As `Session::put_reply`.
+pub fn put_reply<'c, A: Allocator + Copy + 'c, H: History<A, Machine<'c, A>> + Stepwise>(
+    session: &Session<A, H>,
+    reply: Reply<'_>,
+    out: &mut Buffer<A>,
+) -> Result<(), PutError>
+    requires { ⟦<Buffer<A> as Put>⟧.stops out.old < 2 ^ 64 - 1 }
+    ensures { Puts result (⟦<Buffer<A> as Put>⟧.written out.old) (⟦<Buffer<A> as Put>⟧.written out.new) (text_in (session_state H.program H.timeline session.now) reply.entry) }
+{
+    session.put_reply(reply, out)
+}
