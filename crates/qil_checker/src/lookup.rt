@@ -78,6 +78,31 @@ pub struct Tables<'a, A: Allocator> {
     pub predecessors: Groups<'a, Name<'a>, A>,
 }
 
+/// Where the names of each kind stand first.
+#[derive(Drop)]
+struct Places<'a, A: Allocator> {
+    defined: Firsts<'a, usize, A>,
+    named: Firsts<'a, usize, A>,
+    labels: Firsts<'a, usize, A>,
+}
+
+// Apart from `Tables::new`, so that fewer tables have to be let go on each way out.
+fn all_places<'a, A: Allocator + Copy>(
+    alloc: A,
+    keys: RandomState,
+    mentions: &[Mention<'_, 'a>],
+) -> Result<Places<'a, A>, AllocError>
+    ensures defined { IfOk result (λ t. (x : List ℕ) → value_at t.defined.values x ≡ first (is_named Defined x) 0 mentions.now) }
+    ensures named { IfOk result (λ t. (x : List ℕ) → value_at t.named.values x ≡ first (is_named Named x) 0 mentions.now) }
+    ensures labels { IfOk result (λ t. (x : List ℕ) → value_at t.labels.values x ≡ first (is_named Labels x) 0 mentions.now) }
+{
+    Ok(Places {
+        defined: first_places(alloc, keys, mentions, TableKind::Defined)?,
+        named: first_places(alloc, keys, mentions, TableKind::Named)?,
+        labels: first_places(alloc, keys, mentions, TableKind::Labels)?,
+    })
+}
+
 impl<'a, A: Allocator + Copy> Tables<'a, A> {
     pub fn new(
         alloc: A,
@@ -89,11 +114,13 @@ impl<'a, A: Allocator + Copy> Tables<'a, A> {
         ensures labels { IfOk result (λ t. (x : List ℕ) → value_at t.labels.values x ≡ first (is_named Labels x) 0 mentions.now) }
         ensures predecessors { IfOk result (λ t. (x : List ℕ) → values_at t.predecessors.lists x ≡ predecessors_of x mentions.now) }
     {
+        let places = all_places(alloc, keys, mentions)?;
+        let predecessors = all_predecessors(alloc, keys, mentions)?;
         Ok(Tables {
-            defined: first_places(alloc, keys, mentions, TableKind::Defined)?,
-            named: first_places(alloc, keys, mentions, TableKind::Named)?,
-            labels: first_places(alloc, keys, mentions, TableKind::Labels)?,
-            predecessors: all_predecessors(alloc, keys, mentions)?,
+            defined: places.defined,
+            named: places.named,
+            labels: places.labels,
+            predecessors,
         })
     }
 }

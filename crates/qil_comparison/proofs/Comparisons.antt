@@ -1,5 +1,5 @@
 -- From what comes of two runs to what is written of them.
-use Rattle.std.proofs.Common.{◌≡◌, ◌≢◌, refl, sym, ap, ◌∙◌, subst, ℕ, ◌^◌, false, inl, inr, List, [], ◌∷◌, ◌++◌, take, append_assoc, arith}
+use Rattle.std.proofs.Common.{◌≡◌, ◌≢◌, refl, sym, ap, ◌∙◌, subst, ℕ, ◌^◌, inr, List, [], ◌++◌, take, append_assoc, arith}
 use Rattle.std.proofs.lemmas.List.{append-nil}
 use Rattle.std.specs.Prelude.{Option, Some, None, Result, Ok, Err, IfSome}
 use Rattle.std.specs.Io.KnownBytes.{Appends}
@@ -29,7 +29,7 @@ use Rattle.qil_comparison.specs.declared.request.Request.{Request}
 use Rattle.qil_comparison.specs.declared.outcome.Outcome.{Outcome}
 use Rattle.qil_comparison.specs.declared.outcome.Outcome.TheVariants as outcomes
 use Rattle.qil_comparison.specs.Told.{told_text}
-use Rattle.qil_comparison.specs.Compared.{Setup, Begin, good_begun, bad_begun, NumberIs, session_there, AreAnswers, IsComparison, Leaves, Written, IsUntouched, CountsFaults, keeps}
+use Rattle.qil_comparison.specs.Compared.{Setup, Begin, good_begun, bad_begun, NumberIs, session_there, AreAnswers, IsComparison, Leaves, Written, IsUntouched, CountsFaults}
 use Rattle.qil_comparison.specs.Handed.{IsServedBy, served_outcome}
 
 -- ---- two runs that came to an answer
@@ -97,26 +97,6 @@ wrote_as w0 w1 text other e p = subst (λ (x : List ℕ). Appends w0 w1 x) e p
 
 pub cut_as : (w0 w1 : Option (List ℕ)) (text other : List ℕ) → text ≡ other → ((prefix : List ℕ) × IsPrefixOf prefix text × Appends w0 w1 prefix) → (prefix : List ℕ) × IsPrefixOf prefix other × Appends w0 w1 prefix
 cut_as w0 w1 text other e p = (p.0, subst (λ (x : List ℕ). IsPrefixOf p.0 x) e p.1, p.2)
-
--- ---- how many moves each side keeps
-
-pub kept_good : (bound : Option ℕ) (session : Option SideName) (kept : SideName) → bound ≡ None → session ≡ Some kept → kept ≡ Good → (keeps bound session Good ≡ None) × (keeps bound session Bad ≡ Some 0)
-kept_good bound session kept eb es is = (
-  ap (λ o. keeps o session Good) eb ∙ ap (λ o. keeps None o Good) (es ∙ ap Some is),
-  ap (λ o. keeps o session Bad) eb ∙ ap (λ o. keeps None o Bad) (es ∙ ap Some is),
-)
-
-pub kept_bad : (bound : Option ℕ) (session : Option SideName) (kept : SideName) → bound ≡ None → session ≡ Some kept → kept ≡ Bad → (keeps bound session Good ≡ Some 0) × (keeps bound session Bad ≡ None)
-kept_bad bound session kept eb es is = (
-  ap (λ o. keeps o session Good) eb ∙ ap (λ o. keeps None o Good) (es ∙ ap Some is),
-  ap (λ o. keeps o session Bad) eb ∙ ap (λ o. keeps None o Bad) (es ∙ ap Some is),
-)
-
-pub kept_few : (bound : Option ℕ) (session : Option SideName) (side : SideName) → bound ≡ None → session ≡ None → keeps bound session side ≡ Some 0
-kept_few bound session side eb es = ap (λ o. keeps o session side) eb ∙ ap (λ o. keeps None o side) es
-
-pub kept_bound : (bound : Option ℕ) (session : Option SideName) (side : SideName) (n : ℕ) → bound ≡ Some n → keeps bound session side ≡ Some n
-kept_bound bound session side n eb = ap (λ o. keeps o session side) eb
 
 -- ---- the sink failed in what is told
 

@@ -127,8 +127,8 @@ fn put_next_byte<P: Put>(out: &mut P, byte: Option<u8>) -> Result<(), PutError>
 
 /// Puts so many bytes of memory from an address on in a line.
 fn put_bytes<P: Put, A: Allocator + Copy>(
-    out: &mut P,
     machine: &Machine<'_, A>,
+    out: &mut P,
     start: u64,
     count: u64,
 ) -> Result<(), PutError>
@@ -147,8 +147,8 @@ fn put_bytes<P: Put, A: Allocator + Copy>(
 
 /// Puts a write to data.
 fn put_write<P: Put, A: Allocator + Copy>(
-    out: &mut P,
     stand: &Stand<'_, '_, A>,
+    out: &mut P,
     start: u64,
     count: u64,
 ) -> Result<(), PutError>
@@ -159,13 +159,13 @@ fn put_write<P: Put, A: Allocator + Copy>(
     out.put(b"write ")?;
     put_data(out, stand.place_or_nowhere(start))?;
     out.put(b" ")?;
-    put_bytes(out, stand.machine, start, count)
+    put_bytes(stand.machine, out, start, count)
 }
 
 /// Puts the values of the parameters of the innermost frame, commas between them.
 fn put_params<P: Put, A: Allocator + Copy>(
-    out: &mut P,
     stand: &Stand<'_, '_, A>,
+    out: &mut P,
 ) -> Result<(), PutError>
     requires stops { P.stops out.old < 2 ^ 64 - 1 }
     requires stand { StandsIn stand.now }
@@ -184,8 +184,8 @@ fn put_params<P: Put, A: Allocator + Copy>(
 
 /// Puts a call: of the function of the innermost frame.
 fn put_call<P: Put, A: Allocator + Copy>(
-    out: &mut P,
     stand: &Stand<'_, '_, A>,
+    out: &mut P,
 ) -> Result<(), PutError>
     requires stops { P.stops out.old < 2 ^ 64 - 1 }
     requires stand { StandsIn stand.now }
@@ -199,7 +199,7 @@ fn put_call<P: Put, A: Allocator + Copy>(
             Fragment::Bytes(b"("),
         ],
     )?;
-    put_params(out, stand)?;
+    put_params(stand, out)?;
     out.put(b")\n")
 }
 
@@ -215,8 +215,8 @@ fn put_last_seen<P: Put>(out: &mut P, value: Seen<'_>) -> Result<(), PutError>
 
 /// Puts what a function returned, if it is a value, and the end of the line.
 fn put_returned<P: Put, A: Allocator + Copy>(
-    out: &mut P,
     stand: &Stand<'_, '_, A>,
+    out: &mut P,
     func: FuncId,
     value: Option<u64>,
 ) -> Result<(), PutError>
@@ -232,8 +232,8 @@ fn put_returned<P: Put, A: Allocator + Copy>(
 
 /// Puts a return, with its value if there is one.
 fn put_return<P: Put, A: Allocator + Copy>(
-    out: &mut P,
     stand: &Stand<'_, '_, A>,
+    out: &mut P,
     func: FuncId,
     value: Option<u64>,
 ) -> Result<(), PutError>
@@ -248,13 +248,13 @@ fn put_return<P: Put, A: Allocator + Copy>(
             Fragment::Bytes(stand.func_name(func)),
         ],
     )?;
-    put_returned(out, stand, func, value)
+    put_returned(stand, out, func, value)
 }
 
 /// Puts the line of an event.
 fn put_event<P: Put, A: Allocator + Copy>(
-    out: &mut P,
     stand: &Stand<'_, '_, A>,
+    out: &mut P,
     event: Event,
 ) -> Result<(), PutError>
     requires stops { P.stops out.old < 2 ^ 64 - 1 }
@@ -263,17 +263,17 @@ fn put_event<P: Put, A: Allocator + Copy>(
 {
     match event {
         Event::Output(byte) => put_output(out, byte),
-        Event::Write(start, count) => put_write(out, stand, start, count),
-        Event::Call => put_call(out, stand),
-        Event::Return(func, value) => put_return(out, stand, func, value),
+        Event::Write(start, count) => put_write(stand, out, start, count),
+        Event::Call => put_call(stand, out),
+        Event::Return(func, value) => put_return(stand, out, func, value),
         Event::End(_) => out.put(b"end\n"),
     }
 }
 
 /// Puts the line of what was found.
 pub fn put_found<P: Put, A: Allocator + Copy>(
-    out: &mut P,
     stand: &Stand<'_, '_, A>,
+    out: &mut P,
     found: Found,
 ) -> Result<(), PutError>
     requires stops { P.stops out.old < 2 ^ 64 - 1 }
@@ -281,7 +281,7 @@ pub fn put_found<P: Put, A: Allocator + Copy>(
     ensures { HasPut P.written P.stops P.device result out.old out.new (found_line stand.now.machine.now.program (state_of stand.now.machine.now) found) }
 {
     match found {
-        Found::Event(event) => put_event(out, stand, event),
+        Found::Event(event) => put_event(stand, out, event),
         Found::Over => out.put(b"none\n"),
         Found::Limit => out.put(b"limit\n"),
         Found::OutOfMemory => out.put(b"memory\n"),

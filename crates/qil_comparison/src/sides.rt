@@ -9,7 +9,6 @@ ghost use Rattle.qil_streams.specs.Device.{Counts, Puts};
 ghost use Rattle.qil_serving.specs.Serve.{TakesFew};
 ghost use Rattle.qil_compare.specs.Coded.{AreSides};
 ghost use Rattle.qil_comparison.specs.declared.request.Text.{Text};
-ghost use Rattle.qil_comparison.specs.declared.request.SideName.TheVariants.{Good, Bad};
 ghost use Rattle.qil_comparison.specs.Told.{told_text};
 ghost use Rattle.qil_comparison.specs.Compared.{Begin, CountsFaults, IsUntouched, Written, setup_of, keeps, good_begun, bad_begun};
 
@@ -101,51 +100,31 @@ fn run_histories<
     }
 }
 
-/// Runs both machines over histories that keep their newest moves alone.
-fn run_bounded<'c, A: Allocator + Copy + 'c, S: Source, W: Sink>(
-    alloc: A,
-    good: Machine<'c, A>,
-    bad: Machine<'c, A>,
-    bound: u64,
-    good_side: &Side<'c, A>,
-    bad_side: &Side<'c, A>,
-    request: &Request<'_>,
-    source: &mut S,
-    sink: &mut W,
-) -> Outcome
-    requires reads { S.failures source.old < 2 ^ 64 - 1 }
-    requires writes { W.failures sink.old < 2 ^ 64 - 1 }
-    requires limit { request.now.limit ≤ 4294967295 }
-    requires good { good_side.now.program.now ≡ good.program }
-    requires bad { bad_side.now.program.now ≡ bad.program }
-    requires sides { AreSides good_side.now bad_side.now }
-    requires kinds { good_side.now.kinds ≡ request.now.kinds }
-    requires bound { bound ≤ 1000000 }
-    ensures written { (one two : Text) (p q : accepted.Verdict A) → Begin (setup_of one two request.now) p q (state_of good.entry) (state_of bad.entry)
-        → good.entry.program ≡ p.program → bad.entry.program ≡ q.program → keeps request.now.bound request.now.session Good ≡ Some bound → keeps request.now.bound request.now.session Bad ≡ Some bound
-        → Written A result (setup_of one two request.now) (S.remaining source.old) (S.remaining source.new) (W.contents sink.old) (W.contents sink.new) }
-    ensures ran { result ≢ Outcome.Refused }
-    ensures untouched { IsUntouched result source.old source.new }
-    ensures unasked { request.now.session ≡ None → source.new ≡ source.old }
-    ensures few { IfSome (S.remaining source.old) (λ script. TakesFew script (S.remaining source.new)) }
-    ensures counted { CountsFaults result (S.failures source.old) (S.failures source.new) (W.failures sink.old) (W.failures sink.new) }
+/// How many moves a side keeps: as many as the bound. Without one the side of the session keeps all, and any other none.
+fn kept(request: &Request<'_>, side: SideName) -> Option<u64>
+    requires bound { IfSome request.now.bound (λ n. n ≤ 1000000) }
+    ensures kept { result ≡ keeps request.now.bound request.now.session side }
+    ensures few { IfSome result (λ n. n ≤ 1000000) }
 {
-    let good = match Ring::new(alloc, good, bound) {
-        Ok(good) => good,
-        Err(_) => return Outcome::Memory,
-    };
-    match Ring::new(alloc, bad, bound) {
-        Ok(bad) => run_histories(alloc, good, bad, good_side, bad_side, request, source, sink),
-        Err(_) => Outcome::Memory,
+    match (request.session, side) {
+        (Some(SideName::Good), SideName::Good) | (Some(SideName::Bad), SideName::Bad) => {
+            request.bound
+        }
+        _ => Some(request.bound.unwrap_or(0)),
     }
 }
 
-/// Runs both machines, the one that a session is asked of over all its deltas.
-fn run_keeping<'c, A: Allocator + Copy + 'c, S: Source, W: Sink>(
+/// Runs a history of the good side and the machine of the bad one.
+fn run_beside<
+    'c,
+    A: Allocator + Copy + 'c,
+    H: History<A, Machine<'c, A>> + Stepwise + Drop,
+    S: Source,
+    W: Sink,
+>(
     alloc: A,
-    good: Machine<'c, A>,
+    good: H,
     bad: Machine<'c, A>,
-    kept: SideName,
     good_side: &Side<'c, A>,
     bad_side: &Side<'c, A>,
     request: &Request<'_>,
@@ -155,12 +134,14 @@ fn run_keeping<'c, A: Allocator + Copy + 'c, S: Source, W: Sink>(
     requires reads { S.failures source.old < 2 ^ 64 - 1 }
     requires writes { W.failures sink.old < 2 ^ 64 - 1 }
     requires limit { request.now.limit ≤ 4294967295 }
-    requires good { good_side.now.program.now ≡ good.program }
+    requires start { position (H.timeline good) ≤ 1000000000000000000 }
+    requires good { good_side.now.program.now ≡ H.program good }
     requires bad { bad_side.now.program.now ≡ bad.program }
     requires sides { AreSides good_side.now bad_side.now }
     requires kinds { good_side.now.kinds ≡ request.now.kinds }
-    ensures written { (one two : Text) (p q : accepted.Verdict A) → Begin (setup_of one two request.now) p q (state_of good.entry) (state_of bad.entry)
-        → good.entry.program ≡ p.program → bad.entry.program ≡ q.program → request.now.bound ≡ None → request.now.session ≡ Some kept
+    requires bound { IfSome request.now.bound (λ n. n ≤ 1000000) }
+    ensures written { (one two : Text) (p q : accepted.Verdict A) (s : State) → Begin (setup_of one two request.now) p q s (state_of bad.entry)
+        → H.program good ≡ p.program → bad.entry.program ≡ q.program → H.timeline good ≡ good_begun (setup_of one two request.now) s
         → Written A result (setup_of one two request.now) (S.remaining source.old) (S.remaining source.new) (W.contents sink.old) (W.contents sink.new) }
     ensures ran { result ≢ Outcome.Refused }
     ensures untouched { IsUntouched result source.old source.new }
@@ -168,25 +149,20 @@ fn run_keeping<'c, A: Allocator + Copy + 'c, S: Source, W: Sink>(
     ensures few { IfSome (S.remaining source.old) (λ script. TakesFew script (S.remaining source.new)) }
     ensures counted { CountsFaults result (S.failures source.old) (S.failures source.new) (W.failures sink.old) (W.failures sink.new) }
 {
-    match kept {
-        SideName::Good => match Ring::new(alloc, bad, 0) {
-            Ok(bad) => {
-                let good = Deltas::new(alloc, good);
-                run_histories(alloc, good, bad, good_side, bad_side, request, source, sink)
-            }
+    match kept(request, SideName::Bad) {
+        Some(bound) => match Ring::new(alloc, bad, bound) {
+            Ok(bad) => run_histories(alloc, good, bad, good_side, bad_side, request, source, sink),
             Err(_) => Outcome::Memory,
         },
-        SideName::Bad => match Ring::new(alloc, good, 0) {
-            Ok(good) => {
-                let bad = Deltas::new(alloc, bad);
-                run_histories(alloc, good, bad, good_side, bad_side, request, source, sink)
-            }
-            Err(_) => Outcome::Memory,
-        },
+        None => {
+            let bad = Deltas::new(alloc, bad);
+            run_histories(alloc, good, bad, good_side, bad_side, request, source, sink)
+        }
     }
 }
 
 /// Runs both machines: the side that a session is asked of keeps its moves, the other one none.
+// One side after the other gets its history: where both are known, a call compares all that both promise.
 pub fn run_machines<'c, A: Allocator + Copy + 'c, S: Source, W: Sink>(
     alloc: A,
     good: Machine<'c, A>,
@@ -214,17 +190,14 @@ pub fn run_machines<'c, A: Allocator + Copy + 'c, S: Source, W: Sink>(
     ensures few { IfSome (S.remaining source.old) (λ script. TakesFew script (S.remaining source.new)) }
     ensures counted { CountsFaults result (S.failures source.old) (S.failures source.new) (W.failures sink.old) (W.failures sink.new) }
 {
-    match request.bound {
-        Some(bound) => run_bounded(
-            alloc, good, bad, bound, good_side, bad_side, request, source, sink,
-        ),
-        None => match request.session {
-            Some(kept) => run_keeping(
-                alloc, good, bad, kept, good_side, bad_side, request, source, sink,
-            ),
-            None => run_bounded(
-                alloc, good, bad, 0, good_side, bad_side, request, source, sink,
-            ),
+    match kept(request, SideName::Good) {
+        Some(bound) => match Ring::new(alloc, good, bound) {
+            Ok(good) => run_beside(alloc, good, bad, good_side, bad_side, request, source, sink),
+            Err(_) => Outcome::Memory,
         },
+        None => {
+            let good = Deltas::new(alloc, good);
+            run_beside(alloc, good, bad, good_side, bad_side, request, source, sink)
+        }
     }
 }

@@ -10,7 +10,8 @@ ghost use Rattle.qil_compare.specs.declared.comparing.Verdict.TheVariants as ver
 ghost use Rattle.qil_comparison.specs.Told.{way_line, side_text, sides_text, verdict_line, told_text};
 
 use crate::event_text::put_found;
-use qil_answers::{put_block, put_frames, put_place};
+use qil_answers::{Readers, put_block, put_frames, put_place};
+use qil_code::Code;
 use qil_compare::{Answer, Found, Side, Stand, Verdict};
 use qil_history::History;
 use qil_machine::Machine;
@@ -61,14 +62,15 @@ fn put_way<P: Put>(out: &mut P, position: u64) -> Result<(), PutError>
 }
 
 /// Puts where a machine stands after so many moves.
-fn put_stand<P: Put, A: Allocator + Copy>(
+// It knows of the machine what its readers tell, as what it calls does: with one that is known each call would compare all of them.
+fn put_stand<'c, P: Put, A: Allocator + Copy + 'c, M: Readers<A, Code<'c, A>>>(
     out: &mut P,
     position: u64,
-    machine: &Machine<'_, A>,
+    machine: &M,
 ) -> Result<(), PutError>
     requires { P.stops out.old < 2 ^ 64 - 1 }
     ensures { HasPut P.written P.stops P.device result out.old out.new
-        (state_line position (state_of machine.now).frames (state_of machine.now).status ++ (frames_shown (state_of machine.now).frames ++ (block_shown machine.now.program (state_of machine.now).frames ++ way_line position))) }
+        (state_line position (state_of (M.whole machine.now)).frames (state_of (M.whole machine.now)).status ++ (frames_shown (state_of (M.whole machine.now)).frames ++ (block_shown (M.whole machine.now).program (state_of (M.whole machine.now)).frames ++ way_line position))) }
 {
     put_place(out, position, machine)?;
     put_frames(out, machine)?;
@@ -94,7 +96,7 @@ fn put_side<'c, A: Allocator + Copy + 'c, H: History<A, Machine<'c, A>>, P: Put>
         machine,
     };
     out.put(name)?;
-    put_found(out, &stand, found)?;
+    put_found(&stand, out, found)?;
     put_stand(out, history.position(), machine)
 }
 

@@ -127,24 +127,35 @@ impl<A: Allocator, M: HasCopies<A>> HasCopies<A> for Replaying<M> {
     ghost kept = { λ r. M.kept r.machine };
 }
 
+/// The machine as it is now.
+// Here alone what the trait asks is compared for flat machines, some four seconds of a check, and not in each of its users.
+#[inline(always)]
+fn machine_of<'s, 'c, A: Allocator + Copy + 'c, M: CopiedMachine<A, FlatMachine<'c, A>>>(
+    machine: &'s M,
+) -> &'s FlatMachine<'c, A>
+    ensures { result.now.whole ≡ M.present machine.now }
+{
+    machine.machine()
+}
+
 impl<'c, A: Allocator + Copy + 'c, M: CopiedMachine<A, FlatMachine<'c, A>>> Readers<A, Code<'c, A>>
     for Replaying<M> {
     ghost whole = { λ r. M.present r.machine };
 
     fn code(&self) -> &Code<'c, A> {
-        self.machine.machine().code()
+        machine_of(&self.machine).code()
     }
 
     fn status(&self) -> Status {
-        self.machine.machine().status()
+        machine_of(&self.machine).status()
     }
 
     fn is_final(&self) -> bool {
-        self.machine.machine().is_final()
+        machine_of(&self.machine).is_final()
     }
 
     fn depth(&self) -> usize {
-        self.machine.machine().depth()
+        machine_of(&self.machine).depth()
     }
 
     fn frame(&self, inner: usize) -> Option<FrameView<'_>> {
@@ -156,15 +167,15 @@ impl<'c, A: Allocator + Copy + 'c, M: CopiedMachine<A, FlatMachine<'c, A>>> Read
     }
 
     fn byte(&self, address: u64) -> Option<u8> {
-        self.machine.machine().byte(address)
+        machine_of(&self.machine).byte(address)
     }
 
     fn byte_after(&self, address: u64, offset: u64) -> Option<u8> {
-        self.machine.machine().byte_after(address, offset)
+        machine_of(&self.machine).byte_after(address, offset)
     }
 
     fn value(&self, slot: Slot) -> Option<u64> {
-        self.machine.machine().value(slot)
+        machine_of(&self.machine).value(slot)
     }
 }
 
@@ -175,15 +186,15 @@ impl<'c, A: Allocator + Copy + 'c, M: CopiedMachine<A, FlatMachine<'c, A>>> Watc
     fn is_read(&self) {}
 
     fn memory_reading(&self, address: u64, width: u64) -> Option<u64> {
-        FlatMachine::memory_reading(self.machine.machine(), address, width)
+        FlatMachine::memory_reading(machine_of(&self.machine), address, width)
     }
 
     fn temp_reading(&self, func: FuncId, slot: Slot) -> Option<u64> {
-        FlatMachine::temp_reading(self.machine.machine(), func, slot)
+        FlatMachine::temp_reading(machine_of(&self.machine), func, slot)
     }
 
     fn is_at(&self, func: FuncId, block: BlockId, index: u64) -> bool {
-        FlatMachine::is_at(self.machine.machine(), func, block, index)
+        FlatMachine::is_at(machine_of(&self.machine), func, block, index)
     }
 }
 
@@ -200,7 +211,7 @@ impl<'c, A: Allocator + Copy + 'c, M: CopiedMachine<A, FlatMachine<'c, A>>> Rest
     }
 
     fn slot_named(&self, name: &[u8]) -> Result<Slot, PokeError> {
-        self.machine.machine().slot_named(name)
+        machine_of(&self.machine).slot_named(name)
     }
 
     fn poke_slot(&mut self, slot: Slot, value: u64) -> Result<(), PokeError> {

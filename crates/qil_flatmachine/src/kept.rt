@@ -1,13 +1,15 @@
 //! Copies of a machine's state, and the way back to one.
 
 ghost use Rattle.std.specs.Prelude.{◌≡◌, ◌≤◌, length, vec_capacity, IfOk};
+ghost use Rattle.qil_memory.specs.Live.{live};
 ghost use Rattle.qil_state.specs.State.{state_of};
 ghost use Rattle.qil_flatmachine.specs.Kept.{IsOf};
 
 use crate::machine::FlatMachine;
-use qil_callstack::KeptCalls;
+use qil_callstack::{CallStack, KeptCalls};
 use qil_flat::FlatCode;
 use qil_keeping::KeptMemory;
+use qil_memory::Memory;
 use qil_state::Status;
 use std::alloc::{AllocError, Allocator};
 use std::marker::Model;
@@ -43,21 +45,50 @@ impl<'c, A: Allocator + Copy> KeptState<'c, A> {
     }
 }
 
+/// What a copy owns.
+#[derive(Drop)]
+struct KeptParts<A: Allocator> {
+    calls: KeptCalls<A>,
+    memory: KeptMemory<A>,
+    output: Vec<u8, A>,
+}
+
+/// Copies what a machine owns.
+// Without the machine, whose code would be at hand on each way out: the check took three times as long.
+fn kept_parts<A: Allocator + Copy>(
+    calls: &CallStack<A>,
+    memory: &Memory<A>,
+    output: &Vec<u8, A>,
+) -> Result<KeptParts<A>, AllocError>
+    ensures calls { IfOk result (λ p. p.calls ≡ record { frames = calls.now.frames; most_slots = calls.now.most_slots }) }
+    ensures live { IfOk result (λ p. live p.memory ≡ live memory.now) }
+    ensures top { IfOk result (λ p. p.memory.top ≡ memory.now.top) }
+    ensures count { IfOk result (λ p. length p.memory.data_bytes ≡ length memory.now.data_bytes) }
+    ensures output { IfOk result (λ p. p.output.items ≡ output.now.items) }
+{
+    let alloc = *output.allocator();
+    let calls = calls.keep()?;
+    let memory = KeptMemory::of(memory, alloc)?;
+    let output = Vec::from_slice(alloc, output.as_slice())?;
+    Ok(KeptParts {
+        calls,
+        memory,
+        output,
+    })
+}
+
 impl<'c, A: Allocator + Copy> FlatMachine<'c, A> {
     /// A copy of the state, in memory of its own.
     pub fn keep(&self) -> Result<KeptState<'c, A>, AllocError>
         ensures of { IfOk result (IsOf self.now.base) }
         ensures state { IfOk result (λ k. state_of k.whole ≡ state_of self.now.whole) }
     {
-        let alloc = *self.output.allocator();
-        let calls = self.calls.keep()?;
-        let memory = KeptMemory::of(&self.memory, alloc)?;
-        let output = Vec::from_slice(alloc, self.output.as_slice())?;
+        let parts = kept_parts(&self.calls, &self.memory, &self.output)?;
         Ok(KeptState {
             code: self.code,
-            calls,
-            memory,
-            output,
+            calls: parts.calls,
+            memory: parts.memory,
+            output: parts.output,
             status: self.status,
         })
     }

@@ -53,7 +53,7 @@ pub fn put_reply<'c, P: Put, A: Allocator + Copy + 'c, M: Readers<A, Code<'c, A>
         Reply::Refused(refusal) => put_line(out, refusal_words(refusal)),
         Reply::Place => put_place(out, position, machine),
         Reply::Stopped(reason) => put_stopped(out, position, machine, reason),
-        Reply::Added(number, kind) => put_stop(out, machine.code(), number, kind),
+        Reply::Added(number, kind) => put_stop(machine.code(), out, number, kind),
         Reply::Deleted(number) => put_deleted(out, number),
         Reply::Stops => put_stops(out, machine.code(), stops),
         Reply::Temporary(name) => put_printed(out, machine, name.bytes()),

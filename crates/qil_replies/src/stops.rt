@@ -21,7 +21,7 @@ fn put_listed<'c, P: Put, A: Allocator + Copy>(
     ensures { HasPut P.written P.stops P.device result out.old out.new (flat_map (listed_line code.now) stops.now) }
 {
     for stop in stops {
-        put_stop(out, code, stop.number, stop.kind)?;
+        put_stop(code, out, stop.number, stop.kind)?;
     }
     Ok(())
 }

@@ -92,8 +92,8 @@ fn width_letter(width: u64) -> &'static [u8]
 
 /// Puts the line of a stop: its number, and what it looks for.
 pub fn put_stop<'c, P: Put, A: Allocator + Copy>(
-    out: &mut P,
     code: &Code<'c, A>,
+    out: &mut P,
     number: u64,
     kind: StopKind,
 ) -> Result<(), PutError>

@@ -13,6 +13,6 @@ mod stopping;
 mod words;
 
 pub use answer::answer_line;
-pub use qil_replies::Reply;
+pub use qil_replies::{Reply, put_reply};
 pub use qil_runs::{Runs, Stepwise};
 pub use session::{Next, Session};

@@ -20,7 +20,7 @@ ghost use Rattle.qil_transcript.specs.Debug.{CountsDebug, IsNoSession, IsUntouch
 ghost use Rattle.qil_transcript.specs.Handed.{IsRefused, of_start, setup_of};
 
 use crate::outcome::Outcome;
-use qil_checkpoints::Checkpoints;
+use qil_checkpoints::{Checkpoints, Restorable};
 use qil_code::Code;
 use qil_deltas::{Deltas, Ring};
 use qil_flat::{FlatCode, flatten};
@@ -216,7 +216,46 @@ fn debug_machine<'c, A: Allocator + Copy + 'c, S: Source, P: Put>(
     }
 }
 
-/// Debugs from a machine at its start, over copies of its states.
+/// Debugs from a machine at its start that can be put back to where it was, over copies of its states. `_code` is as in `debug_runs`.
+fn debug_restorable<
+    'c,
+    A: Allocator + Copy + 'c,
+    M: Restorable<A, Code<'c, A>> + Drop,
+    K,
+    S: Source,
+    P: Put,
+>(
+    alloc: A,
+    machine: M,
+    _code: Option<&K>,
+    loaded: &Loaded<'_>,
+    request: &Request<'_>,
+    budget: u64,
+    source: &mut S,
+    out: &mut P,
+) -> Outcome
+    requires reads { S.failures source.old < 2 ^ 64 - 1 }
+    requires writes { P.stops out.old < 2 ^ 64 - 1 }
+    requires limit { request.now.limit ≤ 4294967295 }
+    requires bound { request.now.bound ≡ None }
+    ensures written { (text : List ℕ) (verdict : Verdict A) → Begins (setup_of text request.now) verdict (state_of (M.present machine))
+        → IsLoaded loaded.now verdict → (M.present machine).program ≡ verdict.program
+        → Written A result (setup_of text request.now) (S.remaining source.old) (S.remaining source.new) (P.written out.old) (P.written out.new) }
+    ensures served { result ≢ Outcome.Refused }
+    ensures untouched { IsUntouched result source.old source.new }
+    ensures few { IfSome (S.remaining source.old) (λ script. TakesFew script (S.remaining source.new)) }
+    ensures counted { CountsDebug result (S.failures source.old) (S.failures source.new) (P.stops out.old) (P.stops out.new) }
+    ensures device { P.device out.new ≡ P.device out.old }
+{
+    let code: Option<&'c Code<'c, A>> = None;
+    match Checkpoints::new(alloc, machine, budget as usize) {
+        Ok(history) => debug_runs(alloc, history, code, loaded, request.limit, source, out),
+        Err(_) => Outcome::Memory,
+    }
+}
+
+/// Debugs from a machine at its start, over copies of its states. That what replays them is restorable is compared here, and that a
+/// history of what is restorable has runs in `debug_restorable`: in one place each would be compared with all of the other.
 fn debug_copies<
     'c,
     A: Allocator + Copy + 'c,
@@ -246,10 +285,8 @@ fn debug_copies<
     ensures device { P.device out.new ≡ P.device out.old }
 {
     let code: Option<&'c Code<'c, A>> = None;
-    match Checkpoints::new(alloc, Replaying { machine }, budget as usize) {
-        Ok(history) => debug_runs(alloc, history, code, loaded, request.limit, source, out),
-        Err(_) => Outcome::Memory,
-    }
+    let machine = Replaying { machine };
+    debug_restorable(alloc, machine, code, loaded, request, budget, source, out)
 }
 
 /// Debugs a program whose code is flat.

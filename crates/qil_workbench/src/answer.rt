@@ -19,8 +19,12 @@ pub enum Answer {
     NoMove,
     /// The command line asks nothing.
     NoQuestion,
-    /// There was no memory for it.
-    NoMemory(&'static str),
+    /// There was no memory for the code.
+    NoCode,
+    /// There was no memory for the machine at its start.
+    NoStart,
+    /// There was no memory for the machine's copy.
+    NoCopy,
     /// Standard input or output failed.
     Fault,
 }
@@ -36,7 +40,9 @@ impl Answer {
             Answer::DiffersAt(_) => "differs at",
             Answer::NoMove => "a line that asks for no move",
             Answer::NoQuestion => "read-back, moves or histories",
-            Answer::NoMemory(what) => what,
+            Answer::NoCode => "no memory for the code",
+            Answer::NoStart => "no memory for a start",
+            Answer::NoCopy => "no memory for a copy",
             Answer::Fault => "a device failed",
         }
     }

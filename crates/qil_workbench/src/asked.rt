@@ -1,11 +1,13 @@
 //! One move that a history is asked for, as a line says it, and what comes of it.
 
-ghost use Rattle.std.specs.Prelude.{◌≡◌, ◌<◌};
-ghost use Rattle.qil_meaning.specs.Timeline.{position};
+ghost use Rattle.std.specs.Prelude.{◌≡◌, true};
+ghost use Rattle.qil_memory.specs.Calls.{IsWidth};
 
+use qil_code::Code;
+use qil_deltas::Deltas;
 use qil_history::{BackError, History};
-use qil_layout::Image;
-use qil_machine::{Machine, MoveError, PokeError};
+use qil_machine::{MoveError, PokeError};
+use qil_snapshots::Snapshots;
 use std::alloc::Allocator;
 use std::str::SplitWhitespace;
 
@@ -20,6 +22,18 @@ pub enum Asked<'w> {
     Poke(u64, u64, u64),
 }
 
+/// Where globals stand. A code is large, so what hands it on is generic in it.
+pub trait Globals {
+    /// The address of the global of that name, which is without its sigil.
+    fn address_of(&self, name: &[u8]) -> Option<u64>;
+}
+
+impl<A: Allocator + Copy> Globals for Code<'_, A> {
+    fn address_of(&self, name: &[u8]) -> Option<u64> {
+        self.image().address(name)
+    }
+}
+
 fn number(words: &mut SplitWhitespace<'_>) -> Option<u64> {
     match words.next()?.parse() {
         Ok(number) => Some(number),
@@ -28,16 +42,13 @@ fn number(words: &mut SplitWhitespace<'_>) -> Option<u64> {
 }
 
 /// The address that two words say: a global's name without its sigil, or `-`, and how many bytes after it.
-fn address<A: Allocator + Copy>(
-    image: &Image<'_, A>,
-    words: &mut SplitWhitespace<'_>,
-) -> Option<u64> {
+fn address<G: Globals>(globals: &G, words: &mut SplitWhitespace<'_>) -> Option<u64> {
     let name = words.next()?;
     let offset = number(words)?;
     if name == "-" {
         return Some(offset);
     }
-    Some(image.address(name.as_bytes())?.wrapping_add(offset))
+    Some(globals.address_of(name.as_bytes())?.wrapping_add(offset))
 }
 
 fn set<'w>(words: &mut SplitWhitespace<'w>) -> Option<Asked<'w>> {
@@ -45,26 +56,20 @@ fn set<'w>(words: &mut SplitWhitespace<'w>) -> Option<Asked<'w>> {
     Some(Asked::Set(name, number(words)?))
 }
 
-fn poke<'w, A: Allocator + Copy>(
-    image: &Image<'_, A>,
-    words: &mut SplitWhitespace<'_>,
-) -> Option<Asked<'w>> {
+fn poke<'w, G: Globals>(globals: &G, words: &mut SplitWhitespace<'_>) -> Option<Asked<'w>> {
     let width = number(words)?;
-    let start = address(image, words)?;
+    let start = address(globals, words)?;
     Some(Asked::Poke(width, start, number(words)?))
 }
 
 /// The move that a line asks for: `forward`, `back`, `set NAME VALUE` or `poke BYTES NAME OFFSET VALUE`.
-pub fn read_line<'w, A: Allocator + Copy>(
-    image: &Image<'_, A>,
-    line: &'w str,
-) -> Option<Asked<'w>> {
+pub fn read_line<'w, G: Globals>(globals: &G, line: &'w str) -> Option<Asked<'w>> {
     let mut words = line.split_whitespace();
     match words.next()? {
         "forward" => Some(Asked::Forward),
         "back" => Some(Asked::Back),
         "set" => set(&mut words),
-        "poke" => poke(image, &mut words),
+        "poke" => poke(globals, &mut words),
         _ => None,
     }
 }
@@ -131,40 +136,51 @@ impl Came {
 /// The position from which on no move is asked for.
 const MOST: u64 = 1_000_000;
 
-/// Pokes memory, where it is 1, 2, 4 or 8 bytes.
-fn poke_bytes<'c, A: Allocator + Copy + 'c, H: History<A, Machine<'c, A>>>(
-    history: &mut H,
-    width: u64,
-    address: u64,
-    number: u64,
-) -> Came
-    requires { position (H.timeline history.old) < 1000000 }
-    ensures { H.program history.new ≡ H.program history.old }
+/// Whether so many bytes can be poked.
+fn is_width(width: u64) -> bool
+    ensures { result ≡ true → IsWidth width }
 {
-    let result = match width {
-        1 => history.poke_memory(address, 1, number),
-        2 => history.poke_memory(address, 2, number),
-        4 => history.poke_memory(address, 4, number),
-        8 => history.poke_memory(address, 8, number),
-        _ => return Came::NoWidth,
-    };
-    Came::of_poke(result)
+    width == 1 || width == 2 || width == 4 || width == 8
 }
 
-/// Asks a history for a move.
-pub fn ask_one<'c, A: Allocator + Copy + 'c, H: History<A, Machine<'c, A>>>(
-    history: &mut H,
+/// Asks the deltas for a move.
+pub fn ask_deltas<'c, A: Allocator + Copy + 'c>(
+    deltas: &mut Deltas<'c, A>,
     asked: Asked<'_>,
 ) -> Came
-    ensures { H.program history.new ≡ H.program history.old }
+    ensures { deltas.new.machine.program ≡ deltas.old.machine.program }
 {
-    if history.position() >= MOST {
+    if deltas.position() >= MOST {
         return Came::TooFar;
     }
     match asked {
-        Asked::Forward => Came::of_forward(history.forward()),
-        Asked::Back => Came::of_back(history.back()),
-        Asked::Set(name, value) => Came::of_poke(history.poke_named(name.as_bytes(), value)),
-        Asked::Poke(width, address, number) => poke_bytes(history, width, address, number),
+        Asked::Forward => Came::of_forward(deltas.forward()),
+        Asked::Back => Came::of_back(deltas.back()),
+        Asked::Set(name, value) => Came::of_poke(deltas.poke_named(name.as_bytes(), value)),
+        Asked::Poke(width, address, number) if is_width(width) => {
+            Came::of_poke(deltas.poke_memory(address, width, number))
+        }
+        Asked::Poke(_, _, _) => Came::NoWidth,
+    }
+}
+
+/// Asks the clones for a move.
+pub fn ask_clones<'c, A: Allocator + Copy + 'c>(
+    clones: &mut Snapshots<'c, A>,
+    asked: Asked<'_>,
+) -> Came
+    ensures { clones.new.machine.program ≡ clones.old.machine.program }
+{
+    if clones.position() >= MOST {
+        return Came::TooFar;
+    }
+    match asked {
+        Asked::Forward => Came::of_forward(clones.forward()),
+        Asked::Back => Came::of_back(clones.back()),
+        Asked::Set(name, value) => Came::of_poke(clones.poke_named(name.as_bytes(), value)),
+        Asked::Poke(width, address, number) if is_width(width) => {
+            Came::of_poke(clones.poke_memory(address, width, number))
+        }
+        Asked::Poke(_, _, _) => Came::NoWidth,
     }
 }

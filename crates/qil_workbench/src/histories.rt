@@ -3,12 +3,11 @@
 ghost use Rattle.std.specs.Prelude.{◌≡◌};
 
 use crate::answer::Answer;
-use crate::asked::{Asked, Came, ask_one, read_line};
-use crate::started::unstarted;
+use crate::asked::{Asked, Came, Globals, ask_clones, ask_deltas, read_line};
+use crate::started::started;
 use qil_code::Code;
 use qil_deltas::Deltas;
 use qil_history::History;
-use qil_layout::Image;
 use qil_machine::{Delta, Machine};
 use qil_snapshots::Snapshots;
 use std::alloc::Allocator;
@@ -22,31 +21,47 @@ fn are_same<'c, A: Allocator + Copy + 'c>(deltas: &Deltas<'c, A>, clones: &Snaps
     records.len() as u64 == clones.position() && machine.same(clones.machine())
 }
 
-/// Asks both histories for a move: what came of it, if that is the same of both, and they hold the same.
+/// Asks both histories for a move: where they stand after it and what came of it, if that is the same of both, and they
+/// hold the same; otherwise where they stood before.
 fn ask_both<'c, A: Allocator + Copy + 'c>(
     deltas: &mut Deltas<'c, A>,
     clones: &mut Snapshots<'c, A>,
     asked: Asked<'_>,
-) -> Option<Came>
+) -> Result<(u64, Came), u64>
     requires { deltas.old.machine.program ≡ clones.old.machine.program }
     ensures { deltas.new.machine.program ≡ clones.new.machine.program }
 {
-    let came = ask_one(deltas, asked);
-    let other = ask_one(clones, asked);
-    let is_same = came.words() == other.words() && are_same(deltas, clones);
-    if is_same { Some(came) } else { None }
+    let position = deltas.position();
+    let came = ask_deltas(deltas, asked);
+    let other = ask_clones(clones, asked);
+    if came.words() == other.words() && are_same(deltas, clones) {
+        Ok((deltas.position(), came))
+    } else {
+        Err(position)
+    }
 }
 
-/// Tells where the histories stand, and why there was no move; whether that was written.
-fn is_told<R: Print>(rt: &R, position: u64, came: Came) -> bool {
+/// Tells where the histories stand, and why there was no move; what is wrong, if it was not written.
+fn untold<R: Print>(rt: &R, position: u64, came: Came) -> Option<Answer> {
     let words = came.words();
-    println!(rt; "#{position}{words}").is_ok()
+    match println!(rt; "#{position}{words}") {
+        Ok(()) => None,
+        Err(_) => Some(Answer::Fault),
+    }
+}
+
+/// Tells what came of a move; what is wrong, if something is.
+fn wrong<R: Print>(rt: &R, came: Result<(u64, Came), u64>) -> Option<Answer> {
+    match came {
+        Ok((position, came)) => untold(rt, position, came),
+        Err(position) => Some(Answer::DiffersAt(position)),
+    }
 }
 
 /// Asks the histories for the move of a line, and tells where they stand after it; what is wrong, if something is.
-fn ask_line<'c, R: Print, A: Allocator + Copy + 'c>(
+fn ask_line<'c, R: Print, G: Globals, A: Allocator + Copy + 'c>(
     rt: &R,
-    image: &Image<'_, A>,
+    globals: &G,
     deltas: &mut Deltas<'c, A>,
     clones: &mut Snapshots<'c, A>,
     line: &str,
@@ -54,21 +69,16 @@ fn ask_line<'c, R: Print, A: Allocator + Copy + 'c>(
     requires { deltas.old.machine.program ≡ clones.old.machine.program }
     ensures { deltas.new.machine.program ≡ clones.new.machine.program }
 {
-    let Some(asked) = read_line(image, line) else {
-        return Some(Answer::NoMove);
-    };
-    let position = deltas.position();
-    match ask_both(deltas, clones, asked) {
-        Some(came) if is_told(rt, deltas.position(), came) => None,
-        Some(_) => Some(Answer::Fault),
-        None => Some(Answer::DiffersAt(position)),
+    match read_line(globals, line) {
+        Some(asked) => wrong(rt, ask_both(deltas, clones, asked)),
+        None => Some(Answer::NoMove),
     }
 }
 
 /// Asks the histories for the move of each line, up to the first where something is wrong.
-fn ask_lines<'c, R: Print, A: Allocator + Copy + 'c>(
+fn ask_lines<'c, R: Print, G: Globals, A: Allocator + Copy + 'c>(
     rt: &R,
-    image: &Image<'_, A>,
+    globals: &G,
     deltas: &mut Deltas<'c, A>,
     clones: &mut Snapshots<'c, A>,
     lines: &str,
@@ -76,7 +86,7 @@ fn ask_lines<'c, R: Print, A: Allocator + Copy + 'c>(
     requires { deltas.old.machine.program ≡ clones.old.machine.program }
 {
     for line in lines.lines() {
-        if let Some(wrong) = ask_line(rt, image, deltas, clones, line) {
+        if let Some(wrong) = ask_line(rt, globals, deltas, clones, line) {
             return wrong;
         }
     }
@@ -84,10 +94,10 @@ fn ask_lines<'c, R: Print, A: Allocator + Copy + 'c>(
 }
 
 /// Begins both histories, and asks them.
-fn ask_begun<'c, R: Print, A: Allocator + Copy + 'c>(
+fn ask_begun<'c, R: Print, G: Globals, A: Allocator + Copy + 'c>(
     rt: &R,
     alloc: A,
-    image: &Image<'_, A>,
+    globals: &G,
     machine: Machine<'c, A>,
     other: Machine<'c, A>,
     lines: &str,
@@ -96,20 +106,20 @@ fn ask_begun<'c, R: Print, A: Allocator + Copy + 'c>(
 {
     let mut deltas = Deltas::new(alloc, machine);
     let mut clones = Snapshots::new(alloc, other);
-    ask_lines(rt, image, &mut deltas, &mut clones, lines)
+    ask_lines(rt, globals, &mut deltas, &mut clones, lines)
 }
 
 /// Copies a machine, for the other history.
-fn ask_started<'c, R: Print, A: Allocator + Copy + 'c>(
+fn ask_started<'c, R: Print, G: Globals, A: Allocator + Copy + 'c>(
     rt: &R,
     alloc: A,
-    image: &Image<'_, A>,
+    globals: &G,
     machine: Machine<'c, A>,
     lines: &str,
 ) -> Answer {
     match machine.try_clone() {
-        Ok(other) => ask_begun(rt, alloc, image, machine, other, lines),
-        Err(_) => Answer::NoMemory("no memory for a copy"),
+        Ok(other) => ask_begun(rt, alloc, globals, machine, other, lines),
+        Err(_) => Answer::NoCopy,
     }
 }
 
@@ -120,9 +130,9 @@ fn ask_text<'c, 't, R: Print, A: Allocator + Copy + 'c>(
     code: &'c Code<'t, A>,
     lines: &str,
 ) -> Answer {
-    match Machine::start(alloc, code, b"main", &[]) {
-        Ok(machine) => ask_started(rt, alloc, code.image(), machine, lines),
-        Err(error) => unstarted(error),
+    match started(alloc, code) {
+        Ok(machine) => ask_started(rt, alloc, code, machine, lines),
+        Err(answer) => answer,
     }
 }
 

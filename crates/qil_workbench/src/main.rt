@@ -14,6 +14,7 @@
 mod answer;
 mod ask;
 mod asked;
+mod asking;
 mod histories;
 mod load;
 mod moves;
@@ -23,7 +24,8 @@ mod record;
 mod started;
 
 use answer::Answer;
-use ask::{Question, ask};
+use ask::ask;
+use asking::{Asking, Question};
 use std::alloc::Global;
 use std::hash::RandomState;
 use std::io::{self, Read};
@@ -87,7 +89,16 @@ fn ask_input<R: Print + RandomSource>(
 ) -> Answer {
     let (text, behind) = split(input, length);
     match RandomState::new(rt) {
-        Ok(keys) => ask(rt, alloc, keys, question, text, behind),
+        Ok(keys) => {
+            let asking = Asking {
+                rt,
+                alloc,
+                keys,
+                question,
+                behind,
+            };
+            ask(&asking, text)
+        }
         Err(_) => Answer::Fault,
     }
 }

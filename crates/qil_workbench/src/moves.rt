@@ -2,10 +2,10 @@
 
 use crate::answer::{Answer, reported};
 use crate::record::kind_of;
-use crate::started::unstarted;
+use crate::started::started;
 use qil_code::{Code, NumberedInst, NumberedOperand, Slot};
 use qil_frames::Frame;
-use qil_machine::{Delta, Machine, PokeError};
+use qil_machine::{Delta, Machine, MoveError, PokeError};
 use qil_memory::{DATA_BASE, Saved};
 use std::alloc::{Allocator, Global};
 use std::mem::size_of;
@@ -34,12 +34,17 @@ fn are_pokes_told<R: Print, A: Allocator + Copy>(rt: &R, machine: &mut Machine<'
         && is_poke_told(rt, machine.poke_memory(DATA_BASE, 4, u64::MAX))
 }
 
-/// Makes a move, and tells of it.
-fn is_move_told<R: Print, A: Allocator + Copy>(rt: &R, machine: &mut Machine<'_, A>) -> bool {
-    match machine.advance() {
+/// Tells of a move, which has to be made.
+fn is_made_told<R: Print, A: Allocator + Copy>(rt: &R, made: Result<Delta<A>, MoveError>) -> bool {
+    match made {
         Ok(delta) => is_told(rt, delta),
         Err(_) => false,
     }
+}
+
+/// Makes a move, and tells of it.
+fn is_move_told<R: Print, A: Allocator + Copy>(rt: &R, machine: &mut Machine<'_, A>) -> bool {
+    is_made_told(rt, machine.advance())
 }
 
 /// Tells of each move of a machine, up to the end of its run.
@@ -67,14 +72,15 @@ fn are_sizes_told<R: Print>(rt: &R) -> bool {
     ).is_ok()
 }
 
+/// Tells of a run from its start on.
+fn is_run_told<R: Print, A: Allocator + Copy>(rt: &R, machine: &mut Machine<'_, A>) -> bool {
+    are_sizes_told(rt) && are_pokes_told(rt, machine) && are_moves_told(rt, machine)
+}
+
 /// Tells of a start, of pokes there, and of each move after it, up to the end of the run.
 pub fn each_move<R: Print, A: Allocator + Copy>(rt: &R, alloc: A, code: &Code<'_, A>) -> Answer {
-    match Machine::start(alloc, code, b"main", &[]) {
-        Ok(mut machine) => reported(
-            are_sizes_told(rt)
-                && are_pokes_told(rt, &mut machine)
-                && are_moves_told(rt, &mut machine),
-        ),
-        Err(error) => unstarted(error),
+    match started(alloc, code) {
+        Ok(mut machine) => reported(is_run_told(rt, &mut machine)),
+        Err(answer) => answer,
     }
 }

@@ -1,16 +1,16 @@
 //! Whether numbered code, read back through names, is what a tree has.
 
 use crate::answer::Answer;
+use crate::asking::Asking;
 use crate::load::checked;
 use crate::reader::difference;
 use qil_code::Code;
-use qil_tree::Func;
+use qil_rules::Checked;
 use std::alloc::Allocator;
-use std::hash::RandomState;
 
-/// Whether each function of a tree is read back as it stands there.
-pub fn compare<A: Allocator + Copy>(code: &Code<'_, A>, tree: &[Func<'_, A>]) -> Answer {
-    for func in tree {
+/// Whether each function of a program is read back as it stands there.
+fn compare<A: Allocator + Copy>(code: &Code<'_, A>, checked: &Checked<'_, A>) -> Answer {
+    for func in checked.program().funcs.as_slice() {
         if let Some(line) = difference(code, func) {
             return Answer::DiffersAtLine(line);
         }
@@ -19,15 +19,25 @@ pub fn compare<A: Allocator + Copy>(code: &Code<'_, A>, tree: &[Func<'_, A>]) ->
 }
 
 /// Compares a code with the tree of another text.
-pub fn compare_text<R: Print, A: Allocator + Copy>(
-    rt: &R,
-    alloc: A,
-    keys: RandomState,
+fn compare_text<R: Print, A: Allocator + Copy>(
+    asking: &Asking<'_, R, A>,
     code: &Code<'_, A>,
-    text: &[u8],
 ) -> Answer {
-    match checked(rt, alloc, keys, text) {
-        Ok(other) => compare(code, other.program().funcs.as_slice()),
+    match checked(asking.rt, asking.alloc, asking.keys, asking.behind) {
+        Ok(other) => compare(code, &other),
         Err(answer) => answer,
+    }
+}
+
+/// Compares a code with the tree that it was numbered from, or with that of the text behind, if there is one.
+pub fn read_back<R: Print, A: Allocator + Copy>(
+    asking: &Asking<'_, R, A>,
+    checked: &Checked<'_, A>,
+    code: &Code<'_, A>,
+) -> Answer {
+    if asking.behind.is_empty() {
+        compare(code, checked)
+    } else {
+        compare_text(asking, code)
     }
 }

@@ -7,7 +7,7 @@ ghost use Rattle.qrev.specs.Status.{outcome_status};
 use qil_options::{Failure, Given, read_given, read_words};
 use qil_streams::{FromReader, IntoWriter, Sink, Source};
 use qil_transcript::{Outcome, debug, debug_replaying};
-use std::alloc::Global;
+use std::alloc::{Allocator, Global};
 use std::hash::RandomState;
 use std::io;
 use std::io::LineWriter;
@@ -34,8 +34,9 @@ fn run_session<R: Input + Print + RandomSource>(
 }
 
 /// Debugs what is given: over copies of states where that was asked for, and else over undo records.
-fn debug_given<S: Source, W: Sink>(
-    alloc: Global,
+// In any memory: with one that is known each call would compare all that it promises.
+fn debug_given<A: Allocator + Copy, S: Source, W: Sink>(
+    alloc: A,
     keys: RandomState,
     given: &Given<'_>,
     source: &mut S,

@@ -1,7 +1,7 @@
 //! `qrev-compare`: runs two texts in QBE IL side by side, and tells the first place where they part.
 #![tactic(auto)]
 
-ghost use Rattle.std.specs.Prelude.{◌≡◌};
+ghost use Rattle.std.specs.Prelude.{◌≡◌, ◌<◌, ◌-◌, ◌^◌};
 ghost use Rattle.qrev_compare.specs.Status.{outcome_status};
 
 mod options;
@@ -9,14 +9,47 @@ mod options;
 use options::{Options, parse_options, read_words};
 use qil_comparison::{Outcome, Request, Text, Verdict, compare_texts};
 use qil_options::{Failure, read_text};
-use qil_streams::{FromReader, IntoWriter};
-use std::alloc::Global;
+use qil_streams::{FromReader, IntoWriter, Sink, Source};
+use std::alloc::{Allocator, Global};
 use std::hash::RandomState;
 use std::io;
 use std::io::LineWriter;
 use std::process::ExitCode;
 use std::random::RandomSource;
 use std::rt::{Env, Files};
+
+/// Compares the texts over two devices.
+// Over any, and in any memory: with those that are known the call would compare all that it promises.
+fn compare_over<A: Allocator + Copy, S: Source, W: Sink>(
+    alloc: A,
+    keys: RandomState,
+    options: &Options<'_>,
+    good: &[u8],
+    bad: &[u8],
+    source: &mut S,
+    sink: &mut W,
+) -> Outcome
+    requires reads { S.failures source.old < 2 ^ 64 - 1 }
+    requires writes { W.failures sink.old < 2 ^ 64 - 1 }
+{
+    let request = Request {
+        func: options.run.entry.as_bytes(),
+        args: options.run.args.as_slice(),
+        kinds: options.kinds,
+        limit: u64::from(options.run.limit),
+        bound: options.run.bound(),
+        session: options.session,
+    };
+    let good = Text {
+        name: options.good.as_bytes(),
+        bytes: good,
+    };
+    let bad = Text {
+        name: options.bad.as_bytes(),
+        bytes: bad,
+    };
+    compare_texts(alloc, keys, &good, &bad, &request, source, sink)
+}
 
 /// Compares the texts, whose tables hash with keys drawn for it. The script is standard input, what is told goes to standard
 /// output, where each line is written at once.
@@ -35,23 +68,7 @@ fn compare<R: Input + Print + RandomSource>(
     };
     let mut source = FromReader::new(rt.reader());
     let mut sink = IntoWriter::new(writer);
-    let request = Request {
-        func: options.run.entry.as_bytes(),
-        args: options.run.args.as_slice(),
-        kinds: options.kinds,
-        limit: u64::from(options.run.limit),
-        bound: options.run.bound(),
-        session: options.session,
-    };
-    let good = Text {
-        name: options.good.as_bytes(),
-        bytes: good,
-    };
-    let bad = Text {
-        name: options.bad.as_bytes(),
-        bytes: bad,
-    };
-    Ok(compare_texts(alloc, keys, &good, &bad, &request, &mut source, &mut sink))
+    Ok(compare_over(alloc, keys, options, good, bad, &mut source, &mut sink))
 }
 
 /// What the words ask for.

@@ -8,7 +8,7 @@ use qil_tree::{Block, Data, Func, Program};
 use qrev_debuggee::{Body, Debuggee, Failure, HasMachine};
 use qrev_protocol::{Array, InArray, InObject, Object, Whole};
 use qrev_requests::Arguments;
-use qrev_views::{as_text, frame_of};
+use qrev_views::{frame_of, sigiled};
 use std::alloc::{AllocError, Allocator};
 
 /// The most that are offered at once.
@@ -94,7 +94,7 @@ impl<'w, A: Allocator + Copy> Offer<'w, A> {
 
     /// Adds such a name, if the word is how the text of both begins.
     fn add_fitting(self, sigil: &str, name: &[u8], kind: &str) -> Result<Self, AllocError> {
-        let label = sigiled(self.alloc, sigil, name)?;
+        let label = sigiled(self.alloc, sigil.as_bytes(), name)?;
         self.add(label.as_str(), kind)
     }
 }
@@ -105,18 +105,6 @@ fn could_begin(word: &str, count: usize, name: &[u8]) -> bool {
         Some((_, wanted)) => count < MOST && name.starts_with(wanted),
         None => true,
     }
-}
-
-/// A name after its sigil.
-fn sigiled<A: Allocator + Copy>(
-    alloc: A,
-    sigil: &str,
-    name: &[u8],
-) -> Result<String<A>, AllocError> {
-    let name = as_text(alloc, name)?;
-    let mut label = String::from_str(alloc, sigil)?;
-    label.push_str(name.as_str())?;
-    Ok(label)
 }
 
 /// The word that ends a text, and how many bytes stand before it.

@@ -1,11 +1,15 @@
 //! A session that keeps the newest moves, as a recorder drives it.
 
-ghost use Rattle.std.specs.Prelude.{◌≡◌, [], IfOk};
+ghost use Rattle.std.specs.Prelude.{◌≡◌, ◌^◌, ◌<◌, ◌≤◌, [], IfOk};
 ghost use Rattle.qil_deltas.specs.Kept.{recent_timeline};
 ghost use Rattle.qil_session.specs.qil_replies.SessionState.{session_at};
 ghost use Rattle.qil_session.specs.Kept.{session_state};
+ghost use Rattle.qil_meaning.specs.Timeline.{position};
+ghost use Rattle.qrev_sessions.specs.Ways.{RunsBy};
+ghost use Rattle.qrev_sessions.specs.declared.running.Way.TheVariants.{Forward};
 
 use crate::replying::{put_reply, reply};
+use crate::running::{Way, run};
 use qil_commands::{Command, Refused};
 use qil_deltas::Ring;
 use qil_depths::DepthEnd;
@@ -34,6 +38,16 @@ impl<'c, A: Allocator + Copy + 'c> BoundedSession<'c, A> {
             Err(_) => Err(AllocError),
         }
     }
+
+    /// Runs over calls. Each way goes through this one call, at which the history is known.
+    fn run(&mut self, way: Way<'_, A>, most: usize) -> (DepthEnd, u64)
+        requires before { way ≡ Forward → position (recent_timeline self.old.session.history) < 2 ^ 61 }
+        requires limit { way ≡ Forward → self.old.session.limit ≤ 4294967295 }
+        ensures rest { session_state (λ h. h.machine.program) recent_timeline self.new.session ≡ record (session_state (λ h. h.machine.program) recent_timeline self.old.session) { timeline = recent_timeline self.new.session.history } }
+        ensures run { RunsBy way.entry (session_state (λ h. h.machine.program) recent_timeline self.old.session) most result.0 result.1 (recent_timeline self.new.session.history) }
+    {
+        run(&mut self.session, way, most)
+    }
 }
 
 impl<'c, A: Allocator + Copy + 'c> Debugged<A> for BoundedSession<'c, A> {
@@ -44,19 +58,23 @@ impl<'c, A: Allocator + Copy + 'c> Debugged<A> for BoundedSession<'c, A> {
     }
 
     fn put_reply(&self, reply: Reply<'_>, out: &mut Buffer<A>) -> Result<(), PutError> {
-        put_reply(&self.session, reply, out)
+        let history = self.session.history();
+        let stops = self.session.stops();
+        put_reply(history.position(), history.machine(), stops, reply, out)
     }
 
     fn run_to_depth(&mut self, most: usize) -> (DepthEnd, u64) {
-        self.session.run_to_depth(most)
+        let way: Way<'c, A> = Way::Forward;
+        self.run(way, most)
     }
 
     fn run_back_to_depth(&mut self, most: usize) -> (DepthEnd, u64) {
-        self.session.run_back_to_depth(most)
+        let way: Way<'c, A> = Way::Back;
+        self.run(way, most)
     }
 
     fn run_back_past(&mut self, stops: &Stops<A>, most: usize) -> (DepthEnd, u64) {
-        self.session.run_back_past(stops, most)
+        self.run(Way::BackPast(stops), most)
     }
 
     fn position(&self) -> u64 {

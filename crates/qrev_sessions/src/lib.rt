@@ -5,6 +5,7 @@
 
 mod bounded;
 mod replying;
+mod running;
 mod whole;
 
 pub use bounded::BoundedSession;

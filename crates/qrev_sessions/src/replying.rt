@@ -7,13 +7,15 @@ ghost use Rattle.std.specs.Prelude.{◌≡◌, ◌-◌, ◌^◌, ◌<◌, ◌≤
 ghost use Rattle.qil_streams.specs.Device.{Puts};
 ghost use Rattle.qil_session.specs.Kept.{session_state};
 ghost use Rattle.qil_session.specs.qil_replies.Answers.{Replies};
-ghost use Rattle.qil_session.specs.qil_replies.SessionState.{text_in};
+ghost use Rattle.qil_session.specs.qil_replies.Reply.{reply_text};
 ghost use Rattle.qil_meaning.specs.Timeline.{position};
+ghost use Rattle.qil_machine.specs.qil_state.State.{state_of};
 
 use qil_commands::{Command, Refused};
 use qil_history::History;
 use qil_machine::Machine;
 use qil_session::{Reply, Session, Stepwise};
+use qil_stops::Stops;
 use qil_streams::{Buffer, Put, PutError};
 use std::alloc::Allocator;
 
@@ -30,14 +32,17 @@ pub fn reply<'c, 't, A: Allocator + Copy + 'c, H: History<A, Machine<'c, A>> + S
     session.reply(said)
 }
 
-/// As `Session::put_reply`.
-pub fn put_reply<'c, A: Allocator + Copy + 'c, H: History<A, Machine<'c, A>> + Stepwise>(
-    session: &Session<A, H>,
+/// Puts the text of a reply, after `position` moves that led to `machine`, with these stops: as `Session::put_reply`. It knows of no
+/// history, so that each kind of session hands it what it has, and nothing is said of the history to it.
+pub fn put_reply<'c, A: Allocator + Copy + 'c>(
+    position: u64,
+    machine: &Machine<'c, A>,
+    stops: &Stops<A>,
     reply: Reply<'_>,
     out: &mut Buffer<A>,
 ) -> Result<(), PutError>
     requires { ⟦<Buffer<A> as Put>⟧.stops out.old < 2 ^ 64 - 1 }
-    ensures { Puts result (⟦<Buffer<A> as Put>⟧.written out.old) (⟦<Buffer<A> as Put>⟧.written out.new) (text_in (session_state H.program H.timeline session.now) reply.entry) }
+    ensures { Puts result (⟦<Buffer<A> as Put>⟧.written out.old) (⟦<Buffer<A> as Put>⟧.written out.new) (reply_text machine.now.program position (state_of machine.now) stops.now.kept reply.entry) }
 {
-    session.put_reply(reply, out)
+    qil_session::put_reply(out, position, machine, stops.list(), reply)
 }

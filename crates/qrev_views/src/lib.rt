@@ -17,5 +17,5 @@ pub use machine::put_machine;
 pub use scopes::{DATA, MACHINE, put_scopes};
 pub use source_map::{SourceLine, SourceMap, same_file};
 pub use temps::{class_letter, put_temps};
-pub use texts::{as_text, joined, number_text, place_text};
+pub use texts::{as_text, joined, number_text, place_text, sigiled};
 pub use variable::{Page, value_text};

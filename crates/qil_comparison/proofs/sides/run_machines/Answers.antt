@@ -1,19 +1,24 @@
--- With a bound both sides keep as much; else the side of a session keeps all.
-use Rattle.std.proofs.Common.{◌∙◌, sym}
-use Rattle.qil_comparison.specs.declared.request.SideName.TheVariants.{Good, Bad}
-use Rattle.qil_comparison.proofs.Comparisons.{kept_few, kept_bound}
+-- The good side begins with what it keeps.
+use Rattle.std.specs.Prelude.{ℕ, Option, None}
+use Rattle.std.proofs.Common.{◌∙◌, ap, refl, sym}
+use Rattle.qil_meaning.specs.Timeline.{begun}
+use Rattle.qil_state.specs.State.{state_of}
+use Rattle.qil_comparison.specs.Compared.{setup_of}
+use Rattle.qil_comparison.proofs.Comparisons.{Written-memory, few_none}
 use Rattle.qil_comparison.proofs.sides.run_machines.Goals as goal
 
-pub returns-in-Some-clause-written : goal.returns-in-Some-clause-written
-returns-in-Some-clause-written g c = λ one two p q begin ep eq.
-    let r = c.args.request.now in
-    c.run_bounded.ensures.written one two p q begin ep eq (kept_bound r.bound r.session Good c.in-Some.bound c.in-Some.is) (kept_bound r.bound r.session Bad c.in-Some.bound c.in-Some.is)
+pub returns-in-Ok-clause-written : goal.returns-in-Ok-clause-written
+returns-in-Ok-clause-written g c = λ one two p q begin ep eq.
+    c.run_beside.ensures.written one two p q (state_of c.args.good) begin (c.in-Ok.ensures.program ∙ ep) eq
+    (c.in-Ok.ensures.begun ∙ ap (λ (keeps : Option ℕ). begun keeps (state_of c.args.good)) (sym c.in-Some.is ∙ c.kept.ensures.kept))
 
-pub returns-in-Some-session-clause-written : goal.returns-in-Some-session-clause-written
-returns-in-Some-session-clause-written g c = λ one two p q begin ep eq. c.run_keeping.ensures.written one two p q begin ep eq c.in-None.is c.in-Some-session.is
+pub returns-in-Err-clause-written : goal.returns-in-Err-clause-written
+returns-in-Err-clause-written g c = λ one two p q begin ep eq. Written-memory g.row.A.Denot (setup_of one two c.args.request.now) _ None _ _ refl
 
-pub returns-in-None-session-clause-written : goal.returns-in-None-session-clause-written
-returns-in-None-session-clause-written g c = λ one two p q begin ep eq.
-    let r = c.args.request.now in
-    c.run_bounded-in-None-session.ensures.written one two p q begin ep eq
-    (kept_few r.bound r.session Good c.in-None.is c.in-None-session.is) (kept_few r.bound r.session Bad c.in-None.is c.in-None-session.is)
+pub returns-in-Err-clause-few : goal.returns-in-Err-clause-few
+returns-in-Err-clause-few g c = few_none (g.S.Source.remaining c.args.source.now)
+
+pub returns-in-None-clause-written : goal.returns-in-None-clause-written
+returns-in-None-clause-written g c = λ one two p q begin ep eq.
+    c.run_beside-in-None.ensures.written one two p q (state_of c.args.good) begin (c.new-good.ensures.program ∙ ep) eq
+    (c.new-good.ensures.begun ∙ ap (λ (keeps : Option ℕ). begun keeps (state_of c.args.good)) (sym c.in-None.is ∙ c.kept.ensures.kept))

@@ -1,9 +1,9 @@
--- Answers to the goals of `debug_copies`.
+-- Answers to the goals of `debug_restorable`.
 use Rattle.std.proofs.Common.{ℕ, Option, ◌∙◌, ap, refl, sym}
 use Rattle.qil_meaning.specs.Timeline.{begun}
 use Rattle.qil_state.specs.State.{state_of}
 use Rattle.qil_transcript.specs.Handed.{setup_of}
-use Rattle.qil_transcript.proofs.debugging.debug_copies.Goals as goal
+use Rattle.qil_transcript.proofs.debugging.debug_restorable.Goals as goal
 
 pub returns-in-Ok-clause-written : goal.returns-in-Ok-clause-written
 returns-in-Ok-clause-written g c = λ text verdict begins loaded same.
