@@ -156,6 +156,22 @@ function $main() {
 """
 OWNING_SAID = b"loaded 2 functions 192 data bytes ssa yes\n#0 $main @s 0\n#%d $main @five 0\n"
 
+# Rounds of four moves: a jump, a call, a step in it and its return.
+CALLING = b"""function w $f(w %x) {
+@s
+	%y =w add %x, 1
+	ret %y
+}
+function $main() {
+@s
+	jmp @l
+@l
+	%r =w call $f(w 1)
+	jmp @l
+}
+"""
+CALLING_SAID = b"loaded 2 functions 0 data bytes ssa yes\n#0 $main @s 0\n#100 $main @l 1\n#3100 $main @l 1\n"
+
 
 class Counting:
     """Counts what runs of a program's text take."""
@@ -262,6 +278,15 @@ def ring_moves(running):
         return difference(ROUND_SAID, counting.run(ROUND).written) or (f"{taken} allocations" if taken else None)
 
 
+def calls_again(running):
+    """Once a bound has forgotten a return, a call of a function with as many temporaries takes no memory."""
+    with library() as made:
+        counting = Counting(running, made, CALLING, 3)
+        taken = counting.more(steps(100), steps(3000))
+        return difference(CALLING_SAID, counting.run(steps(100) + steps(3000)).written) or (
+            f"{taken} allocations" if taken else None)
+
+
 def given_back(running):
     """What a forgotten record has of its own is given back: ten times as many moves with --history 3 take no more memory."""
     def run(moves):
@@ -297,5 +322,6 @@ def cases():
     yield Case("3,000 moves with --history 3 take none", long_run, (3, 0))
     yield Case("the room of a bound", ring)
     yield Case("moves to and fro with --history 3 take no memory", ring_moves)
+    yield Case("calls behind a forgotten return take no memory", calls_again)
     yield Case("3,000,000 moves with --history 3 take the memory of 300,000", given_back)
     yield Case("a move keeps a record and nothing beside it", records)

@@ -5,24 +5,26 @@ ghost use Rattle.circular_buffer.specs.Buffer.{buffer, keep_last};
 ghost use Rattle.qil_deltas.specs.Kept.{HasAdded};
 
 use circular_buffer::HeapCircularBuffer;
-use qil_machine::{Delta, DeltaKind, DeltaSink};
+use qil_machine::{Delta, DeltaKind, DeltaSink, Frame};
 use std::alloc::Allocator;
 use std::mem::forget;
 
 /// The deltas of the newest moves, the latest last, and how many older ones went. A step puts its delta here itself, so that it
-/// is made in the place where it stays.
+/// is made in the place where it stays. The frame that the oldest one kept, as it went, waits here for the machine.
 #[derive(Drop)]
 pub struct Newest<A: Allocator> {
     pub(crate) deltas: HeapCircularBuffer<Delta<A>, A>,
     pub(crate) gone: u64,
+    pub(crate) spare: Option<Frame<A>>,
 }
 
-/// Lets a delta go. What it owns is dropped by itself, and a delta that owns nothing is forgotten: to drop a whole one it would be
-/// put into memory, part by part, and read there at once, which the processor waits for.
+/// Lets a delta go. What it owns is dropped by itself, but for a frame, in whose memory a call may begin; and a delta that owns
+/// nothing is forgotten: to drop a whole one it would be put into memory, part by part, and read there at once, which the
+/// processor waits for.
 #[inline(always)]
-fn let_go<A: Allocator>(delta: Delta<A>) {
+fn let_go<A: Allocator>(delta: Delta<A>, spare: &mut Option<Frame<A>>) {
     match delta.into_kind() {
-        DeltaKind::Returned { frame, .. } => drop(frame),
+        DeltaKind::Returned { frame, .. } => *spare = Some(frame),
         DeltaKind::LeftShort { kept, .. } => drop(kept),
         DeltaKind::LeftMany { kept, .. } => drop(kept),
         DeltaKind::Grew(grown) => drop(grown),
@@ -31,9 +33,21 @@ fn let_go<A: Allocator>(delta: Delta<A>) {
     }
 }
 
+/// Lets the delta go for which there was no place, if there was none.
+#[inline(always)]
+fn let_refused_go<A: Allocator>(kept: Result<(), Delta<A>>, spare: &mut Option<Frame<A>>) {
+    if let Err(delta) = kept {
+        let_go(delta, spare);
+    }
+}
+
 /// Makes room for one more, if there is any: where all places are taken the oldest delta goes, and is counted.
 #[inline(always)]
-fn make_room<A: Allocator>(deltas: &mut HeapCircularBuffer<Delta<A>, A>, gone: &mut u64)
+fn make_room<A: Allocator>(
+    deltas: &mut HeapCircularBuffer<Delta<A>, A>,
+    gone: &mut u64,
+    spare: &mut Option<Frame<A>>,
+)
     requires few { length deltas.old.items ≤ deltas.old.capacity }
     requires small { gone.old < 2 ^ 63 }
     ensures deltas { deltas.new ≡ buffer (keep_last (deltas.old.capacity - 1) deltas.old.items) deltas.old.capacity }
@@ -41,7 +55,7 @@ fn make_room<A: Allocator>(deltas: &mut HeapCircularBuffer<Delta<A>, A>, gone: &
 {
     if deltas.is_full() {
         if let Some(oldest) = deltas.pop_front() {
-            let_go(oldest);
+            let_go(oldest, spare);
         }
         *gone += 1;
     }
@@ -64,7 +78,8 @@ impl<A: Allocator> DeltaSink<Delta<A>> for Newest<A> {
 
     #[inline(always)]
     fn keep(&mut self, item: Delta<A>) {
-        make_room(&mut self.deltas, &mut self.gone);
-        let _ = self.deltas.try_push_back(item);
+        make_room(&mut self.deltas, &mut self.gone, &mut self.spare);
+        let kept = self.deltas.try_push_back(item);
+        let_refused_go(kept, &mut self.spare);
     }
 }

@@ -17,7 +17,7 @@ use crate::newest::{Newest, take_latest};
 use circular_buffer::HeapCircularBuffer;
 use qil_code::Slot;
 use qil_history::{BackError, History, Poke};
-use qil_machine::{Delta, DeltaSink, Machine, MoveError, PokeError};
+use qil_machine::{Delta, DeltaSink, Frame, Machine, MoveError, PokeError};
 use std::alloc::{AllocError, Allocator};
 use std::marker::Model;
 
@@ -48,6 +48,16 @@ fn undo_latest<A: Allocator + Copy>(machine: &mut Machine<'_, A>, latest: Delta<
     machine.undo(latest);
 }
 
+/// Gives the machine the frame that went, if one did.
+#[inline(always)]
+fn give_back<A: Allocator + Copy>(machine: &mut Machine<'_, A>, spare: &mut Option<Frame<A>>)
+    ensures { machine.new ≡ machine.old }
+{
+    if let Some(frame) = spare.take() {
+        machine.let_go(frame);
+    }
+}
+
 impl<'c, A: Allocator + Copy> Ring<'c, A> {
     /// A history that begins at a machine and keeps so many moves, in a block that it takes here. It may keep none.
     ///
@@ -68,7 +78,11 @@ impl<'c, A: Allocator + Copy> Ring<'c, A> {
         match HeapCircularBuffer::with_capacity(alloc, bound as usize) {
             Ok(deltas) => Ok(Ring {
                 machine,
-                newest: Newest { deltas, gone: 0 },
+                newest: Newest {
+                    deltas,
+                    gone: 0,
+                    spare: None,
+                },
             }),
             Err(error) => Err((machine, error)),
         }
@@ -109,7 +123,9 @@ impl<'c, A: Allocator + Copy> History<A, Machine<'c, A>> for Ring<'c, A> {
         ensures cost { OnOk result (total self.new.deltas ≤ total self.old.deltas + cost_of self.old.machine.program (state_of self.old.machine)) }
         ensures kept { OnErr result (self.new.deltas ≡ self.old.deltas) }
     {
-        self.machine.advance_into(&mut self.newest)
+        let moved = self.machine.advance_into(&mut self.newest);
+        give_back(&mut self.machine, &mut self.newest.spare);
+        moved
     }
 
     #[inline(always)]

@@ -108,6 +108,21 @@ impl<A: Allocator + Copy> Frame<A> {
         Ok(Frame { body })
     }
 
+    /// Makes the frame of a call that is over the one that `new` gives, with as many slots as it had, in the memory that it has.
+    #[inline(always)]
+    pub(crate) fn renew(&mut self, func: FuncId, floor: u64, receiver: Option<Receiver>)
+        requires { floor < 2 ^ 32 }
+        ensures { self.new ≡ record { func = func.index; block = 0; index = 0; slots = replicate (length self.old.slots) None; floor = floor; result = receiver } }
+    {
+        let body = self.body.as_mut();
+        body.slots.fill(None);
+        body.func = func.index;
+        body.block = 0;
+        body.index = 0;
+        body.floor = floor as u32;
+        body.taker = Taker::new(receiver);
+    }
+
     /// An equal frame. It takes two allocations.
     pub fn try_clone(&self) -> Result<Frame<A>, AllocError>
         ensures { IfOk result (λ f. f ≡ self.now) }

@@ -1,22 +1,31 @@
 //! The calls that are not over; what is read and written is of the innermost.
 
-ghost use Rattle.std.specs.Prelude.{◌≡◌, ◌≢◌, ◌<◌, ◌≤◌, ◌↔◌, [], ◌∷◌, length, reverse, Some, Ok, Err, OnOk, IfOk, OnErr, IfErr, IsTrue, MatchOption, slice_get};
+ghost use Rattle.std.specs.Prelude.{◌≡◌, ◌≢◌, ◌<◌, ◌≤◌, ◌^◌, ◌↔◌, [], ◌∷◌, length, replicate, reverse, Some, None, Ok, Err, OnOk, IfOk, OnErr, IfErr, IsTrue, MatchOption, slice_get};
 ghost use Rattle.qil_code.specs.Ranges.{IsShort};
 ghost use Rattle.qil_frames.specs.Frames.{on_innermost, with_slot, at_index, at_place, HasFrame, HasSlot, held};
 ghost use Rattle.qil_frames.specs.Enter.{HasMoves, entered_by, Explains, Fits, HasLeft, returned};
 
 use crate::frame::Frame;
 use crate::saved::{PhiFault, PhiSaved};
-use qil_code::{BlockId, PhiMove, Slot};
+use qil_code::{BlockId, FuncId, PhiMove, Receiver, Slot};
 use std::alloc::{AllocError, Allocator};
 use std::marker::Model;
 
 const MOST_FRAMES: usize = 1_000;
 
+/// How many frames are kept for calls to come, and how many slots each has at most: some KiB in all.
+const MOST_SPARE: usize = 8;
+
+const MOST_SPARE_SLOTS: usize = 64;
+
 /// The calls that are not over, with room for all that there may be. Specifications see the innermost first.
+///
+/// Next to them are a few frames of calls that are over and that nothing goes back to, in whose memory calls to come begin:
+/// of those no specification speaks.
 #[derive(Drop)]
 pub struct Frames<A: Allocator> {
     stack: Vec<Frame<A>, A>,
+    spare: Vec<Frame<A>, A>,
 }
 
 impl<A: Allocator> Model for Frames<A> {
@@ -31,12 +40,13 @@ impl<A: Allocator> Model for Frames<A> {
 }
 
 impl<A: Allocator + Copy> Frames<A> {
-    /// No frame, and room for 1,000.
+    /// No frame, and room for 1,000. It takes two allocations.
     pub fn new(alloc: A) -> Result<Frames<A>, AllocError>
         ensures { IfOk result (λ f. f ≡ []) }
     {
         Ok(Frames {
             stack: Vec::with_capacity(alloc, MOST_FRAMES)?,
+            spare: Vec::with_capacity(alloc, MOST_SPARE)?,
         })
     }
 
@@ -44,11 +54,49 @@ impl<A: Allocator + Copy> Frames<A> {
     pub fn try_clone(&self) -> Result<Frames<A>, AllocError>
         ensures { IfOk result (λ f. f ≡ self.now) }
     {
-        let mut stack = Vec::with_capacity(*self.stack.allocator(), MOST_FRAMES)?;
+        let alloc = *self.stack.allocator();
+        let mut stack = Vec::with_capacity(alloc, MOST_FRAMES)?;
         for frame in self.stack.as_slice() {
             stack.push(frame.try_clone()?)?;
         }
-        Ok(Frames { stack })
+        Ok(Frames {
+            stack,
+            spare: Vec::with_capacity(alloc, MOST_SPARE)?,
+        })
+    }
+
+    /// A frame at the start of a function, with that many slots, all unset; it is not pushed. It takes two allocations, and
+    /// none where the latest frame that was let go had as many slots.
+    #[inline(always)]
+    pub fn begin(
+        &mut self,
+        alloc: A,
+        func: FuncId,
+        slots: u16,
+        floor: u64,
+        receiver: Option<Receiver>,
+    ) -> Result<Frame<A>, AllocError>
+        requires { floor < 2 ^ 32 }
+        ensures frame { IfOk result (λ f. f ≡ record { func = func.index; block = 0; index = 0; slots = replicate slots None; floor = floor; result = receiver }) }
+        ensures same { self.new ≡ self.old }
+    {
+        if let Some(mut frame) = self.spare.pop() {
+            if frame.slots().len() == usize::from(slots) {
+                frame.renew(func, floor, receiver);
+                return Ok(frame);
+            }
+        }
+        Frame::new(alloc, func, slots, floor, receiver)
+    }
+
+    /// Takes the frame of a call that is over, which nothing goes back to: a call to come begins in its memory.
+    #[inline(always)]
+    pub fn let_go(&mut self, frame: Frame<A>)
+        ensures { self.new ≡ self.old }
+    {
+        if self.spare.len() < MOST_SPARE && frame.slots().len() <= MOST_SPARE_SLOTS {
+            let _ = self.spare.push(frame);
+        }
     }
 
     /// Goes to the start of a block. All phis are read, in the order of the text, and then all are written; no phi, one,
