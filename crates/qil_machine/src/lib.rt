@@ -2,6 +2,7 @@
 #![tactic(auto)]
 
 mod advance;
+mod apart;
 mod call;
 mod delta;
 mod error;

@@ -11,8 +11,8 @@ perform-requires-clause-range g c = (inst_found _ c.args.self.now c.here-index.r
 pub perform-requires-clause-next : goal.perform-requires-clause-next
 perform-requires-clause-next g c = (inst_found _ c.args.self.now c.here-index.result.0.now c.in-Some.inst.now c.here-index.result.1 c.self.view_is c.self.invariant c.here-index.ensures (rw c.as_slice.ensures at c.in-Some.ensures)).next
 
-pub leave-requires-clause-end : goal.leave-requires-clause-end
-leave-requires-clause-end g c = sym (rw c.as_slice.ensures at c.in-None.ensures)
+pub leave_apart-requires-clause-end : goal.leave_apart-requires-clause-end
+leave_apart-requires-clause-end g c = sym (rw c.as_slice.ensures at c.in-None.ensures)
 
 pub returns-in-Some-clause-does : goal.returns-in-Some-clause-does
 returns-in-Some-clause-does g c =
@@ -24,11 +24,11 @@ returns-in-Some-clause-fault g c =
 
 pub returns-in-None-clause-does : goal.returns-in-None-clause-does
 returns-in-None-clause-does g c =
-    subst (λ o. OnOk c.leave.result (o ≡ Ok (state_of c.leave.new.self))) (sym (jump_found c.args.self.now c.here-index.result.0.now c.here-index.result.1 c.here-index.ensures (rw c.as_slice.ensures at c.in-None.ensures))) c.leave.ensures.does
+    subst (λ o. OnOk c.leave_apart.result (o ≡ Ok (state_of c.leave_apart.new.self))) (sym (jump_found c.args.self.now c.here-index.result.0.now c.here-index.result.1 c.here-index.ensures (rw c.as_slice.ensures at c.in-None.ensures))) c.leave_apart.ensures.does
 
 pub returns-in-None-clause-fault : goal.returns-in-None-clause-fault
 returns-in-None-clause-fault g c =
-    subst (λ o. IfErr c.leave.result (Explains (head_names c.args.self.now.program c.args.self.now.frames) o)) (sym (jump_found c.args.self.now c.here-index.result.0.now c.here-index.result.1 c.here-index.ensures (rw c.as_slice.ensures at c.in-None.ensures))) c.leave.ensures.fault
+    subst (λ o. IfErr c.leave_apart.result (Explains (head_names c.args.self.now.program c.args.self.now.frames) o)) (sym (jump_found c.args.self.now c.here-index.result.0.now c.here-index.result.1 c.here-index.ensures (rw c.as_slice.ensures at c.in-None.ensures))) c.leave_apart.ensures.fault
 
 pub returns-in-Some-clause-weighs : goal.returns-in-Some-clause-weighs
 returns-in-Some-clause-weighs g c =
@@ -37,5 +37,5 @@ returns-in-Some-clause-weighs g c =
 
 pub returns-in-None-clause-weighs : goal.returns-in-None-clause-weighs
 returns-in-None-clause-weighs g c =
-    leave_costs _ c.args.self.now c.leave.new.self c.here-index.result.0.now c.here-index.result.1 _ c.leave.result c.self.view_is c.self.invariant c.here-index.ensures (rw c.as_slice.ensures at c.in-None.ensures)
-    c.leave.ensures.does c.leave.ensures.weighs
+    leave_costs _ c.args.self.now c.leave_apart.new.self c.here-index.result.0.now c.here-index.result.1 _ c.leave_apart.result c.self.view_is c.self.invariant c.here-index.ensures (rw c.as_slice.ensures at c.in-None.ensures)
+    c.leave_apart.ensures.does c.leave_apart.ensures.weighs
