@@ -65,9 +65,9 @@ fn is_out_of_memory(found: Found) -> bool
 
 /// Whether two runs agree in what comes next: in an event, or in that there is none.
 #[inline(always)]
-fn agree<'c, A: Allocator + Copy>(
-    left: &Stand<'_, 'c, A>,
-    right: &Stand<'_, 'c, A>,
+fn agree<'s, 'c, A: Allocator + Copy>(
+    left: &Stand<'s, 'c, A>,
+    right: &Stand<'s, 'c, A>,
     one: Found,
     other: Found,
     alike: u16,
@@ -92,9 +92,9 @@ fn agree<'c, A: Allocator + Copy>(
 
 /// What comes of two runs that found these, or nothing where they found the same event.
 #[inline(always)]
-fn judge<'c, A: Allocator + Copy>(
-    left: &Stand<'_, 'c, A>,
-    right: &Stand<'_, 'c, A>,
+fn judge<'s, 'c, A: Allocator + Copy>(
+    left: &Stand<'s, 'c, A>,
+    right: &Stand<'s, 'c, A>,
     one: Found,
     other: Found,
     alike: u16,
@@ -122,8 +122,8 @@ fn judge<'c, A: Allocator + Copy>(
 /// The machine of a history, as its events are told.
 #[inline(always)]
 fn stand_of<'s, 'c, A: Allocator + Copy + 'c, H: History<A, Machine<'c, A>>>(
-    history: &'s H,
     side: &Side<'c, A>,
+    history: &'s H,
 ) -> Stand<'s, 'c, A>
     requires { side.now.program.now ≡ H.program history.now }
     ensures stands { StandsIn result }
@@ -139,15 +139,16 @@ fn stand_of<'s, 'c, A: Allocator + Copy + 'c, H: History<A, Machine<'c, A>>>(
 /// What comes of two runs where they stand, or nothing where they found the same event.
 #[inline(always)]
 fn judge_here<
+    's,
     'c,
     A: Allocator + Copy + 'c,
     H: History<A, Machine<'c, A>>,
     K: History<A, Machine<'c, A>>,
 >(
-    good: &H,
-    bad: &K,
     good_side: &Side<'c, A>,
     bad_side: &Side<'c, A>,
+    good: &'s H,
+    bad: &'s K,
     one: Found,
     other: Found,
     alike: u16,
@@ -157,8 +158,8 @@ fn judge_here<
     requires alike { AreNamedAlike (H.program good.now) (K.program bad.now) alike }
     ensures { Judges (H.program good.now) (K.program bad.now) (H.timeline good.now).now (K.timeline bad.now).now one other result }
 {
-    let left = stand_of(good, good_side);
-    let right = stand_of(bad, bad_side);
+    let left = stand_of(good_side, good);
+    let right = stand_of(bad_side, bad);
     judge(&left, &right, one, other, alike)
 }
 
@@ -221,7 +222,7 @@ pub fn compare<
     A: Allocator + Copy + 'c,
     H: History<A, Machine<'c, A>>,
     K: History<A, Machine<'c, A>>,
->(good: &mut H, bad: &mut K, good_side: &Side<'c, A>, bad_side: &Side<'c, A>, limit: u64) -> Answer
+>(good_side: &Side<'c, A>, bad_side: &Side<'c, A>, good: &mut H, bad: &mut K, limit: u64) -> Answer
     requires limit { limit ≤ 4294967295 }
     requires start { (position (H.timeline good.old) ≤ 1000000000000000000) × (position (K.timeline bad.old) ≤ 1000000000000000000) }
     requires good { good_side.now.program.now ≡ H.program good.old }
@@ -239,9 +240,9 @@ pub fn compare<
         if is_far(good, bad) {
             return limited(events);
         }
-        let one = next_event(good, good_side, alike, &mut good_told, limit);
-        let other = next_event(bad, bad_side, alike, &mut bad_told, limit);
-        let judged = judge_here(good, bad, good_side, bad_side, one, other, alike);
+        let one = next_event(good_side, good, alike, &mut good_told, limit);
+        let other = next_event(bad_side, bad, alike, &mut bad_told, limit);
+        let judged = judge_here(good_side, bad_side, good, bad, one, other, alike);
         if let Some(verdict) = judged {
             return told_of(events, verdict, one, other);
         }

@@ -55,8 +55,8 @@ fn over_or_limit<'c, A: Allocator + Copy + 'c, H: History<A, Machine<'c, A>>>(hi
 /// What is kept of a run before a move.
 #[inline(always)]
 fn before_move<'c, A: Allocator + Copy + 'c, H: History<A, Machine<'c, A>>>(
-    history: &H,
     side: &Side<'c, A>,
+    history: &H,
 ) -> Before
     requires { at_end (H.timeline history.now) ≡ false }
     ensures { IsKept (H.program history.now) side.now.kinds (H.timeline history.now).now result }
@@ -68,8 +68,8 @@ fn before_move<'c, A: Allocator + Copy + 'c, H: History<A, Machine<'c, A>>>(
 /// The first event of a move, by the run behind it.
 #[inline(always)]
 fn happened_now<'c, A: Allocator + Copy + 'c, H: History<A, Machine<'c, A>>>(
-    history: &H,
     side: &Side<'c, A>,
+    history: &H,
     before: Before,
     alike: u16,
 ) -> Option<Told>
@@ -85,8 +85,8 @@ fn happened_now<'c, A: Allocator + Copy + 'c, H: History<A, Machine<'c, A>>>(
 /// end of the run, or where there is no memory for a move. Gives also how many bytes of output are told then.
 #[inline(never)]
 fn run_to_event<'c, A: Allocator + Copy + 'c, H: History<A, Machine<'c, A>>>(
-    history: &mut H,
     side: &Side<'c, A>,
+    history: &mut H,
     alike: u16,
     limit: u64,
 ) -> (Found, usize)
@@ -100,13 +100,13 @@ fn run_to_event<'c, A: Allocator + Copy + 'c, H: History<A, Machine<'c, A>>>(
         if is_at_end(history) {
             return (Found::Over, written(history));
         }
-        let before = before_move(history, side);
+        let before = before_move(side, history);
         match history.forward() {
             Ok(()) => {}
             Err(MoveError::AtEnd) => return (Found::Over, before.written),
             Err(MoveError::OutOfMemory) => return (Found::OutOfMemory, before.written),
         }
-        if let Some(first) = happened_now(history, side, before, alike) {
+        if let Some(first) = happened_now(side, history, before, alike) {
             return (Found::Event(first.event), first.told);
         }
     }
@@ -116,8 +116,8 @@ fn run_to_event<'c, A: Allocator + Copy + 'c, H: History<A, Machine<'c, A>>>(
 /// The next event of a run, of which so many bytes of output are told: a byte that isn't told yet, without a move; or what
 /// comes of moves, `limit` at most.
 pub fn next_event<'c, A: Allocator + Copy + 'c, H: History<A, Machine<'c, A>>>(
-    history: &mut H,
     side: &Side<'c, A>,
+    history: &mut H,
     alike: u16,
     told: &mut usize,
     limit: u64,
@@ -134,7 +134,7 @@ pub fn next_event<'c, A: Allocator + Copy + 'c, H: History<A, Machine<'c, A>>>(
         *told = first.told;
         return Found::Event(first.event);
     }
-    let (found, now_told) = run_to_event(history, side, alike, limit);
+    let (found, now_told) = run_to_event(side, history, alike, limit);
     *told = now_told;
     found
 }

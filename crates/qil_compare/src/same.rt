@@ -150,9 +150,9 @@ fn is_plain(abi_type: AbiType) -> bool
 
 /// Whether two values of types are the same, of which one may be an address.
 #[inline(never)]
-fn same_addressed<'c, A: Allocator + Copy>(
-    left: &Stand<'_, 'c, A>,
-    right: &Stand<'_, 'c, A>,
+fn same_addressed<'s, 'c, A: Allocator + Copy>(
+    left: &Stand<'s, 'c, A>,
+    right: &Stand<'s, 'c, A>,
     one: (AbiType, u64),
     other: (AbiType, u64),
 ) -> bool
@@ -165,9 +165,9 @@ fn same_addressed<'c, A: Allocator + Copy>(
 
 /// Whether two values of types are the same. Nearly all are numbers.
 #[inline(always)]
-fn same_typed<'c, A: Allocator + Copy>(
-    left: &Stand<'_, 'c, A>,
-    right: &Stand<'_, 'c, A>,
+fn same_typed<'s, 'c, A: Allocator + Copy>(
+    left: &Stand<'s, 'c, A>,
+    right: &Stand<'s, 'c, A>,
     one: (AbiType, u64),
     other: (AbiType, u64),
 ) -> bool
@@ -183,9 +183,9 @@ fn same_typed<'c, A: Allocator + Copy>(
 
 /// Whether what two functions returned is the same: a value, or none.
 #[inline(always)]
-fn same_returned<'c, A: Allocator + Copy>(
-    left: &Stand<'_, 'c, A>,
-    right: &Stand<'_, 'c, A>,
+fn same_returned<'s, 'c, A: Allocator + Copy>(
+    left: &Stand<'s, 'c, A>,
+    right: &Stand<'s, 'c, A>,
     func: FuncId,
     second: FuncId,
     value: Option<u64>,
@@ -211,7 +211,10 @@ fn same_returned<'c, A: Allocator + Copy>(
 
 /// Whether the parameters of the innermost frames of two machines have the same values.
 #[inline(always)]
-fn same_params<'c, A: Allocator + Copy>(left: &Stand<'_, 'c, A>, right: &Stand<'_, 'c, A>) -> bool
+fn same_params<'s, 'c, A: Allocator + Copy>(
+    left: &Stand<'s, 'c, A>,
+    right: &Stand<'s, 'c, A>,
+) -> bool
     requires good { StandsIn left.now }
     requires bad { StandsIn right.now }
     ensures { IsTrue result ↔ (call_params left.now.machine.now.program (state_of left.now.machine.now).frames ≡ call_params right.now.machine.now.program (state_of right.now.machine.now).frames) }
@@ -232,9 +235,9 @@ fn same_params<'c, A: Allocator + Copy>(left: &Stand<'_, 'c, A>, right: &Stand<'
 
 /// Whether two calls are the same: of one function, with the same values.
 #[inline(always)]
-fn same_calls<'c, A: Allocator + Copy>(
-    left: &Stand<'_, 'c, A>,
-    right: &Stand<'_, 'c, A>,
+fn same_calls<'s, 'c, A: Allocator + Copy>(
+    left: &Stand<'s, 'c, A>,
+    right: &Stand<'s, 'c, A>,
     alike: u16,
 ) -> bool
     requires good { StandsIn left.now }
@@ -280,9 +283,9 @@ fn same_bytes<'c, A: Allocator + Copy>(
 
 /// Whether two writes are the same: to one place of the data, of the same bytes.
 #[inline(never)]
-fn same_writes<'c, A: Allocator + Copy>(
-    left: &Stand<'_, 'c, A>,
-    right: &Stand<'_, 'c, A>,
+fn same_writes<'s, 'c, A: Allocator + Copy>(
+    left: &Stand<'s, 'c, A>,
+    right: &Stand<'s, 'c, A>,
     start: u64,
     second: u64,
     count: u64,
@@ -303,9 +306,9 @@ fn same_writes<'c, A: Allocator + Copy>(
 
 /// Whether two returns are the same: of one function, with one value or none.
 #[inline(always)]
-fn same_returns<'c, A: Allocator + Copy>(
-    left: &Stand<'_, 'c, A>,
-    right: &Stand<'_, 'c, A>,
+fn same_returns<'s, 'c, A: Allocator + Copy>(
+    left: &Stand<'s, 'c, A>,
+    right: &Stand<'s, 'c, A>,
     func: FuncId,
     second: FuncId,
     value: Option<u64>,
@@ -322,9 +325,9 @@ fn same_returns<'c, A: Allocator + Copy>(
 }
 
 /// Whether two addresses that faults tell count as the same.
-fn same_addresses<'c, A: Allocator + Copy>(
-    left: &Stand<'_, 'c, A>,
-    right: &Stand<'_, 'c, A>,
+fn same_addresses<'s, 'c, A: Allocator + Copy>(
+    left: &Stand<'s, 'c, A>,
+    right: &Stand<'s, 'c, A>,
     address: u64,
     second: u64,
 ) -> bool
@@ -336,9 +339,9 @@ fn same_addresses<'c, A: Allocator + Copy>(
 }
 
 /// Whether two faults are the same: of one kind, and where they tell an address, of the same one.
-fn same_faults<'c, A: Allocator + Copy>(
-    left: &Stand<'_, 'c, A>,
-    right: &Stand<'_, 'c, A>,
+fn same_faults<'s, 'c, A: Allocator + Copy>(
+    left: &Stand<'s, 'c, A>,
+    right: &Stand<'s, 'c, A>,
     one: Fault,
     other: Fault,
 ) -> bool
@@ -365,9 +368,9 @@ fn same_faults<'c, A: Allocator + Copy>(
 
 /// Whether two runs ended the same, each in a function.
 #[inline(never)]
-fn same_ends<'c, A: Allocator + Copy>(
-    left: &Stand<'_, 'c, A>,
-    right: &Stand<'_, 'c, A>,
+fn same_ends<'s, 'c, A: Allocator + Copy>(
+    left: &Stand<'s, 'c, A>,
+    right: &Stand<'s, 'c, A>,
     func: FuncId,
     second: FuncId,
 ) -> bool
@@ -391,9 +394,9 @@ fn same_ends<'c, A: Allocator + Copy>(
 
 /// Whether two events are the same.
 #[inline(always)]
-pub fn same_event<'c, A: Allocator + Copy>(
-    left: &Stand<'_, 'c, A>,
-    right: &Stand<'_, 'c, A>,
+pub fn same_event<'s, 'c, A: Allocator + Copy>(
+    left: &Stand<'s, 'c, A>,
+    right: &Stand<'s, 'c, A>,
     one: Event,
     other: Event,
     alike: u16,

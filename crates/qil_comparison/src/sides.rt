@@ -32,11 +32,11 @@ fn write_answer<
     K: History<A, Machine<'c, A>>,
     W: Sink,
 >(
+    good_side: &Side<'c, A>,
+    bad_side: &Side<'c, A>,
     sink: &mut W,
     good: &H,
     bad: &K,
-    good_side: &Side<'c, A>,
-    bad_side: &Side<'c, A>,
     answer: Answer,
 ) -> Result<(), PutError>
     requires writes { W.failures sink.old < 2 ^ 64 - 1 }
@@ -46,7 +46,7 @@ fn write_answer<
     ensures counted { Counts result (W.failures sink.old) (W.failures sink.new) }
 {
     let mut out = Outlet { sink };
-    let put = put_answer(&mut out, good, bad, good_side, bad_side, answer);
+    let put = put_answer(good_side, bad_side, &mut out, good, bad, answer);
     let Outlet { sink: _ } = out;
     put
 }
@@ -61,10 +61,10 @@ fn run_histories<
     W: Sink,
 >(
     alloc: A,
-    mut good: H,
-    mut bad: K,
     good_side: &Side<'c, A>,
     bad_side: &Side<'c, A>,
+    mut good: H,
+    mut bad: K,
     request: &Request<'_>,
     source: &mut S,
     sink: &mut W,
@@ -86,8 +86,8 @@ fn run_histories<
     ensures few { IfSome (S.remaining source.old) (λ script. TakesFew script (S.remaining source.new)) }
     ensures counted { CountsFaults result (S.failures source.old) (S.failures source.new) (W.failures sink.old) (W.failures sink.new) }
 {
-    let answer = compare(&mut good, &mut bad, good_side, bad_side, request.limit);
-    match write_answer(sink, &good, &bad, good_side, bad_side, answer) {
+    let answer = compare(good_side, bad_side, &mut good, &mut bad, request.limit);
+    match write_answer(good_side, bad_side, sink, &good, &bad, answer) {
         Ok(()) => {}
         Err(PutError) => return Outcome::WriteFault,
     }
@@ -151,12 +151,12 @@ fn run_beside<
 {
     match kept(request, SideName::Bad) {
         Some(bound) => match Ring::new(alloc, bad, bound) {
-            Ok(bad) => run_histories(alloc, good, bad, good_side, bad_side, request, source, sink),
+            Ok(bad) => run_histories(alloc, good_side, bad_side, good, bad, request, source, sink),
             Err(_) => Outcome::Memory,
         },
         None => {
             let bad = Deltas::new(alloc, bad);
-            run_histories(alloc, good, bad, good_side, bad_side, request, source, sink)
+            run_histories(alloc, good_side, bad_side, good, bad, request, source, sink)
         }
     }
 }

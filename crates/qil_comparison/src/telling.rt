@@ -80,10 +80,10 @@ fn put_stand<'c, P: Put, A: Allocator + Copy + 'c, M: Readers<A, Code<'c, A>>>(
 
 /// Puts what is told of one side.
 fn put_side<'c, A: Allocator + Copy + 'c, H: History<A, Machine<'c, A>>, P: Put>(
+    side: &Side<'c, A>,
     out: &mut P,
     name: &[u8],
     history: &H,
-    side: &Side<'c, A>,
     found: Found,
 ) -> Result<(), PutError>
     requires stops { P.stops out.old < 2 ^ 64 - 1 }
@@ -108,11 +108,11 @@ fn put_sides<
     K: History<A, Machine<'c, A>>,
     P: Put,
 >(
+    good_side: &Side<'c, A>,
+    bad_side: &Side<'c, A>,
     out: &mut P,
     good: &H,
     bad: &K,
-    good_side: &Side<'c, A>,
-    bad_side: &Side<'c, A>,
     answer: Answer,
 ) -> Result<(), PutError>
     requires stops { P.stops out.old < 2 ^ 64 - 1 }
@@ -120,8 +120,8 @@ fn put_sides<
     requires bad { bad_side.now.program.now ≡ K.program bad.now }
     ensures { HasPut P.written P.stops P.device result out.old out.new (sides_text (H.program good.now) (K.program bad.now) (H.timeline good.now) (K.timeline bad.now) answer) }
 {
-    put_side(out, b"good: ", good, good_side, answer.good)?;
-    put_side(out, b"bad: ", bad, bad_side, answer.bad)
+    put_side(good_side, out, b"good: ", good, answer.good)?;
+    put_side(bad_side, out, b"bad: ", bad, answer.bad)
 }
 
 /// Whether no difference was found.
@@ -142,11 +142,11 @@ pub fn put_answer<
     K: History<A, Machine<'c, A>>,
     P: Put,
 >(
+    good_side: &Side<'c, A>,
+    bad_side: &Side<'c, A>,
     out: &mut P,
     good: &H,
     bad: &K,
-    good_side: &Side<'c, A>,
-    bad_side: &Side<'c, A>,
     answer: Answer,
 ) -> Result<(), PutError>
     requires stops { P.stops out.old < 2 ^ 64 - 1 }
@@ -158,5 +158,5 @@ pub fn put_answer<
         return put_verdict(out, answer.verdict, answer.events);
     }
     put_verdict(out, answer.verdict, answer.events)?;
-    put_sides(out, good, bad, good_side, bad_side, answer)
+    put_sides(good_side, bad_side, out, good, bad, answer)
 }

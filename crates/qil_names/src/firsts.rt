@@ -4,17 +4,17 @@ ghost use Rattle.std.specs.Prelude.{◌≡◌, List, ℕ, None, OnOk, length};
 ghost use Rattle.std.specs.Option.{option_or};
 ghost use Rattle.std.specs.Str.{bytes_eq};
 ghost use Rattle.std.specs.List.{IsDistinct};
-ghost use Rattle.indexmap.specs.IndexMap.{keys};
+ghost use Rattle.std.specs.HashMap.{keys};
 ghost use Rattle.qil_names.specs.Tables.{value_at, for_name};
 
-use indexmap::IndexMap;
 use std::alloc::{AllocError, Allocator};
+use std::collections::HashMap;
 use std::hash::RandomState;
 
 /// For each name the value that was recorded for it first.
 #[derive(Drop)]
 pub struct Firsts<'a, V: Copy, A: Allocator> {
-    values: IndexMap<&'a [u8], V, RandomState, A>,
+    values: HashMap<&'a [u8], V, RandomState, A>,
 }
 
 impl<'a, V: Copy, A: Allocator + Copy> Firsts<'a, V, A> {
@@ -23,7 +23,7 @@ impl<'a, V: Copy, A: Allocator + Copy> Firsts<'a, V, A> {
         ensures { (x : List ℕ) → value_at result.values x ≡ None }
     {
         Firsts {
-            values: IndexMap::with_hasher(alloc, keys),
+            values: HashMap::with_hasher(alloc, keys),
         }
     }
 

@@ -4,14 +4,14 @@ ghost use Rattle.std.specs.Prelude.{◌≡◌, List, ℕ, [], ◌∷◌, ◌++�
 ghost use Rattle.std.specs.Str.{bytes_eq};
 ghost use Rattle.qil_names.specs.Tables.{values_at, kept};
 
-use indexmap::IndexMap;
 use std::alloc::{AllocError, Allocator};
+use std::collections::HashMap;
 use std::hash::RandomState;
 
 /// For each name the values that were recorded for it, in their order.
 #[derive(Drop)]
 pub struct Groups<'a, V: Drop, A: Allocator> {
-    lists: IndexMap<&'a [u8], Vec<V, A>, RandomState, A>,
+    lists: HashMap<&'a [u8], Vec<V, A>, RandomState, A>,
 }
 
 impl<'a, V: Drop, A: Allocator + Copy> Groups<'a, V, A> {
@@ -20,7 +20,7 @@ impl<'a, V: Drop, A: Allocator + Copy> Groups<'a, V, A> {
         ensures { (x : List ℕ) → values_at result.lists x ≡ [] }
     {
         Groups {
-            lists: IndexMap::with_hasher(alloc, keys),
+            lists: HashMap::with_hasher(alloc, keys),
         }
     }
 

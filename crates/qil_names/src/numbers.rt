@@ -3,24 +3,28 @@
 ghost use Rattle.std.specs.Prelude.{◌≡◌, ◌<◌, [], ◌∷◌, OnOk, IfSome, length};
 ghost use Rattle.qil_names.specs.Numbers.{place_of, recorded, names_of};
 
-use indexmap::IndexSet;
 use std::alloc::{AllocError, Allocator};
+use std::collections::HashMap;
 use std::hash::RandomState;
 use std::marker::Model;
 
 /// Names, each once, numbered from 0 in the order in which they were recorded. Specifications see the list of them.
 #[derive(Drop)]
 pub struct Numbers<'a, A: Allocator> {
-    set: IndexSet<&'a [u8], RandomState, A>,
+    names: Vec<&'a [u8], A>,
+    places: HashMap<&'a [u8], usize, RandomState, A>,
 }
 
 impl<'a, A: Allocator> Model for Numbers<'a, A> {
-    ghost use Rattle.std.specs.Prelude.{List, ℕ};
-    ghost use Rattle.qil_names.specs.Numbers.{names_of};
+    ghost use Rattle.std.specs.Prelude.{◌≡◌, List, ℕ};
+    ghost use Rattle.qil_names.specs.Numbers.{place_of, names_of};
+    ghost use Rattle.qil_names.specs.Tables.{value_at};
 
     ghost Value = { List (List ℕ) };
 
-    ghost view = { λ n. names_of n.set.keys };
+    ghost view = { λ n. names_of n.names.items };
+
+    ghost invariant = { λ n. (x : List ℕ) → value_at n.places x ≡ place_of (names_of n.names.items) x };
 }
 
 impl<'a, A: Allocator + Copy> Numbers<'a, A> {
@@ -29,7 +33,8 @@ impl<'a, A: Allocator + Copy> Numbers<'a, A> {
         ensures { result ≡ [] }
     {
         Numbers {
-            set: IndexSet::with_hasher(alloc, keys),
+            names: Vec::new(alloc),
+            places: HashMap::with_hasher(alloc, keys),
         }
     }
 
@@ -37,8 +42,18 @@ impl<'a, A: Allocator + Copy> Numbers<'a, A> {
     pub fn note(&mut self, name: &'a [u8]) -> Result<(), AllocError>
         ensures { OnOk result (self.new ≡ recorded self.old (name.now ∷ [])) }
     {
-        self.set.insert(name)?;
-        Ok(())
+        let place = self.names.len();
+        if self.places.contains_key(&name) {
+            return Ok(());
+        }
+        self.names.push(name)?;
+        match self.places.insert(name, place) {
+            Ok(_) => Ok(()),
+            Err(_) => {
+                self.names.pop();
+                Err(AllocError)
+            }
+        }
     }
 
     /// The number of a name.
@@ -46,13 +61,13 @@ impl<'a, A: Allocator + Copy> Numbers<'a, A> {
         ensures place { result ≡ place_of self.now name.now }
         ensures within { IfSome result (λ i. i < length self.now) }
     {
-        self.set.get_index_of(&name)
+        self.places.get(&name).copied()
     }
 
     /// The names, in their order.
     pub fn names(&self) -> &[&'a [u8]]
         ensures { names_of result.now ≡ self.now }
     {
-        self.set.as_slice()
+        self.names.as_slice()
     }
 }

@@ -3,9 +3,15 @@ use Rattle.std.proofs.lemmas.Grind.{common_steps}
 use borrow.Author.Differences.{ints}
 use Rattle.std.proofs.Common.{arith, ap, ◌∙◌}
 use Rattle.std.specs.Option.{option_or}
+use Rattle.std.proofs.lemmas.Result.{IfOk-from_err}
 use Rattle.qil_names.specs.Tables.{value_at, for_name}
+use Rattle.qil_checker.specs.Tables.{first, has_name}
+use Rattle.qil_checker.specs.Whole.{mentions_of}
 use Rattle.qil_checker.proofs.Programs.Gathered.{recorded_name, all_recorded}
 use Rattle.qil_checker.proofs.program_index.first_names.Goals as goal
+
+pub loop-number-init : goal.loop-number-init
+loop-number-init g c = λ x. ap (λ o. option_or o (first (has_name x) 0 (mentions_of c.args.texts.now))) (c.new-table.ensures x)
 
 pub loop-number-preserved : goal.loop-number-preserved
 loop-number-preserved g c = λ x.
@@ -22,7 +28,7 @@ pub bounds-texts-number : goal.bounds-texts-number
 bounds-texts-number c = grind (ints, arith, common_steps)
 
 pub returns-in_err-note : goal.returns-in_err-note
-returns-in_err-note c = grind (ints, arith, common_steps)
+returns-in_err-note g c = IfOk-from_err c.from_residual.result _ c.from_residual.ensures.0
 
 pub loop-number-smaller : goal.loop-number-smaller
 loop-number-smaller c = grind (ints, arith, common_steps)

@@ -58,7 +58,7 @@ judge_here-judged-requires g c = λ lifetimes.
     let q = g.K.History.program c.args.bad.now in
     let good = c.next_event-one.ensures.program ∙ i.good_program in
     let bad = c.next_event-other.ensures.program ∙ i.bad_program in (
-      (refl, tt),
+      (refl, (refl, tt)),
       (
         c.requires.good ∙ sym good,
         (

@@ -1,7 +1,7 @@
 -- A list that a value is recorded in has one value more; the other lists stay.
 use Rattle.std.proofs.Common.{rules, ◌≡◌, ◌∙◌, sym, ap, Some, [], ◌∷◌, ◌++◌}
 use Rattle.std.specs.Str.{bytes_eq}
-use Rattle.indexmap.specs.IndexMap.{get_by}
+use Rattle.std.specs.HashMap.{get_by}
 use Rattle.qil_names.specs.Tables.{values_at, items_of}
 use Rattle.qil_names.proofs.TableLemmas.{one_more, one_new}
 use Rattle.qil_names.proofs.groups.Groups.note.Goals as goal
