@@ -1,12 +1,12 @@
 -- From the answers of a session to the transcript.
-use Rattle.std.proofs.Common.{◌≡◌, ◌≢◌, ℕ, ◌^◌, List, [], ◌++◌, take, sym, ◌∙◌, ap, refl, subst, append_assoc, inl, inr}
+use Rattle.std.proofs.Common.{◌≡◌, ◌≢◌, ℕ, ◌^◌, List, [], ◌++◌, take, sym, ◌∙◌, ap, refl, subst, append_assoc, inl, inr, arith}
 use Rattle.std.proofs.Common.{true, false}
 use Rattle.std.proofs.lemmas.Bool.{false≢true}
-use Rattle.std.specs.Prelude.{Option, Some, None, Ok, Err}
+use Rattle.std.specs.Prelude.{Option, Some, None, Ok, Err, IfSome}
 use Rattle.std.specs.Io.KnownBytes.{Appends}
 use Rattle.qil_streams.specs.Device.{IsPrefixOf}
 use Rattle.qil_streams.specs.Script.{lines_of, whole_lines_of}
-use Rattle.qil_streams.proofs.DeviceLemmas.{Appends-nil, Appends-append}
+use Rattle.qil_streams.proofs.DeviceLemmas.{Appends-nil, Appends-append, Consumes-nil}
 use Rattle.qil_tree.specs.declared.tree.Program.{Program}
 use Rattle.qil_rules.specs.Verdict.{Verdict}
 use Rattle.qil_layout.specs.Layout.{fault_of}
@@ -23,6 +23,7 @@ use Rattle.qil_meaning.specs.Timeline.{begun}
 use Rattle.qil_meaning.specs.declared.start.StartFault.{StartFault}
 use Rattle.qil_replies.specs.SessionState.{SessionState}
 use Rattle.qil_replies.specs.Answers.{IsAnswered, answers}
+use Rattle.qil_serving.specs.Serve.{TakesFew}
 use Rattle.qil_serving.specs.declared.serving.IoFault.TheVariants.{Read, Write, TooLong}
 use Rattle.qil_transcript.specs.declared.outcome.Outcome.{Outcome}
 use Rattle.qil_transcript.specs.declared.outcome.Outcome.TheVariants as outcomes
@@ -234,3 +235,8 @@ no_session A s p outcome (refusals.Layout code line) h only_refused same only_st
 no_session A s p outcome (refusals.Start fault) h only_refused same only_start only_layout =
     let (verdict, accepts, starts) = h in
     only_start fault (ap (λ (q : Program A). start_of q s.entry s.args) (same verdict accepts.checks) ∙ starts)
+
+-- nothing is taken of a source that isn't read
+pub untaken : (known : Option (List ℕ)) → IfSome known (λ script. TakesFew script known)
+untaken None = tt
+untaken (Some script) = ([], Consumes-nil (Some script), omega arith)

@@ -9,6 +9,12 @@ use Rattle.qil_answers.specs.Listing.{block_shown}
 use Rattle.qil_comparison.specs.Told.{found_line, stand_text, way_line}
 use Rattle.qil_comparison.proofs.telling.put_side.Goals as goal
 
+pub returns-in_err-put : goal.returns-in_err-put
+returns-in_err-put g c =
+    let p = g.H.History.program c.args.history.now in
+    let t = g.H.History.timeline c.args.history.now in
+    HasPut-stop _ _ c.from_residual.ensures.1 _ _ _ c.args.name.now (found_line p t.now c.args.found ++ stand_text p t) c.in_err-put.ensures
+
 pub returns-in_err-put_found : goal.returns-in_err-put_found
 returns-in_err-put_found g c =
     let m = c.machine-machine.result.now in

@@ -4,7 +4,7 @@ use Rattle.std.proofs.Common.{◌∙◌, ap, refl, sym}
 use Rattle.qil_meaning.specs.Timeline.{begun}
 use Rattle.qil_state.specs.State.{state_of}
 use Rattle.qil_transcript.specs.Handed.{setup_of}
-use Rattle.qil_transcript.proofs.DebugLemmas.{Written-memory}
+use Rattle.qil_transcript.proofs.DebugLemmas.{Written-memory, untaken}
 use Rattle.qil_transcript.proofs.debugging.debug_machine.Goals as goal
 
 pub returns-in-None-clause-written : goal.returns-in-None-clause-written
@@ -21,3 +21,6 @@ returns-in-Ok-clause-written g c = λ text verdict begins loaded same.
 
 pub returns-clause-written : goal.returns-clause-written
 returns-clause-written g c = λ text verdict begins loaded same. Written-memory g.row.A.Denot (setup_of text c.args.request.now) _ None _ _ refl
+
+pub returns-clause-few : goal.returns-clause-few
+returns-clause-few g c = untaken (g.S.Source.remaining c.args.source.now)
