@@ -70,6 +70,13 @@ impl<'c, A: Allocator + Copy> Code<'c, A> {
         }
     }
 
+    /// The tree that the code was numbered from.
+    pub fn program(&self) -> &'c Program<'c, A>
+        ensures { result.now ≡ self.now }
+    {
+        self.program
+    }
+
     /// Where the program lies.
     pub fn image(&self) -> &'c Image<'c, A>
         ensures { result.now ≡ self.now }
@@ -219,8 +226,8 @@ impl<'c, A: Allocator + Copy> Code<'c, A> {
     pub fn source(&self, func: FuncId, block: BlockId) -> Option<&'c Block<'c, A>>
         ensures { option_copied result ≡ block_at self.now func.index block.index }
     {
-        match self.program.funcs.as_slice().get(usize::from(func.index)) {
-            Some(found) => found.blocks.as_slice().get(usize::from(block.index)),
+        match item_at(self.program.funcs.as_slice(), func.index) {
+            Some(found) => item_at(found.blocks.as_slice(), block.index),
             None => None,
         }
     }

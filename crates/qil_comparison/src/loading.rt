@@ -67,10 +67,8 @@ fn can_start<A: Allocator + Copy>(
 /// Starts two programs, and runs them.
 fn run_ready<'c, A: Allocator + Copy + 'c, S: Source, W: Sink>(
     alloc: A,
-    good: &'c Checked<'c, A>,
-    good_code: &'c Code<'c, A>,
-    bad: &'c Checked<'c, A>,
-    bad_code: &'c Code<'c, A>,
+    good: &'c Code<'c, A>,
+    bad: &'c Code<'c, A>,
     request: &Request<'_>,
     source: &mut S,
     sink: &mut W,
@@ -79,9 +77,7 @@ fn run_ready<'c, A: Allocator + Copy + 'c, S: Source, W: Sink>(
     requires writes { W.failures sink.old < 2 ^ 64 - 1 }
     requires limit { request.now.limit ≤ 4294967295 }
     requires bound { IfSome request.now.bound (λ n. n ≤ 1000000) }
-    requires good { good_code.now ≡ good.now.program }
-    requires bad { bad_code.now ≡ bad.now.program }
-    ensures written { (one two : Text) → Accepts one.bytes.now good.now → Accepts two.bytes.now bad.now
+    ensures written { (one two : Text) (p q : accepted.Verdict A) → Accepts one.bytes.now p → Accepts two.bytes.now q → good.now ≡ p.program → bad.now ≡ q.program
         → Written A result (setup_of one two request.now) (S.remaining source.old) (S.remaining source.new) (W.contents sink.old) (W.contents sink.new) }
     ensures ran { result ≢ Outcome.Refused }
     ensures untouched { IsUntouched result source.old source.new }
@@ -92,19 +88,19 @@ fn run_ready<'c, A: Allocator + Copy + 'c, S: Source, W: Sink>(
     let kinds = request.kinds;
     let good_side = Side {
         program: good.program(),
-        other: bad_code,
+        other: bad,
         kinds,
     };
     let bad_side = Side {
         program: bad.program(),
-        other: good_code,
+        other: good,
         kinds,
     };
-    let first = match Machine::start(alloc, good_code, request.func, request.args) {
+    let first = match Machine::start(alloc, good, request.func, request.args) {
         Ok(machine) => machine,
         Err(_) => return Outcome::Memory,
     };
-    match Machine::start(alloc, bad_code, request.func, request.args) {
+    match Machine::start(alloc, bad, request.func, request.args) {
         Ok(second) => run_machines(
             alloc, first, second, &good_side, &bad_side, request, source, sink,
         ),
@@ -115,10 +111,8 @@ fn run_ready<'c, A: Allocator + Copy + 'c, S: Source, W: Sink>(
 /// Starts both programs, where the bad one can be started too, and runs them.
 fn start_both<'c, 'i, A: Allocator + Copy + 'c, S: Source, W: Sink>(
     alloc: A,
-    good: &'c Checked<'c, A>,
-    good_code: &'c Code<'c, A>,
-    bad: &'c Checked<'i, A>,
-    bad_code: &'c Code<'i, A>,
+    good: &'c Code<'c, A>,
+    bad: &'c Code<'i, A>,
     request: &Request<'_>,
     source: &mut S,
     sink: &mut W,
@@ -127,12 +121,10 @@ fn start_both<'c, 'i, A: Allocator + Copy + 'c, S: Source, W: Sink>(
     requires writes { W.failures sink.old < 2 ^ 64 - 1 }
     requires limit { request.now.limit ≤ 4294967295 }
     requires bound { IfSome request.now.bound (λ n. n ≤ 1000000) }
-    requires good { good_code.now ≡ good.now.program }
-    requires bad { bad_code.now ≡ bad.now.program }
-    ensures written { (one two : Text) → Accepts one.bytes.now good.now → Accepts two.bytes.now bad.now
+    ensures written { (one two : Text) (p q : accepted.Verdict A) → Accepts one.bytes.now p → Accepts two.bytes.now q → good.now ≡ p.program → bad.now ≡ q.program
         → IfOk result (λ outcome. Written A outcome (setup_of one two request.now) (S.remaining source.old) (S.remaining source.new) (W.contents sink.old) (W.contents sink.new)) }
-    ensures fault { IfErr result (StartRefuses (start_of bad_code.now request.now.func.now request.now.args.now)) }
-    ensures only_started { (fault : StartFault) → start_of bad_code.now request.now.func.now request.now.args.now ≡ Err fault → IsErr result }
+    ensures fault { IfErr result (StartRefuses (start_of bad.now request.now.func.now request.now.args.now)) }
+    ensures only_started { (fault : StartFault) → start_of bad.now request.now.func.now request.now.args.now ≡ Err fault → IsErr result }
     ensures ran { IfOk result (λ outcome. outcome ≢ Outcome.Refused) }
     ensures untouched { IfOk result (λ outcome. IsUntouched outcome source.old source.new) }
     ensures unasked { request.now.session ≡ None → source.new ≡ source.old }
@@ -141,23 +133,18 @@ fn start_both<'c, 'i, A: Allocator + Copy + 'c, S: Source, W: Sink>(
     ensures unread { OnErr result (source.new ≡ source.old) }
     ensures unwritten { OnErr result (sink.new ≡ sink.old) }
 {
-    match can_start(bad_code, request) {
+    match can_start(bad, request) {
         Ok(()) => {}
         Err(error) => return Err(error),
     }
-    Ok(run_ready(
-        alloc, good, good_code, &*bad, &*bad_code, request, source, sink,
-    ))
+    Ok(run_ready(alloc, good, &*bad, request, source, sink))
 }
 
-/// The same of programs whose texts are there for longer than they are. Each call takes two of them at a shorter lifetime: four at
-/// once are past a limit of the prover.
+/// The same of programs whose texts are there for longer than they are. Each call takes one of them at a shorter lifetime.
 fn start_bad<'c, 'g, 'i, A: Allocator + Copy + 'c, S: Source, W: Sink>(
     alloc: A,
-    good: &'c Checked<'g, A>,
-    good_code: &'c Code<'g, A>,
-    bad: &'c Checked<'i, A>,
-    bad_code: &'c Code<'i, A>,
+    good: &'c Code<'g, A>,
+    bad: &'c Code<'i, A>,
     request: &Request<'_>,
     source: &mut S,
     sink: &mut W,
@@ -166,12 +153,10 @@ fn start_bad<'c, 'g, 'i, A: Allocator + Copy + 'c, S: Source, W: Sink>(
     requires writes { W.failures sink.old < 2 ^ 64 - 1 }
     requires limit { request.now.limit ≤ 4294967295 }
     requires bound { IfSome request.now.bound (λ n. n ≤ 1000000) }
-    requires good { good_code.now ≡ good.now.program }
-    requires bad { bad_code.now ≡ bad.now.program }
-    ensures written { (one two : Text) → Accepts one.bytes.now good.now → Accepts two.bytes.now bad.now
+    ensures written { (one two : Text) (p q : accepted.Verdict A) → Accepts one.bytes.now p → Accepts two.bytes.now q → good.now ≡ p.program → bad.now ≡ q.program
         → IfOk result (λ outcome. Written A outcome (setup_of one two request.now) (S.remaining source.old) (S.remaining source.new) (W.contents sink.old) (W.contents sink.new)) }
-    ensures fault { IfErr result (StartRefuses (start_of bad_code.now request.now.func.now request.now.args.now)) }
-    ensures only_started { (fault : StartFault) → start_of bad_code.now request.now.func.now request.now.args.now ≡ Err fault → IsErr result }
+    ensures fault { IfErr result (StartRefuses (start_of bad.now request.now.func.now request.now.args.now)) }
+    ensures only_started { (fault : StartFault) → start_of bad.now request.now.func.now request.now.args.now ≡ Err fault → IsErr result }
     ensures ran { IfOk result (λ outcome. outcome ≢ Outcome.Refused) }
     ensures untouched { IfOk result (λ outcome. IsUntouched outcome source.old source.new) }
     ensures unasked { request.now.session ≡ None → source.new ≡ source.old }
@@ -180,24 +165,14 @@ fn start_bad<'c, 'g, 'i, A: Allocator + Copy + 'c, S: Source, W: Sink>(
     ensures unread { OnErr result (source.new ≡ source.old) }
     ensures unwritten { OnErr result (sink.new ≡ sink.old) }
 {
-    start_both(
-        alloc,
-        &*good,
-        &*good_code,
-        bad,
-        bad_code,
-        request,
-        source,
-        sink,
-    )
+    start_both(alloc, &*good, bad, request, source, sink)
 }
 
 /// Numbers the bad program next to the good one, and runs both.
 fn number_bad<'c, 'g, 'i, 't, A: Allocator + Copy + 'c, S: Source, W: Sink>(
     alloc: A,
     keys: RandomState,
-    good: &'c Checked<'g, A>,
-    good_code: &'c Code<'g, A>,
+    good: &'c Code<'g, A>,
     checked: &'i Checked<'t, A>,
     image: &'i Image<'t, A>,
     request: &Request<'_>,
@@ -208,10 +183,9 @@ fn number_bad<'c, 'g, 'i, 't, A: Allocator + Copy + 'c, S: Source, W: Sink>(
     requires writes { W.failures sink.old < 2 ^ 64 - 1 }
     requires limit { request.now.limit ≤ 4294967295 }
     requires bound { IfSome request.now.bound (λ n. n ≤ 1000000) }
-    requires good { good_code.now ≡ good.now.program }
     requires image { image.now ≡ checked.now.program }
     requires lies { fault_of checked.now.program ≡ None }
-    ensures written { (one two : Text) → Accepts one.bytes.now good.now → Checks two.bytes.now checked.now
+    ensures written { (one two : Text) (p : accepted.Verdict A) → Accepts one.bytes.now p → Checks two.bytes.now checked.now → good.now ≡ p.program
         → IfOk result (λ outcome. Written A outcome (setup_of one two request.now) (S.remaining source.old) (S.remaining source.new) (W.contents sink.old) (W.contents sink.new)) }
     ensures unloaded { (two : Text) → Checks two.bytes.now checked.now → IfErr result (IsUnloaded A two request.now) }
     ensures only_begun { (start : State) → start_of checked.now.program request.now.func.now request.now.args.now ≡ Ok start
@@ -229,24 +203,14 @@ fn number_bad<'c, 'g, 'i, 't, A: Allocator + Copy + 'c, S: Source, W: Sink>(
         Ok(code) => code,
         Err(_) => return Err(LoadError::OutOfMemory),
     };
-    start_bad(
-        alloc,
-        &*good,
-        &*good_code,
-        &*checked,
-        &code,
-        request,
-        source,
-        sink,
-    )
+    start_bad(alloc, &*good, &code, request, source, sink)
 }
 
 /// Lays the bad program out next to the good one, and runs both.
 fn lay_bad<'c, 'g, 't, A: Allocator + Copy + 'c, S: Source, W: Sink>(
     alloc: A,
     keys: RandomState,
-    good: &'c Checked<'g, A>,
-    good_code: &'c Code<'g, A>,
+    good: &'c Code<'g, A>,
     checked: &Checked<'t, A>,
     request: &Request<'_>,
     source: &mut S,
@@ -256,8 +220,7 @@ fn lay_bad<'c, 'g, 't, A: Allocator + Copy + 'c, S: Source, W: Sink>(
     requires writes { W.failures sink.old < 2 ^ 64 - 1 }
     requires limit { request.now.limit ≤ 4294967295 }
     requires bound { IfSome request.now.bound (λ n. n ≤ 1000000) }
-    requires good { good_code.now ≡ good.now.program }
-    ensures written { (one two : Text) → Accepts one.bytes.now good.now → Checks two.bytes.now checked.now
+    ensures written { (one two : Text) (p : accepted.Verdict A) → Accepts one.bytes.now p → Checks two.bytes.now checked.now → good.now ≡ p.program
         → IfOk result (λ outcome. Written A outcome (setup_of one two request.now) (S.remaining source.old) (S.remaining source.new) (W.contents sink.old) (W.contents sink.new)) }
     ensures unloaded { (two : Text) → Checks two.bytes.now checked.now → IfErr result (IsUnloaded A two request.now) }
     ensures only_begun { (start : State) → fault_of checked.now.program ≡ None → start_of checked.now.program request.now.func.now request.now.args.now ≡ Ok start
@@ -273,9 +236,7 @@ fn lay_bad<'c, 'g, 't, A: Allocator + Copy + 'c, S: Source, W: Sink>(
     ensures unwritten { OnErr result (sink.new ≡ sink.old) }
 {
     match layout(alloc, keys, checked) {
-        Ok(image) => number_bad(
-            alloc, keys, good, good_code, &*checked, &image, request, source, sink,
-        ),
+        Ok(image) => number_bad(alloc, keys, good, &*checked, &image, request, source, sink),
         Err(error) => Err(LoadError::from(error)),
     }
 }
@@ -284,8 +245,7 @@ fn lay_bad<'c, 'g, 't, A: Allocator + Copy + 'c, S: Source, W: Sink>(
 fn load_bad<'c, 'g, 't, A: Allocator + Copy + 'c, S: Source, W: Sink>(
     alloc: A,
     keys: RandomState,
-    good: &'c Checked<'g, A>,
-    good_code: &'c Code<'g, A>,
+    good: &'c Code<'g, A>,
     text: &Text<'t>,
     request: &Request<'_>,
     source: &mut S,
@@ -295,8 +255,7 @@ fn load_bad<'c, 'g, 't, A: Allocator + Copy + 'c, S: Source, W: Sink>(
     requires writes { W.failures sink.old < 2 ^ 64 - 1 }
     requires limit { request.now.limit ≤ 4294967295 }
     requires bound { IfSome request.now.bound (λ n. n ≤ 1000000) }
-    requires good { good_code.now ≡ good.now.program }
-    ensures written { (one : Text) → Accepts one.bytes.now good.now
+    ensures written { (one : Text) (p : accepted.Verdict A) → Accepts one.bytes.now p → good.now ≡ p.program
         → IfOk result (λ outcome. Written A outcome (setup_of one text.now request.now) (S.remaining source.old) (S.remaining source.new) (W.contents sink.old) (W.contents sink.new)) }
     ensures unloaded { IfErr result (IsUnloaded A text.now request.now) }
     ensures only_begun { (verdict : accepted.Verdict A) (start : State) → Accepts text.now.bytes.now verdict
@@ -311,9 +270,7 @@ fn load_bad<'c, 'g, 't, A: Allocator + Copy + 'c, S: Source, W: Sink>(
     ensures unwritten { OnErr result (sink.new ≡ sink.old) }
 {
     match check_text(alloc, keys, text.bytes) {
-        Ok(checked) => lay_bad(
-            alloc, keys, good, good_code, &checked, request, source, sink,
-        ),
+        Ok(checked) => lay_bad(alloc, keys, good, &checked, request, source, sink),
         Err(error) => Err(error),
     }
 }
@@ -358,7 +315,7 @@ fn number_good<'c, 'g, 't, A: Allocator + Copy + 'c, S: Source, W: Sink>(
         Ok(()) => {}
         Err(error) => return Err(not_loaded(SideName::Good, error)),
     }
-    match load_bad(alloc, keys, &*checked, &code, bad, request, source, sink) {
+    match load_bad(alloc, keys, &code, bad, request, source, sink) {
         Ok(outcome) => Ok(outcome),
         Err(error) => Err(not_loaded(SideName::Bad, error)),
     }

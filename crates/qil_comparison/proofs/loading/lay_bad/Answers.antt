@@ -18,7 +18,7 @@ pub returns-in-Err-clause-only_begun : goal.returns-in-Err-clause-only_begun
 returns-in-Err-clause-only_begun g c = λ start none ok. layout-shortage c.args.checked.now.program c.in-Err.error c.from.result none c.in-Err.ensures.fault c.from.ensures
 
 pub returns-in-Ok-clause-written : goal.returns-in-Ok-clause-written
-returns-in-Ok-clause-written g c = λ one two good checks. c.number_bad.ensures.written one two good checks
+returns-in-Ok-clause-written g c = λ one two p good checks ep. c.number_bad.ensures.written one two p good checks ep
 
 pub returns-in-Ok-clause-unloaded : goal.returns-in-Ok-clause-unloaded
 returns-in-Ok-clause-unloaded g c = λ two checks. c.number_bad.ensures.unloaded two checks

@@ -10,7 +10,7 @@ use Rattle.qil_comparison.proofs.Loads.{unloaded, refused_so}
 use Rattle.qil_comparison.proofs.loading.load_bad.Goals as goal
 
 pub returns-in-Ok-clause-written : goal.returns-in-Ok-clause-written
-returns-in-Ok-clause-written g c = λ one good. c.lay_bad.ensures.written one c.args.text.now good c.in-Ok.ensures.accepted
+returns-in-Ok-clause-written g c = λ one p good ep. c.lay_bad.ensures.written one c.args.text.now p good c.in-Ok.ensures.accepted ep
 
 pub returns-in-Ok-clause-unloaded : goal.returns-in-Ok-clause-unloaded
 returns-in-Ok-clause-unloaded g c = c.lay_bad.ensures.unloaded c.args.text.now c.in-Ok.ensures.accepted

@@ -6,8 +6,8 @@ use Rattle.qil_comparison.proofs.Loads.{start_unloaded, start_shortage}
 use Rattle.qil_comparison.proofs.loading.number_bad.Goals as goal
 
 pub returns-clause-written : goal.returns-clause-written
-returns-clause-written g c = λ one two good checks.
-    c.start_bad.ensures.written one two good (record { checks = checks; lies = c.requires.lies })
+returns-clause-written g c = λ one two p good checks ep.
+    c.start_bad.ensures.written one two p c.args.checked.now good (record { checks = checks; lies = c.requires.lies }) ep c.in-Ok.ensures
 
 pub returns-clause-unloaded : goal.returns-clause-unloaded
 returns-clause-unloaded g c = λ two checks.

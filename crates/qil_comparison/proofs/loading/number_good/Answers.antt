@@ -22,7 +22,7 @@ returns-in-Err-can_start-clause-only_begun g c = λ q s t ok accepts starts.
 
 pub returns-in-Ok-load_bad-clause-written : goal.returns-in-Ok-load_bad-clause-written
 returns-in-Ok-load_bad-clause-written g c = λ one checks.
-    c.in-Ok-load_bad.ensures.written one (record { checks = checks; lies = c.requires.lies })
+    c.in-Ok-load_bad.ensures.written one c.args.checked.now (record { checks = checks; lies = c.requires.lies }) c.in-Ok.ensures
 
 pub returns-in-Ok-load_bad-clause-only_started : goal.returns-in-Ok-load_bad-clause-only_started
 returns-in-Ok-load_bad-clause-only_started g c = λ fault refused.

@@ -4,9 +4,9 @@ use Rattle.qil_comparison.proofs.Loads.{ok_is_no_fault}
 use Rattle.qil_comparison.proofs.loading.start_both.Goals as goal
 
 pub returns-clause-written : goal.returns-clause-written
-returns-clause-written g c = λ one two good bad. c.run_ready.ensures.written one two good bad
+returns-clause-written g c = λ one two p q good bad ep eq. c.run_ready.ensures.written one two p q good bad ep eq
 
 pub returns-clause-only_started : goal.returns-clause-only_started
 returns-clause-only_started g c = λ fault refused.
     let r = c.args.request.now in
-    ok_is_no_fault (start_of c.args.bad_code.now r.func.now r.args.now) fault c.in-Ok.ensures.starts refused
+    ok_is_no_fault (start_of c.args.bad.now r.func.now r.args.now) fault c.in-Ok.ensures.starts refused
