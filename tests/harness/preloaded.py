@@ -7,6 +7,8 @@ import subprocess
 import tempfile
 from contextlib import contextmanager
 
+from harness.running import captured
+
 HERE = pathlib.Path(__file__).resolve().parent
 
 
@@ -50,8 +52,7 @@ class Run:
             source.write(script)
             source.seek(0)
             given = {**os.environ, "LD_PRELOAD": made, "REFUSING_WHICH": str(which), "REFUSING_COUNTS": counts.name}
-            run = subprocess.run([running.program, *words], stdin=source, capture_output=True, env=given,
-                                 timeout=running.seconds)
+            run = captured([running.program, *words], stdin=source, env=given, timeout=running.seconds)
             counts.seek(0)
             self.allocations, self.bytes = struct.unpack("=QQ", counts.read())
             # The place of an open file is one for all that hold it.

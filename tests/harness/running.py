@@ -36,6 +36,21 @@ def program_of(given):
     return str(BUILT)
 
 
+def memory_file():
+    return open(os.memfd_create("written"), "w+b", buffering=0)
+
+
+def captured(words, **given):
+    """What subprocess.run gives with captured output. The output goes to files in memory: at a pipe each line that a program
+    writes would wake up its reader."""
+    with memory_file() as out, memory_file() as errors:
+        run = subprocess.run(words, stdout=out, stderr=errors, **given)
+        for file in (out, errors):
+            file.seek(0)
+        run.stdout, run.stderr = out.read(), errors.read()
+    return run
+
+
 class Case(NamedTuple):
     """A test: `function(running, *arguments)` gives what is wrong, or None."""
 
@@ -54,8 +69,7 @@ class Running(NamedTuple):
             file.write(text)
             file.flush()
             try:
-                run = subprocess.run([self.program, file.name, *words], input=script, capture_output=True,
-                                     timeout=self.seconds, **given)
+                run = captured([self.program, file.name, *words], input=script, timeout=self.seconds, **given)
             except subprocess.TimeoutExpired:
                 return None
         return run.stdout, run.stderr, run.returncode

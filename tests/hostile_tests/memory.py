@@ -116,9 +116,9 @@ def with_file(running, text, words, script, judge):
         return each_refused(running, [file.name, *words], script, judge)
 
 
-def wanting(text, script, options, written):
-    """How `written` is a transcript in which moves wanted memory: a list of (line, moves made), or what is wrong."""
-    start, session = reference.load(text, **options)
+def wanting(start, session, script, written):
+    """How `written` is a transcript of a session at its start in which moves wanted memory: a list of (line, moves made), or
+    what is wrong. `start` are its load lines."""
     rest = written.decode("latin-1")
     if not rest.startswith(start):
         return f"{quoted(written[:80])} in place of the load lines"
@@ -183,6 +183,7 @@ def session_refused(running, text, script, history, limit, must_want):
     options = {"history": None if history == REPLAY else history, "limit": limit}
     words = ["--limit", str(limit)] + words_of(history)
     ample, status = reference.transcript(text, script, **options)
+    start, loaded = reference.load(text, **options)
     seen, loads = set(), 0
 
     def judge(run):
@@ -196,7 +197,7 @@ def session_refused(running, text, script, history, limit, must_want):
             return f"status {run.status} in place of {status} or 3"
         if not run.was_refused:
             return None if run.written == ample else "another transcript, though none was refused"
-        wants = wanting(text, script, options, run.written)
+        wants = wanting(start, loaded.again(), script, run.written)
         if isinstance(wants, str):
             return wants
         if len(wants) > 1:

@@ -256,8 +256,8 @@ def changed(random, text):
         kind = random.randrange(10)
         at = random.randrange(len(pieces))
         if kind < 6:
-            alike = [one for one in pieces + TOKENS if kind_of(one) == kind_of(pieces[at])]
-            pieces[at] = random.choice(alike)
+            replaced = kind_of(pieces[at])
+            pieces[at] = random.choice([one for one in pieces + TOKENS if kind_of(one) == replaced])
             text = "".join(pieces)
         elif kind == 6:
             at = random.randrange(len(text))

@@ -49,7 +49,7 @@ class Lines:
 
     def temp(self, func=None):
         func = func or self.func()
-        temps = func.temps() if func else []
+        temps = func.temps if func else []
         return self.random.choice(temps) if temps else "x"
 
     def address(self):

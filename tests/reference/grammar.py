@@ -40,13 +40,14 @@ class Reader:
         return token is not None and token.kind == kind and (not texts or token.text in texts)
 
     def take(self, kind, *texts):
-        if not self.has(kind, *texts):
-            self.refuse()
-        self.at += 1
-        return self.tokens[self.at - 1]
+        return self.may(kind, *texts) or self.refuse()
 
     def may(self, kind, *texts):
-        return self.take(kind, *texts) if self.has(kind, *texts) else None
+        token = self.next()
+        if token is None or token.kind != kind or texts and token.text not in texts:
+            return None
+        self.at += 1
+        return token
 
     def unsigned(self):
         if self.has("number") and self.next().text.startswith("-"):
@@ -54,11 +55,11 @@ class Reader:
         return self.take("number").value
 
     def value(self):
-        for kind in ("number", "global", "temp"):
-            token = self.may(kind)
-            if token:
-                return Operand(kind, token.value, token.line)
-        self.refuse()
+        token = self.next()
+        if token is None or token.kind not in ("number", "global", "temp"):
+            self.refuse()
+        self.at += 1
+        return Operand(token.kind, token.value, token.line)
 
     def has_value(self):
         return self.has("number") or self.has("global") or self.has("temp")

@@ -115,6 +115,10 @@ class Session:
         self.stops, self.last_stop = {}, 0
         self.is_ended = False
 
+    def again(self):
+        """A session that begins where this one's first kept state is."""
+        return Session(self.machine, self.states[0], self.limit, self.history)
+
     @property
     def now(self):
         return self.states[-1]
@@ -254,7 +258,7 @@ class Session:
         if what[0] == "bytes":
             return self.add_stop(("watch", "bytes", what[1], self.address_of(where)))
         number = self.func_named(what[1])
-        if where not in self.machine.funcs[number].temps():
+        if where not in self.machine.funcs[number].temps:
             raise No("unknown place")
         return self.add_stop(("watch", "temp", number, where))
 
@@ -283,7 +287,7 @@ class Session:
         return self.now.frames[-1]
 
     def known(self, temp):
-        if temp not in self.machine.funcs[self.inner().func].temps():
+        if temp not in self.machine.funcs[self.inner().func].temps:
             raise No("unknown temporary")
 
     def set_(self, temp, value):
@@ -310,7 +314,7 @@ class Session:
 
     def temps_(self):
         func = self.machine.funcs[self.inner().func]
-        return "".join(self.temp_text(temp) for temp in func.temps()) or "none\n"
+        return "".join(self.temp_text(temp) for temp in func.temps) or "none\n"
 
     def mem_(self, where, count):
         at = self.address_of(where)

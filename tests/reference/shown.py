@@ -58,7 +58,7 @@ class View:
         return found
 
     def temps(self, frame):
-        return self.machine.funcs[frame.func].temps()
+        return self.machine.funcs[frame.func].temps
 
     def variables(self, reference):
         if reference == DATA:

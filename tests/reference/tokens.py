@@ -4,17 +4,18 @@ from typing import NamedTuple
 
 GREATEST_TEXT = 2**20
 
-# Each shape in turn; a piece is the longest of its shape, and no two shapes begin with the same byte but dots.
-SHAPES = [
-    ("spacing", re.compile(r"[ \t\r]+")),
-    ("comment", re.compile(r"#[^\n]*")),
-    ("newline", re.compile(r"\n")),
-    ("name", re.compile(r"[$%@:][A-Za-z0-9._$]+")),
-    ("word", re.compile(r"[A-Za-z][A-Za-z0-9_.]*")),
-    ("number", re.compile(r"-?[0-9]+")),
-    ("dots", re.compile(r"\.\.\.")),
-    ("symbol", re.compile(r"[,={}()+]")),
-]
+# The shapes of pieces; a piece is the longest of its shape, and no two shapes begin with the same byte but dots.
+SHAPES = {
+    "spacing": r"[ \t\r]+",
+    "comment": r"#[^\n]*",
+    "newline": r"\n",
+    "name": r"[$%@:][A-Za-z0-9._$]+",
+    "word": r"[A-Za-z][A-Za-z0-9_.]*",
+    "number": r"-?[0-9]+",
+    "dots": r"\.\.\.",
+    "symbol": r"[,={}()+]",
+}
+PIECE = re.compile("|".join(f"(?P<{shape}>{pattern})" for shape, pattern in SHAPES.items()))
 SIGILS = {"$": "global", "%": "temp", "@": "label", ":": "aggregate"}
 OCTAL = re.compile(r"[0-7]{1,3}")
 ESCAPES = {"b": 8, "f": 12, "n": 10, "r": 13, "t": 9, "\\": 92, '"': 34}
@@ -50,14 +51,10 @@ def cut(text):
             tokens.append(Token("string", piece, value, line))
             at += len(piece)
             continue
-        for shape, pattern in SHAPES:
-            found = pattern.match(text, at)
-            if found:
-                break
-        else:
+        found = PIECE.match(text, at)
+        if not found:
             raise Refused("L2" if text[at] in SIGILS else "L1", line)
-        piece = found.group()
-        at += len(piece)
+        shape, piece, at = found.lastgroup, found.group(), found.end()
         if shape == "newline":
             if not (tokens and tokens[-1].kind == "newline"):
                 tokens.append(Token("newline", piece, None, line))

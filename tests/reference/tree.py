@@ -1,5 +1,6 @@
 """What a program consists of, and the canonical text of its phis, instructions and jumps."""
 from dataclasses import dataclass, field
+from functools import cached_property
 from typing import NamedTuple, Optional
 
 TYPES = ("w", "l", "sb", "ub", "sh", "uh")
@@ -99,8 +100,9 @@ class Func:
                 if part.target is not None:
                     yield part.target, class_of(part.type), part.line
 
+    @cached_property
     def temps(self):
-        """Each temporary that the text names, once, in the order in which it is first named."""
+        """Each temporary that the text names, once, in the order in which it is first named; no part changes behind this."""
         names = [name for _, name in self.params]
         for block in self.blocks:
             for part in block.phis + block.insts + [block.jump]:
@@ -115,10 +117,10 @@ class Func:
 
 def values_of(part):
     """The operands of a phi, an instruction or a jump, in the order of the text."""
+    if isinstance(part, Inst):
+        return part.operands + [value for _, value in part.arguments] if part.arguments else part.operands
     if isinstance(part, Phi):
         return [value for _, value in part.sources]
-    if isinstance(part, Inst):
-        return part.operands + [value for _, value in part.arguments]
     return [part.value] if part.value else []
 
 
