@@ -16,7 +16,7 @@ use std::hash::RandomState;
 use thiserror::Error;
 
 /// Why a program was not checked.
-#[derive(Clone, Copy, Debug, PartialEq, Eq, Error)]
+#[derive(Clone, Copy, Debug, Error)]
 pub enum CheckError {
     /// The lowest rule that is broken anywhere, and the line of its first place in the text.
     #[error("{rule} line {line}")]

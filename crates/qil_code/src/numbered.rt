@@ -9,19 +9,19 @@ use qil_tree::{
 use std::alloc::Allocator;
 
 /// A block of a function: its number in the text, from 0.
-#[derive(Clone, Copy, Debug, PartialEq, Eq)]
+#[derive(Clone, Copy, PartialEq, Eq)]
 pub struct BlockId {
     pub index: u16,
 }
 
 /// A temporary of a function: its number in the order in which the function's text first names them, from 0.
-#[derive(Clone, Copy, Debug, PartialEq, Eq)]
+#[derive(Clone, Copy, PartialEq, Eq)]
 pub struct Slot {
     pub index: u16,
 }
 
 /// What an instruction, a phi or a jump reads.
-#[derive(Clone, Copy, Debug, PartialEq, Eq)]
+#[derive(Clone, Copy)]
 pub enum NumberedOperand {
     /// A constant, or the address of a global, as 64 bits.
     Constant(u64),
@@ -29,7 +29,7 @@ pub enum NumberedOperand {
 }
 
 /// What a slot is set to.
-#[derive(Clone, Copy, Debug, PartialEq, Eq)]
+#[derive(Clone, Copy)]
 pub enum NumberedExpr {
     Unary(UnaryOp, NumberedOperand),
     Binary(BinaryOp, NumberedOperand, NumberedOperand),
@@ -40,14 +40,14 @@ pub enum NumberedExpr {
 }
 
 /// The slot that takes what a call gives, with the type that is written at the call.
-#[derive(Clone, Copy, Debug, PartialEq, Eq)]
+#[derive(Clone, Copy, PartialEq, Eq)]
 pub struct Receiver {
     pub slot: Slot,
     pub abi_type: AbiType,
 }
 
 /// An argument of a call, with the type that is written there.
-#[derive(Clone, Copy, Debug, PartialEq, Eq)]
+#[derive(Clone, Copy)]
 pub struct NumberedArgument {
     pub abi_type: AbiType,
     pub source: NumberedOperand,
@@ -67,7 +67,7 @@ pub enum NumberedInst<A: Allocator> {
 }
 
 /// What a phi gives its target where one certain block is left.
-#[derive(Clone, Copy, Debug, PartialEq, Eq)]
+#[derive(Clone, Copy)]
 pub struct PhiMove {
     pub class: Class,
     pub target: Slot,

@@ -36,7 +36,7 @@ impl<'a> LineName<'a> {
 }
 
 /// The first word of a line, which says what the others are.
-#[derive(Clone, Copy, PartialEq, Eq)]
+#[derive(Clone, Copy)]
 pub enum Verb {
     Step,
     Back,
@@ -123,7 +123,7 @@ pub enum Command<'a> {
 
 /// Why a line of a script spells no command, in the order in which the reasons are looked for: the length of the
 /// line, its first word, then each further word from the left, then words left over.
-#[derive(Clone, Copy, Debug, PartialEq, Eq)]
+#[derive(Clone, Copy)]
 pub enum Refused {
     /// The line has more than 256 bytes, its newline not counted. Comes before all others, and also for a line
     /// without words.

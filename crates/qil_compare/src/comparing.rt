@@ -22,7 +22,7 @@ use std::alloc::Allocator;
 const MOST_MOVES: u64 = 1_000_000_000_000_000_000;
 
 /// What came of a comparison.
-#[derive(Clone, Copy, PartialEq, Eq)]
+#[derive(Clone, Copy)]
 pub enum Verdict {
     /// Both runs are over, and had the same events.
     Same,

@@ -3,7 +3,7 @@
 use qil_compare::Verdict;
 
 /// How `compare_texts` came to its end.
-#[derive(Clone, Copy, PartialEq, Eq)]
+#[derive(Clone, Copy)]
 pub enum Outcome {
     /// Both texts were run, and this was told. A script was answered to its end or up to a `quit`, if one was asked for.
     Told(Verdict),

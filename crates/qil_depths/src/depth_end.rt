@@ -3,7 +3,7 @@
 use qil_meaning::Reason;
 
 /// Why a run over calls ended.
-#[derive(Clone, Copy, Debug, PartialEq, Eq)]
+#[derive(Clone, Copy, PartialEq, Eq)]
 pub enum DepthEnd {
     /// No more calls are open than were asked for.
     Depth,

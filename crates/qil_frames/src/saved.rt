@@ -12,7 +12,7 @@ use std::alloc::Allocator;
 use std::marker::Model;
 
 /// What a slot holds: a value, or None where it is unset.
-#[derive(Clone, Copy, Debug, PartialEq, Eq)]
+#[derive(Clone, Copy)]
 pub struct SavedSlot {
     pub slot: Slot,
     pub value: Option<u64>,
@@ -29,7 +29,7 @@ impl Default for SavedSlot {
 }
 
 /// Why a block wasn't entered.
-#[derive(Clone, Copy, Debug, PartialEq, Eq)]
+#[derive(Clone, Copy)]
 pub enum PhiFault {
     /// A phi reads this slot, which is unset.
     Unset(Slot),

@@ -13,7 +13,7 @@ use std::alloc::Allocator;
 use thiserror::Error;
 
 /// Why no move was undone. The history is as it was.
-#[derive(Clone, Copy, Debug, PartialEq, Eq, Error)]
+#[derive(Clone, Copy, Debug, Error)]
 pub enum BackError {
     /// No move was made.
     #[error("at start")]

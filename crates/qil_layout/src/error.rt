@@ -6,7 +6,7 @@ ghost use Rattle.qil_layout.specs.Codes.{layout_code};
 use std::fmt;
 
 /// The code that is reported of a data object that can't be laid out.
-#[derive(Clone, Copy, Debug, PartialEq, Eq)]
+#[derive(Clone, Copy, Debug)]
 pub enum LayoutCode {
     /// The data has more than 2^20 bytes.
     Y1,

@@ -9,7 +9,7 @@ use std::fmt;
 use thiserror::Error;
 
 /// Why no token can be cut at a place. Each is refused with a line, counted from 1.
-#[derive(Clone, Copy, Debug, PartialEq, Eq)]
+#[derive(Clone, Copy, Debug)]
 pub enum LexCode {
     /// A byte that begins no token, spacing or comment; a `-` without a digit after it; a `.` that doesn't begin
     /// `...`. The line is that byte's.

@@ -9,7 +9,7 @@ ghost use Rattle.qil_lexer.specs.Prefix.{IsByteOf};
 /// The sigils, numbers, strings, symbols and `#` comments are those of QBE's IL reference ("Input Files", "Sigils",
 /// "Spacing", "String Literals"). It leaves their exact shapes open: the shapes below are qrev's own choice. A letter
 /// is one of the 52 letters of ASCII, and a name is one or more letters, digits, `.`, `_` and `$`.
-#[derive(Clone, Copy, Debug, PartialEq, Eq)]
+#[derive(Clone, Copy, PartialEq, Eq)]
 pub enum TokenKind {
     /// `$` and a name: a function, a data object or a built-in.
     Global,
@@ -47,7 +47,7 @@ pub enum TokenKind {
 }
 
 /// A piece of a text, the longest that is at its place.
-#[derive(Clone, Copy, Debug)]
+#[derive(Clone, Copy)]
 pub struct Token<'a> {
     pub kind: TokenKind,
     /// Its bytes, which lie in the text.

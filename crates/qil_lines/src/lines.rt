@@ -11,7 +11,7 @@ use qil_tree::{Block, Func};
 use std::alloc::Allocator;
 
 /// A place in a function: a block, by its number in the text from 0, and how many of its instructions are done.
-#[derive(Clone, Copy, Debug, PartialEq, Eq)]
+#[derive(Clone, Copy)]
 pub struct Place {
     pub block: usize,
     pub index: usize,

@@ -4,7 +4,7 @@ use qil_state::Fault;
 use thiserror::Error;
 
 /// Why no move was made. The machine is as it was.
-#[derive(Clone, Copy, Debug, PartialEq, Eq, Error)]
+#[derive(Clone, Copy, Debug, Error)]
 pub enum MoveError {
     /// The run is over.
     #[error("at end")]
@@ -14,7 +14,7 @@ pub enum MoveError {
 }
 
 /// Why nothing was poked. The machine is as it was.
-#[derive(Clone, Copy, Debug, PartialEq, Eq, Error)]
+#[derive(Clone, Copy, Debug, Error)]
 pub enum PokeError {
     /// The run is done, and no frame is left.
     #[error("no frame")]
@@ -30,7 +30,7 @@ pub enum PokeError {
 }
 
 /// Why a machine isn't started.
-#[derive(Clone, Copy, Debug, PartialEq, Eq, Error)]
+#[derive(Clone, Copy, Debug, Error)]
 pub enum StartError {
     /// The program has no function of that name.
     #[error("S1")]
@@ -43,7 +43,7 @@ pub enum StartError {
 }
 
 /// Why a step isn't made as written.
-#[derive(Clone, Copy, Debug, PartialEq, Eq)]
+#[derive(Clone, Copy)]
 pub(crate) enum StepError {
     Fault(Fault),
     OutOfMemory,

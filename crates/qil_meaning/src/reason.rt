@@ -1,7 +1,7 @@
 //! Why a run along a timeline stops.
 
 /// Why a run stops, forward or back.
-#[derive(Clone, Copy, Debug, PartialEq, Eq)]
+#[derive(Clone, Copy, PartialEq, Eq)]
 pub enum Reason {
     /// A final status was reached.
     End,

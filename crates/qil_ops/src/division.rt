@@ -9,7 +9,7 @@ use crate::bits::{cut, low, signed};
 use qil_tree::{BinaryOp, Class};
 
 /// Why a division has no result.
-#[derive(Clone, Copy, Debug, PartialEq, Eq)]
+#[derive(Clone, Copy, PartialEq, Eq)]
 pub enum DivFault {
     /// The divisor is 0.
     Zero,

@@ -7,7 +7,7 @@ ghost use Rattle.qil_rules.specs.Rules.{order};
 use std::fmt;
 
 /// A rule, by the code that is reported where it is broken.
-#[derive(Clone, Copy, Debug, PartialEq, Eq)]
+#[derive(Clone, Copy, Debug)]
 pub enum Rule {
     /// A global name is defined twice.
     C1,

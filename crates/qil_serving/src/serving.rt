@@ -12,7 +12,7 @@ use qil_streams::{LineEnd, LineReader, Outlet, Put, Sink, Source};
 use std::alloc::Allocator;
 
 /// Why a script was not answered to its end.
-#[derive(Clone, Copy, PartialEq, Eq)]
+#[derive(Clone, Copy)]
 pub enum IoFault {
     /// The source failed.
     Read,

@@ -26,7 +26,7 @@ use std::alloc::{AllocError, Allocator};
 use std::marker::Model;
 
 /// Whether more lines are read.
-#[derive(Clone, Copy, Debug, PartialEq, Eq)]
+#[derive(Clone, Copy)]
 pub enum Next {
     Go,
     Quit,

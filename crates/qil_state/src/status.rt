@@ -7,7 +7,7 @@ use qil_memory::Dead;
 use qil_ops::DivFault;
 
 /// Why a step could not be taken as written. The run ends there, with all but its status as it was.
-#[derive(Clone, Copy, Debug, PartialEq, Eq)]
+#[derive(Clone, Copy, PartialEq, Eq)]
 pub enum Fault {
     Division(DivFault),
     DeadAddress(u64),
@@ -42,7 +42,7 @@ impl From<Dead> for Fault {
 }
 
 /// A run goes on, or it is over.
-#[derive(Clone, Copy, Debug, PartialEq, Eq)]
+#[derive(Clone, Copy, PartialEq, Eq)]
 pub enum Status {
     Running,
     /// With the value that was returned, if there was one.

@@ -16,7 +16,7 @@ use qil_layout::FuncId;
 use std::alloc::Allocator;
 
 /// A place where a run can stand: a block, and how many of its instructions are done. Where all are, the jump is next.
-#[derive(Clone, Copy, Debug, PartialEq, Eq)]
+#[derive(Clone, Copy)]
 pub struct Place {
     pub func: FuncId,
     pub block: BlockId,
@@ -24,7 +24,7 @@ pub struct Place {
 }
 
 /// What a watch looks at.
-#[derive(Clone, Copy, Debug, PartialEq, Eq)]
+#[derive(Clone, Copy)]
 pub enum Watched {
     /// So many bytes of memory, 1, 2, 4 or 8, from an address on.
     Bytes { address: u64, width: u64 },
@@ -33,7 +33,7 @@ pub enum Watched {
 }
 
 /// What a stop looks for.
-#[derive(Clone, Copy, Debug, PartialEq, Eq)]
+#[derive(Clone, Copy)]
 pub enum StopKind {
     /// The run comes to a place.
     Break(Place),
@@ -42,7 +42,7 @@ pub enum StopKind {
 }
 
 /// A stop, and the number by which it is reported and deleted.
-#[derive(Clone, Copy, Debug, PartialEq, Eq)]
+#[derive(Clone, Copy)]
 pub struct NumberedStop {
     pub number: u64,
     pub kind: StopKind,

@@ -19,7 +19,7 @@ const ROOM: usize = 64;
 const NUMBERS: u64 = 4_611_686_018_427_387_904;
 
 /// Why a stop isn't added or deleted.
-#[derive(Clone, Copy, Debug, PartialEq, Eq)]
+#[derive(Clone, Copy)]
 pub enum StopError {
     /// The code has no such function, block, instruction or slot.
     UnknownPlace,

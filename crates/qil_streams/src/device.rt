@@ -7,7 +7,7 @@ ghost use Rattle.qil_streams.specs.Device.{Counts};
 use std::io::{Read, Write};
 
 /// A call of a device failed. It moved no byte, and the device counts it.
-#[derive(Clone, Copy, Debug, PartialEq, Eq)]
+#[derive(Clone, Copy)]
 pub struct DeviceFault;
 
 /// A device that bytes are read from, in order.

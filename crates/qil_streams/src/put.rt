@@ -8,7 +8,7 @@ use crate::device::{DeviceFault, Sink};
 use itoa::Buffer;
 
 /// The putting of a text stopped before its end.
-#[derive(Clone, Copy, Debug, PartialEq, Eq)]
+#[derive(Clone, Copy)]
 pub struct PutError;
 
 /// What a text is put into, fragment by fragment.

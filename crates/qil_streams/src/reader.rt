@@ -19,7 +19,7 @@ const KEPT: usize = 257;
 const CHUNK: usize = 4096;
 
 /// What comes next in a script.
-#[derive(Clone, Copy, Debug, PartialEq, Eq)]
+#[derive(Clone, Copy)]
 pub enum NextByte {
     /// A byte, which was taken.
     Byte(u8),
@@ -185,7 +185,7 @@ impl KeptLine {
 }
 
 /// How a line ends.
-#[derive(Clone, Copy, Debug, PartialEq, Eq)]
+#[derive(Clone, Copy)]
 pub enum LineEnd {
     /// By byte 10.
     Newline,

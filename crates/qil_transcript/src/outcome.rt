@@ -1,7 +1,7 @@
 //! How a session comes to its end.
 
 /// How `debug` came to its end.
-#[derive(Clone, Copy, PartialEq, Eq)]
+#[derive(Clone, Copy)]
 pub enum Outcome {
     /// The script was answered to its end or up to a `quit`.
     Ended,

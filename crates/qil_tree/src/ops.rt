@@ -4,7 +4,7 @@ ghost use Rattle.std.specs.Prelude.{◌≡◌};
 ghost use Rattle.qil_tree.specs.Types.{class_of, type_of};
 
 /// The class of a temporary: a word of 32 bits, or a long word of 64 (QBE IL, Simple Types).
-#[derive(Clone, Copy, Debug, PartialEq, Eq)]
+#[derive(Clone, Copy, PartialEq, Eq)]
 pub enum Class {
     W,
     L,
@@ -12,7 +12,7 @@ pub enum Class {
 
 /// The type of a parameter, an argument, or a returned value (QBE IL, Functions): a class, or a part of a word of
 /// 8 or 16 bits that is extended to the word by its sign or by zeros.
-#[derive(Clone, Copy, Debug, PartialEq, Eq)]
+#[derive(Clone, Copy, PartialEq, Eq)]
 pub enum AbiType {
     W,
     L,
@@ -45,7 +45,7 @@ impl AbiType {
 }
 
 /// How many bytes an item of data or a store has: 1, 2, 4 or 8.
-#[derive(Clone, Copy, Debug, PartialEq, Eq)]
+#[derive(Clone, Copy, PartialEq, Eq)]
 pub enum Width {
     B,
     H,
@@ -54,7 +54,7 @@ pub enum Width {
 }
 
 /// The operations on one operand of the class of the result.
-#[derive(Clone, Copy, Debug, PartialEq, Eq)]
+#[derive(Clone, Copy, PartialEq, Eq)]
 pub enum UnaryOp {
     Copy,
     Neg,
@@ -62,7 +62,7 @@ pub enum UnaryOp {
 
 /// The operations on two operands; both are of the class of the result, but the amount of a shift is a word
 /// (QBE IL, Arithmetic and Bits).
-#[derive(Clone, Copy, Debug, PartialEq, Eq)]
+#[derive(Clone, Copy, PartialEq, Eq)]
 pub enum BinaryOp {
     Add,
     Sub,
@@ -80,7 +80,7 @@ pub enum BinaryOp {
 }
 
 /// The comparisons (QBE IL, Comparisons): those that begin with `S` are signed, with `U` unsigned.
-#[derive(Clone, Copy, Debug, PartialEq, Eq)]
+#[derive(Clone, Copy, PartialEq, Eq)]
 pub enum CompareOp {
     Eq,
     Ne,
@@ -95,7 +95,7 @@ pub enum CompareOp {
 }
 
 /// The extensions of the low 32, 16 or 8 bits of a word, by the sign or by zeros (QBE IL, Conversions).
-#[derive(Clone, Copy, Debug, PartialEq, Eq)]
+#[derive(Clone, Copy, PartialEq, Eq)]
 pub enum Extension {
     Sw,
     Uw,
@@ -106,7 +106,7 @@ pub enum Extension {
 }
 
 /// The loads of 8, 4, 2 or 1 bytes, extended by the sign or by zeros (QBE IL, Memory).
-#[derive(Clone, Copy, Debug, PartialEq, Eq)]
+#[derive(Clone, Copy, PartialEq, Eq)]
 pub enum LoadOp {
     L,
     Sw,
@@ -118,7 +118,7 @@ pub enum LoadOp {
 }
 
 /// The allocations on the stack, at a multiple of 4, 8 or 16 (QBE IL, Memory).
-#[derive(Clone, Copy, Debug, PartialEq, Eq)]
+#[derive(Clone, Copy, PartialEq, Eq)]
 pub enum AllocOp {
     Four,
     Eight,

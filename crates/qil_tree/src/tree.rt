@@ -217,7 +217,7 @@ pub struct Data<'a, A: Allocator> {
 }
 
 /// What a definition defines.
-#[derive(Clone, Copy, Debug, PartialEq, Eq)]
+#[derive(Clone, Copy)]
 pub enum Definition {
     Data,
     Func,

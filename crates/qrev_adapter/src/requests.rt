@@ -22,7 +22,7 @@ use qrev_views::{as_text, frame_of, place_text};
 use std::alloc::{AllocError, Allocator};
 
 /// What follows a response.
-#[derive(Clone, Copy, Debug, PartialEq, Eq)]
+#[derive(Clone, Copy)]
 pub enum Then {
     Nothing,
     /// The editor is told that the run stands.
@@ -31,7 +31,7 @@ pub enum Then {
 }
 
 /// How a session ends.
-#[derive(Clone, Copy, Debug, PartialEq, Eq)]
+#[derive(Clone, Copy)]
 pub enum Ending {
     /// The editor is told, and may launch again.
     Terminated,

@@ -3,7 +3,7 @@
 use std::alloc::AllocError;
 
 /// What is wrong with a request.
-#[derive(Clone, Copy, Debug, PartialEq, Eq)]
+#[derive(Clone, Copy)]
 pub enum Cause {
     NoSession,
     SessionOpen,
@@ -52,7 +52,7 @@ impl Cause {
 }
 
 /// Why a request isn't done.
-#[derive(Clone, Copy, Debug, PartialEq, Eq)]
+#[derive(Clone, Copy)]
 pub enum Failure {
     /// The session refused a line: its answer is the end of the transcript from there on.
     Answered(usize),

@@ -8,7 +8,7 @@ use qrev_recorder::{CommandRefusal, DepthEnd, Done, HasMachine};
 use std::alloc::Allocator;
 
 /// A move that an editor asks for.
-#[derive(Clone, Copy, Debug, PartialEq, Eq)]
+#[derive(Clone, Copy, PartialEq, Eq)]
 pub enum Motion {
     Step,
     Back,
@@ -23,7 +23,7 @@ pub enum Motion {
 }
 
 /// Why an editor is told that the run stands.
-#[derive(Clone, Copy, Debug, PartialEq, Eq)]
+#[derive(Clone, Copy)]
 pub enum Why {
     Entry,
     Step,

@@ -7,7 +7,7 @@ ghost use Rattle.qrev_map.specs.Mappings.{Rise, AreBefore, IsFirstFrom, IsFrom};
 use std::alloc::{AllocError, Allocator};
 
 /// A line of a source, and a line of the text that came from it; both from 1 on.
-#[derive(Clone, Copy, Debug, PartialEq, Eq)]
+#[derive(Clone, Copy)]
 pub struct Mapping {
     pub line: u32,
     pub text_line: u32,

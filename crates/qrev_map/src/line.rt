@@ -12,11 +12,11 @@ use fast_float::parse_u64;
 use memchr::memchr;
 
 /// A line that is neither empty nor of the form of a line of a map.
-#[derive(Clone, Copy, Debug, PartialEq, Eq)]
+#[derive(Clone, Copy)]
 pub struct Malformed;
 
 /// Where a line of the text came from: where in the line of the map the path stands, of how many bytes, and the number of the line.
-#[derive(Clone, Copy, Debug, PartialEq, Eq)]
+#[derive(Clone, Copy)]
 pub struct Told {
     pub path_start: usize,
     pub path_length: usize,

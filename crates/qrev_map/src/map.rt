@@ -9,7 +9,7 @@ use std::alloc::{AllocFailed, Allocator};
 pub const MAP_LIMIT: usize = 1 << 24;
 
 /// Why a map isn't taken.
-#[derive(Clone, Copy, Debug, PartialEq, Eq)]
+#[derive(Clone, Copy)]
 pub enum MapError {
     /// It has more than `MAP_LIMIT` bytes.
     TooLong,
@@ -27,7 +27,7 @@ impl<T: Drop> From<AllocFailed<T>> for MapError {
 }
 
 /// Where a line of a map tells the path of a source, and the number of the line.
-#[derive(Clone, Copy, Debug, PartialEq, Eq)]
+#[derive(Clone, Copy)]
 pub struct OriginSpan {
     pub start: usize,
     pub length: usize,

@@ -15,7 +15,7 @@ use qrev_views::{Numbering, SourceMap};
 use std::alloc::{AllocError, Allocator};
 
 /// How the adapter ended.
-#[derive(Clone, Copy, Debug, PartialEq, Eq)]
+#[derive(Clone, Copy)]
 pub enum Ended {
     /// The editor left.
     Left,

@@ -4,7 +4,7 @@ use qil_streams::DeviceFault;
 use std::alloc::AllocError;
 
 /// Why the adapter can't go on.
-#[derive(Clone, Copy, Debug, PartialEq, Eq)]
+#[derive(Clone, Copy)]
 pub enum Trouble {
     OutOfMemory,
     /// The device that messages go to failed.

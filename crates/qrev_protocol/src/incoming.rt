@@ -19,7 +19,7 @@ pub const BODY_LIMIT: u32 = 1 << 20;
 pub const HEADER_LIMIT: usize = 4096;
 
 /// Why no message was read.
-#[derive(Clone, Copy, Debug, PartialEq, Eq)]
+#[derive(Clone, Copy)]
 pub enum ReadError {
     /// The device failed.
     Device,

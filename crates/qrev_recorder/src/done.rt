@@ -20,7 +20,7 @@ pub enum Done {
 }
 
 /// Why a line isn't answered. The session is as it was, but where memory ran out.
-#[derive(Clone, Copy, Debug, PartialEq, Eq)]
+#[derive(Clone, Copy)]
 pub enum LineError {
     /// It has a newline in it, so that it is no line.
     Newline,

@@ -25,7 +25,7 @@ pub struct Launch<A: Allocator> {
 }
 
 /// Why a launch is refused before anything is loaded.
-#[derive(Clone, Copy, Debug, PartialEq, Eq)]
+#[derive(Clone, Copy, PartialEq, Eq)]
 pub enum Unfit {
     Program,
     Entry,

@@ -21,7 +21,7 @@ use qrev_protocol::{Array, InArray, Object};
 use std::alloc::{AllocError, Allocator};
 
 /// The numbers that an editor gives the first line and the first column: 1 or 0.
-#[derive(Clone, Copy, Debug, PartialEq, Eq)]
+#[derive(Clone, Copy)]
 pub struct Numbering {
     pub first_line: u32,
     pub first_column: u32,

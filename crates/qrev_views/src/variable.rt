@@ -11,7 +11,7 @@ use qrev_protocol::{Array, InArray, Object};
 use std::alloc::{AllocError, Allocator};
 
 /// Which items of a list are shown: those from the `start`-th on, counted from 0, and at most `count`.
-#[derive(Clone, Copy, Debug, PartialEq, Eq)]
+#[derive(Clone, Copy)]
 pub struct Page {
     pub start: u64,
     pub count: u64,
