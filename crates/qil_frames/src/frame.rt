@@ -124,7 +124,7 @@ impl<A: Allocator + Copy> Frame<A> {
     }
 
     /// An equal frame. It takes two allocations.
-    pub fn try_clone(&self) -> Result<Frame<A>, AllocError>
+    pub(crate) fn try_clone(&self) -> Result<Frame<A>, AllocError>
         ensures { IfOk result (λ f. f ≡ self.now) }
     {
         let alloc = *self.body.slots.allocator();
@@ -260,7 +260,7 @@ impl<A: Allocator> Frame<A> {
 
     /// Sets a slot and the index, and gives what stood in the slot.
     #[inline(always)]
-    pub fn assign(&mut self, slot: Slot, value: Option<u64>, index: u32) -> Option<u64>
+    pub(crate) fn assign(&mut self, slot: Slot, value: Option<u64>, index: u32) -> Option<u64>
         requires { slot.index < length self.old.slots }
         ensures old { result ≡ get_or self.old.slots slot.index None }
         ensures new { self.new ≡ at_index index (with_slot slot value self.old) }
@@ -274,14 +274,14 @@ impl<A: Allocator> Frame<A> {
     }
 
     #[inline(always)]
-    pub fn set_index(&mut self, index: u32)
+    pub(crate) fn set_index(&mut self, index: u32)
         ensures { self.new ≡ at_index index self.old }
     {
         self.body.index = index;
     }
 
     #[inline(always)]
-    pub fn set_place(&mut self, block: BlockId, index: u32)
+    pub(crate) fn set_place(&mut self, block: BlockId, index: u32)
         ensures { self.new ≡ at_place block.index index self.old }
     {
         let body = self.body.as_mut();
@@ -290,7 +290,7 @@ impl<A: Allocator> Frame<A> {
     }
 
     /// Whether two frames are equal in all that they hold.
-    pub fn same(&self, other: &Frame<A>) -> bool
+    pub(crate) fn same(&self, other: &Frame<A>) -> bool
         ensures { IsTrue result ↔ (self.now ≡ other.now) }
     {
         self.body.func == other.body.func

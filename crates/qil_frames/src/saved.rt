@@ -51,7 +51,7 @@ pub enum KeptSlots<A: Allocator> {
 
 impl<A: Allocator> KeptSlots<A> {
     /// Whether each slot is one of the first `count`.
-    pub fn is_within(&self, count: usize) -> bool
+    pub(crate) fn is_within(&self, count: usize) -> bool
         ensures { IsTrue result ↔ AreSlots (kept_slots self.now) count }
     {
         match self {

@@ -12,7 +12,7 @@ mod texts;
 mod variable;
 
 pub use data::{data_named, data_word, put_data};
-pub use frames::{Numbering, Shown, frame_of, place_of_frame, put_frames, put_source};
+pub use frames::{Numbering, Shown, frame_of, put_frames, put_source};
 pub use machine::put_machine;
 pub use scopes::{DATA, MACHINE, put_scopes};
 pub use source_map::{SourceLine, SourceMap, same_file};
