@@ -9,10 +9,11 @@ ghost use Rattle.qil_compare.specs.Answer.{Agrees, Judges, IsAnswered};
 
 use crate::ahead::image_of;
 use crate::alike::named_alike;
-use crate::event::Found;
+use crate::event::{Found, Kinds};
 use crate::happened::Side;
 use crate::running::{machine_of, next_event, written};
 use crate::same::{Stand, same_event};
+use qil_code::Code;
 use qil_history::History;
 use qil_layout::Image;
 use qil_machine::Machine;
@@ -215,9 +216,8 @@ fn limited(common: u64) -> Answer
     told_of(common, Verdict::Limit, Found::Limit, Found::Limit)
 }
 
-/// Runs two programs side by side to the first event in which they differ, to the end of both, or to a limit: of the moves
-/// from one event to the next, or of all moves of a side. Each is left behind the event that is told of it.
-pub fn compare<
+/// The same of two sides, by which the events of their runs are told.
+fn compare_sides<
     'c,
     A: Allocator + Copy + 'c,
     H: History<A, Machine<'c, A>>,
@@ -248,4 +248,52 @@ pub fn compare<
         }
     }
     limited(u64::MAX)
+}
+
+/// The code of the program of a history.
+fn code_in<'c, A: Allocator + Copy + 'c, H: History<A, Machine<'c, A>>>(
+    history: &H,
+) -> &'c Code<'c, A>
+    ensures { result.now ≡ H.program history.now }
+{
+    machine_of(history).code()
+}
+
+/// What the events of a run are told by, besides its machine.
+fn side_of<'c, A: Allocator + Copy>(
+    code: &'c Code<'c, A>,
+    other: &'c Code<'c, A>,
+    kinds: Kinds,
+) -> Side<'c, A>
+    ensures program { result.program.now ≡ code.now }
+    ensures other { result.other.now ≡ other.now }
+    ensures kinds { result.kinds ≡ kinds }
+{
+    Side {
+        program: code.program(),
+        other,
+        kinds,
+    }
+}
+
+/// Runs two programs side by side to the first event of these kinds in which they differ, to the end of both, or to a limit: of
+/// the moves from one event to the next, or of all moves of a side. Each is left behind the event that is told of it.
+pub fn compare<
+    'c,
+    A: Allocator + Copy + 'c,
+    H: History<A, Machine<'c, A>>,
+    K: History<A, Machine<'c, A>>,
+>(kinds: Kinds, good: &mut H, bad: &mut K, limit: u64) -> Answer
+    requires limit { limit ≤ 4294967295 }
+    requires start { (position (H.timeline good.old) ≤ 1000000000000000000) × (position (K.timeline bad.old) ≤ 1000000000000000000) }
+    ensures good_program { H.program good.new ≡ H.program good.old }
+    ensures bad_program { K.program bad.new ≡ K.program bad.old }
+    ensures near { (position (H.timeline good.new) < 2 ^ 60) × (position (K.timeline bad.new) < 2 ^ 60) }
+    ensures answer { IsAnswered kinds (H.program good.old) (K.program bad.old) (H.timeline good.old) (H.timeline good.new) (K.timeline bad.old) (K.timeline bad.new) result }
+{
+    let good_code = code_in(good);
+    let bad_code = code_in(bad);
+    let good_side = side_of(good_code, bad_code, kinds);
+    let bad_side = side_of(bad_code, good_code, kinds);
+    compare_sides(&good_side, &bad_side, good, bad, limit)
 }

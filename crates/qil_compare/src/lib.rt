@@ -18,7 +18,6 @@ mod seen;
 pub use calls::{call_name, param_count, param_seen};
 pub use comparing::{Answer, Verdict, compare};
 pub use event::{Event, Found, Kinds};
-pub use happened::Side;
 pub use laws::number_is_of_longest_front;
 pub use same::{Stand, byte_behind};
 pub use seen::{DataPlace, Seen};

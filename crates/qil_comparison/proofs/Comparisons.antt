@@ -42,9 +42,9 @@ pub record Came {A : Type 0} (s : Setup) (p q : accepted.Verdict A) (u v : Timel
   pub answered : IsAnswered s.request.kinds p.program q.program (good_begun s first) u (bad_begun s second) v answer
 
 -- what was answered of histories is so of the programs that they began with
-pub came : {A : Type 0} (s : Setup) (P Q : accepted.Verdict A) (first second : State) (p q : Program A) (kinds : Kinds) (t u w v : Timeline) (answer : Answer) → Begin s P Q first second
-    → p ≡ P.program → q ≡ Q.program → t ≡ good_begun s first → w ≡ bad_begun s second → kinds ≡ s.request.kinds → IsAnswered kinds p q t u w v answer → Came s P Q u v answer
-came {A} s P Q first second p q kinds t u w v answer begin ep eq et ew ek answered = record {
+pub came : {A : Type 0} (s : Setup) (P Q : accepted.Verdict A) (first second : State) (p q : Program A) (t u w v : Timeline) (answer : Answer) → Begin s P Q first second
+    → p ≡ P.program → q ≡ Q.program → t ≡ good_begun s first → w ≡ bad_begun s second → IsAnswered s.request.kinds p q t u w v answer → Came s P Q u v answer
+came {A} s P Q first second p q t u w v answer begin ep eq et ew answered = record {
   first = first;
   second = second;
   begin = begin;
@@ -52,8 +52,7 @@ came {A} s P Q first second p q kinds t u w v answer begin ep eq et ew ek answer
       subst (λ (x : Program A). IsAnswered s.request.kinds x Q.program (good_begun s first) u (bad_begun s second) v answer) ep
       (subst (λ (x : Program A). IsAnswered s.request.kinds p x (good_begun s first) u (bad_begun s second) v answer) eq
       (subst (λ (x : Timeline). IsAnswered s.request.kinds p q x u (bad_begun s second) v answer) et
-      (subst (λ (x : Timeline). IsAnswered s.request.kinds p q t u x v answer) ew
-      (subst (λ (x : Kinds). IsAnswered x p q t u w v answer) ek answered))));
+      (subst (λ (x : Timeline). IsAnswered s.request.kinds p q t u x v answer) ew answered)));
 }
 
 number_is : {A : Type 0} (kinds : Kinds) (p q : Program A) (t u w v : Timeline) (answer : Answer) (verdict : Verdict) → IsAnswered kinds p q t u w v answer → answer.verdict ≡ verdict

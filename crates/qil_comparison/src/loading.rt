@@ -19,7 +19,6 @@ use crate::outcome::Outcome;
 use crate::request::{Request, SideName, Text};
 use crate::sides::run_machines;
 use qil_code::Code;
-use qil_compare::Side;
 use qil_laying::layout;
 use qil_layout::Image;
 use qil_loading::{LoadError, Refusal, check_text};
@@ -65,10 +64,11 @@ fn can_start<A: Allocator + Copy>(
 }
 
 /// Starts two programs, and runs them.
-fn run_ready<'c, A: Allocator + Copy + 'c, S: Source, W: Sink>(
+// Each start takes its code at the lifetime that both are there for, so that nothing before it does.
+fn run_ready<'c, 'g, 'i, A: Allocator + Copy + 'c, S: Source, W: Sink>(
     alloc: A,
-    good: &'c Code<'c, A>,
-    bad: &'c Code<'c, A>,
+    good: &'c Code<'g, A>,
+    bad: &'c Code<'i, A>,
     request: &Request<'_>,
     source: &mut S,
     sink: &mut W,
@@ -85,33 +85,20 @@ fn run_ready<'c, A: Allocator + Copy + 'c, S: Source, W: Sink>(
     ensures few { IfSome (S.remaining source.old) (λ script. TakesFew script (S.remaining source.new)) }
     ensures counted { CountsFaults result (S.failures source.old) (S.failures source.new) (W.failures sink.old) (W.failures sink.new) }
 {
-    let kinds = request.kinds;
-    let good_side = Side {
-        program: good.program(),
-        other: bad,
-        kinds,
-    };
-    let bad_side = Side {
-        program: bad.program(),
-        other: good,
-        kinds,
-    };
     let first = match Machine::start(alloc, good, request.func, request.args) {
         Ok(machine) => machine,
         Err(_) => return Outcome::Memory,
     };
     match Machine::start(alloc, bad, request.func, request.args) {
-        Ok(second) => run_machines(
-            alloc, first, second, &good_side, &bad_side, request, source, sink,
-        ),
+        Ok(second) => run_machines(alloc, first, second, request, source, sink),
         Err(_) => Outcome::Memory,
     }
 }
 
 /// Starts both programs, where the bad one can be started too, and runs them.
-fn start_both<'c, 'i, A: Allocator + Copy + 'c, S: Source, W: Sink>(
+fn start_both<'c, 'g, 'i, A: Allocator + Copy + 'c, S: Source, W: Sink>(
     alloc: A,
-    good: &'c Code<'c, A>,
+    good: &'c Code<'g, A>,
     bad: &'c Code<'i, A>,
     request: &Request<'_>,
     source: &mut S,
@@ -137,35 +124,7 @@ fn start_both<'c, 'i, A: Allocator + Copy + 'c, S: Source, W: Sink>(
         Ok(()) => {}
         Err(error) => return Err(error),
     }
-    Ok(run_ready(alloc, good, &*bad, request, source, sink))
-}
-
-/// The same of programs whose texts are there for longer than they are. Each call takes one of them at a shorter lifetime.
-fn start_bad<'c, 'g, 'i, A: Allocator + Copy + 'c, S: Source, W: Sink>(
-    alloc: A,
-    good: &'c Code<'g, A>,
-    bad: &'c Code<'i, A>,
-    request: &Request<'_>,
-    source: &mut S,
-    sink: &mut W,
-) -> Result<Outcome, LoadError>
-    requires reads { S.failures source.old < 2 ^ 64 - 1 }
-    requires writes { W.failures sink.old < 2 ^ 64 - 1 }
-    requires limit { request.now.limit ≤ 4294967295 }
-    requires bound { IfSome request.now.bound (λ n. n ≤ 1000000) }
-    ensures written { (one two : Text) (p q : accepted.Verdict A) → Accepts one.bytes.now p → Accepts two.bytes.now q → good.now ≡ p.program → bad.now ≡ q.program
-        → IfOk result (λ outcome. Written A outcome (setup_of one two request.now) (S.remaining source.old) (S.remaining source.new) (W.contents sink.old) (W.contents sink.new)) }
-    ensures fault { IfErr result (StartRefuses (start_of bad.now request.now.func.now request.now.args.now)) }
-    ensures only_started { (fault : StartFault) → start_of bad.now request.now.func.now request.now.args.now ≡ Err fault → IsErr result }
-    ensures ran { IfOk result (λ outcome. outcome ≢ Outcome.Refused) }
-    ensures untouched { IfOk result (λ outcome. IsUntouched outcome source.old source.new) }
-    ensures unasked { request.now.session ≡ None → source.new ≡ source.old }
-    ensures few { IfSome (S.remaining source.old) (λ script. TakesFew script (S.remaining source.new)) }
-    ensures counted { IfOk result (λ outcome. CountsFaults outcome (S.failures source.old) (S.failures source.new) (W.failures sink.old) (W.failures sink.new)) }
-    ensures unread { OnErr result (source.new ≡ source.old) }
-    ensures unwritten { OnErr result (sink.new ≡ sink.old) }
-{
-    start_both(alloc, &*good, bad, request, source, sink)
+    Ok(run_ready(alloc, good, bad, request, source, sink))
 }
 
 /// Numbers the bad program next to the good one, and runs both.
@@ -203,7 +162,7 @@ fn number_bad<'c, 'g, 'i, 't, A: Allocator + Copy + 'c, S: Source, W: Sink>(
         Ok(code) => code,
         Err(_) => return Err(LoadError::OutOfMemory),
     };
-    start_bad(alloc, &*good, &code, request, source, sink)
+    start_both(alloc, good, &code, request, source, sink)
 }
 
 /// Lays the bad program out next to the good one, and runs both.

@@ -7,7 +7,6 @@ ghost use Rattle.qil_meaning.specs.Timeline.{position};
 ghost use Rattle.qil_state.specs.State.{state_of};
 ghost use Rattle.qil_streams.specs.Device.{Counts, Puts};
 ghost use Rattle.qil_serving.specs.Serve.{TakesFew};
-ghost use Rattle.qil_compare.specs.Coded.{AreSides};
 ghost use Rattle.qil_comparison.specs.declared.request.Text.{Text};
 ghost use Rattle.qil_comparison.specs.Told.{told_text};
 ghost use Rattle.qil_comparison.specs.Compared.{Begin, CountsFaults, IsUntouched, Written, setup_of, keeps, good_begun, bad_begun};
@@ -16,7 +15,7 @@ use crate::outcome::Outcome;
 use crate::request::{Request, SideName};
 use crate::serving::serve_at;
 use crate::telling::put_answer;
-use qil_compare::{Answer, Side, compare};
+use qil_compare::{Answer, compare};
 use qil_deltas::{Deltas, Ring};
 use qil_history::History;
 use qil_machine::Machine;
@@ -31,22 +30,13 @@ fn write_answer<
     H: History<A, Machine<'c, A>>,
     K: History<A, Machine<'c, A>>,
     W: Sink,
->(
-    good_side: &Side<'c, A>,
-    bad_side: &Side<'c, A>,
-    sink: &mut W,
-    good: &H,
-    bad: &K,
-    answer: Answer,
-) -> Result<(), PutError>
+>(sink: &mut W, good: &H, bad: &K, answer: Answer) -> Result<(), PutError>
     requires writes { W.failures sink.old < 2 ^ 64 - 1 }
-    requires good { good_side.now.program.now ≡ H.program good.now }
-    requires bad { bad_side.now.program.now ≡ K.program bad.now }
     ensures text { Puts result (W.contents sink.old) (W.contents sink.new) (told_text (H.program good.now) (K.program bad.now) (H.timeline good.now) (K.timeline bad.now) answer) }
     ensures counted { Counts result (W.failures sink.old) (W.failures sink.new) }
 {
     let mut out = Outlet { sink };
-    let put = put_answer(good_side, bad_side, &mut out, good, bad, answer);
+    let put = put_answer(&mut out, good, bad, answer);
     let Outlet { sink: _ } = out;
     put
 }
@@ -59,24 +49,11 @@ fn run_histories<
     K: History<A, Machine<'c, A>> + Stepwise + Drop,
     S: Source,
     W: Sink,
->(
-    alloc: A,
-    good_side: &Side<'c, A>,
-    bad_side: &Side<'c, A>,
-    mut good: H,
-    mut bad: K,
-    request: &Request<'_>,
-    source: &mut S,
-    sink: &mut W,
-) -> Outcome
+>(alloc: A, mut good: H, mut bad: K, request: &Request<'_>, source: &mut S, sink: &mut W) -> Outcome
     requires reads { S.failures source.old < 2 ^ 64 - 1 }
     requires writes { W.failures sink.old < 2 ^ 64 - 1 }
     requires limit { request.now.limit ≤ 4294967295 }
     requires start { (position (H.timeline good) ≤ 1000000000000000000) × (position (K.timeline bad) ≤ 1000000000000000000) }
-    requires good { good_side.now.program.now ≡ H.program good }
-    requires bad { bad_side.now.program.now ≡ K.program bad }
-    requires sides { AreSides good_side.now bad_side.now }
-    requires kinds { good_side.now.kinds ≡ request.now.kinds }
     ensures written { (one two : Text) (p q : accepted.Verdict A) (s t : State) → Begin (setup_of one two request.now) p q s t
         → H.program good ≡ p.program → K.program bad ≡ q.program → H.timeline good ≡ good_begun (setup_of one two request.now) s → K.timeline bad ≡ bad_begun (setup_of one two request.now) t
         → Written A result (setup_of one two request.now) (S.remaining source.old) (S.remaining source.new) (W.contents sink.old) (W.contents sink.new) }
@@ -86,8 +63,8 @@ fn run_histories<
     ensures few { IfSome (S.remaining source.old) (λ script. TakesFew script (S.remaining source.new)) }
     ensures counted { CountsFaults result (S.failures source.old) (S.failures source.new) (W.failures sink.old) (W.failures sink.new) }
 {
-    let answer = compare(good_side, bad_side, &mut good, &mut bad, request.limit);
-    match write_answer(good_side, bad_side, sink, &good, &bad, answer) {
+    let answer = compare(request.kinds, &mut good, &mut bad, request.limit);
+    match write_answer(sink, &good, &bad, answer) {
         Ok(()) => {}
         Err(PutError) => return Outcome::WriteFault,
     }
@@ -125,8 +102,6 @@ fn run_beside<
     alloc: A,
     good: H,
     bad: Machine<'c, A>,
-    good_side: &Side<'c, A>,
-    bad_side: &Side<'c, A>,
     request: &Request<'_>,
     source: &mut S,
     sink: &mut W,
@@ -135,10 +110,6 @@ fn run_beside<
     requires writes { W.failures sink.old < 2 ^ 64 - 1 }
     requires limit { request.now.limit ≤ 4294967295 }
     requires start { position (H.timeline good) ≤ 1000000000000000000 }
-    requires good { good_side.now.program.now ≡ H.program good }
-    requires bad { bad_side.now.program.now ≡ bad.program }
-    requires sides { AreSides good_side.now bad_side.now }
-    requires kinds { good_side.now.kinds ≡ request.now.kinds }
     requires bound { IfSome request.now.bound (λ n. n ≤ 1000000) }
     ensures written { (one two : Text) (p q : accepted.Verdict A) (s : State) → Begin (setup_of one two request.now) p q s (state_of bad.entry)
         → H.program good ≡ p.program → bad.entry.program ≡ q.program → H.timeline good ≡ good_begun (setup_of one two request.now) s
@@ -151,12 +122,12 @@ fn run_beside<
 {
     match kept(request, SideName::Bad) {
         Some(bound) => match Ring::new(alloc, bad, bound) {
-            Ok(bad) => run_histories(alloc, good_side, bad_side, good, bad, request, source, sink),
+            Ok(bad) => run_histories(alloc, good, bad, request, source, sink),
             Err(_) => Outcome::Memory,
         },
         None => {
             let bad = Deltas::new(alloc, bad);
-            run_histories(alloc, good_side, bad_side, good, bad, request, source, sink)
+            run_histories(alloc, good, bad, request, source, sink)
         }
     }
 }
@@ -167,8 +138,6 @@ pub fn run_machines<'c, A: Allocator + Copy + 'c, S: Source, W: Sink>(
     alloc: A,
     good: Machine<'c, A>,
     bad: Machine<'c, A>,
-    good_side: &Side<'c, A>,
-    bad_side: &Side<'c, A>,
     request: &Request<'_>,
     source: &mut S,
     sink: &mut W,
@@ -176,10 +145,6 @@ pub fn run_machines<'c, A: Allocator + Copy + 'c, S: Source, W: Sink>(
     requires reads { S.failures source.old < 2 ^ 64 - 1 }
     requires writes { W.failures sink.old < 2 ^ 64 - 1 }
     requires limit { request.now.limit ≤ 4294967295 }
-    requires good { good_side.now.program.now ≡ good.program }
-    requires bad { bad_side.now.program.now ≡ bad.program }
-    requires sides { AreSides good_side.now bad_side.now }
-    requires kinds { good_side.now.kinds ≡ request.now.kinds }
     requires bound { IfSome request.now.bound (λ n. n ≤ 1000000) }
     ensures written { (one two : Text) (p q : accepted.Verdict A) → Begin (setup_of one two request.now) p q (state_of good.entry) (state_of bad.entry)
         → good.entry.program ≡ p.program → bad.entry.program ≡ q.program
@@ -192,12 +157,12 @@ pub fn run_machines<'c, A: Allocator + Copy + 'c, S: Source, W: Sink>(
 {
     match kept(request, SideName::Good) {
         Some(bound) => match Ring::new(alloc, good, bound) {
-            Ok(good) => run_beside(alloc, good, bad, good_side, bad_side, request, source, sink),
+            Ok(good) => run_beside(alloc, good, bad, request, source, sink),
             Err(_) => Outcome::Memory,
         },
         None => {
             let good = Deltas::new(alloc, good);
-            run_beside(alloc, good, bad, good_side, bad_side, request, source, sink)
+            run_beside(alloc, good, bad, request, source, sink)
         }
     }
 }

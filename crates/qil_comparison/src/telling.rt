@@ -12,7 +12,7 @@ ghost use Rattle.qil_comparison.specs.Told.{way_line, side_text, sides_text, ver
 use crate::event_text::put_found;
 use qil_answers::{Readers, put_block, put_frames, put_place};
 use qil_code::Code;
-use qil_compare::{Answer, Found, Side, Stand, Verdict};
+use qil_compare::{Answer, Found, Stand, Verdict};
 use qil_history::History;
 use qil_machine::Machine;
 use qil_pieces::{Fragment, put_fragments};
@@ -80,19 +80,17 @@ fn put_stand<'c, P: Put, A: Allocator + Copy + 'c, M: Readers<A, Code<'c, A>>>(
 
 /// Puts what is told of one side.
 fn put_side<'c, A: Allocator + Copy + 'c, H: History<A, Machine<'c, A>>, P: Put>(
-    side: &Side<'c, A>,
     out: &mut P,
     name: &[u8],
     history: &H,
     found: Found,
 ) -> Result<(), PutError>
     requires stops { P.stops out.old < 2 ^ 64 - 1 }
-    requires side { side.now.program.now ≡ H.program history.now }
     ensures { HasPut P.written P.stops P.device result out.old out.new (side_text name.now (H.program history.now) (H.timeline history.now) found) }
 {
     let machine = history.machine();
     let stand = Stand {
-        program: side.program,
+        program: machine.code().program(),
         machine,
     };
     out.put(name)?;
@@ -107,21 +105,12 @@ fn put_sides<
     H: History<A, Machine<'c, A>>,
     K: History<A, Machine<'c, A>>,
     P: Put,
->(
-    good_side: &Side<'c, A>,
-    bad_side: &Side<'c, A>,
-    out: &mut P,
-    good: &H,
-    bad: &K,
-    answer: Answer,
-) -> Result<(), PutError>
+>(out: &mut P, good: &H, bad: &K, answer: Answer) -> Result<(), PutError>
     requires stops { P.stops out.old < 2 ^ 64 - 1 }
-    requires good { good_side.now.program.now ≡ H.program good.now }
-    requires bad { bad_side.now.program.now ≡ K.program bad.now }
     ensures { HasPut P.written P.stops P.device result out.old out.new (sides_text (H.program good.now) (K.program bad.now) (H.timeline good.now) (K.timeline bad.now) answer) }
 {
-    put_side(good_side, out, b"good: ", good, answer.good)?;
-    put_side(bad_side, out, b"bad: ", bad, answer.bad)
+    put_side(out, b"good: ", good, answer.good)?;
+    put_side(out, b"bad: ", bad, answer.bad)
 }
 
 /// Whether no difference was found.
@@ -141,22 +130,13 @@ pub fn put_answer<
     H: History<A, Machine<'c, A>>,
     K: History<A, Machine<'c, A>>,
     P: Put,
->(
-    good_side: &Side<'c, A>,
-    bad_side: &Side<'c, A>,
-    out: &mut P,
-    good: &H,
-    bad: &K,
-    answer: Answer,
-) -> Result<(), PutError>
+>(out: &mut P, good: &H, bad: &K, answer: Answer) -> Result<(), PutError>
     requires stops { P.stops out.old < 2 ^ 64 - 1 }
-    requires good { good_side.now.program.now ≡ H.program good.now }
-    requires bad { bad_side.now.program.now ≡ K.program bad.now }
     ensures { HasPut P.written P.stops P.device result out.old out.new (told_text (H.program good.now) (K.program bad.now) (H.timeline good.now) (K.timeline bad.now) answer) }
 {
     if is_same(answer.verdict) {
         return put_verdict(out, answer.verdict, answer.events);
     }
     put_verdict(out, answer.verdict, answer.events)?;
-    put_sides(good_side, bad_side, out, good, bad, answer)
+    put_sides(out, good, bad, answer)
 }

@@ -1,113 +1,25 @@
--- Both sides go on to their next events, which are judged.
-use Rattle.std.proofs.Common.{◌∙◌, refl, sym, arith, Some, None}
-use Rattle.qil_compare.proofs.Likeness.{alike_as, alike_swapped}
-use Rattle.qil_compare.proofs.Fronts.{alike_begun, both_found, alike_more, answered, next_as, judges_as}
+-- Each side is told by the tree of its own program, and by the code of the other.
+use Rattle.std.proofs.Common.{◌∙◌, refl, sym}
 use Rattle.qil_compare.proofs.comparing.compare.Goals as goal
 
-pub loop-events-init : goal.loop-events-init
-loop-events-init g c = record {
-  good_program = refl;
-  bad_program = refl;
-  good_near = omega (arith, c.requires.start.0);
-  bad_near = omega (arith, c.requires.start.1);
-  alike = alike_begun c.args.good_side.now.kinds (g.H.History.program c.args.good.now) (g.K.History.program c.args.bad.now) (g.H.History.timeline c.args.good.now) (g.K.History.timeline c.args.bad.now) c.written-good_told.result c.written-bad_told.result
-      c.written-good_told.ensures c.written-bad_told.ensures;
-}
-
-pub next_event-one-requires : goal.next_event-one-requires
-next_event-one-requires g c = λ lifetimes.
-    let i = c.loop-events.invariant in
-    let p = g.H.History.program c.args.good.now in
-    let q = g.K.History.program c.args.bad.now in
-    let near = c.is_far.ensures.near c.if-is_far.false in
-    let limit = c.requires.limit in (
-      (refl, tt),
+pub compare_sides-requires : goal.compare_sides-requires
+compare_sides-requires g c = λ lifetimes. (
+  (refl, tt),
+  (
+    c.requires.limit,
+    (
+      c.requires.start,
       (
-        omega (arith, near.0, limit),
+        c.side_of-good_side.ensures.program ∙ c.code_in-good_code.ensures,
         (
-          c.requires.good ∙ sym i.good_program,
-          alike_as p q (g.H.History.program c.loop-events.good) c.args.good_side.now.other.now c.names_alike-alike.result (sym i.good_program) (sym (c.requires.sides.good_other ∙ c.requires.bad))
-              c.names_alike-alike.ensures,
+          c.side_of-bad_side.ensures.program ∙ c.code_in-bad_code.ensures,
+          record {
+            kinds = c.side_of-good_side.ensures.kinds ∙ sym c.side_of-bad_side.ensures.kinds;
+            good_other = c.side_of-good_side.ensures.other ∙ sym c.side_of-bad_side.ensures.program;
+            bad_other = c.side_of-bad_side.ensures.other ∙ sym c.side_of-good_side.ensures.program;
+          },
         ),
       ),
-    )
-
-pub next_event-other-requires : goal.next_event-other-requires
-next_event-other-requires g c = λ lifetimes.
-    let i = c.loop-events.invariant in
-    let p = g.H.History.program c.args.good.now in
-    let q = g.K.History.program c.args.bad.now in
-    let near = c.is_far.ensures.near c.if-is_far.false in
-    let limit = c.requires.limit in (
-      (refl, tt),
-      (
-        omega (arith, near.1, limit),
-        (
-          c.requires.bad ∙ sym i.bad_program,
-          alike_as q p (g.K.History.program c.loop-events.bad) c.args.bad_side.now.other.now c.names_alike-alike.result (sym i.bad_program) (sym (c.requires.sides.bad_other ∙ c.requires.good))
-              (alike_swapped p q c.names_alike-alike.result
-              c.names_alike-alike.ensures),
-        ),
-      ),
-    )
-
-pub judge_here-judged-requires : goal.judge_here-judged-requires
-judge_here-judged-requires g c = λ lifetimes.
-    let i = c.loop-events.invariant in
-    let p = g.H.History.program c.args.good.now in
-    let q = g.K.History.program c.args.bad.now in
-    let good = c.next_event-one.ensures.program ∙ i.good_program in
-    let bad = c.next_event-other.ensures.program ∙ i.bad_program in (
-      (refl, (refl, tt)),
-      (
-        c.requires.good ∙ sym good,
-        (
-          c.requires.bad ∙ sym bad,
-          alike_as p q (g.H.History.program c.next_event-one.new.history) (g.K.History.program c.next_event-other.new.history) c.names_alike-alike.result (sym good) (sym bad)
-              c.names_alike-alike.ensures,
-        ),
-      ),
-    )
-
-pub returns-in-Some-clause-answer : goal.returns-in-Some-clause-answer
-returns-in-Some-clause-answer g c =
-    let i = c.loop-events.invariant in
-    let p = g.H.History.program c.args.good.now in
-    let q = g.K.History.program c.args.bad.now in
-    let kinds = c.args.good_side.now.kinds in
-    let u = g.H.History.timeline c.next_event-one.new.history in
-    let v = g.K.History.timeline c.next_event-other.new.history in
-    let one = next_as p (g.H.History.program c.loop-events.good) q c.args.good_side.now.other.now kinds kinds c.args.limit (g.H.History.timeline c.loop-events.good) u c.loop-events.good_told c.next_event-one.new.told c.next_event-one.result
-    i.good_program (c.requires.sides.good_other ∙ c.requires.bad) refl c.next_event-one.ensures.next in
-    let other = next_as q (g.K.History.program c.loop-events.bad) p c.args.bad_side.now.other.now kinds c.args.bad_side.now.kinds c.args.limit (g.K.History.timeline c.loop-events.bad) v c.loop-events.bad_told c.next_event-other.new.told c.next_event-other.result
-    i.bad_program (c.requires.sides.bad_other ∙ c.requires.good) (sym c.requires.sides.kinds) c.next_event-other.ensures.next in
-    rw c.told_of.ensures (answered kinds p q (g.H.History.timeline c.args.good.now) u (g.K.History.timeline c.args.bad.now) v c.loop-events.events c.next_event-one.new.told c.next_event-other.new.told c.next_event-one.result c.next_event-other.result c.in-Some.verdict
-    (both_found kinds p q c.args.limit (g.H.History.timeline c.args.good.now) (g.H.History.timeline c.loop-events.good) u (g.K.History.timeline c.args.bad.now) (g.K.History.timeline c.loop-events.bad) v c.loop-events.events
-    c.loop-events.good_told c.loop-events.bad_told c.next_event-one.new.told c.next_event-other.new.told c.next_event-one.result c.next_event-other.result i.alike one other)
-    (judges_as p (g.H.History.program c.next_event-one.new.history) q (g.K.History.program c.next_event-other.new.history) u.now v.now c.next_event-one.result c.next_event-other.result (Some c.in-Some.verdict) (Some c.in-Some.verdict)
-    (c.next_event-one.ensures.program ∙ i.good_program) (c.next_event-other.ensures.program ∙ i.bad_program) refl c.in-Some.ensures))
-
-pub loop-events-preserved : goal.loop-events-preserved
-loop-events-preserved g c =
-    let i = c.loop-events.invariant in
-    let p = g.H.History.program c.args.good.now in
-    let q = g.K.History.program c.args.bad.now in
-    let kinds = c.args.good_side.now.kinds in
-    let u = g.H.History.timeline c.next_event-one.new.history in
-    let v = g.K.History.timeline c.next_event-other.new.history in
-    let near = c.is_far.ensures.near c.if-is_far.false in
-    let one = next_as p (g.H.History.program c.loop-events.good) q c.args.good_side.now.other.now kinds kinds c.args.limit (g.H.History.timeline c.loop-events.good) u c.loop-events.good_told c.next_event-one.new.told c.next_event-one.result
-    i.good_program (c.requires.sides.good_other ∙ c.requires.bad) refl c.next_event-one.ensures.next in
-    let other = next_as q (g.K.History.program c.loop-events.bad) p c.args.bad_side.now.other.now kinds c.args.bad_side.now.kinds c.args.limit (g.K.History.timeline c.loop-events.bad) v c.loop-events.bad_told c.next_event-other.new.told c.next_event-other.result
-    i.bad_program (c.requires.sides.bad_other ∙ c.requires.good) (sym c.requires.sides.kinds) c.next_event-other.ensures.next in
-    record {
-      good_program = c.next_event-one.ensures.program ∙ i.good_program;
-      bad_program = c.next_event-other.ensures.program ∙ i.bad_program;
-      good_near = (let at = c.next_event-one.ensures.near in let before = near.0 in let limit = c.requires.limit in omega (arith, at, before, limit));
-      bad_near = (let at = c.next_event-other.ensures.near in let before = near.1 in let limit = c.requires.limit in omega (arith, at, before, limit));
-      alike = alike_more kinds p q (g.H.History.timeline c.args.good.now) u (g.K.History.timeline c.args.bad.now) v c.loop-events.events c.next_event-one.new.told c.next_event-other.new.told c.next_event-one.result c.next_event-other.result
-          (both_found kinds p q c.args.limit (g.H.History.timeline c.args.good.now) (g.H.History.timeline c.loop-events.good) u (g.K.History.timeline c.args.bad.now) (g.K.History.timeline c.loop-events.bad) v c.loop-events.events
-          c.loop-events.good_told c.loop-events.bad_told c.next_event-one.new.told c.next_event-other.new.told c.next_event-one.result c.next_event-other.result i.alike one other)
-          (judges_as p (g.H.History.program c.next_event-one.new.history) q (g.K.History.program c.next_event-other.new.history) u.now v.now c.next_event-one.result c.next_event-other.result None None
-          (c.next_event-one.ensures.program ∙ i.good_program) (c.next_event-other.ensures.program ∙ i.bad_program) refl c.in_default.ensures);
-    }
+    ),
+  ),
+)

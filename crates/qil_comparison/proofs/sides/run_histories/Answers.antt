@@ -23,7 +23,7 @@ returns-in-Err-clause-written g c = λ one two p q s t begin ep eq et ew.
     let u = g.H.History.timeline c.compare-answer.new.good in
     let v = g.K.History.timeline c.compare-answer.new.bad in
     let answer = c.compare-answer.result in
-    Written-cut setup p q u v answer _ None _ _ (came setup p q s t _ _ _ _ u _ v answer begin ep eq et ew c.requires.kinds c.compare-answer.ensures.answer)
+    Written-cut setup p q u v answer _ None _ _ (came setup p q s t _ _ _ u _ v answer begin ep eq et ew c.compare-answer.ensures.answer)
     (cut_as _ _ _ _ (told_as p q _ _ u v answer (c.compare-answer.ensures.good_program ∙ ep) (c.compare-answer.ensures.bad_program ∙ eq)) c.in-Err.ensures.text)
 
 pub returns-in-None-clause-written : goal.returns-in-None-clause-written
@@ -32,7 +32,7 @@ returns-in-None-clause-written g c = λ one two p q s t begin ep eq et ew.
     let u = g.H.History.timeline c.compare-answer.new.good in
     let v = g.K.History.timeline c.compare-answer.new.bad in
     let answer = c.compare-answer.result in
-    Written-told setup p q u v answer _ None _ _ (came setup p q s t _ _ _ _ u _ v answer begin ep eq et ew c.requires.kinds c.compare-answer.ensures.answer) c.in-None.is
+    Written-told setup p q u v answer _ None _ _ (came setup p q s t _ _ _ u _ v answer begin ep eq et ew c.compare-answer.ensures.answer) c.in-None.is
     (wrote_as _ _ _ _ (told_as p q _ _ u v answer (c.compare-answer.ensures.good_program ∙ ep) (c.compare-answer.ensures.bad_program ∙ eq)) c.in-Ok.ensures.text)
 
 pub returns-in-Some-Good-clause-written : goal.returns-in-Some-Good-clause-written
@@ -45,7 +45,7 @@ returns-in-Some-Good-clause-written g c = λ one two p q s t begin ep eq et ew.
     let answer = c.compare-answer.result in
     let program = c.compare-answer.ensures.good_program ∙ ep in
     Written-served c.serve_at.result setup p q u v answer (unstopped (g.H.History.program c.compare-answer.new.good) u c.args.request.now.limit) _ _ _ _ _
-    (came setup p q s t _ _ _ _ u _ v answer begin ep eq et ew c.requires.kinds c.compare-answer.ensures.answer) (there_good setup p q u v _ session program)
+    (came setup p q s t _ _ _ u _ v answer begin ep eq et ew c.compare-answer.ensures.answer) (there_good setup p q u v _ session program)
     (wrote_as _ _ _ _ (told_as p q _ _ u v answer program (c.compare-answer.ensures.bad_program ∙ eq)) c.in-Ok.ensures.text) c.serve_at.ensures.served
 
 pub returns-in-Some-Bad-clause-written : goal.returns-in-Some-Bad-clause-written
@@ -58,5 +58,5 @@ returns-in-Some-Bad-clause-written g c = λ one two p q s t begin ep eq et ew.
     let answer = c.compare-answer.result in
     let program = c.compare-answer.ensures.bad_program ∙ eq in
     Written-served c.serve_at-in-Some-Bad.result setup p q u v answer (unstopped (g.K.History.program c.compare-answer.new.bad) v c.args.request.now.limit) _ _ _ _ _
-    (came setup p q s t _ _ _ _ u _ v answer begin ep eq et ew c.requires.kinds c.compare-answer.ensures.answer) (there_bad setup p q u v _ session program)
+    (came setup p q s t _ _ _ u _ v answer begin ep eq et ew c.compare-answer.ensures.answer) (there_bad setup p q u v _ session program)
     (wrote_as _ _ _ _ (told_as p q _ _ u v answer (c.compare-answer.ensures.good_program ∙ ep) program) c.in-Ok.ensures.text) c.serve_at-in-Some-Bad.ensures.served

@@ -2,7 +2,7 @@
 use Rattle.std.proofs.Common.{◌≡◌, ◌≤◌}
 use Rattle.qil_meaning.specs.Timeline.{position}
 use Rattle.qil_compare.proofs.Fronts.{AreAlike}
-use Rattle.qil_compare.proofs.comparing.compare.Given as goal
+use Rattle.qil_compare.proofs.comparing.compare_sides.Given as goal
 
 abbrev pub invariant-loop-events : goal.invariant-loop-events
 invariant-loop-events g l = record {
