@@ -183,8 +183,6 @@ impl<'c, A: Allocator + Copy + 'c, M: CopiedMachine<A, FlatMachine<'c, A>>> Watc
     A,
     Code<'c, A>,
 > for Replaying<M> {
-    fn is_read(&self) {}
-
     fn memory_reading(&self, address: u64, width: u64) -> Option<u64> {
         FlatMachine::memory_reading(machine_of(&self.machine), address, width)
     }
@@ -202,6 +200,8 @@ impl<'c, A: Allocator + Copy + 'c, M: CopiedMachine<A, FlatMachine<'c, A>>> Rest
     A,
     Code<'c, A>,
 > for Replaying<M> {
+    fn is_read(&self) {}
+
     fn run(&mut self, count: u64) -> u64 {
         self.machine.run_quietly(&[], &[], count)
     }

@@ -20,7 +20,7 @@ use qil_callstack::ShownCall;
 use qil_code::{BlockId, Code, Slot};
 use qil_flat::FlatPlace;
 use qil_layout::FuncId;
-use qil_readers::{FrameView, Readers};
+use qil_readers::FrameView;
 use qil_state::Status;
 use std::alloc::Allocator;
 
@@ -145,39 +145,63 @@ fn is_place(place: FlatPlace, func: FuncId, block: BlockId, index: u64) -> bool
         && u64::from(place.index) == index
 }
 
-impl<'c, A: Allocator + Copy> Readers<A, Code<'c, A>> for FlatMachine<'c, A> {
-    ghost whole = { λ machine. machine.whole };
-
-    fn code(&self) -> &Code<'c, A> {
+/// The readers of a machine. They are no `impl` of `Readers`: what is generic in these is given a machine with copies.
+impl<'c, A: Allocator + Copy> FlatMachine<'c, A> {
+    /// The code that it runs.
+    pub fn code(&self) -> &Code<'c, A>
+        ensures { result.now ≡ self.now.whole.program }
+    {
         self.code.code()
     }
 
-    fn status(&self) -> Status {
+    /// How the run stands.
+    pub fn status(&self) -> Status
+        ensures { result ≡ self.now.whole.status }
+    {
         self.status
     }
 
-    fn is_final(&self) -> bool {
+    /// Whether the run is over.
+    pub fn is_final(&self) -> bool
+        ensures { IsTrue result ↔ (self.now.whole.status ≢ Status.Running) }
+    {
         self.status != Status::Running
     }
 
-    fn depth(&self) -> usize {
+    /// How many calls are not over.
+    pub fn depth(&self) -> usize
+        ensures { result ≡ length self.now.whole.frames }
+    {
         self.calls.depth()
     }
 
-    fn frame(&self, inner: usize) -> Option<FrameView<'_>> {
+    /// A call that is not over, counted from the innermost one.
+    pub fn frame(&self, inner: usize) -> Option<FrameView<'_>>
+        ensures frame { result ≡ slice_get self.now.whole.frames inner }
+        ensures machine { IsMachine self.now.whole }
+    {
         let outside = self.calls.depth().checked_sub(inner)?.checked_sub(1)?;
         Some(self.view_at(outside))
     }
 
-    fn output(&self) -> &[u8] {
+    /// The bytes that were written.
+    pub fn output(&self) -> &[u8]
+        ensures { result.now ≡ self.now.whole.output }
+    {
         self.output.as_slice()
     }
 
-    fn byte(&self, address: u64) -> Option<u8> {
+    /// The byte at an address, if it is live.
+    pub fn byte(&self, address: u64) -> Option<u8>
+        ensures { result ≡ live self.now.whole.memory address }
+    {
         self.memory.byte(address)
     }
 
-    fn byte_after(&self, address: u64, offset: u64) -> Option<u8> {
+    /// The byte so far after an address, if it is live. After the last address there is none.
+    pub fn byte_after(&self, address: u64, offset: u64) -> Option<u8>
+        ensures { result ≡ live self.now.whole.memory (address + offset) }
+    {
         let _top = self.memory.top();
         match address.checked_add(offset) {
             Some(at) => self.memory.byte(at),
@@ -185,7 +209,12 @@ impl<'c, A: Allocator + Copy> Readers<A, Code<'c, A>> for FlatMachine<'c, A> {
         }
     }
 
-    fn value(&self, slot: Slot) -> Option<u64> {
+    /// What a slot of the innermost frame holds, if it is set.
+    pub fn value(&self, slot: Slot) -> Option<u64>
+        requires { HasSlot self.now.whole.frames slot }
+        ensures held { result ≡ held self.now.whole.frames slot }
+        ensures named { (name : List ℕ) → slice_get (head_names self.now.whole.program self.now.whole.frames) slot.index ≡ Some name → result ≡ temp_here (state_of self.now.whole).frames name }
+    {
         self.calls.get(slot)
     }
 }

@@ -8,16 +8,17 @@ ghost use Rattle.qil_stops.specs.Listed.{HasWidth, IsReadable, AreReadable};
 ghost use Rattle.qil_stops.specs.Named.{named_kind, named_stops, passes};
 ghost use Rattle.qil_stops.specs.Readings.{TellsWatched, Tells, AllTell};
 
+use crate::restorable::Restorable;
 use crate::watchable::Watchable;
 use arrayvec::ArrayVec;
 use qil_meaning::Reason;
-use qil_readers::{HasProgram, Readers};
+use qil_readers::HasProgram;
 use qil_stops::{NumberedStop, Place, StopKind, Watched};
 use std::alloc::Allocator;
 
 /// Whether the run is over.
 #[inline(always)]
-pub fn is_over<A: Allocator + Copy, C: HasProgram<A>, M: Watchable<A, C>>(machine: &M) -> bool
+pub fn is_over<A: Allocator + Copy, C: HasProgram<A>, M: Restorable<A, C>>(machine: &M) -> bool
     ensures { result ≡ is_final (state_of (M.present machine.now)).status }
 {
     machine.is_read();

@@ -14,7 +14,7 @@ ghost use Rattle.qil_stops.specs.Readings.{AllTell};
 
 use crate::watchable::Watchable;
 use qil_code::Slot;
-use qil_readers::HasProgram;
+use qil_readers::{HasProgram, Readers};
 use qil_stops::{NumberedStop, PokeError};
 use std::alloc::{AllocError, Allocator};
 
@@ -22,7 +22,11 @@ use std::alloc::{AllocError, Allocator};
 /// never out of memory, and neither is the way back.
 ///
 /// A user is generic in `C: HasProgram<A>` and `M: Restorable<A, C>`: so it names no lifetime.
-pub trait Restorable<A: Allocator, C: HasProgram<A>>: Watchable<A, C> {
+pub trait Restorable<A: Allocator, C: HasProgram<A>>: Watchable<A, C> + Readers<A, C> {
+    /// Does nothing, and tells that what is read is the state that it has.
+    fn is_read(&self)
+        ensures { Self.whole self.now ≡ Self.present self.now };
+
     /// Makes so many steps, and fewer only where the run is over. Gives how many.
     fn run(&mut self, count: u64) -> u64
         ensures program { (Self.present self.new).program ≡ (Self.present self.old).program }

@@ -14,7 +14,7 @@ ghost use Rattle.qil_state.specs.State.{Whole, state_of};
 
 use qil_code::{BlockId, Slot};
 use qil_layout::FuncId;
-use qil_readers::{HasProgram, Readers};
+use qil_readers::HasProgram;
 use std::alloc::Allocator;
 
 /// What a machine with copies holds, seen whole: a struct over such machines can't name their code.
@@ -27,12 +27,9 @@ pub trait HasCopies<A: Allocator> {
 
 /// A machine that stops look at: what a watch reads of it, and whether it is at a breakpoint. Nothing here takes memory.
 ///
-/// A user is generic in `M: Watchable<A, C>`.
-pub trait Watchable<A: Allocator, C: HasProgram<A>>: HasCopies<A> + Readers<A, C> {
-    /// Does nothing, and tells that what is read is the state that it has.
-    fn is_read(&self)
-        ensures { Self.whole self.now ≡ Self.present self.now };
-
+/// A user is generic in `M: Watchable<A, C>`, where `C` is the type of its code, and is handed these calls alone: what else can be
+/// read of a machine isn't compared where it is known.
+pub trait Watchable<A: Allocator, C: HasProgram<A>>: HasCopies<A> {
     /// What a watch reads of memory: the number in 1, 2, 4 or 8 bytes from an address on, if all are live.
     fn memory_reading(&self, address: u64, width: u64) -> Option<u64>
         requires { IsWidth width }

@@ -2,7 +2,7 @@
 use Rattle.std.proofs.Common.{◌≡◌, ◌+◌, ◌∙◌, ap, arith, sym}
 use Rattle.qil_readers.proofs.FarBytes.{dead_far}
 use Rattle.qil_flatmachine.specs.Seen.{FlatWhole}
-use Rattle.qil_flatmachine.proofs.readers.FlatMachineReadersCode.byte_after.Goals as goal
+use Rattle.qil_flatmachine.proofs.machine.FlatMachine.byte_after.Goals as goal
 
 pub returns-in-None : goal.returns-in-None
 returns-in-None g c =

@@ -5,7 +5,7 @@ use Rattle.qil_callstack.proofs.Placed.{held-frames}
 use Rattle.qil_machine.proofs.Watching.{is_held}
 use Rattle.qil_flatmachine.specs.Seen.{FlatWhole, place_in}
 use Rattle.qil_flatmachine.proofs.Replacing.{machine_now}
-use Rattle.qil_flatmachine.proofs.readers.FlatMachineReadersCode.value.Goals as goal
+use Rattle.qil_flatmachine.proofs.machine.FlatMachine.value.Goals as goal
 
 pub returns-clause-named : goal.returns-clause-named
 returns-clause-named g c = λ name at.
