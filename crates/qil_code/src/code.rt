@@ -70,6 +70,14 @@ impl<'c, A: Allocator + Copy> Code<'c, A> {
         }
     }
 
+    /// The same code at the lifetime that it is lent for.
+    // What such a change of a large type costs a check is paid for here, once, with nothing else alive.
+    pub fn shortened<'s>(&'s self) -> &'s Code<'s, A>
+        ensures { result.now ≡ self.now }
+    {
+        self
+    }
+
     /// The tree that the code was numbered from.
     pub fn program(&self) -> &'c Program<'c, A>
         ensures { result.now ≡ self.now }

@@ -31,11 +31,16 @@ use qrev_views::Shown;
 use std::alloc::Allocator;
 use std::hash::RandomState;
 
+/// The tree of the program that a session runs.
+fn program_of<'c, A: Allocator + Copy + 'c, L: HasMachine<A, Machine<'c, A>>>(
+    live: &L,
+) -> &'c Program<'c, A> {
+    live.machine().code().program()
+}
+
 /// Serves a session that has made no move.
 fn open_session<
     'c,
-    'p,
-    'a,
     'l,
     A: Allocator + Copy + 'c,
     L: HasMachine<A, Machine<'c, A>> + Drop,
@@ -45,7 +50,6 @@ fn open_session<
 >(
     live: L,
     opening: Opening<'l>,
-    program: &'p Program<'a, A>,
     loaded: &Loaded<'_>,
     launch: &'l Launch<A>,
     request: Request<'_>,
@@ -57,6 +61,7 @@ fn open_session<
     ensures { Serves result (asked_by request.entry) (heard S.remaining W.contents line.old) (heard S.remaining W.contents line.new) }
 {
     let alloc = line.alloc;
+    let program = program_of(&live);
     let recorder = match Recorder::new(alloc, opening, loaded, live) {
         Ok(recorder) => recorder,
         Err(_) => {
@@ -81,10 +86,9 @@ fn open_session<
 }
 
 /// Serves from a machine at its start, over all its deltas.
-fn open_whole<'c, 'p, 'a, 'l, A: Allocator + Copy + 'c, S: Source, W: Sink, F: Files<A>>(
+fn open_whole<'c, 'l, A: Allocator + Copy + 'c, S: Source, W: Sink, F: Files<A>>(
     machine: Machine<'c, A>,
     opening: Opening<'l>,
-    program: &'p Program<'a, A>,
     loaded: &Loaded<'_>,
     launch: &'l Launch<A>,
     request: Request<'_>,
@@ -104,15 +108,14 @@ fn open_whole<'c, 'p, 'a, 'l, A: Allocator + Copy + 'c, S: Source, W: Sink, F: F
             return Err(Ended::OutOfMemory);
         }
     };
-    open_session(live, opening, program, loaded, launch, request, files, line)
+    open_session(live, opening, loaded, launch, request, files, line)
 }
 
 /// Serves from a machine at its start, over the newest of its deltas.
-fn open_bounded<'c, 'p, 'a, 'l, A: Allocator + Copy + 'c, S: Source, W: Sink, F: Files<A>>(
+fn open_bounded<'c, 'l, A: Allocator + Copy + 'c, S: Source, W: Sink, F: Files<A>>(
     machine: Machine<'c, A>,
     bound: u64,
     opening: Opening<'l>,
-    program: &'p Program<'a, A>,
     loaded: &Loaded<'_>,
     launch: &'l Launch<A>,
     request: Request<'_>,
@@ -137,14 +140,13 @@ fn open_bounded<'c, 'p, 'a, 'l, A: Allocator + Copy + 'c, S: Source, W: Sink, F:
             return Err(Ended::OutOfMemory);
         }
     };
-    open_session(live, opening, program, loaded, launch, request, files, line)
+    open_session(live, opening, loaded, launch, request, files, line)
 }
 
 /// Serves from a machine at its start: over all its deltas, or over the newest if there is a bound.
-fn open_machine<'c, 'p, 'a, 'l, A: Allocator + Copy + 'c, S: Source, W: Sink, F: Files<A>>(
+fn open_machine<'c, 'l, A: Allocator + Copy + 'c, S: Source, W: Sink, F: Files<A>>(
     machine: Machine<'c, A>,
     opening: Opening<'l>,
-    program: &'p Program<'a, A>,
     loaded: &Loaded<'_>,
     launch: &'l Launch<A>,
     request: Request<'_>,
@@ -157,20 +159,17 @@ fn open_machine<'c, 'p, 'a, 'l, A: Allocator + Copy + 'c, S: Source, W: Sink, F:
     ensures { Serves result (asked_by request.entry) (heard S.remaining W.contents line.old) (heard S.remaining W.contents line.new) }
 {
     let Some(bound) = opening.bound else {
-        return open_whole(
-            machine, opening, program, loaded, launch, request, files, line,
-        );
+        return open_whole(machine, opening, loaded, launch, request, files, line);
     };
     open_bounded(
-        machine, bound, opening, program, loaded, launch, request, files, line,
+        machine, bound, opening, loaded, launch, request, files, line,
     )
 }
 
 /// Serves a program that is numbered.
-fn open_code<'c, 't, 'p, 'a, 'l, A: Allocator + Copy + 'c, S: Source, W: Sink, F: Files<A>>(
+fn open_code<'c, 't, 'l, A: Allocator + Copy + 'c, S: Source, W: Sink, F: Files<A>>(
     code: &'c Code<'t, A>,
     opening: Opening<'l>,
-    program: &'p Program<'a, A>,
     loaded: &Loaded<'_>,
     launch: &'l Launch<A>,
     request: Request<'_>,
@@ -186,9 +185,7 @@ fn open_code<'c, 't, 'p, 'a, 'l, A: Allocator + Copy + 'c, S: Source, W: Sink, F
         Ok(machine) => machine,
         Err(error) => return refuse_start(error, launch, request, line),
     };
-    open_machine(
-        machine, opening, program, loaded, launch, request, files, line,
-    )
+    open_machine(machine, opening, loaded, launch, request, files, line)
 }
 
 /// What a session is opened with.
@@ -232,10 +229,7 @@ fn open_laid_out<'c, 't, 'l, A: Allocator + Copy, S: Source, W: Sink, F: Files<A
         }
     };
     let loaded = Loaded::new(checked, image);
-    let program = checked.program();
-    open_code(
-        &code, opening, program, &loaded, launch, request, files, line,
-    )
+    open_code(&code, opening, &loaded, launch, request, files, line)
 }
 
 /// Serves a program that is checked.

@@ -62,20 +62,42 @@ fn put_threads<A: Allocator>(body: Body<A>) -> Result<Body<A>, AllocError> {
         .end()
 }
 
+/// Where the run ended, if a fault ended it.
+fn fault_place<A: Allocator + Copy>(
+    alloc: A,
+    position: u64,
+    machine: &Machine<'_, A>,
+) -> Result<String<A>, Failure> {
+    if !matches!(machine.status(), Status::Faulted(_)) {
+        return Err(Failure::Because(Cause::NoFault));
+    }
+    Ok(place_text(alloc, position, machine)?)
+}
+
+/// Adds the threads that a request asks for.
+fn threads<A: Allocator>(body: Body<A>) -> Result<Body<A>, Failure> {
+    Ok(put_threads(body)?)
+}
+
+/// Adds what is known of a fault, by the place where it ended the run.
+fn put_exception<A: Allocator>(body: Body<A>, place: &str) -> Result<Body<A>, AllocError> {
+    body.text("exceptionId", fault_in(place).unwrap_or("fault"))?
+        .text("description", place)?
+        .text("breakMode", "always")
+}
+
 /// Adds what is known of the fault that ended the run.
 fn exception_info<'c, A: Allocator + Copy + 'c, L: HasMachine<A, Machine<'c, A>>>(
     debuggee: &Debuggee<'_, '_, '_, A, L>,
     body: Body<A>,
 ) -> Result<Body<A>, Failure> {
-    if !matches!(debuggee.machine().status(), Status::Faulted(_)) {
-        return Err(Failure::Because(Cause::NoFault));
-    }
-    let place = place_text(debuggee.alloc, debuggee.position(), debuggee.machine())?;
-    Ok(
-        body.text("exceptionId", fault_in(place.as_str()).unwrap_or("fault"))?
-            .text("description", place.as_str())?
-            .text("breakMode", "always")?,
-    )
+    let place = fault_place(debuggee.alloc, debuggee.position(), debuggee.machine())?;
+    Ok(put_exception(body, place.as_str())?)
+}
+
+/// Whether there is a frame of a number.
+fn has_frame<A: Allocator + Copy>(machine: &Machine<'_, A>, number: u64) -> bool {
+    frame_of(machine, number).is_some()
 }
 
 /// The move to the beginning of the call of a frame.
@@ -84,13 +106,11 @@ fn restart_frame<'c, A: Allocator + Copy + 'c, L: HasMachine<A, Machine<'c, A>>>
     asked: Arguments<'_, '_, A>,
 ) -> Result<Then, Failure> {
     let number = asked.number("frameId").unwrap_or(0);
-    match frame_of(debuggee.machine(), number) {
-        Some(_) => {
-            let depth = (debuggee.depth() as u64).saturating_sub(number);
-            Ok(Then::Move(Motion::ToBeginning(depth as usize)))
-        }
-        None => Err(Failure::Because(Cause::NoSuchFrame)),
+    if !has_frame(debuggee.machine(), number) {
+        return Err(Failure::Because(Cause::NoSuchFrame));
     }
+    let depth = (debuggee.depth() as u64).saturating_sub(number);
+    Ok(Then::Move(Motion::ToBeginning(depth as usize)))
 }
 
 /// The move that a request asks for, if it asks for one, while so many calls are open.
@@ -143,19 +163,33 @@ fn look<'c, A: Allocator + Copy + 'c, L: HasMachine<A, Machine<'c, A>>>(
     asked: Arguments<'_, '_, A>,
     body: Body<A>,
 ) -> Result<(Body<A>, Then), Failure> {
-    let body = match command {
-        "threads" => put_threads(body)?,
-        "stackTrace" => stack_trace(debuggee, asked, body)?,
-        "scopes" => scopes(debuggee, asked, body)?,
-        "variables" => variables(debuggee, asked, body)?,
-        "dataBreakpointInfo" => data_breakpoint_info(debuggee, asked, body)?,
-        "breakpointLocations" => breakpoint_locations(debuggee, asked, body)?,
-        "readMemory" => read_memory(debuggee, asked, body)?,
-        "exceptionInfo" => exception_info(debuggee, body)?,
-        "completions" => completions(debuggee, asked, body)?,
+    let answered = match command {
+        "threads" => threads(body),
+        "stackTrace" => stack_trace(debuggee, asked, body),
+        "scopes" => scopes(debuggee, asked, body),
+        "variables" => variables(debuggee, asked, body),
+        "dataBreakpointInfo" => data_breakpoint_info(debuggee, asked, body),
+        "breakpointLocations" => breakpoint_locations(debuggee, asked, body),
+        "readMemory" => read_memory(debuggee, asked, body),
+        "exceptionInfo" => exception_info(debuggee, body),
+        "completions" => completions(debuggee, asked, body),
         _ => return control(debuggee, command, asked, body),
     };
-    Ok((body, Then::Nothing))
+    Ok((answered?, Then::Nothing))
+}
+
+/// Evaluates what a request asks, which may be a command, and says whether the run stands elsewhere then.
+fn evaluated<'c, A: Allocator + Copy + 'c, L: HasMachine<A, Machine<'c, A>>>(
+    debuggee: &mut Debuggee<'_, '_, '_, A, L>,
+    asked: Arguments<'_, '_, A>,
+    body: Body<A>,
+) -> Result<(Body<A>, Then), Failure> {
+    let (body, why) = evaluate(debuggee, asked, body)?;
+    let then = match why {
+        Some(why) => Then::Stopped(why),
+        None => Then::Nothing,
+    };
+    Ok((body, then))
 }
 
 /// Does what a request asks, adds the members of its body, and says what follows.
@@ -165,22 +199,16 @@ fn answer<'c, A: Allocator + Copy + 'c, L: HasMachine<A, Machine<'c, A>>>(
     asked: Arguments<'_, '_, A>,
     body: Body<A>,
 ) -> Result<(Body<A>, Then), Failure> {
-    let body = match command {
-        "setBreakpoints" => set_breakpoints(debuggee, asked, body)?,
-        "setFunctionBreakpoints" => set_by_words(debuggee, asked, StopFamily::Function, body)?,
-        "setDataBreakpoints" => set_by_words(debuggee, asked, StopFamily::Data, body)?,
-        "setVariable" => set_variable(debuggee, asked, body)?,
-        "writeMemory" => write_memory(debuggee, asked, body)?,
-        "evaluate" => {
-            let (body, why) = evaluate(debuggee, asked, body)?;
-            return match why {
-                Some(why) => Ok((body, Then::Stopped(why))),
-                None => Ok((body, Then::Nothing)),
-            };
-        }
+    let answered = match command {
+        "setBreakpoints" => set_breakpoints(debuggee, asked, body),
+        "setFunctionBreakpoints" => set_by_words(debuggee, asked, StopFamily::Function, body),
+        "setDataBreakpoints" => set_by_words(debuggee, asked, StopFamily::Data, body),
+        "setVariable" => set_variable(debuggee, asked, body),
+        "writeMemory" => write_memory(debuggee, asked, body),
+        "evaluate" => return evaluated(debuggee, asked, body),
         _ => return look(debuggee, command, asked, body),
     };
-    Ok((body, Then::Nothing))
+    Ok((answered?, Then::Nothing))
 }
 
 /// Responds that a request isn't done, and why.
