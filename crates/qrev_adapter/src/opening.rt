@@ -18,7 +18,6 @@ use qil_meaning::Image;
 use qil_numbering::number;
 use qil_rules::Checked;
 use qil_streams::{Sink, Source};
-use qil_tree::Program;
 use qrev_notices::{
     Closed, Debuggee, Ended, Files, Line, read_sources, refuse_load, refuse_map, refuse_start,
     refuse_unread, tell_open,
@@ -30,13 +29,6 @@ use qrev_sessions::{BoundedSession, WholeSession};
 use qrev_views::Shown;
 use std::alloc::Allocator;
 use std::hash::RandomState;
-
-/// The tree of the program that a session runs.
-fn program_of<'c, A: Allocator + Copy + 'c, L: HasMachine<A, Machine<'c, A>>>(
-    live: &L,
-) -> &'c Program<'c, A> {
-    live.machine().code().program()
-}
 
 /// Serves a session that has made no move.
 fn open_session<
@@ -61,7 +53,6 @@ fn open_session<
     ensures { Serves result (asked_by request.entry) (heard S.remaining W.contents line.old) (heard S.remaining W.contents line.new) }
 {
     let alloc = line.alloc;
-    let program = program_of(&live);
     let recorder = match Recorder::new(alloc, opening, loaded, live) {
         Ok(recorder) => recorder,
         Err(_) => {
@@ -73,7 +64,6 @@ fn open_session<
     let debuggee = Debuggee {
         alloc,
         recorder,
-        program,
         shown: Shown {
             path: launch.program.as_str(),
             numbering: line.numbering,

@@ -115,12 +115,12 @@ fn put_text_lines<A: Allocator>(
 
 /// Adds the lines of a range at which a breakpoint stays.
 pub fn breakpoint_locations<'c, A: Allocator + Copy + 'c, L: HasMachine<A, Machine<'c, A>>>(
-    debuggee: &Debuggee<'_, '_, '_, A, L>,
+    debuggee: &Debuggee<'_, A, L>,
     asked: Arguments<'_, '_, A>,
     body: Body<A>,
 ) -> Result<Body<A>, Failure> {
     let file = file_asked(debuggee, asked.inside("source"))?;
-    let program = debuggee.program;
+    let program = debuggee.program();
     let numbering = debuggee.shown.numbering;
     let first = asked.number("line").unwrap_or(0);
     let last = asked.number("endLine").unwrap_or(first);

@@ -112,7 +112,7 @@ enum Made {
 
 /// Deletes the stops of a family, the lowest number first.
 fn delete_stops<'c, A: Allocator + Copy + 'c, L: HasMachine<A, Machine<'c, A>>>(
-    debuggee: &mut Debuggee<'_, '_, '_, A, L>,
+    debuggee: &mut Debuggee<'_, A, L>,
     family: StopFamily,
 ) -> Result<(), Failure> {
     for index in 0..debuggee.stops.len() {
@@ -130,7 +130,7 @@ fn delete_stops<'c, A: Allocator + Copy + 'c, L: HasMachine<A, Machine<'c, A>>>(
 
 /// Deletes a stop, if it is still there.
 fn delete_stop<'c, A: Allocator + Copy + 'c, L: HasMachine<A, Machine<'c, A>>>(
-    debuggee: &mut Debuggee<'_, '_, '_, A, L>,
+    debuggee: &mut Debuggee<'_, A, L>,
     number: u64,
 ) -> Result<(), Failure> {
     match debuggee.line_of(&[Fragment::Bytes(b"delete "), Fragment::Number(number)]) {
@@ -141,7 +141,7 @@ fn delete_stop<'c, A: Allocator + Copy + 'c, L: HasMachine<A, Machine<'c, A>>>(
 
 /// Makes a stop by a line.
 fn make_stop<'c, A: Allocator + Copy + 'c, L: HasMachine<A, Machine<'c, A>>>(
-    debuggee: &mut Debuggee<'_, '_, '_, A, L>,
+    debuggee: &mut Debuggee<'_, A, L>,
     family: StopFamily,
     line: &[Fragment<'_>],
 ) -> Result<Made, Failure> {
@@ -160,7 +160,7 @@ fn make_stop<'c, A: Allocator + Copy + 'c, L: HasMachine<A, Machine<'c, A>>>(
 
 /// Adds a stop that the session refused.
 fn put_answered<'c, A: Allocator + Copy + 'c, L: HasMachine<A, Machine<'c, A>>>(
-    debuggee: &Debuggee<'_, '_, '_, A, L>,
+    debuggee: &Debuggee<'_, A, L>,
     list: BreakpointList<A>,
     from: usize,
 ) -> Result<BreakpointList<A>, AllocError> {
@@ -170,7 +170,7 @@ fn put_answered<'c, A: Allocator + Copy + 'c, L: HasMachine<A, Machine<'c, A>>>(
 
 /// Makes a breakpoint at a place, which is shown on a line of a file.
 fn break_at<'c, A: Allocator + Copy + 'c, L: HasMachine<A, Machine<'c, A>>>(
-    debuggee: &mut Debuggee<'_, '_, '_, A, L>,
+    debuggee: &mut Debuggee<'_, A, L>,
     list: BreakpointList<A>,
     family: StopFamily,
     spot: Spot<'_, '_, A>,
@@ -207,11 +207,11 @@ fn break_at<'c, A: Allocator + Copy + 'c, L: HasMachine<A, Machine<'c, A>>>(
 
 /// Makes a breakpoint at the place that a line of the text means.
 fn break_in_text<'c, A: Allocator + Copy + 'c, L: HasMachine<A, Machine<'c, A>>>(
-    debuggee: &mut Debuggee<'_, '_, '_, A, L>,
+    debuggee: &mut Debuggee<'_, A, L>,
     list: BreakpointList<A>,
     line: u64,
 ) -> Result<BreakpointList<A>, Failure> {
-    let Some(spot) = spot_at(debuggee.program, debuggee.shown.numbering.text_line(line)) else {
+    let Some(spot) = spot_at(debuggee.program(), debuggee.shown.numbering.text_line(line)) else {
         return Ok(put_flaw(list, flaw_words(Flaw::NoPlace))?);
     };
     let line = line_of(spot.func, spot.place).unwrap_or(spot.func.line);
@@ -222,7 +222,7 @@ fn break_in_text<'c, A: Allocator + Copy + 'c, L: HasMachine<A, Machine<'c, A>>>
 /// Makes a breakpoint at the place that a line of a source means: that of the first line of the text which came from it, or
 /// from the least line after it of which there is one.
 fn break_in_source<'c, A: Allocator + Copy + 'c, L: HasMachine<A, Machine<'c, A>>>(
-    debuggee: &mut Debuggee<'_, '_, '_, A, L>,
+    debuggee: &mut Debuggee<'_, A, L>,
     list: BreakpointList<A>,
     source: &AskedSource<A>,
     line: u64,
@@ -234,7 +234,7 @@ fn break_in_source<'c, A: Allocator + Copy + 'c, L: HasMachine<A, Machine<'c, A>
     let Some(mapping) = mapping else {
         return Ok(put_flaw(list, flaw_words(Flaw::NoSource))?);
     };
-    let Some(spot) = spot_at(debuggee.program, mapping.text_line) else {
+    let Some(spot) = spot_at(debuggee.program(), mapping.text_line) else {
         return Ok(put_flaw(list, flaw_words(Flaw::NoPlace))?);
     };
     let family = StopFamily::Source(source.first_line);
@@ -250,7 +250,7 @@ fn break_in_source<'c, A: Allocator + Copy + 'c, L: HasMachine<A, Machine<'c, A>
 
 /// Makes one breakpoint at a line of a file.
 fn set_line<'c, A: Allocator + Copy + 'c, L: HasMachine<A, Machine<'c, A>>>(
-    debuggee: &mut Debuggee<'_, '_, '_, A, L>,
+    debuggee: &mut Debuggee<'_, A, L>,
     list: BreakpointList<A>,
     file: &AskedFile<A>,
     asked: Arguments<'_, '_, A>,
@@ -269,7 +269,7 @@ fn set_line<'c, A: Allocator + Copy + 'c, L: HasMachine<A, Machine<'c, A>>>(
 
 /// Makes breakpoints at lines of a file in place of those that are there.
 pub fn set_breakpoints<'c, A: Allocator + Copy + 'c, L: HasMachine<A, Machine<'c, A>>>(
-    debuggee: &mut Debuggee<'_, '_, '_, A, L>,
+    debuggee: &mut Debuggee<'_, A, L>,
     asked: Arguments<'_, '_, A>,
     body: Body<A>,
 ) -> Result<Body<A>, Failure> {
@@ -291,7 +291,7 @@ pub fn set_breakpoints<'c, A: Allocator + Copy + 'c, L: HasMachine<A, Machine<'c
 
 /// Makes one stop by the words that a request says.
 fn set_words<'c, A: Allocator + Copy + 'c, L: HasMachine<A, Machine<'c, A>>>(
-    debuggee: &mut Debuggee<'_, '_, '_, A, L>,
+    debuggee: &mut Debuggee<'_, A, L>,
     list: BreakpointList<A>,
     family: StopFamily,
     words: Option<&str>,
@@ -324,7 +324,7 @@ fn set_words<'c, A: Allocator + Copy + 'c, L: HasMachine<A, Machine<'c, A>>>(
 
 /// Makes the stops of a family that words say, in place of those that are there.
 pub fn set_by_words<'c, A: Allocator + Copy + 'c, L: HasMachine<A, Machine<'c, A>>>(
-    debuggee: &mut Debuggee<'_, '_, '_, A, L>,
+    debuggee: &mut Debuggee<'_, A, L>,
     asked: Arguments<'_, '_, A>,
     family: StopFamily,
     body: Body<A>,

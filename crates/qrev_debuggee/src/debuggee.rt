@@ -30,10 +30,9 @@ pub struct RequestedStop {
 
 /// A session that an editor drives.
 #[derive(Drop)]
-pub struct Debuggee<'p, 'a, 'l, A: Allocator, L: Debugged<A>> {
+pub struct Debuggee<'l, A: Allocator, L: Debugged<A>> {
     pub alloc: A,
     pub recorder: Recorder<'l, A, L>,
-    pub program: &'p Program<'a, A>,
     pub shown: Shown<'l>,
     /// Where the text came from, if a map tells it.
     pub source_map: Option<SourceMap<A>>,
@@ -54,15 +53,14 @@ impl From<LineError> for Failure {
     }
 }
 
-impl<'c, 'p, 'a, 'l, A: Allocator + Copy + 'c, L: HasMachine<A, Machine<'c, A>>> Debuggee<
-    'p,
-    'a,
-    'l,
-    A,
-    L,
-> {
+impl<'c, 'l, A: Allocator + Copy + 'c, L: HasMachine<A, Machine<'c, A>>> Debuggee<'l, A, L> {
     pub fn machine(&self) -> &Machine<'c, A> {
         self.recorder.live().machine()
+    }
+
+    /// The tree of its program.
+    pub fn program(&self) -> &'c Program<'c, A> {
+        self.machine().code().program()
     }
 
     /// How many calls are open.

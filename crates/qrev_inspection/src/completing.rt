@@ -302,7 +302,7 @@ fn put_targets<A: Allocator + Copy>(
 
 /// Adds what may stand in place of the word that ends at a column of a line.
 pub fn completions<'c, A: Allocator + Copy + 'c, L: HasMachine<A, Machine<'c, A>>>(
-    debuggee: &Debuggee<'_, '_, '_, A, L>,
+    debuggee: &Debuggee<'_, A, L>,
     asked: Arguments<'_, '_, A>,
     body: Body<A>,
 ) -> Result<Body<A>, Failure> {
@@ -313,7 +313,7 @@ pub fn completions<'c, A: Allocator + Copy + 'c, L: HasMachine<A, Machine<'c, A>
         body,
         typed,
         debuggee.machine(),
-        debuggee.program,
+        debuggee.program(),
         number,
     )?)
 }

@@ -35,7 +35,7 @@ fn page_said<A: Allocator + Copy>(asked: Arguments<'_, '_, A>, start: &str, coun
 
 /// Adds the frames of the page that a request asks for.
 pub fn stack_trace<'c, A: Allocator + Copy + 'c, L: HasMachine<A, Machine<'c, A>>>(
-    debuggee: &Debuggee<'_, '_, '_, A, L>,
+    debuggee: &Debuggee<'_, A, L>,
     asked: Arguments<'_, '_, A>,
     body: Body<A>,
 ) -> Result<Body<A>, Failure> {
@@ -45,7 +45,7 @@ pub fn stack_trace<'c, A: Allocator + Copy + 'c, L: HasMachine<A, Machine<'c, A>
         body,
         debuggee.position(),
         debuggee.machine(),
-        debuggee.program,
+        debuggee.program(),
         debuggee.shown,
         debuggee.source_map.as_ref(),
         page,
@@ -68,18 +68,18 @@ fn frame_scopes<A: Allocator + Copy>(
 
 /// Adds the scopes of a frame.
 pub fn scopes<'c, A: Allocator + Copy + 'c, L: HasMachine<A, Machine<'c, A>>>(
-    debuggee: &Debuggee<'_, '_, '_, A, L>,
+    debuggee: &Debuggee<'_, A, L>,
     asked: Arguments<'_, '_, A>,
     body: Body<A>,
 ) -> Result<Body<A>, Failure> {
     let number = asked.number("frameId").unwrap_or(0);
-    let datas = debuggee.program.datas.as_slice().len();
+    let datas = debuggee.program().datas.as_slice().len();
     frame_scopes(debuggee.machine(), number, datas, body)
 }
 
 /// Adds the variables of the machine.
 fn machine_variables<'c, A: Allocator + Copy + 'c, L: HasMachine<A, Machine<'c, A>>>(
-    debuggee: &Debuggee<'_, '_, '_, A, L>,
+    debuggee: &Debuggee<'_, A, L>,
     page: Page,
     body: Body<A>,
 ) -> Result<Body<A>, AllocError> {
@@ -96,7 +96,7 @@ fn machine_variables<'c, A: Allocator + Copy + 'c, L: HasMachine<A, Machine<'c, 
 
 /// Adds the data of the program.
 fn data_variables<'c, A: Allocator + Copy + 'c, L: HasMachine<A, Machine<'c, A>>>(
-    debuggee: &Debuggee<'_, '_, '_, A, L>,
+    debuggee: &Debuggee<'_, A, L>,
     page: Page,
     body: Body<A>,
 ) -> Result<Body<A>, AllocError> {
@@ -104,7 +104,7 @@ fn data_variables<'c, A: Allocator + Copy + 'c, L: HasMachine<A, Machine<'c, A>>
         debuggee.alloc,
         body.array("variables")?,
         debuggee.machine(),
-        debuggee.program,
+        debuggee.program(),
         page,
     )?
     .end()
@@ -139,7 +139,7 @@ fn frame_variables<A: Allocator + Copy>(
 
 /// Adds the variables of a scope.
 pub fn variables<'c, A: Allocator + Copy + 'c, L: HasMachine<A, Machine<'c, A>>>(
-    debuggee: &Debuggee<'_, '_, '_, A, L>,
+    debuggee: &Debuggee<'_, A, L>,
     asked: Arguments<'_, '_, A>,
     body: Body<A>,
 ) -> Result<Body<A>, Failure> {

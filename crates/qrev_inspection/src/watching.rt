@@ -203,7 +203,7 @@ fn put_watch<A: Allocator + Copy>(
 
 /// Adds which stop would watch a variable.
 pub fn data_breakpoint_info<'c, A: Allocator + Copy + 'c, L: HasMachine<A, Machine<'c, A>>>(
-    debuggee: &Debuggee<'_, '_, '_, A, L>,
+    debuggee: &Debuggee<'_, A, L>,
     asked: Arguments<'_, '_, A>,
     body: Body<A>,
 ) -> Result<Body<A>, Failure> {
@@ -212,7 +212,7 @@ pub fn data_breakpoint_info<'c, A: Allocator + Copy + 'c, L: HasMachine<A, Machi
     Ok(put_watch(
         debuggee.alloc,
         debuggee.machine(),
-        debuggee.program,
+        debuggee.program(),
         watched,
         name,
         body,
