@@ -10,7 +10,7 @@ ghost use Rattle.qil_answers.specs.Shown.{frames_shown};
 use crate::names::{func_name, innermost, label_name};
 use qil_code::Code;
 use qil_pieces::{Fragment, put_fragments};
-use qil_readers::{FrameView, Readers};
+use qil_readers::{FrameView, Readers, code_of};
 use qil_streams::{Put, PutError, put_line};
 use std::alloc::Allocator;
 
@@ -25,7 +25,7 @@ fn put_frame<'c, P: Put, A: Allocator + Copy + 'c, M: Readers<A, Code<'c, A>>>(
     ensures counted { Counts result (P.stops out.old) (P.stops out.new) }
     ensures device { P.device out.new ≡ P.device out.old }
 {
-    let code = machine.code();
+    let code = code_of(machine);
     put_fragments(
         out,
         &[

@@ -11,7 +11,7 @@ ghost use Rattle.qil_answers.specs.Listing.{phi_row, row, row_prefix, inst_rows,
 use crate::names::{func_name, innermost, label_name};
 use qil_code::Code;
 use qil_pieces::{Fragment, put_fragments};
-use qil_readers::{FrameView, Readers};
+use qil_readers::{FrameView, Readers, code_of};
 use qil_streams::{Put, PutError, put_line};
 use qil_texts::{inst_text, jump_text, phi_text};
 use qil_tree::{Inst, Jump, Phi};
@@ -171,7 +171,7 @@ pub fn put_block<'c, P: Put, A: Allocator + Copy + 'c, M: Readers<A, Code<'c, A>
     let Some(frame) = innermost(machine) else {
         return put_line(out, b"no: no frame");
     };
-    let code = machine.code();
+    let code = code_of(machine);
     code.names_are_distinct();
     put_head(out, code, &frame)?;
     put_block_of(out, code, &frame)

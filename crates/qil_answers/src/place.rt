@@ -11,7 +11,7 @@ use crate::names::{func_name, innermost, label_name, temp_name};
 use qil_code::Code;
 use qil_ops::DivFault;
 use qil_pieces::{Fragment, put_fragments};
-use qil_readers::Readers;
+use qil_readers::{Readers, code_of};
 use qil_state::{Fault, Status};
 use qil_streams::{Put, PutError};
 use std::alloc::Allocator;
@@ -46,7 +46,7 @@ fn fault_detail<'c: 'm, 'm, A: Allocator + Copy + 'c, M: Readers<A, Code<'c, A>>
         Fault::DeadAddress(address) | Fault::NoFunction(address) => Fragment::Number(address),
         Fault::Unset(slot) => match innermost(machine) {
             Some(frame) => {
-                let code = machine.code();
+                let code = code_of(machine);
                 Fragment::Bytes(temp_name(code, frame.func(), slot))
             }
             None => Fragment::Bytes(b""),
@@ -74,7 +74,7 @@ fn put_standing<'c, P: Put, A: Allocator + Copy + 'c, M: Readers<A, Code<'c, A>>
             ],
         );
     };
-    let code = machine.code();
+    let code = code_of(machine);
     put_fragments(
         out,
         &[

@@ -11,7 +11,7 @@ ghost use Rattle.qil_answers.specs.Slots.{slot_lines};
 use crate::names::{innermost, temp_name};
 use qil_code::{Code, Slot};
 use qil_pieces::{Fragment, put_fragments};
-use qil_readers::{FrameView, Readers};
+use qil_readers::{FrameView, Readers, code_of};
 use qil_streams::{Put, PutError, put_line};
 use std::alloc::Allocator;
 
@@ -59,7 +59,7 @@ pub fn put_printed<'c, P: Put, A: Allocator + Copy + 'c, M: Readers<A, Code<'c, 
     let Some(frame) = innermost(machine) else {
         return put_line(out, b"no: no frame");
     };
-    match machine.code().slot_of(frame.func(), name) {
+    match code_of(machine).slot_of(frame.func(), name) {
         Some(slot) => put_value(out, name, machine.value(slot)),
         None => put_line(out, b"no: unknown temporary"),
     }
@@ -100,7 +100,7 @@ pub fn put_temps<'c, P: Put, A: Allocator + Copy + 'c, M: Readers<A, Code<'c, A>
     let Some(frame) = innermost(machine) else {
         return put_line(out, b"no: no frame");
     };
-    let code = machine.code();
+    let code = code_of(machine);
     code.names_are_distinct();
     if code.slot_count(frame.func()) == 0 {
         return put_line(out, b"none");

@@ -167,16 +167,15 @@ return_is p other kinds s due func ahead name r value asked of is_ahead en er ev
 pub unasked_write : {A : Type 0} (p other : Program A) (kinds : Kinds) (s : State) (due : Due) → kinds.writes ≡ false → write_by p other kinds s due.writes ≡ []
 unasked_write p other kinds s due asked = ap (λ b. if b then write_of p other s due.writes else []) asked
 
-pub write_is : {A : Type 0} (p q other : Program A) (s : State) (a n : ℕ) (place : Offset) (r : Bool) → q ≡ p → Some place ≡ data_place q a → r ≡ has_data other place.object
+pub write_is : {A : Type 0} (p other : Program A) (s : State) (a n : ℕ) (place : Offset) (r : Bool) → Some place ≡ data_place p a → r ≡ has_data other place.object
     → write_in other s (record { start = a; count = n }) (data_place p a) ≡ one_if r (event_at p s (coded.Write a n))
-write_is {A} p q other s a n place r same found is =
-    let at : Some place ≡ data_place p a = found ∙ ap (λ (x : Program A). data_place x a) same in
+write_is p other s a n place r at is =
     ap (write_in other s (record { start = a; count = n })) (sym at)
     ∙ ap (λ b. one_if b (written place (bytes_from s.memory a n))) (sym is)
     ∙ ap (λ o. one_if r (written (unwrap_or o nowhere) (bytes_from s.memory a n))) at
 
-pub write_none : {A : Type 0} (p q other : Program A) (s : State) (range : Range) → q ≡ p → None ≡ data_place q range.start → write_in other s range (data_place p range.start) ≡ []
-write_none {A} p q other s range same none = ap (write_in other s range) (sym (none ∙ ap (λ (x : Program A). data_place x range.start) same))
+pub write_none : {A : Type 0} (p other : Program A) (s : State) (range : Range) → None ≡ data_place p range.start → write_in other s range (data_place p range.start) ≡ []
+write_none p other s range none = ap (write_in other s range) (sym none)
 
 abbrev range_by : ℕ × ℕ → Range
 range_by r = record { start = r.0; count = r.1 }

@@ -146,10 +146,6 @@ other_count m w a b n k place other differ = no_same (λ e. differ (sym (length_
 pub other_place : (m w : Live) (a b n k : ℕ) (place other p q : Offset) (r : Bool) → p ≡ place → q ≡ other → (IsTrue r ↔ (p ≡ q)) → r ≡ false → IsTrue false ↔ (written place (bytes_from m a n) ≡ written other (bytes_from w b k))
 other_place m w a b n k place other p q r ep eq test off = no_same (λ e. failed r test off (ep ∙ ap place_in e ∙ sym eq))
 
-pub bytes_as : (r : Bool) (m n w v : Buffers) (a b k : ℕ) → m ≡ n → w ≡ v → (IsTrue r ↔ (bytes_from (live m) a k ≡ bytes_from (live w) b k)) → IsTrue r ↔ (bytes_from (live n) a k ≡ bytes_from (live v) b k)
-bytes_as r m n w v a b k em ew same =
-    subst (λ (x : Buffers). IsTrue r ↔ (bytes_from (live x) a k ≡ bytes_from (live v) b k)) em (subst (λ (y : Buffers). IsTrue r ↔ (bytes_from (live m) a k ≡ bytes_from (live y) b k)) ew same)
-
 pub same_place_bytes : (m w : Live) (a b n k : ℕ) (place other p q : Offset) (r s : Bool) → n ≡ k → p ≡ place → q ≡ other → (IsTrue r ↔ (p ≡ q)) → r ≡ true → (IsTrue s ↔ (bytes_from m a n ≡ bytes_from w b n))
     → IsTrue s ↔ (written place (bytes_from m a n) ≡ written other (bytes_from w b k))
 same_place_bytes m w a b n k place other p q r s en ep eq test on bytes =

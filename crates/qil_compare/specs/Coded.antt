@@ -4,8 +4,6 @@ use Rattle.qil_tree.specs.declared.tree.Program.{Program}
 use Rattle.qil_meaning.specs.State.{Name}
 use Rattle.qil_code.specs.Numbered.{func_at}
 use Rattle.qil_code.specs.declared.numbered.Slot.{Slot}
-use Rattle.qil_compare.specs.declared.happened.Side.{Side}
-use Rattle.qil_compare.specs.declared.same.Stand.{Stand}
 use Rattle.qil_compare.specs.declared.seen.DataPlace.{DataPlace}
 use Rattle.qil_compare.specs.declared.seen.Seen.{Seen}
 use Rattle.qil_compare.specs.declared.seen.Seen.TheVariants as seens
@@ -19,16 +17,6 @@ value_of (seens.Number n) = number n
 value_of seens.Stack = stack
 value_of (seens.Data place) = in_data (offset_of place)
 value_of (seens.Function name) = function name.now
-
--- the tree is that of the program that the machine runs
-abbrev pub StandsIn : {A : Type 0} → Stand A → Type 0
-StandsIn stand = stand.program.now ≡ stand.machine.now.program
-
--- two sides are compared in the same kinds of events, each with the program of the other
-pub record AreSides {A : Type 0} (good bad : Side A) : Type 0 where
-  pub kinds : good.kinds ≡ bad.kinds
-  pub good_other : good.other.now ≡ bad.program.now
-  pub bad_other : bad.other.now ≡ good.program.now
 
 -- the name of the function of a number
 abbrev pub name_at : {A : Type 0} → Program A → ℕ → Option Name

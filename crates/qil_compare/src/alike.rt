@@ -69,8 +69,8 @@ fn has_func<A: Allocator + Copy>(code: &Code<'_, A>, func: FuncId, name: &[u8]) 
 /// Whether a program defines a function of the name that a function of another one has.
 #[inline(always)]
 pub fn has_like<'c, A: Allocator + Copy>(
-    code: &Code<'_, A>,
     image: &Image<'c, A>,
+    code: &Code<'_, A>,
     func: FuncId,
     alike: u16,
 ) -> bool
@@ -86,15 +86,15 @@ pub fn has_like<'c, A: Allocator + Copy>(
 /// Whether a program defines a function of the name that was called in another one.
 #[inline(always)]
 pub fn has_called<'c, A: Allocator + Copy>(
-    code: &Code<'_, A>,
     machine: &Machine<'c, A>,
+    code: &Code<'_, A>,
     alike: u16,
 ) -> bool
     requires { AreNamedAlike machine.now.program code.now alike }
     ensures { result ≡ has_func code.now (call_name (state_of machine.now).frames) }
 {
     match innermost(machine) {
-        Some(frame) => has_like(code, image_of(machine), frame.func(), alike),
+        Some(frame) => has_like(image_of(machine), code, frame.func(), alike),
         None => has_func(code, FuncId { index: 0 }, b""),
     }
 }

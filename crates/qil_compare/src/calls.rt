@@ -8,12 +8,13 @@ ghost use Rattle.qil_compare.specs.Events.{call_name, call_params};
 ghost use Rattle.qil_compare.specs.Next.{returns_of};
 
 use crate::ahead::{image_of, innermost};
-use crate::seen::{Seen, func_name, value_seen};
+use crate::seen::{Seen, func_name};
+use crate::standing::seen_in;
 use qil_code::Slot;
 use qil_frames::Frame;
 use qil_layout::FuncId;
 use qil_machine::Machine;
-use qil_tree::{AbiType, Program};
+use qil_tree::AbiType;
 use std::alloc::Allocator;
 
 /// The name of the function that was called, without its sigil.
@@ -74,15 +75,10 @@ pub fn param_held<A: Allocator + Copy>(machine: &Machine<'_, A>, index: usize) -
 }
 
 /// What one of its parameters is, counted from 0.
-pub fn param_seen<'c, A: Allocator + Copy>(
-    program: &Program<'c, A>,
-    machine: &Machine<'c, A>,
-    index: usize,
-) -> Seen<'c>
-    requires program { program.now ≡ machine.now.program }
-    requires range { index < length (call_params machine.now.program (state_of machine.now).frames) }
+pub fn param_seen<'c, A: Allocator + Copy>(machine: &Machine<'c, A>, index: usize) -> Seen<'c>
+    requires { index < length (call_params machine.now.program (state_of machine.now).frames) }
     ensures { Some (value_of result) ≡ slice_get (call_params machine.now.program (state_of machine.now).frames) index }
 {
     let (abi_type, value) = param_held(machine, index);
-    value_seen(program, image_of(machine), abi_type, value)
+    seen_in(machine, abi_type, value)
 }

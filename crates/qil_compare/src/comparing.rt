@@ -4,17 +4,16 @@ ghost use Rattle.std.specs.Prelude.{◌≡◌, ◌↔◌, ◌<◌, ◌≤◌, �
 ghost use Rattle.qil_meaning.specs.Timeline.{position};
 ghost use Rattle.qil_state.specs.State.{state_of};
 ghost use Rattle.qil_compare.specs.declared.event.Found.TheVariants as founds;
-ghost use Rattle.qil_compare.specs.Coded.{AreSides, AreNamedAlike, StandsIn};
+ghost use Rattle.qil_compare.specs.Coded.{AreNamedAlike};
 ghost use Rattle.qil_compare.specs.Answer.{Agrees, Judges, IsAnswered};
 
 use crate::ahead::image_of;
 use crate::alike::named_alike;
 use crate::event::{Found, Kinds};
-use crate::happened::Side;
-use crate::running::{machine_of, next_event, written};
-use crate::same::{Stand, same_event};
+use crate::running::{next_event, written};
+use crate::same::same_event;
 use qil_code::Code;
-use qil_history::History;
+use qil_history::{History, machine_of};
 use qil_layout::Image;
 use qil_machine::Machine;
 use std::alloc::Allocator;
@@ -66,17 +65,15 @@ fn is_out_of_memory(found: Found) -> bool
 
 /// Whether two runs agree in what comes next: in an event, or in that there is none.
 #[inline(always)]
-fn agree<'s, 'c, A: Allocator + Copy>(
-    left: &Stand<'s, 'c, A>,
-    right: &Stand<'s, 'c, A>,
+fn agree<'c, A: Allocator + Copy>(
+    left: &Machine<'c, A>,
+    right: &Machine<'c, A>,
     one: Found,
     other: Found,
     alike: u16,
 ) -> bool
-    requires good { StandsIn left.now }
-    requires bad { StandsIn right.now }
-    requires alike { AreNamedAlike left.now.machine.now.program right.now.machine.now.program alike }
-    ensures { IsTrue result ↔ Agrees left.now.machine.now.program right.now.machine.now.program (state_of left.now.machine.now) (state_of right.now.machine.now) one other }
+    requires { AreNamedAlike left.now.program right.now.program alike }
+    ensures { IsTrue result ↔ Agrees left.now.program right.now.program (state_of left.now) (state_of right.now) one other }
 {
     match one {
         Found::Event(event) => match other {
@@ -93,17 +90,15 @@ fn agree<'s, 'c, A: Allocator + Copy>(
 
 /// What comes of two runs that found these, or nothing where they found the same event.
 #[inline(always)]
-fn judge<'s, 'c, A: Allocator + Copy>(
-    left: &Stand<'s, 'c, A>,
-    right: &Stand<'s, 'c, A>,
+fn judge<'c, A: Allocator + Copy>(
+    left: &Machine<'c, A>,
+    right: &Machine<'c, A>,
     one: Found,
     other: Found,
     alike: u16,
 ) -> Option<Verdict>
-    requires good { StandsIn left.now }
-    requires bad { StandsIn right.now }
-    requires alike { AreNamedAlike left.now.machine.now.program right.now.machine.now.program alike }
-    ensures { Judges left.now.machine.now.program right.now.machine.now.program (state_of left.now.machine.now) (state_of right.now.machine.now) one other result }
+    requires { AreNamedAlike left.now.program right.now.program alike }
+    ensures { Judges left.now.program right.now.program (state_of left.now) (state_of right.now) one other result }
 {
     if is_out_of_memory(one) || is_out_of_memory(other) {
         return Some(Verdict::OutOfMemory);
@@ -120,48 +115,18 @@ fn judge<'s, 'c, A: Allocator + Copy>(
     }
 }
 
-/// The machine of a history, as its events are told.
-#[inline(always)]
-fn stand_of<'s, 'c, A: Allocator + Copy + 'c, H: History<A, Machine<'c, A>>>(
-    side: &Side<'c, A>,
-    history: &'s H,
-) -> Stand<'s, 'c, A>
-    requires { side.now.program.now ≡ H.program history.now }
-    ensures stands { StandsIn result }
-    ensures now { state_of result.machine.now ≡ (H.timeline history.now).now }
-    ensures program { result.machine.now.program ≡ H.program history.now }
-{
-    Stand {
-        program: side.program,
-        machine: machine_of(history),
-    }
-}
-
 /// What comes of two runs where they stand, or nothing where they found the same event.
 #[inline(always)]
 fn judge_here<
-    's,
     'c,
     A: Allocator + Copy + 'c,
     H: History<A, Machine<'c, A>>,
     K: History<A, Machine<'c, A>>,
->(
-    good_side: &Side<'c, A>,
-    bad_side: &Side<'c, A>,
-    good: &'s H,
-    bad: &'s K,
-    one: Found,
-    other: Found,
-    alike: u16,
-) -> Option<Verdict>
-    requires good { good_side.now.program.now ≡ H.program good.now }
-    requires bad { bad_side.now.program.now ≡ K.program bad.now }
-    requires alike { AreNamedAlike (H.program good.now) (K.program bad.now) alike }
+>(good: &H, bad: &K, one: Found, other: Found, alike: u16) -> Option<Verdict>
+    requires { AreNamedAlike (H.program good.now) (K.program bad.now) alike }
     ensures { Judges (H.program good.now) (K.program bad.now) (H.timeline good.now).now (K.timeline bad.now).now one other result }
 {
-    let left = stand_of(good_side, good);
-    let right = stand_of(bad_side, bad);
-    judge(&left, &right, one, other, alike)
+    judge(machine_of(good), machine_of(bad), one, other, alike)
 }
 
 /// The image of the program of a history.
@@ -216,22 +181,28 @@ fn limited(common: u64) -> Answer
     told_of(common, Verdict::Limit, Found::Limit, Found::Limit)
 }
 
-/// The same of two sides, by which the events of their runs are told.
-fn compare_sides<
+/// Runs two histories side by side to the first event in which they differ, where their programs have these codes.
+fn compare_coded<
     'c,
     A: Allocator + Copy + 'c,
     H: History<A, Machine<'c, A>>,
     K: History<A, Machine<'c, A>>,
->(good_side: &Side<'c, A>, bad_side: &Side<'c, A>, good: &mut H, bad: &mut K, limit: u64) -> Answer
+>(
+    kinds: Kinds,
+    good_code: &Code<'_, A>,
+    bad_code: &Code<'_, A>,
+    good: &mut H,
+    bad: &mut K,
+    limit: u64,
+) -> Answer
     requires limit { limit ≤ 4294967295 }
     requires start { (position (H.timeline good.old) ≤ 1000000000000000000) × (position (K.timeline bad.old) ≤ 1000000000000000000) }
-    requires good { good_side.now.program.now ≡ H.program good.old }
-    requires bad { bad_side.now.program.now ≡ K.program bad.old }
-    requires sides { AreSides good_side.now bad_side.now }
+    requires good { good_code.now ≡ H.program good.old }
+    requires bad { bad_code.now ≡ K.program bad.old }
     ensures good_program { H.program good.new ≡ H.program good.old }
     ensures bad_program { K.program bad.new ≡ K.program bad.old }
     ensures near { (position (H.timeline good.new) < 2 ^ 60) × (position (K.timeline bad.new) < 2 ^ 60) }
-    ensures answer { IsAnswered good_side.now.kinds (H.program good.old) (K.program bad.old) (H.timeline good.old) (H.timeline good.new) (K.timeline bad.old) (K.timeline bad.new) result }
+    ensures answer { IsAnswered kinds (H.program good.old) (K.program bad.old) (H.timeline good.old) (H.timeline good.new) (K.timeline bad.old) (K.timeline bad.new) result }
 {
     let alike = names_alike(good, bad);
     let mut good_told = written(good);
@@ -240,9 +211,9 @@ fn compare_sides<
         if is_far(good, bad) {
             return limited(events);
         }
-        let one = next_event(good_side, good, alike, &mut good_told, limit);
-        let other = next_event(bad_side, bad, alike, &mut bad_told, limit);
-        let judged = judge_here(good_side, bad_side, good, bad, one, other, alike);
+        let one = next_event(bad_code, kinds, good, alike, &mut good_told, limit);
+        let other = next_event(good_code, kinds, bad, alike, &mut bad_told, limit);
+        let judged = judge_here(good, bad, one, other, alike);
         if let Some(verdict) = judged {
             return told_of(events, verdict, one, other);
         }
@@ -257,23 +228,6 @@ fn code_in<'c, A: Allocator + Copy + 'c, H: History<A, Machine<'c, A>>>(
     ensures { result.now ≡ H.program history.now }
 {
     machine_of(history).code()
-}
-
-/// What the events of a run are told by, besides its machine.
-fn side_of<'c, A: Allocator + Copy>(
-    code: &'c Code<'c, A>,
-    other: &'c Code<'c, A>,
-    kinds: Kinds,
-) -> Side<'c, A>
-    ensures program { result.program.now ≡ code.now }
-    ensures other { result.other.now ≡ other.now }
-    ensures kinds { result.kinds ≡ kinds }
-{
-    Side {
-        program: code.program(),
-        other,
-        kinds,
-    }
 }
 
 /// Runs two programs side by side to the first event of these kinds in which they differ, to the end of both, or to a limit: of
@@ -293,7 +247,5 @@ pub fn compare<
 {
     let good_code = code_in(good);
     let bad_code = code_in(bad);
-    let good_side = side_of(good_code, bad_code, kinds);
-    let bad_side = side_of(bad_code, good_code, kinds);
-    compare_sides(&good_side, &bad_side, good, bad, limit)
+    compare_coded(kinds, good_code, bad_code, good, bad, limit)
 }

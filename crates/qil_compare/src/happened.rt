@@ -12,21 +12,11 @@ ghost use Rattle.qil_compare.specs.Ahead.{value_ahead, writes_ahead, IsAhead, Is
 use crate::ahead::{Ahead, Before, depth, image_of};
 use crate::alike::{has_called, has_like};
 use crate::event::{Event, Kinds, Told};
-use crate::seen::data_place;
+use crate::standing::data_place_in;
 use qil_code::Code;
 use qil_layout::{DATA_BASE, FuncId, Image};
 use qil_machine::Machine;
-use qil_tree::Program;
 use std::alloc::Allocator;
-
-/// What the events of a run are told by besides its machine: the tree of its program, the other program, and the kinds that
-/// are compared.
-#[derive(Drop)]
-pub struct Side<'c, A: Allocator> {
-    pub program: &'c Program<'c, A>,
-    pub other: &'c Code<'c, A>,
-    pub kinds: Kinds,
-}
 
 /// Whether a program defines a data object of a name.
 fn has_data<A: Allocator + Copy>(image: &Image<'_, A>, name: &[u8]) -> bool
@@ -57,8 +47,8 @@ fn told<A: Allocator + Copy>(machine: &Machine<'_, A>, event: Event) -> Option<T
 
 /// How a run ended, if that is compared.
 fn ended<A: Allocator + Copy>(
-    kinds: Kinds,
     machine: &Machine<'_, A>,
+    kinds: Kinds,
     before: Before,
 ) -> Option<Told>
     ensures { (due : Due) → IsFuncOf machine.now.program due before.func
@@ -72,17 +62,18 @@ fn ended<A: Allocator + Copy>(
 
 /// A call, if it is one of both programs.
 fn called<'c, A: Allocator + Copy>(
-    side: &Side<'c, A>,
     machine: &Machine<'c, A>,
+    other: &Code<'_, A>,
+    kinds: Kinds,
     alike: u16,
 ) -> Option<Told>
-    requires { AreNamedAlike machine.now.program side.now.other.now alike }
-    ensures { AreTold machine.now.program side.now.kinds (state_of machine.now) (call_by machine.now.program side.now.other.now side.now.kinds (state_of machine.now).frames) result }
+    requires { AreNamedAlike machine.now.program other.now alike }
+    ensures { AreTold machine.now.program kinds (state_of machine.now) (call_by machine.now.program other.now kinds (state_of machine.now).frames) result }
 {
-    if !side.kinds.calls {
+    if !kinds.calls {
         return None;
     }
-    if !has_called(side.other, machine, alike) {
+    if !has_called(machine, other, alike) {
         return None;
     }
     told(machine, Event::Call)
@@ -90,19 +81,20 @@ fn called<'c, A: Allocator + Copy>(
 
 /// A return, if it is one of both programs.
 fn returned<'c, A: Allocator + Copy>(
-    side: &Side<'c, A>,
     machine: &Machine<'c, A>,
+    other: &Code<'_, A>,
+    kinds: Kinds,
     before: Before,
     alike: u16,
 ) -> Option<Told>
-    requires { AreNamedAlike machine.now.program side.now.other.now alike }
-    ensures { (due : Due) → IsFuncOf machine.now.program due before.func → IsAhead side.now.kinds due before.ahead
-        → AreTold machine.now.program side.now.kinds (state_of machine.now) (return_by machine.now.program side.now.other.now side.now.kinds due) result }
+    requires { AreNamedAlike machine.now.program other.now alike }
+    ensures { (due : Due) → IsFuncOf machine.now.program due before.func → IsAhead kinds due before.ahead
+        → AreTold machine.now.program kinds (state_of machine.now) (return_by machine.now.program other.now kinds due) result }
 {
-    if !side.kinds.calls {
+    if !kinds.calls {
         return None;
     }
-    if !has_like(side.other, image_of(machine), before.func, alike) {
+    if !has_like(image_of(machine), other, before.func, alike) {
         return None;
     }
     told(
@@ -133,19 +125,18 @@ fn range_of(ahead: Ahead) -> Option<(u64, u64)>
 
 /// A write to memory, if it is to data of both programs.
 fn wrote_at<'c, A: Allocator + Copy>(
-    side: &Side<'c, A>,
     machine: &Machine<'c, A>,
+    other: &Code<'_, A>,
     start: u64,
     count: u64,
 ) -> Option<Told>
-    requires { side.now.program.now ≡ machine.now.program }
-    ensures { AreTold machine.now.program side.now.kinds (state_of machine.now)
-        (write_in side.now.other.now (state_of machine.now) (record { start = start; count = count }) (data_place machine.now.program start)) result }
+    ensures { (kinds : Kinds) → AreTold machine.now.program kinds (state_of machine.now)
+        (write_in other.now (state_of machine.now) (record { start = start; count = count }) (data_place machine.now.program start)) result }
 {
-    let Some(place) = data_place(side.program, image_of(machine), start) else {
+    let Some(place) = data_place_in(machine, start) else {
         return None;
     };
-    if !has_data(side.other.image(), place.object) {
+    if !has_data(other.image(), place.object) {
         return None;
     }
     told(machine, Event::Write(start, count))
@@ -153,21 +144,21 @@ fn wrote_at<'c, A: Allocator + Copy>(
 
 /// What was to be written, if writes are compared.
 fn wrote<'c, A: Allocator + Copy>(
-    side: &Side<'c, A>,
     machine: &Machine<'c, A>,
+    other: &Code<'_, A>,
+    kinds: Kinds,
     before: Before,
 ) -> Option<Told>
-    requires { side.now.program.now ≡ machine.now.program }
-    ensures { (due : Due) → IsAhead side.now.kinds due before.ahead
-        → AreTold machine.now.program side.now.kinds (state_of machine.now) (write_by machine.now.program side.now.other.now side.now.kinds (state_of machine.now) due.writes) result }
+    ensures { (due : Due) → IsAhead kinds due before.ahead
+        → AreTold machine.now.program kinds (state_of machine.now) (write_by machine.now.program other.now kinds (state_of machine.now) due.writes) result }
 {
-    if !side.kinds.writes {
+    if !kinds.writes {
         return None;
     }
     let Some(range) = range_of(before.ahead) else {
         return None;
     };
-    wrote_at(side, machine, range.0, range.1)
+    wrote_at(machine, other, range.0, range.1)
 }
 
 /// The first byte of output after so many, if output is compared.
@@ -194,27 +185,27 @@ pub fn byte_out<A: Allocator + Copy>(
 /// The first event of a step, by the machine after it.
 #[inline(always)]
 pub fn happened<'c, A: Allocator + Copy>(
-    side: &Side<'c, A>,
     machine: &Machine<'c, A>,
+    other: &Code<'_, A>,
+    kinds: Kinds,
     before: Before,
     alike: u16,
 ) -> Option<Told>
-    requires program { side.now.program.now ≡ machine.now.program }
-    requires alike { AreNamedAlike machine.now.program side.now.other.now alike }
-    ensures { HasHappened machine.now.program side.now.other.now side.now.kinds before (state_of machine.now) result }
+    requires { AreNamedAlike machine.now.program other.now alike }
+    ensures { HasHappened machine.now.program other.now kinds before (state_of machine.now) result }
 {
     if is_over(machine) {
-        return ended(side.kinds, machine, before);
+        return ended(machine, kinds, before);
     }
     let depth = depth(machine);
     if before.depth < depth {
-        return called(side, machine, alike);
+        return called(machine, other, kinds, alike);
     }
     if depth < before.depth {
-        return returned(side, machine, before, alike);
+        return returned(machine, other, kinds, before, alike);
     }
     if before.written < machine.output().len() {
-        return byte_out(machine, side.kinds, before.written);
+        return byte_out(machine, kinds, before.written);
     }
-    wrote(side, machine, before)
+    wrote(machine, other, kinds, before)
 }

@@ -14,10 +14,12 @@ mod laws;
 mod running;
 mod same;
 mod seen;
+mod standing;
 
-pub use calls::{call_name, param_count, param_seen};
+pub use calls::{call_name, param_count, param_seen, returns_in};
 pub use comparing::{Answer, Verdict, compare};
 pub use event::{Event, Found, Kinds};
 pub use laws::number_is_of_longest_front;
-pub use same::{Stand, byte_behind};
+pub use same::byte_behind;
 pub use seen::{DataPlace, Seen};
+pub use standing::{func_name_in, place_or_nowhere, seen_in};

@@ -9,22 +9,12 @@ ghost use Rattle.qil_compare.specs.Coded.{AreNamedAlike};
 ghost use Rattle.qil_compare.specs.Next.{IsNext, RunsToEvent};
 
 use crate::ahead::{Before, kept_before};
-use crate::event::{Found, Told};
-use crate::happened::{Side, byte_out, happened, is_over};
-use qil_history::History;
+use crate::event::{Found, Kinds, Told};
+use crate::happened::{byte_out, happened, is_over};
+use qil_code::Code;
+use qil_history::{History, machine_of};
 use qil_machine::{Machine, MoveError};
 use std::alloc::Allocator;
-
-/// The machine of a history. It is asked for here alone: what a trait's call means of a machine makes each check dear.
-#[inline(always)]
-pub fn machine_of<'c, A: Allocator + Copy + 'c, H: History<A, Machine<'c, A>>>(
-    history: &H,
-) -> &Machine<'c, A>
-    ensures now { state_of result.now ≡ (H.timeline history.now).now }
-    ensures program { result.now.program ≡ H.program history.now }
-{
-    history.machine()
-}
 
 /// How many bytes of output there are.
 pub fn written<'c, A: Allocator + Copy + 'c, H: History<A, Machine<'c, A>>>(history: &H) -> usize
@@ -55,58 +45,57 @@ fn over_or_limit<'c, A: Allocator + Copy + 'c, H: History<A, Machine<'c, A>>>(hi
 /// What is kept of a run before a move.
 #[inline(always)]
 fn before_move<'c, A: Allocator + Copy + 'c, H: History<A, Machine<'c, A>>>(
-    side: &Side<'c, A>,
+    kinds: Kinds,
     history: &H,
 ) -> Before
     requires { at_end (H.timeline history.now) ≡ false }
-    ensures { IsKept (H.program history.now) side.now.kinds (H.timeline history.now).now result }
+    ensures { IsKept (H.program history.now) kinds (H.timeline history.now).now result }
 {
-    let kinds = side.kinds;
     kept_before(machine_of(history), kinds)
 }
 
 /// The first event of a move, by the run behind it.
 #[inline(always)]
 fn happened_now<'c, A: Allocator + Copy + 'c, H: History<A, Machine<'c, A>>>(
-    side: &Side<'c, A>,
+    other: &Code<'_, A>,
+    kinds: Kinds,
     history: &H,
     before: Before,
     alike: u16,
 ) -> Option<Told>
-    requires side { side.now.program.now ≡ H.program history.now }
-    requires alike { AreNamedAlike (H.program history.now) side.now.other.now alike }
-    ensures { HasHappened (H.program history.now) side.now.other.now side.now.kinds before (H.timeline history.now).now result }
+    requires { AreNamedAlike (H.program history.now) other.now alike }
+    ensures { HasHappened (H.program history.now) other.now kinds before (H.timeline history.now).now result }
 {
     let machine = machine_of(history);
-    happened(side, machine, before, alike)
+    happened(machine, other, kinds, before, alike)
 }
 
 /// Moves forward to the next event, and gives it: after the least number of moves with one, or after `limit` moves; at the
 /// end of the run, or where there is no memory for a move. Gives also how many bytes of output are told then.
 #[inline(never)]
 fn run_to_event<'c, A: Allocator + Copy + 'c, H: History<A, Machine<'c, A>>>(
-    side: &Side<'c, A>,
+    other: &Code<'_, A>,
+    kinds: Kinds,
     history: &mut H,
     alike: u16,
     limit: u64,
 ) -> (Found, usize)
     requires near { position (H.timeline history.old) + limit ≤ 2 ^ 62 }
-    requires side { side.now.program.now ≡ H.program history.old }
-    requires alike { AreNamedAlike (H.program history.old) side.now.other.now alike }
+    requires alike { AreNamedAlike (H.program history.old) other.now alike }
     ensures program { H.program history.new ≡ H.program history.old }
-    ensures run { RunsToEvent (H.program history.old) side.now.other.now side.now.kinds limit (H.timeline history.old) (H.timeline history.new) result.1 result.0 }
+    ensures run { RunsToEvent (H.program history.old) other.now kinds limit (H.timeline history.old) (H.timeline history.new) result.1 result.0 }
 {
     for _ in 0..limit {
         if is_at_end(history) {
             return (Found::Over, written(history));
         }
-        let before = before_move(side, history);
+        let before = before_move(kinds, history);
         match history.forward() {
             Ok(()) => {}
             Err(MoveError::AtEnd) => return (Found::Over, before.written),
             Err(MoveError::OutOfMemory) => return (Found::OutOfMemory, before.written),
         }
-        if let Some(first) = happened_now(side, history, before, alike) {
+        if let Some(first) = happened_now(other, kinds, history, before, alike) {
             return (Found::Event(first.event), first.told);
         }
     }
@@ -116,25 +105,24 @@ fn run_to_event<'c, A: Allocator + Copy + 'c, H: History<A, Machine<'c, A>>>(
 /// The next event of a run, of which so many bytes of output are told: a byte that isn't told yet, without a move; or what
 /// comes of moves, `limit` at most.
 pub fn next_event<'c, A: Allocator + Copy + 'c, H: History<A, Machine<'c, A>>>(
-    side: &Side<'c, A>,
+    other: &Code<'_, A>,
+    kinds: Kinds,
     history: &mut H,
     alike: u16,
     told: &mut usize,
     limit: u64,
 ) -> Found
     requires near { position (H.timeline history.old) + limit ≤ 2 ^ 62 }
-    requires side { side.now.program.now ≡ H.program history.old }
-    requires alike { AreNamedAlike (H.program history.old) side.now.other.now alike }
+    requires alike { AreNamedAlike (H.program history.old) other.now alike }
     ensures program { H.program history.new ≡ H.program history.old }
-    ensures next { IsNext (H.program history.old) side.now.other.now side.now.kinds limit (H.timeline history.old) (H.timeline history.new) told.old told.new result }
+    ensures next { IsNext (H.program history.old) other.now kinds limit (H.timeline history.old) (H.timeline history.new) told.old told.new result }
     ensures near { position (H.timeline history.new) ≤ position (H.timeline history.old) + limit }
 {
-    let kinds = side.kinds;
     if let Some(first) = byte_out(machine_of(history), kinds, *told) {
         *told = first.told;
         return Found::Event(first.event);
     }
-    let (found, now_told) = run_to_event(side, history, alike, limit);
+    let (found, now_told) = run_to_event(other, kinds, history, alike, limit);
     *told = now_told;
     found
 }

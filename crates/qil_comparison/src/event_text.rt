@@ -8,14 +8,15 @@ ghost use Rattle.qil_state.specs.State.{state_of};
 ghost use Rattle.qil_answers.specs.Texts.{hex_digit, byte_text, quoted_byte};
 ghost use Rattle.qil_answers.specs.Shown.{spaced_byte, bytes_text};
 ghost use Rattle.qil_compare.specs.declared.event.Event.TheVariants as events;
-ghost use Rattle.qil_compare.specs.Coded.{StandsIn, offset_of, value_of};
+ghost use Rattle.qil_compare.specs.Coded.{offset_of, value_of};
 ghost use Rattle.qil_compare.specs.Seen.{seen};
 ghost use Rattle.qil_compare.specs.Events.{byte_out, bytes_from, call_params};
 ghost use Rattle.qil_compare.specs.Next.{event_at, returns_of};
 ghost use Rattle.qil_comparison.specs.Told.{place_text, value_text, further_value, values_text, returned_text, event_line, found_line};
 
 use qil_compare::{
-    DataPlace, Event, Found, Seen, Stand, byte_behind, call_name, param_count, param_seen,
+    DataPlace, Event, Found, Seen, byte_behind, call_name, func_name_in, param_count, param_seen,
+    place_or_nowhere, returns_in, seen_in,
 };
 use qil_layout::FuncId;
 use qil_machine::Machine;
@@ -147,59 +148,56 @@ fn put_bytes<P: Put, A: Allocator + Copy>(
 
 /// Puts a write to data.
 fn put_write<P: Put, A: Allocator + Copy>(
-    stand: &Stand<'_, '_, A>,
+    machine: &Machine<'_, A>,
     out: &mut P,
     start: u64,
     count: u64,
 ) -> Result<(), PutError>
-    requires stops { P.stops out.old < 2 ^ 64 - 1 }
-    requires stand { StandsIn stand.now }
-    ensures { HasPut P.written P.stops P.device result out.old out.new (event_line (event_at stand.now.machine.now.program (state_of stand.now.machine.now) (events.Write start count))) }
+    requires { P.stops out.old < 2 ^ 64 - 1 }
+    ensures { HasPut P.written P.stops P.device result out.old out.new (event_line (event_at machine.now.program (state_of machine.now) (events.Write start count))) }
 {
     out.put(b"write ")?;
-    put_data(out, stand.place_or_nowhere(start))?;
+    put_data(out, place_or_nowhere(machine, start))?;
     out.put(b" ")?;
-    put_bytes(stand.machine, out, start, count)
+    put_bytes(machine, out, start, count)
 }
 
 /// Puts the values of the parameters of the innermost frame, commas between them.
 fn put_params<P: Put, A: Allocator + Copy>(
-    stand: &Stand<'_, '_, A>,
+    machine: &Machine<'_, A>,
     out: &mut P,
 ) -> Result<(), PutError>
-    requires stops { P.stops out.old < 2 ^ 64 - 1 }
-    requires stand { StandsIn stand.now }
-    ensures { HasPut P.written P.stops P.device result out.old out.new (values_text (call_params stand.now.machine.now.program (state_of stand.now.machine.now).frames)) }
+    requires { P.stops out.old < 2 ^ 64 - 1 }
+    ensures { HasPut P.written P.stops P.device result out.old out.new (values_text (call_params machine.now.program (state_of machine.now).frames)) }
 {
-    let count = param_count(stand.machine);
+    let count = param_count(machine);
     if count == 0 {
         return Ok(());
     }
-    put_seen(out, param_seen(stand.program, stand.machine, 0))?;
+    put_seen(out, param_seen(machine, 0))?;
     for i in 1..count {
-        put_next_seen(out, param_seen(stand.program, stand.machine, i))?;
+        put_next_seen(out, param_seen(machine, i))?;
     }
     Ok(())
 }
 
 /// Puts a call: of the function of the innermost frame.
 fn put_call<P: Put, A: Allocator + Copy>(
-    stand: &Stand<'_, '_, A>,
+    machine: &Machine<'_, A>,
     out: &mut P,
 ) -> Result<(), PutError>
-    requires stops { P.stops out.old < 2 ^ 64 - 1 }
-    requires stand { StandsIn stand.now }
-    ensures { HasPut P.written P.stops P.device result out.old out.new (event_line (event_at stand.now.machine.now.program (state_of stand.now.machine.now) events.Call)) }
+    requires { P.stops out.old < 2 ^ 64 - 1 }
+    ensures { HasPut P.written P.stops P.device result out.old out.new (event_line (event_at machine.now.program (state_of machine.now) events.Call)) }
 {
     put_fragments(
         out,
         &[
             Fragment::Bytes(b"call $"),
-            Fragment::Bytes(call_name(stand.machine)),
+            Fragment::Bytes(call_name(machine)),
             Fragment::Bytes(b"("),
         ],
     )?;
-    put_params(stand, out)?;
+    put_params(machine, out)?;
     out.put(b")\n")
 }
 
@@ -215,73 +213,69 @@ fn put_last_seen<P: Put>(out: &mut P, value: Seen<'_>) -> Result<(), PutError>
 
 /// Puts what a function returned, if it is a value, and the end of the line.
 fn put_returned<P: Put, A: Allocator + Copy>(
-    stand: &Stand<'_, '_, A>,
+    machine: &Machine<'_, A>,
     out: &mut P,
     func: FuncId,
     value: Option<u64>,
 ) -> Result<(), PutError>
-    requires stops { P.stops out.old < 2 ^ 64 - 1 }
-    requires stand { StandsIn stand.now }
-    ensures { HasPut P.written P.stops P.device result out.old out.new (returned_text (option_map (seen stand.now.machine.now.program (returns_of stand.now.machine.now.program func)) value)) }
+    requires { P.stops out.old < 2 ^ 64 - 1 }
+    ensures { HasPut P.written P.stops P.device result out.old out.new (returned_text (option_map (seen machine.now.program (returns_of machine.now.program func)) value)) }
 {
     match value {
-        Some(value) => put_last_seen(out, stand.seen(stand.returns(func), value)),
+        Some(value) => put_last_seen(out, seen_in(machine, returns_in(machine, func), value)),
         None => out.put(b"\n"),
     }
 }
 
 /// Puts a return, with its value if there is one.
 fn put_return<P: Put, A: Allocator + Copy>(
-    stand: &Stand<'_, '_, A>,
+    machine: &Machine<'_, A>,
     out: &mut P,
     func: FuncId,
     value: Option<u64>,
 ) -> Result<(), PutError>
-    requires stops { P.stops out.old < 2 ^ 64 - 1 }
-    requires stand { StandsIn stand.now }
-    ensures { HasPut P.written P.stops P.device result out.old out.new (event_line (event_at stand.now.machine.now.program (state_of stand.now.machine.now) (events.Return func value))) }
+    requires { P.stops out.old < 2 ^ 64 - 1 }
+    ensures { HasPut P.written P.stops P.device result out.old out.new (event_line (event_at machine.now.program (state_of machine.now) (events.Return func value))) }
 {
     put_fragments(
         out,
         &[
             Fragment::Bytes(b"return $"),
-            Fragment::Bytes(stand.func_name(func)),
+            Fragment::Bytes(func_name_in(machine, func)),
         ],
     )?;
-    put_returned(stand, out, func, value)
+    put_returned(machine, out, func, value)
 }
 
 /// Puts the line of an event.
 fn put_event<P: Put, A: Allocator + Copy>(
-    stand: &Stand<'_, '_, A>,
+    machine: &Machine<'_, A>,
     out: &mut P,
     event: Event,
 ) -> Result<(), PutError>
-    requires stops { P.stops out.old < 2 ^ 64 - 1 }
-    requires stand { StandsIn stand.now }
-    ensures { HasPut P.written P.stops P.device result out.old out.new (event_line (event_at stand.now.machine.now.program (state_of stand.now.machine.now) event)) }
+    requires { P.stops out.old < 2 ^ 64 - 1 }
+    ensures { HasPut P.written P.stops P.device result out.old out.new (event_line (event_at machine.now.program (state_of machine.now) event)) }
 {
     match event {
         Event::Output(byte) => put_output(out, byte),
-        Event::Write(start, count) => put_write(stand, out, start, count),
-        Event::Call => put_call(stand, out),
-        Event::Return(func, value) => put_return(stand, out, func, value),
+        Event::Write(start, count) => put_write(machine, out, start, count),
+        Event::Call => put_call(machine, out),
+        Event::Return(func, value) => put_return(machine, out, func, value),
         Event::End(_) => out.put(b"end\n"),
     }
 }
 
 /// Puts the line of what was found.
 pub fn put_found<P: Put, A: Allocator + Copy>(
-    stand: &Stand<'_, '_, A>,
+    machine: &Machine<'_, A>,
     out: &mut P,
     found: Found,
 ) -> Result<(), PutError>
-    requires stops { P.stops out.old < 2 ^ 64 - 1 }
-    requires stand { StandsIn stand.now }
-    ensures { HasPut P.written P.stops P.device result out.old out.new (found_line stand.now.machine.now.program (state_of stand.now.machine.now) found) }
+    requires { P.stops out.old < 2 ^ 64 - 1 }
+    ensures { HasPut P.written P.stops P.device result out.old out.new (found_line machine.now.program (state_of machine.now) found) }
 {
     match found {
-        Found::Event(event) => put_event(stand, out, event),
+        Found::Event(event) => put_event(machine, out, event),
         Found::Over => out.put(b"none\n"),
         Found::Limit => out.put(b"limit\n"),
         Found::OutOfMemory => out.put(b"memory\n"),

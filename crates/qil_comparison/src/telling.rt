@@ -12,8 +12,8 @@ ghost use Rattle.qil_comparison.specs.Told.{way_line, side_text, sides_text, ver
 use crate::event_text::put_found;
 use qil_answers::{Readers, put_block, put_frames, put_place};
 use qil_code::Code;
-use qil_compare::{Answer, Found, Stand, Verdict};
-use qil_history::History;
+use qil_compare::{Answer, Found, Verdict};
+use qil_history::{History, machine_of};
 use qil_machine::Machine;
 use qil_pieces::{Fragment, put_fragments};
 use qil_streams::{Put, PutError};
@@ -88,13 +88,9 @@ fn put_side<'c, A: Allocator + Copy + 'c, H: History<A, Machine<'c, A>>, P: Put>
     requires stops { P.stops out.old < 2 ^ 64 - 1 }
     ensures { HasPut P.written P.stops P.device result out.old out.new (side_text name.now (H.program history.now) (H.timeline history.now) found) }
 {
-    let machine = history.machine();
-    let stand = Stand {
-        program: machine.code().program(),
-        machine,
-    };
+    let machine = machine_of(history);
     out.put(name)?;
-    put_found(&stand, out, found)?;
+    put_found(machine, out, found)?;
     put_stand(out, history.position(), machine)
 }
 

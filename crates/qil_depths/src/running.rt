@@ -12,7 +12,7 @@ use crate::depth_end::DepthEnd;
 use qil_meaning::Reason;
 use qil_stops::{
     BackError, History, Machine, MoveError, NumberedStop, Stops, bottom_or_limit, end_or, is_over,
-    readings, stopped_here,
+    machine_of, readings, stopped_here,
 };
 use std::alloc::Allocator;
 
@@ -20,14 +20,14 @@ use std::alloc::Allocator;
 fn depth<'c, A: Allocator + Copy + 'c, H: History<A, Machine<'c, A>>>(history: &H) -> usize
     ensures { result ≡ length (H.timeline history.now).now.frames }
 {
-    history.machine().frames().len()
+    machine_of(history).frames().len()
 }
 
 /// Why a run ends where no more calls are open than were asked for: at the end of the run that comes first.
 fn shallow_end<'c, A: Allocator + Copy + 'c, H: History<A, Machine<'c, A>>>(history: &H) -> DepthEnd
     ensures { result ≡ cond (at_end (H.timeline history.now)) (DepthEnd.Stopped End) DepthEnd.Depth }
 {
-    if is_over(history.machine()) {
+    if is_over(machine_of(history)) {
         DepthEnd::Stopped(Reason::End)
     } else {
         DepthEnd::Depth
@@ -75,7 +75,7 @@ fn forward_to_depth<'c, A: Allocator + Copy + 'c, H: History<A, Machine<'c, A>>>
     ensures program { H.program history.new ≡ H.program history.old }
     ensures run { RunsToDepth (H.program history.old) (named_stops (H.program history.old) list.now) most limit (H.timeline history.old) result.0 result.1 (H.timeline history.new) }
 {
-    let before = readings(list, history.machine());
+    let before = readings(list, machine_of(history));
     for moves in 0..limit {
         match history.forward() {
             Ok(()) => {}
@@ -119,7 +119,7 @@ fn back_to_depth<'c, A: Allocator + Copy + 'c, H: History<A, Machine<'c, A>>>(
     ensures program { H.program history.new ≡ H.program history.old }
     ensures run { RunsBackToDepth (named_stops (H.program history.old) list.now) most limit (H.timeline history.old) result.0 result.1 (H.timeline history.new) }
 {
-    let before = readings(list, history.machine());
+    let before = readings(list, machine_of(history));
     for taken in 0..limit {
         match history.back() {
             Ok(()) => {}

@@ -128,3 +128,15 @@ pub trait History<A: Allocator, M: HasState<A>> {
         ensures now { state_of (M.whole result.now) ≡ (timeline self.now).now }
         ensures program { (M.whole result.now).program ≡ program self.now };
 }
+
+/// The machine of a history. What is generic in one asks for it here alone: what a trait's call means of a machine makes each
+/// check dear.
+#[inline(always)]
+pub fn machine_of<'c, A: Allocator + Copy + 'c, H: History<A, Machine<'c, A>>>(
+    history: &H,
+) -> &Machine<'c, A>
+    ensures now { state_of result.now ≡ (H.timeline history.now).now }
+    ensures program { result.now.program ≡ H.program history.now }
+{
+    history.machine()
+}

@@ -113,6 +113,17 @@ impl<'c, A: Allocator + Copy> Readers<A, Code<'c, A>> for Machine<'c, A> {
     }
 }
 
+/// The code that a machine runs. What is generic in its readers asks for it here alone: what a trait's call means of a code makes
+/// each check dear.
+#[inline(always)]
+pub fn code_of<'c, 'm, A: Allocator + Copy + 'c, M: Readers<A, Code<'c, A>>>(
+    machine: &'m M,
+) -> &'m Code<'c, A>
+    ensures { result.now ≡ (M.whole machine.now).program }
+{
+    machine.code()
+}
+
 /// A frame, as a reader sees it.
 fn view_of<A: Allocator>(frame: &Frame<A>) -> FrameView<'_>
     ensures { result ≡ frame.now }

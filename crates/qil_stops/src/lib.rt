@@ -9,7 +9,7 @@ mod stop;
 mod stops;
 
 pub use found::{is_over, readings};
-pub use qil_history::{BackError, HasState, History, Machine, MoveError, PokeError};
+pub use qil_history::{BackError, HasState, History, Machine, MoveError, PokeError, machine_of};
 pub use running::{bottom_or_limit, end_or, run, run_back, stopped_here};
 pub use stop::{NumberedStop, Place, StopKind, Watched};
 pub use stops::{StopError, Stops};

@@ -11,7 +11,7 @@ ghost use Rattle.qil_stops.specs.Readings.{AllTell};
 
 use crate::found::{is_over, readings, stopped};
 use crate::stop::NumberedStop;
-use qil_history::{BackError, History, Machine, MoveError};
+use qil_history::{BackError, History, Machine, MoveError, machine_of};
 use qil_meaning::Reason;
 use std::alloc::Allocator;
 
@@ -72,7 +72,7 @@ fn run_watching<'c, A: Allocator + Copy + 'c, H: History<A, Machine<'c, A>>>(
     ensures program { H.program history.new ≡ H.program history.old }
     ensures run { RunsOn (H.program history.old) (named_stops (H.program history.old) list.now) limit (H.timeline history.old) result.0 result.1 (H.timeline history.new) }
 {
-    let before = readings(list, history.machine());
+    let before = readings(list, machine_of(history));
     for moves in 0..limit {
         match history.forward() {
             Ok(()) => {}
@@ -97,7 +97,7 @@ pub fn stopped_here<'c, A: Allocator + Copy + 'c, H: History<A, Machine<'c, A>>>
     requires readable { AreReadable list.now }
     ensures { (old : State) → AllTell (H.program history.now) old list.now before.now → result ≡ stopped (named_stops (H.program history.now) list.now) old (H.timeline history.now).now }
 {
-    stopped(list, before, history.machine())
+    stopped(list, before, machine_of(history))
 }
 
 /// Why a run stops after a move: the end comes before each other reason.
@@ -107,7 +107,7 @@ pub fn end_or<'c, A: Allocator + Copy + 'c, H: History<A, Machine<'c, A>>>(
 ) -> Reason
     ensures { result ≡ cond (at_end (H.timeline history.now)) Reason.End other }
 {
-    if is_over(history.machine()) {
+    if is_over(machine_of(history)) {
         Reason::End
     } else {
         other
@@ -169,7 +169,7 @@ fn back_watching<'c, A: Allocator + Copy + 'c, H: History<A, Machine<'c, A>>>(
     ensures program { H.program history.new ≡ H.program history.old }
     ensures run { RunsBack (named_stops (H.program history.old) list.now) limit (H.timeline history.old) result.0 result.1 (H.timeline history.new) }
 {
-    let before = readings(list, history.machine());
+    let before = readings(list, machine_of(history));
     for taken in 0..limit {
         match history.back() {
             Ok(()) => {}

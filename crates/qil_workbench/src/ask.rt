@@ -15,40 +15,40 @@ use qil_numbering::number;
 use qil_rules::Checked;
 use std::alloc::Allocator;
 
-/// Asks about a code, and the tree that it was numbered from.
+/// Asks about a code.
+// What is large is the first parameter, here and in all that it is handed on to: else each call takes it anew.
 fn ask_code<R: Print, A: Allocator + Copy>(
-    asking: &Asking<'_, R, A>,
-    checked: &Checked<'_, A>,
     code: &Code<'_, A>,
+    asking: &Asking<'_, R, A>,
 ) -> Answer {
     match asking.question {
-        Question::ReadBack => read_back(asking, checked, code),
-        Question::Moves => each_move(asking.rt, asking.alloc, code),
-        Question::Histories => ask_histories(asking.rt, asking.alloc, code, asking.behind),
+        Question::ReadBack => read_back(code, asking),
+        Question::Moves => each_move(code, asking.rt, asking.alloc),
+        Question::Histories => ask_histories(code, asking.rt, asking.alloc, asking.behind),
     }
 }
 
 /// Numbers a program, and asks its code.
 fn ask_laid_out<'t, R: Print, A: Allocator + Copy>(
-    asking: &Asking<'_, R, A>,
     checked: &Checked<'t, A>,
     image: &Image<'t, A>,
+    asking: &Asking<'_, R, A>,
 ) -> Answer
     requires { image.now ≡ checked.now.program }
 {
     match number(asking.alloc, asking.keys, checked, image) {
-        Ok(code) => ask_code(asking, checked, &code),
+        Ok(code) => ask_code(&code, asking),
         Err(_) => Answer::NoCode,
     }
 }
 
 /// Lays a program out, and goes on.
 fn ask_checked<R: Print, A: Allocator + Copy>(
-    asking: &Asking<'_, R, A>,
     checked: &Checked<'_, A>,
+    asking: &Asking<'_, R, A>,
 ) -> Answer {
     match layout(asking.alloc, asking.keys, checked) {
-        Ok(image) => ask_laid_out(asking, checked, &image),
+        Ok(image) => ask_laid_out(checked, &image, asking),
         Err(error) => refused(asking.rt, &error),
     }
 }
@@ -56,7 +56,7 @@ fn ask_checked<R: Print, A: Allocator + Copy>(
 /// Asks the question of a text.
 pub fn ask<R: Print, A: Allocator + Copy>(asking: &Asking<'_, R, A>, text: &[u8]) -> Answer {
     match checked(asking.rt, asking.alloc, asking.keys, text) {
-        Ok(checked) => ask_checked(asking, &checked),
+        Ok(checked) => ask_checked(&checked, asking),
         Err(answer) => answer,
     }
 }

@@ -60,10 +60,10 @@ fn wrong<R: Print>(rt: &R, came: Result<(u64, Came), u64>) -> Option<Answer> {
 
 /// Asks the histories for the move of a line, and tells where they stand after it; what is wrong, if something is.
 fn ask_line<'c, R: Print, G: Globals, A: Allocator + Copy + 'c>(
-    rt: &R,
-    globals: &G,
     deltas: &mut Deltas<'c, A>,
     clones: &mut Snapshots<'c, A>,
+    rt: &R,
+    globals: &G,
     line: &str,
 ) -> Option<Answer>
     requires { deltas.old.machine.program ≡ clones.old.machine.program }
@@ -77,16 +77,16 @@ fn ask_line<'c, R: Print, G: Globals, A: Allocator + Copy + 'c>(
 
 /// Asks the histories for the move of each line, up to the first where something is wrong.
 fn ask_lines<'c, R: Print, G: Globals, A: Allocator + Copy + 'c>(
-    rt: &R,
-    globals: &G,
     deltas: &mut Deltas<'c, A>,
     clones: &mut Snapshots<'c, A>,
+    rt: &R,
+    globals: &G,
     lines: &str,
 ) -> Answer
     requires { deltas.old.machine.program ≡ clones.old.machine.program }
 {
     for line in lines.lines() {
-        if let Some(wrong) = ask_line(rt, globals, deltas, clones, line) {
+        if let Some(wrong) = ask_line(deltas, clones, rt, globals, line) {
             return wrong;
         }
     }
@@ -95,56 +95,56 @@ fn ask_lines<'c, R: Print, G: Globals, A: Allocator + Copy + 'c>(
 
 /// Begins both histories, and asks them.
 fn ask_begun<'c, R: Print, G: Globals, A: Allocator + Copy + 'c>(
+    machine: Machine<'c, A>,
+    other: Machine<'c, A>,
     rt: &R,
     alloc: A,
     globals: &G,
-    machine: Machine<'c, A>,
-    other: Machine<'c, A>,
     lines: &str,
 ) -> Answer
     requires { machine.program ≡ other.program }
 {
     let mut deltas = Deltas::new(alloc, machine);
     let mut clones = Snapshots::new(alloc, other);
-    ask_lines(rt, globals, &mut deltas, &mut clones, lines)
+    ask_lines(&mut deltas, &mut clones, rt, globals, lines)
 }
 
 /// Copies a machine, for the other history.
 fn ask_started<'c, R: Print, G: Globals, A: Allocator + Copy + 'c>(
+    machine: Machine<'c, A>,
     rt: &R,
     alloc: A,
     globals: &G,
-    machine: Machine<'c, A>,
     lines: &str,
 ) -> Answer {
     match machine.try_clone() {
-        Ok(other) => ask_begun(rt, alloc, globals, machine, other, lines),
+        Ok(other) => ask_begun(machine, other, rt, alloc, globals, lines),
         Err(_) => Answer::NoCopy,
     }
 }
 
 /// Starts a machine, and asks both histories from there on.
 fn ask_text<'c, 't, R: Print, A: Allocator + Copy + 'c>(
+    code: &'c Code<'t, A>,
     rt: &R,
     alloc: A,
-    code: &'c Code<'t, A>,
     lines: &str,
 ) -> Answer {
     match started(alloc, code) {
-        Ok(machine) => ask_started(rt, alloc, code, machine, lines),
+        Ok(machine) => ask_started(machine, rt, alloc, code, lines),
         Err(answer) => answer,
     }
 }
 
 /// Asks both histories for moves, from the start of the program's run on.
 pub fn ask_histories<'c, 't, R: Print, A: Allocator + Copy>(
+    code: &'c Code<'t, A>,
     rt: &R,
     alloc: A,
-    code: &'c Code<'t, A>,
     words: &[u8],
 ) -> Answer {
     match str::from_utf8(words) {
-        Ok(lines) => ask_text(rt, alloc, code, lines),
+        Ok(lines) => ask_text(code, rt, alloc, lines),
         Err(_) => Answer::NoMove,
     }
 }

@@ -17,10 +17,10 @@ pub fn refused<R: Print, E: Display>(rt: &R, error: &E) -> Answer {
 
 /// Checks a program, or tells why it is refused.
 fn check_parsed<'t, R: Print, A: Allocator + Copy>(
+    program: Program<'t, A>,
     rt: &R,
     alloc: A,
     keys: RandomState,
-    program: Program<'t, A>,
 ) -> Result<Checked<'t, A>, Answer>
     // As `parse` gives it.
     requires { HasBlocks program }
@@ -43,7 +43,7 @@ pub fn checked<'t, R: Print, A: Allocator + Copy>(
         Err(error) => return Err(refused(rt, &error)),
     };
     match parse(alloc, &found) {
-        Ok(program) => check_parsed(rt, alloc, keys, program),
+        Ok(program) => check_parsed(program, rt, alloc, keys),
         Err(error) => Err(refused(rt, &error)),
     }
 }

@@ -29,7 +29,7 @@ fn is_poke_told<R: Print, A: Allocator + Copy>(rt: &R, poke: Result<Delta<A>, Po
 }
 
 /// Sets the first temporary and the first four bytes of the data, where they are there.
-fn are_pokes_told<R: Print, A: Allocator + Copy>(rt: &R, machine: &mut Machine<'_, A>) -> bool {
+fn are_pokes_told<R: Print, A: Allocator + Copy>(machine: &mut Machine<'_, A>, rt: &R) -> bool {
     is_poke_told(rt, machine.poke_temp(Slot { index: 0 }, 7))
         && is_poke_told(rt, machine.poke_memory(DATA_BASE, 4, u64::MAX))
 }
@@ -43,17 +43,17 @@ fn is_made_told<R: Print, A: Allocator + Copy>(rt: &R, made: Result<Delta<A>, Mo
 }
 
 /// Makes a move, and tells of it.
-fn is_move_told<R: Print, A: Allocator + Copy>(rt: &R, machine: &mut Machine<'_, A>) -> bool {
+fn is_move_told<R: Print, A: Allocator + Copy>(machine: &mut Machine<'_, A>, rt: &R) -> bool {
     is_made_told(rt, machine.advance())
 }
 
 /// Tells of each move of a machine, up to the end of its run.
-fn are_moves_told<R: Print, A: Allocator + Copy>(rt: &R, machine: &mut Machine<'_, A>) -> bool {
+fn are_moves_told<R: Print, A: Allocator + Copy>(machine: &mut Machine<'_, A>, rt: &R) -> bool {
     for _ in 0..MOST {
         if machine.is_final() {
             return true;
         }
-        if !is_move_told(rt, machine) {
+        if !is_move_told(machine, rt) {
             return false;
         }
     }
@@ -73,14 +73,14 @@ fn are_sizes_told<R: Print>(rt: &R) -> bool {
 }
 
 /// Tells of a run from its start on.
-fn is_run_told<R: Print, A: Allocator + Copy>(rt: &R, machine: &mut Machine<'_, A>) -> bool {
-    are_sizes_told(rt) && are_pokes_told(rt, machine) && are_moves_told(rt, machine)
+fn is_run_told<R: Print, A: Allocator + Copy>(machine: &mut Machine<'_, A>, rt: &R) -> bool {
+    are_sizes_told(rt) && are_pokes_told(machine, rt) && are_moves_told(machine, rt)
 }
 
 /// Tells of a start, of pokes there, and of each move after it, up to the end of the run.
-pub fn each_move<R: Print, A: Allocator + Copy>(rt: &R, alloc: A, code: &Code<'_, A>) -> Answer {
+pub fn each_move<R: Print, A: Allocator + Copy>(code: &Code<'_, A>, rt: &R, alloc: A) -> Answer {
     match started(alloc, code) {
-        Ok(mut machine) => reported(is_run_told(rt, &mut machine)),
+        Ok(mut machine) => reported(is_run_told(&mut machine, rt)),
         Err(answer) => answer,
     }
 }

@@ -195,10 +195,10 @@ fn opening_of<'l, A: Allocator>(text: &'l [u8], launch: &'l Launch<A>) -> Openin
 
 /// Serves a program that is laid out.
 fn open_laid_out<'c, 't, 'l, A: Allocator + Copy, S: Source, W: Sink, F: Files<A>>(
-    keys: RandomState,
-    opening: Opening<'l>,
     checked: &'c Checked<'t, A>,
     image: &'c Image<'t, A>,
+    keys: RandomState,
+    opening: Opening<'l>,
     launch: &'l Launch<A>,
     request: Request<'_>,
     files: &F,
@@ -224,9 +224,9 @@ fn open_laid_out<'c, 't, 'l, A: Allocator + Copy, S: Source, W: Sink, F: Files<A
 
 /// Serves a program that is checked.
 fn open_checked<'a, 'l, A: Allocator + Copy, S: Source, W: Sink, F: Files<A>>(
+    checked: &Checked<'a, A>,
     keys: RandomState,
     opening: Opening<'l>,
-    checked: &Checked<'a, A>,
     launch: &'l Launch<A>,
     request: Request<'_>,
     files: &F,
@@ -239,7 +239,7 @@ fn open_checked<'a, 'l, A: Allocator + Copy, S: Source, W: Sink, F: Files<A>>(
 {
     match layout(line.alloc, keys, checked) {
         Ok(image) => open_laid_out(
-            keys, opening, &*checked, &image, launch, request, files, line,
+            &*checked, &image, keys, opening, launch, request, files, line,
         ),
         Err(error) => refuse_load(LoadError::from(error), launch, request, line),
     }
@@ -262,7 +262,7 @@ fn open_text<'l, A: Allocator + Copy, S: Source, W: Sink, F: Files<A>>(
         Ok(checked) => checked,
         Err(error) => return refuse_load(error, launch, request, line),
     };
-    open_checked(keys, opening, &checked, launch, request, files, line)
+    open_checked(&checked, keys, opening, launch, request, files, line)
 }
 
 /// Loads a program and serves it, until the session is closed.

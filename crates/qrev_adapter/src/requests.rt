@@ -18,7 +18,7 @@ use qrev_notices::{
 use qrev_protocol::Request;
 use qrev_recorder::HasMachine;
 use qrev_requests::Arguments;
-use qrev_views::{as_text, frame_of, place_text};
+use qrev_views::{as_text, place_text};
 use std::alloc::{AllocError, Allocator};
 
 /// What follows a response.
@@ -95,22 +95,18 @@ fn exception_info<'c, A: Allocator + Copy + 'c, L: HasMachine<A, Machine<'c, A>>
     Ok(put_exception(body, place.as_str())?)
 }
 
-/// Whether there is a frame of a number.
-fn has_frame<A: Allocator + Copy>(machine: &Machine<'_, A>, number: u64) -> bool {
-    frame_of(machine, number).is_some()
-}
-
 /// The move to the beginning of the call of a frame.
 fn restart_frame<'c, A: Allocator + Copy + 'c, L: HasMachine<A, Machine<'c, A>>>(
     debuggee: &Debuggee<'_, A, L>,
     asked: Arguments<'_, '_, A>,
 ) -> Result<Then, Failure> {
     let number = asked.number("frameId").unwrap_or(0);
-    if !has_frame(debuggee.machine(), number) {
-        return Err(Failure::Because(Cause::NoSuchFrame));
+    let depth = debuggee.depth() as u64;
+    match depth.checked_sub(number) {
+        // The innermost frame is number 1.
+        Some(outside) if number != 0 => Ok(Then::Move(Motion::ToBeginning(outside as usize))),
+        _ => Err(Failure::Because(Cause::NoSuchFrame)),
     }
-    let depth = (debuggee.depth() as u64).saturating_sub(number);
-    Ok(Then::Move(Motion::ToBeginning(depth as usize)))
 }
 
 /// The move that a request asks for, if it asks for one, while so many calls are open.

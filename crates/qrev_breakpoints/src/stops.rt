@@ -102,6 +102,21 @@ fn put_made<A: Allocator>(
         .end_item()
 }
 
+/// Adds a stop that was made, with its line of a file, as the editor counts lines.
+fn put_made_at<A: Allocator>(
+    list: BreakpointList<A>,
+    number: u64,
+    path: &str,
+    line: u64,
+) -> Result<BreakpointList<A>, AllocError> {
+    let item = list
+        .object()?
+        .number("id", number)?
+        .flag("verified", true)?
+        .number("line", line)?;
+    put_source(item, path)?.end_item()
+}
+
 /// How the making of a stop went.
 #[derive(Clone, Copy)]
 enum Made {
@@ -195,12 +210,8 @@ fn break_at<'c, A: Allocator + Copy + 'c, L: HasMachine<A, Machine<'c, A>>>(
     match made {
         Made::Answered(from) => Ok(put_answered(debuggee, list, from)?),
         Made::Number(number) => {
-            let item = list
-                .object()?
-                .number("id", number)?
-                .flag("verified", true)?
-                .number("line", debuggee.shown.numbering.line(line))?;
-            Ok(put_source(item, path)?.end_item()?)
+            let line = debuggee.shown.numbering.line(line);
+            Ok(put_made_at(list, number, path, line)?)
         }
     }
 }
@@ -289,29 +300,42 @@ pub fn set_breakpoints<'c, A: Allocator + Copy + 'c, L: HasMachine<A, Machine<'c
     Ok(list.end()?)
 }
 
-/// Makes one stop by the words that a request says.
-fn set_words<'c, A: Allocator + Copy + 'c, L: HasMachine<A, Machine<'c, A>>>(
-    debuggee: &mut Debuggee<'_, A, L>,
-    list: BreakpointList<A>,
+/// The words of a stop that a request asks for, if such a stop can be made.
+fn words_asked<'q, A: Allocator + Copy>(
+    asked: Arguments<'_, 'q, A>,
     family: StopFamily,
-    words: Option<&str>,
-    asked: Arguments<'_, '_, A>,
-) -> Result<BreakpointList<A>, Failure> {
+) -> Result<&'q str, Flaw> {
     if let Some(flaw) = unserved(asked) {
-        return Ok(put_flaw(list, flaw_words(flaw))?);
+        return Err(flaw);
     }
-    let Some(words) = words else {
-        return Ok(put_flaw(list, flaw_words(Flaw::NoName))?);
+    let words = match family {
+        StopFamily::Data => asked.text("dataId"),
+        _ => asked.text("name"),
     };
-    let words = words.as_bytes();
-    if words.contains(&b'\n') {
-        return Ok(put_flaw(list, flaw_words(Flaw::Newline))?);
+    match words {
+        Some(words) if words.as_bytes().contains(&b'\n') => Err(Flaw::Newline),
+        Some(words) => Ok(words),
+        None => Err(Flaw::NoName),
     }
-    let verb: &[u8] = match family {
+}
+
+/// What a line begins with that makes a stop by words.
+fn verb_for<'v>(family: StopFamily, words: &[u8]) -> &'v [u8] {
+    match family {
         StopFamily::Data => b"watch ",
         _ if words.first() == Some(&b'$') => b"break ",
         _ => b"break $",
-    };
+    }
+}
+
+/// Makes one stop by words.
+fn make_by_words<'c, A: Allocator + Copy + 'c, L: HasMachine<A, Machine<'c, A>>>(
+    debuggee: &mut Debuggee<'_, A, L>,
+    list: BreakpointList<A>,
+    family: StopFamily,
+    words: &[u8],
+) -> Result<BreakpointList<A>, Failure> {
+    let verb = verb_for(family, words);
     match make_stop(
         debuggee,
         family,
@@ -319,6 +343,19 @@ fn set_words<'c, A: Allocator + Copy + 'c, L: HasMachine<A, Machine<'c, A>>>(
     )? {
         Made::Number(number) => Ok(put_made(list, number)?),
         Made::Answered(from) => Ok(put_answered(debuggee, list, from)?),
+    }
+}
+
+/// Makes one stop by the words that a request says.
+fn set_words<'c, A: Allocator + Copy + 'c, L: HasMachine<A, Machine<'c, A>>>(
+    debuggee: &mut Debuggee<'_, A, L>,
+    list: BreakpointList<A>,
+    family: StopFamily,
+    asked: Arguments<'_, '_, A>,
+) -> Result<BreakpointList<A>, Failure> {
+    match words_asked(asked, family) {
+        Ok(words) => make_by_words(debuggee, list, family, words.as_bytes()),
+        Err(flaw) => Ok(put_flaw(list, flaw_words(flaw))?),
     }
 }
 
@@ -335,11 +372,7 @@ pub fn set_by_words<'c, A: Allocator + Copy + 'c, L: HasMachine<A, Machine<'c, A
         let Some(item) = asked.item("breakpoints", index) else {
             break;
         };
-        let words = match family {
-            StopFamily::Data => item.text("dataId"),
-            _ => item.text("name"),
-        };
-        list = set_words(debuggee, list, family, words, item)?;
+        list = set_words(debuggee, list, family, item)?;
     }
     Ok(list.end()?)
 }

@@ -1,8 +1,5 @@
 //! `completions`: the commands, and the names that a sigil begins.
 
-use qil_answers::temp_name;
-use qil_code::{Code, Slot};
-use qil_layout::FuncId;
 use qil_machine::Machine;
 use qil_tree::{Block, Data, Func, Program};
 use qrev_debuggee::{Body, Debuggee, Failure, HasMachine};
@@ -115,42 +112,44 @@ fn last_word(text: &str) -> (&str, usize) {
     }
 }
 
-/// Offers as many temporaries of a function.
-fn offer_temps_of<'w, A: Allocator + Copy>(
+/// Offers temporaries.
+fn offer_names<'w, A: Allocator + Copy>(
     offer: Offer<'w, A>,
-    code: &Code<'_, A>,
-    func: FuncId,
-    count: u16,
+    names: &[&[u8]],
 ) -> Result<Offer<'w, A>, AllocError> {
     let mut offer = offer;
-    for index in 0..count {
-        offer = offer.add_name("%", temp_name(code, func, Slot { index }), "variable")?;
+    for name in names {
+        offer = offer.add_name("%", name, "variable")?;
     }
     Ok(offer)
 }
 
-/// The function of a frame, and how many temporaries it has, if there is such a frame.
-fn temps_in<A: Allocator + Copy>(machine: &Machine<'_, A>, number: u64) -> Option<(FuncId, u16)> {
-    let frame = frame_of(machine, number)?;
-    Some((frame.func(), frame.slots().len() as u16))
+/// The names of the temporaries of a frame, if there is such a frame.
+fn temps_in<'c, A: Allocator + Copy>(
+    machine: &Machine<'c, A>,
+    number: u64,
+) -> Option<&'c [&'c [u8]]> {
+    let func = frame_of(machine, number)?.func();
+    Some(machine.code().func(func)?.temps.names())
 }
 
 /// Offers the temporaries of a frame.
+// What is large is the first parameter here, as it is where it is handed on: else each call takes it anew.
 fn offer_temps<'w, A: Allocator + Copy>(
-    offer: Offer<'w, A>,
     machine: &Machine<'_, A>,
     number: u64,
+    offer: Offer<'w, A>,
 ) -> Result<Offer<'w, A>, AllocError> {
     match temps_in(machine, number) {
-        Some((func, count)) => offer_temps_of(offer, machine.code(), func, count),
+        Some(names) => offer_names(offer, names),
         None => Ok(offer),
     }
 }
 
 /// Offers the labels of blocks.
-fn offer_labels_of<'w, A: Allocator + Copy>(
-    offer: Offer<'w, A>,
+fn offer_blocks<'w, A: Allocator + Copy>(
     blocks: &[Block<'_, A>],
+    offer: Offer<'w, A>,
 ) -> Result<Offer<'w, A>, AllocError> {
     let mut offer = offer;
     for block in blocks {
@@ -160,32 +159,31 @@ fn offer_labels_of<'w, A: Allocator + Copy>(
 }
 
 /// The text of the function of a frame, if there is such a frame.
-fn func_of<'p, 'a, A: Allocator + Copy>(
-    machine: &Machine<'_, A>,
-    program: &'p Program<'a, A>,
+fn func_of<'c, A: Allocator + Copy>(
+    machine: &Machine<'c, A>,
     number: u64,
-) -> Option<&'p Func<'a, A>> {
+) -> Option<&'c Func<'c, A>> {
     let index = frame_of(machine, number)?.func().index;
-    program.funcs.as_slice().get(usize::from(index))
+    let funcs = machine.code().program().funcs.as_slice();
+    funcs.get(usize::from(index))
 }
 
 /// Offers the labels of the function of a frame.
 fn offer_labels<'w, A: Allocator + Copy>(
-    offer: Offer<'w, A>,
     machine: &Machine<'_, A>,
-    program: &Program<'_, A>,
     number: u64,
+    offer: Offer<'w, A>,
 ) -> Result<Offer<'w, A>, AllocError> {
-    match func_of(machine, program, number) {
-        Some(func) => offer_labels_of(offer, func.blocks.as_slice()),
+    match func_of(machine, number) {
+        Some(func) => offer_blocks(func.blocks.as_slice(), offer),
         None => Ok(offer),
     }
 }
 
 /// Offers functions.
 fn offer_funcs<'w, A: Allocator + Copy>(
-    offer: Offer<'w, A>,
     funcs: &[Func<'_, A>],
+    offer: Offer<'w, A>,
 ) -> Result<Offer<'w, A>, AllocError> {
     let mut offer = offer;
     for func in funcs {
@@ -196,8 +194,8 @@ fn offer_funcs<'w, A: Allocator + Copy>(
 
 /// Offers data.
 fn offer_datas<'w, A: Allocator + Copy>(
-    offer: Offer<'w, A>,
     datas: &[Data<'_, A>],
+    offer: Offer<'w, A>,
 ) -> Result<Offer<'w, A>, AllocError> {
     let mut offer = offer;
     for data in datas {
@@ -208,13 +206,11 @@ fn offer_datas<'w, A: Allocator + Copy>(
 
 /// Offers the functions and the data of the program.
 fn offer_globals<'w, A: Allocator + Copy>(
-    offer: Offer<'w, A>,
     program: &Program<'_, A>,
+    offer: Offer<'w, A>,
 ) -> Result<Offer<'w, A>, AllocError> {
-    offer_datas(
-        offer_funcs(offer, program.funcs.as_slice())?,
-        program.datas.as_slice(),
-    )
+    let offer = offer_funcs(program.funcs.as_slice(), offer)?;
+    offer_datas(program.datas.as_slice(), offer)
 }
 
 /// Offers the commands.
@@ -252,42 +248,30 @@ fn typed_in<'q, A: Allocator + Copy>(asked: Arguments<'_, 'q, A>, first: u64) ->
     }
 }
 
-/// Offers what no frame has, if the word asks for it.
-fn offer_outside<'w, A: Allocator + Copy>(
-    offer: Offer<'w, A>,
+/// Offers what the sigil of a word asks for: of the frame of a number, or of the program; and commands, where nothing stands
+/// before it.
+fn offer_fitting<'w, A: Allocator + Copy>(
+    machine: &Machine<'_, A>,
+    number: u64,
     typed: Typed<'_>,
-    program: &Program<'_, A>,
+    offer: Offer<'w, A>,
 ) -> Result<Offer<'w, A>, AllocError> {
     match typed.word.as_bytes().first() {
-        Some(b'$') => offer_globals(offer, program),
+        Some(b'%') => offer_temps(machine, number, offer),
+        Some(b'@') => offer_labels(machine, number, offer),
+        Some(b'$') => offer_globals(machine.code().program(), offer),
         _ if typed.is_first => offer_commands(offer),
         _ => Ok(offer),
     }
 }
 
-/// Offers what the sigil of the word asks for: of the frame of a number, or of the program.
-fn offer_fitting<'w, A: Allocator + Copy>(
-    offer: Offer<'w, A>,
-    typed: Typed<'_>,
-    machine: &Machine<'_, A>,
-    program: &Program<'_, A>,
-    number: u64,
-) -> Result<Offer<'w, A>, AllocError> {
-    match typed.word.as_bytes().first() {
-        Some(b'%') => offer_temps(offer, machine, number),
-        Some(b'@') => offer_labels(offer, machine, program, number),
-        _ => offer_outside(offer, typed, program),
-    }
-}
-
 /// Adds what may stand in place of a word.
 fn put_targets<A: Allocator + Copy>(
+    machine: &Machine<'_, A>,
+    number: u64,
+    typed: Typed<'_>,
     alloc: A,
     body: Body<A>,
-    typed: Typed<'_>,
-    machine: &Machine<'_, A>,
-    program: &Program<'_, A>,
-    number: u64,
 ) -> Result<Body<A>, AllocError> {
     let offer = Offer {
         alloc,
@@ -296,7 +280,7 @@ fn put_targets<A: Allocator + Copy>(
         start: typed.start,
         count: 0,
     };
-    let Offer { list, .. } = offer_fitting(offer, typed, machine, program, number)?;
+    let Offer { list, .. } = offer_fitting(machine, number, typed, offer)?;
     list.end()
 }
 
@@ -308,12 +292,5 @@ pub fn completions<'c, A: Allocator + Copy + 'c, L: HasMachine<A, Machine<'c, A>
 ) -> Result<Body<A>, Failure> {
     let typed = typed_in(asked, u64::from(debuggee.shown.numbering.first_column));
     let number = asked.number("frameId").unwrap_or(1);
-    Ok(put_targets(
-        debuggee.alloc,
-        body,
-        typed,
-        debuggee.machine(),
-        debuggee.program(),
-        number,
-    )?)
+    Ok(put_targets(debuggee.machine(), number, typed, debuggee.alloc, body)?)
 }

@@ -4,7 +4,6 @@ use qil_answers::func_name;
 use qil_layout::FuncId;
 use qil_machine::Machine;
 use qil_pieces::Fragment;
-use qil_tree::Program;
 use qrev_debuggee::{Body, Debuggee, Failure, HasMachine};
 use qrev_requests::Arguments;
 use qrev_views::{DATA, data_named, data_word, frame_of, joined};
@@ -147,12 +146,12 @@ fn put_data_watch<A: Allocator + Copy>(
 /// Adds what watches a data object.
 fn data_watch<A: Allocator + Copy>(
     alloc: A,
-    program: &Program<'_, A>,
+    machine: &Machine<'_, A>,
     name: &[u8],
     body: Body<A>,
 ) -> Result<Body<A>, AllocError> {
     let plain = name.strip_prefix(b"$").unwrap_or(name);
-    match data_named(program, plain) {
+    match data_named(machine.code().program(), plain) {
         Some(data) => put_data_watch(alloc, data_word(data).0, plain, body),
         None => put_unwatchable(body, "nothing to watch"),
     }
@@ -189,13 +188,12 @@ fn watched_by<A: Allocator + Copy>(asked: Arguments<'_, '_, A>, name: &[u8]) -> 
 fn put_watch<A: Allocator + Copy>(
     alloc: A,
     machine: &Machine<'_, A>,
-    program: &Program<'_, A>,
     watched: Watched,
     name: &[u8],
     body: Body<A>,
 ) -> Result<Body<A>, AllocError> {
     match watched {
-        Watched::Data => data_watch(alloc, program, name, body),
+        Watched::Data => data_watch(alloc, machine, name, body),
         Watched::Temp(number) => temp_watch(alloc, machine, number, name, body),
         Watched::Nothing => put_unwatchable(body, "nothing to watch"),
     }
@@ -209,12 +207,5 @@ pub fn data_breakpoint_info<'c, A: Allocator + Copy + 'c, L: HasMachine<A, Machi
 ) -> Result<Body<A>, Failure> {
     let name = asked.text("name").unwrap_or("").as_bytes();
     let watched = watched_by(asked, name);
-    Ok(put_watch(
-        debuggee.alloc,
-        debuggee.machine(),
-        debuggee.program(),
-        watched,
-        name,
-        body,
-    )?)
+    Ok(put_watch(debuggee.alloc, debuggee.machine(), watched, name, body)?)
 }

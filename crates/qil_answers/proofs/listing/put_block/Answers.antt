@@ -13,14 +13,14 @@ pub returns-in_err-put_head : goal.returns-in_err-put_head
 returns-in_err-put_head g c =
     let p = (g.M.Readers.whole c.args.machine.now).program in
     let f = c.in-Some.frame in
-    rw (block_some p (g.M.Readers.whole c.args.machine.now).frames f c.innermost.ensures.fits (rw c.code-code.ensures at c.names_are_distinct.ensures.finds) c.in-Some.ensures.frame)
+    rw (block_some p (g.M.Readers.whole c.args.machine.now).frames f c.innermost.ensures.fits (rw c.code_of-code.ensures at c.names_are_distinct.ensures.finds) c.in-Some.ensures.frame)
     (HasPut-stop _ _ c.from_residual.ensures.1 _ _ _ (block_head (func_name (func_at p f.func)) (label_in (block_at p f.func f.block))) (rows_in f.index (block_at p f.func f.block))
-    (rw c.code-code.ensures at c.in_err-put_head.ensures))
+    (rw c.code_of-code.ensures at c.in_err-put_head.ensures))
 
 pub returns : goal.returns
 returns g c =
     let p = (g.M.Readers.whole c.args.machine.now).program in
     let f = c.in-Some.frame in
-    rw (block_some p (g.M.Readers.whole c.args.machine.now).frames f c.innermost.ensures.fits (rw c.code-code.ensures at c.names_are_distinct.ensures.finds) c.in-Some.ensures.frame)
+    rw (block_some p (g.M.Readers.whole c.args.machine.now).frames f c.innermost.ensures.fits (rw c.code_of-code.ensures at c.names_are_distinct.ensures.finds) c.in-Some.ensures.frame)
     (HasPut-append _ _ _ _ _ (block_head (func_name (func_at p f.func)) (label_in (block_at p f.func f.block))) (rows_in f.index (block_at p f.func f.block))
-    (rw c.code-code.ensures at c.in_ok-put_head.ensures) (rw c.code-code.ensures at c.put_block_of.ensures))
+    (rw c.code_of-code.ensures at c.in_ok-put_head.ensures) (rw c.code_of-code.ensures at c.put_block_of.ensures))

@@ -8,16 +8,16 @@ pub returns-then-is_over : goal.returns-then-is_over
 returns-then-is_over g c = λ s due ed eo of ahead.
     let p = c.args.machine.now.program in
     let t = state_of c.args.machine.now in
-    told_as p c.args.side.now.kinds t c.ended.result _ _
-    (by_tests p c.args.side.now.other.now c.args.side.now.kinds due s t true _ _ _ (record { over_is = sym c.is_over.ensures ∙ c.if-is_over.true; called_is = refl; returned_is = refl; put_is = refl }))
+    told_as p c.args.kinds t c.ended.result _ _
+    (by_tests p c.args.other.now c.args.kinds due s t true _ _ _ (record { over_is = sym c.is_over.ensures ∙ c.if-is_over.true; called_is = refl; returned_is = refl; put_is = refl }))
     (c.ended.ensures due of)
 
 pub returns-then-before-depth : goal.returns-then-before-depth
 returns-then-before-depth g c = λ s due ed eo of ahead.
     let p = c.args.machine.now.program in
     let t = state_of c.args.machine.now in
-    told_as p c.args.side.now.kinds t c.called.result _ _
-    (by_tests p c.args.side.now.other.now c.args.side.now.kinds due s t false true _ _ (record {
+    told_as p c.args.kinds t c.called.result _ _
+    (by_tests p c.args.other.now c.args.kinds due s t false true _ _ (record {
       over_is = sym c.is_over.ensures ∙ c.if-is_over.false;
       called_is = is_less c.args.before.depth c.depth-depth.result _ _ ed c.depth-depth.ensures c.if-before-depth.true;
       returned_is = refl;

@@ -8,18 +8,18 @@ use Rattle.qil_compare.proofs.Happening.{if_not, if_so, write_is, write_none, to
 use Rattle.qil_compare.proofs.happened.wrote_at.Goals as goal
 
 pub returns-in_default : goal.returns-in_default
-returns-in_default g c = write_none c.args.machine.now.program c.args.side.now.program.now c.args.side.now.other.now (state_of c.args.machine.now) (record { start = c.args.start; count = c.args.count }) c.requires c.in_default.ensures
+returns-in_default g c = λ kinds. write_none c.args.machine.now.program c.args.other.now (state_of c.args.machine.now) (record { start = c.args.start; count = c.args.count }) c.in_default.ensures
 
 pub returns-then-not-has_data : goal.returns-then-not-has_data
-returns-then-not-has_data g c =
-    write_is c.args.machine.now.program c.args.side.now.program.now c.args.side.now.other.now (state_of c.args.machine.now) c.args.start c.args.count (offset_of c.in-Some.place) c.has_data.result c.requires c.in-Some.ensures
+returns-then-not-has_data g c = λ kinds.
+    write_is c.args.machine.now.program c.args.other.now (state_of c.args.machine.now) c.args.start c.args.count (offset_of c.in-Some.place) c.has_data.result c.in-Some.ensures
     (c.has_data.ensures ∙ ap (λ (q : Program _). has_data q c.in-Some.place.object.now) c.image.ensures) ∙ if_not c.has_data.result _ c.if-not-has_data.true
 
 pub returns : goal.returns
-returns g c =
+returns g c = λ kinds.
     let p = c.args.machine.now.program in
     let s = state_of c.args.machine.now in
-    told_as p c.args.side.now.kinds s c.told.result _ _
-    (write_is p c.args.side.now.program.now c.args.side.now.other.now s c.args.start c.args.count (offset_of c.in-Some.place) c.has_data.result c.requires c.in-Some.ensures
+    told_as p kinds s c.told.result _ _
+    (write_is p c.args.other.now s c.args.start c.args.count (offset_of c.in-Some.place) c.has_data.result c.in-Some.ensures
     (c.has_data.ensures ∙ ap (λ (q : Program _). has_data q c.in-Some.place.object.now) c.image.ensures) ∙ if_so c.has_data.result _ c.if-not-has_data.false)
-    (c.told.ensures c.args.side.now.kinds)
+    (c.told.ensures kinds)

@@ -10,5 +10,5 @@ kept_before-requires g c = ap (λ (s : State). is_final s.status) c.machine_of.e
 
 pub returns : goal.returns
 returns g c =
-    kept_at c.machine_of.result.now.program (g.H.History.program c.args.history.now) (state_of c.machine_of.result.now) (g.H.History.timeline c.args.history.now).now c.args.side.now.kinds c.kept_before.result
+    kept_at c.machine_of.result.now.program (g.H.History.program c.args.history.now) (state_of c.machine_of.result.now) (g.H.History.timeline c.args.history.now).now c.args.kinds c.kept_before.result
     c.machine_of.ensures.program c.machine_of.ensures.now c.kept_before.ensures

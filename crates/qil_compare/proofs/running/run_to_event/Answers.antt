@@ -11,7 +11,7 @@ use Rattle.qil_compare.proofs.running.run_to_event.Goals as goal
 pub loop-init : goal.loop-init
 loop-init g c = record {
   program = refl;
-  way = silent_begun (g.H.History.program c.args.history.now) c.args.side.now.other.now c.args.side.now.kinds (g.H.History.timeline c.args.history.now);
+  way = silent_begun (g.H.History.program c.args.history.now) c.args.other.now c.args.kinds (g.H.History.timeline c.args.history.now);
 }
 
 pub returns-then-is_at_end-clause-run : goal.returns-then-is_at_end-clause-run
@@ -19,7 +19,7 @@ returns-then-is_at_end-clause-run g c =
     let i = c.loop.invariant in
     let now = g.H.History.timeline c.loop.history in
     let le : c.loop.counter ≤ c.args.limit = omega (arith, c.loop-test.true) in
-    run_over (g.H.History.program c.args.history.now) c.args.side.now.other.now c.args.side.now.kinds c.args.limit c.loop.counter (g.H.History.timeline c.args.history.now) now now c.written.result i.way
+    run_over (g.H.History.program c.args.history.now) c.args.other.now c.args.kinds c.args.limit c.loop.counter (g.H.History.timeline c.args.history.now) now now c.written.result i.way
     (sym c.is_at_end.ensures ∙ c.if-is_at_end.true) refl le c.written.ensures
 
 pub before_move-before-requires : goal.before_move-before-requires
@@ -36,32 +36,29 @@ returns-in-Err-AtEnd-clause-run g c =
     let i = c.loop.invariant in
     let now = g.H.History.timeline c.loop.history in
     let le : c.loop.counter ≤ c.args.limit = omega (arith, c.loop-test.true) in
-    run_over (g.H.History.program c.args.history.now) c.args.side.now.other.now c.args.side.now.kinds c.args.limit c.loop.counter (g.H.History.timeline c.args.history.now) now (g.H.History.timeline c.forward.new.self) c.before_move-before.result.written
+    run_over (g.H.History.program c.args.history.now) c.args.other.now c.args.kinds c.args.limit c.loop.counter (g.H.History.timeline c.args.history.now) now (g.H.History.timeline c.forward.new.self) c.before_move-before.result.written
     i.way (c.in-Err-AtEnd.ensures.end.0 (ap (λ (e : MoveError). Err e) c.in-Err-AtEnd.field-0-is)) c.in-Err-AtEnd.ensures.err le c.before_move-before.ensures.output
 
 pub returns-in-Err-OutOfMemory-clause-run : goal.returns-in-Err-OutOfMemory-clause-run
 returns-in-Err-OutOfMemory-clause-run g c =
     let i = c.loop.invariant in
     let now = g.H.History.timeline c.loop.history in
-    run_memory (g.H.History.program c.args.history.now) c.args.side.now.other.now c.args.side.now.kinds c.args.limit c.loop.counter (g.H.History.timeline c.args.history.now) now (g.H.History.timeline c.forward.new.self) c.before_move-before.result.written
+    run_memory (g.H.History.program c.args.history.now) c.args.other.now c.args.kinds c.args.limit c.loop.counter (g.H.History.timeline c.args.history.now) now (g.H.History.timeline c.forward.new.self) c.before_move-before.result.written
     i.way c.in-Err-OutOfMemory.ensures.err c.loop-test.true c.before_move-before.ensures.output
 
 pub happened_now-requires : goal.happened_now-requires
 happened_now-requires g c = λ lifetimes.
     let same = sym (c.in-Ok.ensures.program ∙ c.loop.invariant.program) in (
       (refl, tt),
-      (
-        c.requires.side ∙ same,
-        alike_as (g.H.History.program c.args.history.now) c.args.side.now.other.now (g.H.History.program c.forward.new.self) c.args.side.now.other.now c.args.alike same refl c.requires.alike,
-      ),
+      alike_as (g.H.History.program c.args.history.now) c.args.other.now (g.H.History.program c.forward.new.self) c.args.other.now c.args.alike same refl c.requires.alike,
     )
 
 pub returns-in-Some-clause-run : goal.returns-in-Some-clause-run
 returns-in-Some-clause-run g c =
     let i = c.loop.invariant in
     let p = g.H.History.program c.args.history.now in
-    let other = c.args.side.now.other.now in
-    let kinds = c.args.side.now.kinds in
+    let other = c.args.other.now in
+    let kinds = c.args.kinds in
     let now = g.H.History.timeline c.loop.history in
     let new = g.H.History.timeline c.forward.new.self in
     let goes : at_end now ≡ false = not_true (at_end now) (λ e. let w = c.in-Ok.ensures.end.1 e in absurd cc) in
@@ -75,8 +72,8 @@ pub loop-preserved : goal.loop-preserved
 loop-preserved g c =
     let i = c.loop.invariant in
     let p = g.H.History.program c.args.history.now in
-    let other = c.args.side.now.other.now in
-    let kinds = c.args.side.now.kinds in
+    let other = c.args.other.now in
+    let kinds = c.args.kinds in
     let now = g.H.History.timeline c.loop.history in
     let new = g.H.History.timeline c.forward.new.self in
     let goes : at_end now ≡ false = not_true (at_end now) (λ e. let w = c.in-Ok.ensures.end.1 e in absurd cc) in
@@ -93,8 +90,8 @@ pub returns-clause-run : goal.returns-clause-run
 returns-clause-run g c =
     let i = c.loop.invariant in
     let p = g.H.History.program c.args.history.now in
-    let other = c.args.side.now.other.now in
-    let kinds = c.args.side.now.kinds in
+    let other = c.args.other.now in
+    let kinds = c.args.kinds in
     let now = g.H.History.timeline c.loop.history in
     let t = g.H.History.timeline c.args.history.now in
     let all : c.loop.counter ≡ c.args.limit = omega (arith, c.loop-test.false, c.loop.auto.counter-end) in

@@ -6,5 +6,5 @@ use Rattle.qil_compare.proofs.running.run_to_event.Given as goal
 abbrev pub invariant-loop : goal.invariant-loop
 invariant-loop g l = record {
   program : g.H.History.program l.history ≡ g.H.History.program l.fn.history;
-  way : IsSilent (g.H.History.program l.fn.history) l.side.other.now l.side.kinds (g.H.History.timeline l.fn.history) l.counter (g.H.History.timeline l.history);
+  way : IsSilent (g.H.History.program l.fn.history) l.other l.kinds (g.H.History.timeline l.fn.history) l.counter (g.H.History.timeline l.history);
 }

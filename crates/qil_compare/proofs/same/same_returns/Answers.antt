@@ -5,4 +5,4 @@ use Rattle.qil_compare.proofs.same.same_returns.Goals as goal
 
 pub same_names-requires : goal.same_names-requires
 same_names-requires g c =
-    alike_as c.args.left.now.machine.now.program c.args.right.now.machine.now.program c.image.result.now c.image-2.result.now c.args.alike (sym c.image.ensures) (sym c.image-2.ensures) c.requires.alike
+    alike_as c.args.left.now.program c.args.right.now.program c.image_of.result.now c.image_of-2.result.now c.args.alike (sym c.image_of.ensures) (sym c.image_of-2.ensures) c.requires

@@ -18,7 +18,7 @@ loop-taken-init g c =
       program = refl;
       way = back-begun (named_stops p c.args.list.now) t;
       deep = deep-begun (λ j. gone j t) c.args.most;
-      reported = reported-at _ _ _ _ c.args.list.now c.readings-before.result.items c.machine.ensures.program c.machine.ensures.now c.readings-before.ensures.reported;
+      reported = reported-at _ _ _ _ c.args.list.now c.readings-before.result.items c.machine_of.ensures.program c.machine_of.ensures.now c.readings-before.ensures.reported;
     }
 
 pub returns-in-Some-clause-run : goal.returns-in-Some-clause-run

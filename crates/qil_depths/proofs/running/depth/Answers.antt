@@ -7,5 +7,5 @@ use Rattle.qil_depths.proofs.running.depth.Goals as goal
 
 pub returns : goal.returns
 returns g c =
-    let w = c.machine.result.now in
-    ap length c.frames.ensures.value ∙ length-reverse w.frames ∙ as_many w.program w.frames ∙ ap (λ (s : State). length s.frames) c.machine.ensures.now
+    let w = c.machine_of.result.now in
+    ap length c.frames.ensures.value ∙ length-reverse w.frames ∙ as_many w.program w.frames ∙ ap (λ (s : State). length s.frames) c.machine_of.ensures.now

@@ -17,7 +17,7 @@ loop-moves-init g c =
       program = refl;
       way = on-begun p (named_stops p c.args.list.now) t;
       deep = deep-begun (λ j. moved p j t) c.args.most;
-      reported = reported-at _ _ _ _ c.args.list.now c.readings-before.result.items c.machine.ensures.program c.machine.ensures.now c.readings-before.ensures.reported;
+      reported = reported-at _ _ _ _ c.args.list.now c.readings-before.result.items c.machine_of.ensures.program c.machine_of.ensures.now c.readings-before.ensures.reported;
     }
 
 pub forward-requires : goal.forward-requires

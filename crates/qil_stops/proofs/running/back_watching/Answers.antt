@@ -9,7 +9,7 @@ pub loop-taken-init : goal.loop-taken-init
 loop-taken-init g c = record {
   program = refl;
   way = back-begun (named_stops (g.H.History.program c.args.history.now) c.args.list.now) (g.H.History.timeline c.args.history.now);
-  reported = reported-at _ _ _ _ c.args.list.now c.readings-before.result.items c.machine.ensures.program c.machine.ensures.now c.readings-before.ensures.reported;
+  reported = reported-at _ _ _ _ c.args.list.now c.readings-before.result.items c.machine_of.ensures.program c.machine_of.ensures.now c.readings-before.ensures.reported;
 }
 
 pub returns-in-Some-clause-run : goal.returns-in-Some-clause-run

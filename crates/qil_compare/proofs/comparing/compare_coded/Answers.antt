@@ -2,7 +2,7 @@
 use Rattle.std.proofs.Common.{◌∙◌, refl, sym, arith, Some, None}
 use Rattle.qil_compare.proofs.Likeness.{alike_as, alike_swapped}
 use Rattle.qil_compare.proofs.Fronts.{alike_begun, both_found, alike_more, answered, next_as, judges_as}
-use Rattle.qil_compare.proofs.comparing.compare_sides.Goals as goal
+use Rattle.qil_compare.proofs.comparing.compare_coded.Goals as goal
 
 pub loop-events-init : goal.loop-events-init
 loop-events-init g c = record {
@@ -10,7 +10,7 @@ loop-events-init g c = record {
   bad_program = refl;
   good_near = omega (arith, c.requires.start.0);
   bad_near = omega (arith, c.requires.start.1);
-  alike = alike_begun c.args.good_side.now.kinds (g.H.History.program c.args.good.now) (g.K.History.program c.args.bad.now) (g.H.History.timeline c.args.good.now) (g.K.History.timeline c.args.bad.now) c.written-good_told.result c.written-bad_told.result
+  alike = alike_begun c.args.kinds (g.H.History.program c.args.good.now) (g.K.History.program c.args.bad.now) (g.H.History.timeline c.args.good.now) (g.K.History.timeline c.args.bad.now) c.written-good_told.result c.written-bad_told.result
       c.written-good_told.ensures c.written-bad_told.ensures;
 }
 
@@ -24,11 +24,7 @@ next_event-one-requires g c = λ lifetimes.
       (refl, tt),
       (
         omega (arith, near.0, limit),
-        (
-          c.requires.good ∙ sym i.good_program,
-          alike_as p q (g.H.History.program c.loop-events.good) c.args.good_side.now.other.now c.names_alike-alike.result (sym i.good_program) (sym (c.requires.sides.good_other ∙ c.requires.bad))
-              c.names_alike-alike.ensures,
-        ),
+        alike_as p q (g.H.History.program c.loop-events.good) c.args.bad_code.now c.names_alike-alike.result (sym i.good_program) (sym c.requires.bad) c.names_alike-alike.ensures,
       ),
     )
 
@@ -42,12 +38,8 @@ next_event-other-requires g c = λ lifetimes.
       (refl, tt),
       (
         omega (arith, near.1, limit),
-        (
-          c.requires.bad ∙ sym i.bad_program,
-          alike_as q p (g.K.History.program c.loop-events.bad) c.args.bad_side.now.other.now c.names_alike-alike.result (sym i.bad_program) (sym (c.requires.sides.bad_other ∙ c.requires.good))
-              (alike_swapped p q c.names_alike-alike.result
-              c.names_alike-alike.ensures),
-        ),
+        alike_as q p (g.K.History.program c.loop-events.bad) c.args.good_code.now c.names_alike-alike.result (sym i.bad_program) (sym c.requires.good)
+            (alike_swapped p q c.names_alike-alike.result c.names_alike-alike.ensures),
       ),
     )
 
@@ -58,15 +50,9 @@ judge_here-judged-requires g c = λ lifetimes.
     let q = g.K.History.program c.args.bad.now in
     let good = c.next_event-one.ensures.program ∙ i.good_program in
     let bad = c.next_event-other.ensures.program ∙ i.bad_program in (
-      (refl, (refl, tt)),
-      (
-        c.requires.good ∙ sym good,
-        (
-          c.requires.bad ∙ sym bad,
-          alike_as p q (g.H.History.program c.next_event-one.new.history) (g.K.History.program c.next_event-other.new.history) c.names_alike-alike.result (sym good) (sym bad)
-              c.names_alike-alike.ensures,
-        ),
-      ),
+      (refl, tt),
+      alike_as p q (g.H.History.program c.next_event-one.new.history) (g.K.History.program c.next_event-other.new.history) c.names_alike-alike.result (sym good) (sym bad)
+          c.names_alike-alike.ensures,
     )
 
 pub returns-in-Some-clause-answer : goal.returns-in-Some-clause-answer
@@ -74,13 +60,13 @@ returns-in-Some-clause-answer g c =
     let i = c.loop-events.invariant in
     let p = g.H.History.program c.args.good.now in
     let q = g.K.History.program c.args.bad.now in
-    let kinds = c.args.good_side.now.kinds in
+    let kinds = c.args.kinds in
     let u = g.H.History.timeline c.next_event-one.new.history in
     let v = g.K.History.timeline c.next_event-other.new.history in
-    let one = next_as p (g.H.History.program c.loop-events.good) q c.args.good_side.now.other.now kinds kinds c.args.limit (g.H.History.timeline c.loop-events.good) u c.loop-events.good_told c.next_event-one.new.told c.next_event-one.result
-    i.good_program (c.requires.sides.good_other ∙ c.requires.bad) refl c.next_event-one.ensures.next in
-    let other = next_as q (g.K.History.program c.loop-events.bad) p c.args.bad_side.now.other.now kinds c.args.bad_side.now.kinds c.args.limit (g.K.History.timeline c.loop-events.bad) v c.loop-events.bad_told c.next_event-other.new.told c.next_event-other.result
-    i.bad_program (c.requires.sides.bad_other ∙ c.requires.good) (sym c.requires.sides.kinds) c.next_event-other.ensures.next in
+    let one = next_as p (g.H.History.program c.loop-events.good) q c.args.bad_code.now kinds kinds c.args.limit (g.H.History.timeline c.loop-events.good) u c.loop-events.good_told c.next_event-one.new.told c.next_event-one.result
+    i.good_program c.requires.bad refl c.next_event-one.ensures.next in
+    let other = next_as q (g.K.History.program c.loop-events.bad) p c.args.good_code.now kinds c.args.kinds c.args.limit (g.K.History.timeline c.loop-events.bad) v c.loop-events.bad_told c.next_event-other.new.told c.next_event-other.result
+    i.bad_program c.requires.good refl c.next_event-other.ensures.next in
     rw c.told_of.ensures (answered kinds p q (g.H.History.timeline c.args.good.now) u (g.K.History.timeline c.args.bad.now) v c.loop-events.events c.next_event-one.new.told c.next_event-other.new.told c.next_event-one.result c.next_event-other.result c.in-Some.verdict
     (both_found kinds p q c.args.limit (g.H.History.timeline c.args.good.now) (g.H.History.timeline c.loop-events.good) u (g.K.History.timeline c.args.bad.now) (g.K.History.timeline c.loop-events.bad) v c.loop-events.events
     c.loop-events.good_told c.loop-events.bad_told c.next_event-one.new.told c.next_event-other.new.told c.next_event-one.result c.next_event-other.result i.alike one other)
@@ -92,14 +78,14 @@ loop-events-preserved g c =
     let i = c.loop-events.invariant in
     let p = g.H.History.program c.args.good.now in
     let q = g.K.History.program c.args.bad.now in
-    let kinds = c.args.good_side.now.kinds in
+    let kinds = c.args.kinds in
     let u = g.H.History.timeline c.next_event-one.new.history in
     let v = g.K.History.timeline c.next_event-other.new.history in
     let near = c.is_far.ensures.near c.if-is_far.false in
-    let one = next_as p (g.H.History.program c.loop-events.good) q c.args.good_side.now.other.now kinds kinds c.args.limit (g.H.History.timeline c.loop-events.good) u c.loop-events.good_told c.next_event-one.new.told c.next_event-one.result
-    i.good_program (c.requires.sides.good_other ∙ c.requires.bad) refl c.next_event-one.ensures.next in
-    let other = next_as q (g.K.History.program c.loop-events.bad) p c.args.bad_side.now.other.now kinds c.args.bad_side.now.kinds c.args.limit (g.K.History.timeline c.loop-events.bad) v c.loop-events.bad_told c.next_event-other.new.told c.next_event-other.result
-    i.bad_program (c.requires.sides.bad_other ∙ c.requires.good) (sym c.requires.sides.kinds) c.next_event-other.ensures.next in
+    let one = next_as p (g.H.History.program c.loop-events.good) q c.args.bad_code.now kinds kinds c.args.limit (g.H.History.timeline c.loop-events.good) u c.loop-events.good_told c.next_event-one.new.told c.next_event-one.result
+    i.good_program c.requires.bad refl c.next_event-one.ensures.next in
+    let other = next_as q (g.K.History.program c.loop-events.bad) p c.args.good_code.now kinds c.args.kinds c.args.limit (g.K.History.timeline c.loop-events.bad) v c.loop-events.bad_told c.next_event-other.new.told c.next_event-other.result
+    i.bad_program c.requires.good refl c.next_event-other.ensures.next in
     record {
       good_program = c.next_event-one.ensures.program ∙ i.good_program;
       bad_program = c.next_event-other.ensures.program ∙ i.bad_program;
