@@ -1,4 +1,5 @@
-//! Which event a step had, by the machine before and after it. Nothing here takes memory.
+//! Which event a step had, by the machine before and after it, and by the code of the other program: a call or a write of what that
+//! one doesn't have is no event. Nothing here takes memory.
 
 ghost use Rattle.std.specs.Prelude.{◌≡◌, [], ◌∷◌, drop, option_map};
 ghost use Rattle.qil_meaning.specs.State.{is_final};
