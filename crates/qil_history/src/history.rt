@@ -129,8 +129,8 @@ pub trait History<A: Allocator, M: HasState<A>> {
         ensures program { (M.whole result.now).program ≡ program self.now };
 }
 
-/// The machine of a history. What is generic in one asks for it here alone: what a trait's call means of a machine makes each
-/// check dear.
+/// The machine of a history. Runs ask for it by this and not by the trait's call, which makes the check of each function dear that
+/// has it.
 #[inline(always)]
 pub fn machine_of<'c, A: Allocator + Copy + 'c, H: History<A, Machine<'c, A>>>(
     history: &H,

@@ -113,8 +113,8 @@ impl<'c, A: Allocator + Copy> Readers<A, Code<'c, A>> for Machine<'c, A> {
     }
 }
 
-/// The code that a machine runs. What is generic in its readers asks for it here alone: what a trait's call means of a code makes
-/// each check dear.
+/// The code that a machine runs. What shows a machine asks for it by this and not by the trait's call, which makes the check of each
+/// function dear that has it.
 #[inline(always)]
 pub fn code_of<'c, 'm, A: Allocator + Copy + 'c, M: Readers<A, Code<'c, A>>>(
     machine: &'m M,
