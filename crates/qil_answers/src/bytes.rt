@@ -50,9 +50,9 @@ fn put_next_byte<P: Put>(out: &mut P, byte: Option<u8>) -> Result<(), PutError>
 /// # Errors
 ///
 /// `PutError` where `out` stopped. Then a prefix of the line was put.
-pub fn put_memory<'c, P: Put, A: Allocator + Copy + 'c, M: Readers<A, Code<'c, A>>>(
-    out: &mut P,
-    machine: &M,
+pub fn put_memory<'s, 'c, P: Put, A: Allocator + Copy + 'c, M: Readers<A, Code<'c, A>>>(
+    out: &'s mut P,
+    machine: &'s M,
     address: u64,
     count: u32,
 ) -> Result<(), PutError>
@@ -121,9 +121,9 @@ fn put_counted<P: Put>(out: &mut P, bytes: &[u8]) -> Result<(), PutError>
 /// # Errors
 ///
 /// `PutError` where `out` stopped. Then a prefix of the line was put.
-pub fn put_output<'c, P: Put, A: Allocator + Copy + 'c, M: Readers<A, Code<'c, A>>>(
-    out: &mut P,
-    machine: &M,
+pub fn put_output<'s, 'c, P: Put, A: Allocator + Copy + 'c, M: Readers<A, Code<'c, A>>>(
+    out: &'s mut P,
+    machine: &'s M,
 ) -> Result<(), PutError>
     requires { P.stops out.old < 2 ^ 64 - 1 }
     ensures { HasPut P.written P.stops P.device result out.old out.new (output_shown (state_of (M.whole machine.now)).output) }

@@ -59,9 +59,9 @@ fn frame_at<'c, 'm, A: Allocator + Copy + 'c, M: Readers<A, Code<'c, A>>>(
 /// # Errors
 ///
 /// `PutError` where `out` stopped. Then a prefix of the text was put.
-pub fn put_frames<'c, P: Put, A: Allocator + Copy + 'c, M: Readers<A, Code<'c, A>>>(
-    out: &mut P,
-    machine: &M,
+pub fn put_frames<'s, 'c, P: Put, A: Allocator + Copy + 'c, M: Readers<A, Code<'c, A>>>(
+    out: &'s mut P,
+    machine: &'s M,
 ) -> Result<(), PutError>
     requires { P.stops out.old < 2 ^ 64 - 1 }
     ensures { HasPut P.written P.stops P.device result out.old out.new (frames_shown (state_of (M.whole machine.now)).frames) }

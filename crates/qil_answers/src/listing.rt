@@ -116,8 +116,8 @@ fn put_rows<P: Put, A: Allocator>(
 
 /// Puts the line that says in which block a frame is.
 fn put_head<'c, P: Put, A: Allocator + Copy>(
-    out: &mut P,
     code: &Code<'c, A>,
+    out: &mut P,
     frame: &FrameView<'_>,
 ) -> Result<(), PutError>
     requires { P.stops out.old < 2 ^ 64 - 1 }
@@ -137,8 +137,8 @@ fn put_head<'c, P: Put, A: Allocator + Copy>(
 
 /// Puts the rows of the block that a frame is in.
 fn put_block_of<'c, P: Put, A: Allocator + Copy>(
-    out: &mut P,
     code: &Code<'c, A>,
+    out: &mut P,
     frame: &FrameView<'_>,
 ) -> Result<(), PutError>
     requires { P.stops out.old < 2 ^ 64 - 1 }
@@ -161,9 +161,9 @@ fn put_block_of<'c, P: Put, A: Allocator + Copy>(
 /// # Errors
 ///
 /// `PutError` where `out` stopped. Then a prefix of the text was put.
-pub fn put_block<'c, P: Put, A: Allocator + Copy + 'c, M: Readers<A, Code<'c, A>>>(
-    out: &mut P,
-    machine: &M,
+pub fn put_block<'s, 'c, P: Put, A: Allocator + Copy + 'c, M: Readers<A, Code<'c, A>>>(
+    out: &'s mut P,
+    machine: &'s M,
 ) -> Result<(), PutError>
     requires { P.stops out.old < 2 ^ 64 - 1 }
     ensures { HasPut P.written P.stops P.device result out.old out.new (block_shown (M.whole machine.now).program (state_of (M.whole machine.now)).frames) }
@@ -173,6 +173,6 @@ pub fn put_block<'c, P: Put, A: Allocator + Copy + 'c, M: Readers<A, Code<'c, A>
     };
     let code = code_of(machine);
     code.names_are_distinct();
-    put_head(out, code, &frame)?;
-    put_block_of(out, code, &frame)
+    put_head(code, out, &frame)?;
+    put_block_of(code, out, &frame)
 }

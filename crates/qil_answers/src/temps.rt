@@ -48,10 +48,10 @@ fn put_value<P: Put>(out: &mut P, name: &[u8], value: Option<u64>) -> Result<(),
 /// # Errors
 ///
 /// `PutError` where `out` stopped. Then a prefix of the text was put.
-pub fn put_printed<'c, P: Put, A: Allocator + Copy + 'c, M: Readers<A, Code<'c, A>>>(
-    out: &mut P,
-    machine: &M,
-    name: &[u8],
+pub fn put_printed<'s, 'c, P: Put, A: Allocator + Copy + 'c, M: Readers<A, Code<'c, A>>>(
+    out: &'s mut P,
+    machine: &'s M,
+    name: &'s [u8],
 ) -> Result<(), PutError>
     requires { P.stops out.old < 2 ^ 64 - 1 }
     ensures { HasPut P.written P.stops P.device result out.old out.new (printed (M.whole machine.now).program (state_of (M.whole machine.now)).frames name.now) }
@@ -67,8 +67,8 @@ pub fn put_printed<'c, P: Put, A: Allocator + Copy + 'c, M: Readers<A, Code<'c, 
 
 /// Puts a line for each slot of a frame.
 fn put_slots<'c, P: Put, A: Allocator + Copy>(
-    out: &mut P,
     code: &Code<'c, A>,
+    out: &mut P,
     frame: &FrameView<'_>,
 ) -> Result<(), PutError>
     requires stops { P.stops out.old < 2 ^ 64 - 1 }
@@ -90,9 +90,9 @@ fn put_slots<'c, P: Put, A: Allocator + Copy>(
 /// # Errors
 ///
 /// `PutError` where `out` stopped. Then a prefix of the text was put.
-pub fn put_temps<'c, P: Put, A: Allocator + Copy + 'c, M: Readers<A, Code<'c, A>>>(
-    out: &mut P,
-    machine: &M,
+pub fn put_temps<'s, 'c, P: Put, A: Allocator + Copy + 'c, M: Readers<A, Code<'c, A>>>(
+    out: &'s mut P,
+    machine: &'s M,
 ) -> Result<(), PutError>
     requires { P.stops out.old < 2 ^ 64 - 1 }
     ensures { HasPut P.written P.stops P.device result out.old out.new (temps_shown (M.whole machine.now).program (state_of (M.whole machine.now)).frames) }
@@ -105,5 +105,5 @@ pub fn put_temps<'c, P: Put, A: Allocator + Copy + 'c, M: Readers<A, Code<'c, A>
     if code.slot_count(frame.func()) == 0 {
         return put_line(out, b"none");
     }
-    put_slots(out, code, &frame)
+    put_slots(code, out, &frame)
 }

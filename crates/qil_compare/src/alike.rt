@@ -29,9 +29,9 @@ fn is_named<A: Allocator + Copy>(image: &Image<'_, A>, func: FuncId, name: &[u8]
 }
 
 /// Whether two programs have functions of one name at a number.
-fn is_named_alike<A: Allocator + Copy>(
-    image: &Image<'_, A>,
-    other: &Image<'_, A>,
+fn is_named_alike<'c, A: Allocator + Copy>(
+    image: &Image<'c, A>,
+    other: &Image<'c, A>,
     func: FuncId,
 ) -> bool
     ensures { IsTrue result → (name : Name) × (name_at image.now func.index ≡ Some name) × (name_at other.now func.index ≡ Some name) }
@@ -43,7 +43,7 @@ fn is_named_alike<A: Allocator + Copy>(
 }
 
 /// At how many numbers, from the first on, two programs have functions of the same names.
-pub fn named_alike<A: Allocator + Copy>(image: &Image<'_, A>, other: &Image<'_, A>) -> u16
+pub fn named_alike<'c, A: Allocator + Copy>(image: &Image<'c, A>, other: &Image<'c, A>) -> u16
     ensures { AreNamedAlike image.now other.now result }
 {
     for index in 0..u16::MAX {
@@ -70,7 +70,7 @@ fn has_func<A: Allocator + Copy>(code: &Code<'_, A>, func: FuncId, name: &[u8]) 
 #[inline(always)]
 pub fn has_like<'c, A: Allocator + Copy>(
     image: &Image<'c, A>,
-    code: &Code<'_, A>,
+    code: &Code<'c, A>,
     func: FuncId,
     alike: u16,
 ) -> bool
@@ -87,7 +87,7 @@ pub fn has_like<'c, A: Allocator + Copy>(
 #[inline(always)]
 pub fn has_called<'c, A: Allocator + Copy>(
     machine: &Machine<'c, A>,
-    code: &Code<'_, A>,
+    code: &Code<'c, A>,
     alike: u16,
 ) -> bool
     requires { AreNamedAlike machine.now.program code.now alike }

@@ -118,11 +118,12 @@ fn judge<'c, A: Allocator + Copy>(
 /// What comes of two runs where they stand, or nothing where they found the same event.
 #[inline(always)]
 fn judge_here<
+    's,
     'c,
     A: Allocator + Copy + 'c,
     H: History<A, Machine<'c, A>>,
     K: History<A, Machine<'c, A>>,
->(good: &H, bad: &K, one: Found, other: Found, alike: u16) -> Option<Verdict>
+>(good: &'s H, bad: &'s K, one: Found, other: Found, alike: u16) -> Option<Verdict>
     requires { AreNamedAlike (H.program good.now) (K.program bad.now) alike }
     ensures { Judges (H.program good.now) (K.program bad.now) (H.timeline good.now).now (K.timeline bad.now).now one other result }
 {
@@ -140,11 +141,12 @@ fn image_in<'c, A: Allocator + Copy + 'c, H: History<A, Machine<'c, A>>>(
 
 /// At how many numbers, from the first on, the programs of two histories have functions of the same names.
 fn names_alike<
+    's,
     'c,
     A: Allocator + Copy + 'c,
     H: History<A, Machine<'c, A>>,
     K: History<A, Machine<'c, A>>,
->(good: &H, bad: &K) -> u16
+>(good: &'s H, bad: &'s K) -> u16
     ensures { AreNamedAlike (H.program good.now) (K.program bad.now) result }
 {
     named_alike(image_in(good), image_in(bad))
@@ -152,11 +154,12 @@ fn names_alike<
 
 /// Whether one of two runs has made so many moves that no further event is looked for.
 fn is_far<
+    's,
     'c,
     A: Allocator + Copy + 'c,
     H: History<A, Machine<'c, A>>,
     K: History<A, Machine<'c, A>>,
->(good: &H, bad: &K) -> bool
+>(good: &'s H, bad: &'s K) -> bool
     ensures near { result ≡ false → (position (H.timeline good.now) ≤ 1000000000000000000) × (position (K.timeline bad.now) ≤ 1000000000000000000) }
 {
     good.position() > MOST_MOVES || bad.position() > MOST_MOVES
@@ -189,8 +192,8 @@ fn compare_coded<
     K: History<A, Machine<'c, A>>,
 >(
     kinds: Kinds,
-    good_code: &Code<'_, A>,
-    bad_code: &Code<'_, A>,
+    good_code: &Code<'c, A>,
+    bad_code: &Code<'c, A>,
     good: &mut H,
     bad: &mut K,
     limit: u64,
@@ -233,11 +236,12 @@ fn code_in<'c, A: Allocator + Copy + 'c, H: History<A, Machine<'c, A>>>(
 /// Runs two programs side by side to the first event of these kinds in which they differ, to the end of both, or to a limit: of
 /// the moves from one event to the next, or of all moves of a side. Each is left behind the event that is told of it.
 pub fn compare<
+    's,
     'c,
     A: Allocator + Copy + 'c,
     H: History<A, Machine<'c, A>>,
     K: History<A, Machine<'c, A>>,
->(kinds: Kinds, good: &mut H, bad: &mut K, limit: u64) -> Answer
+>(kinds: Kinds, good: &'s mut H, bad: &'s mut K, limit: u64) -> Answer
     requires limit { limit ≤ 4294967295 }
     requires start { (position (H.timeline good.old) ≤ 1000000000000000000) × (position (K.timeline bad.old) ≤ 1000000000000000000) }
     ensures good_program { H.program good.new ≡ H.program good.old }

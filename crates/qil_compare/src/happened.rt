@@ -64,7 +64,7 @@ fn ended<A: Allocator + Copy>(
 /// A call, if it is one of both programs.
 fn called<'c, A: Allocator + Copy>(
     machine: &Machine<'c, A>,
-    other: &Code<'_, A>,
+    other: &Code<'c, A>,
     kinds: Kinds,
     alike: u16,
 ) -> Option<Told>
@@ -83,7 +83,7 @@ fn called<'c, A: Allocator + Copy>(
 /// A return, if it is one of both programs.
 fn returned<'c, A: Allocator + Copy>(
     machine: &Machine<'c, A>,
-    other: &Code<'_, A>,
+    other: &Code<'c, A>,
     kinds: Kinds,
     before: Before,
     alike: u16,
@@ -127,7 +127,7 @@ fn range_of(ahead: Ahead) -> Option<(u64, u64)>
 /// A write to memory, if it is to data of both programs.
 fn wrote_at<'c, A: Allocator + Copy>(
     machine: &Machine<'c, A>,
-    other: &Code<'_, A>,
+    other: &Code<'c, A>,
     start: u64,
     count: u64,
 ) -> Option<Told>
@@ -146,7 +146,7 @@ fn wrote_at<'c, A: Allocator + Copy>(
 /// What was to be written, if writes are compared.
 fn wrote<'c, A: Allocator + Copy>(
     machine: &Machine<'c, A>,
-    other: &Code<'_, A>,
+    other: &Code<'c, A>,
     kinds: Kinds,
     before: Before,
 ) -> Option<Told>
@@ -187,7 +187,7 @@ pub fn byte_out<A: Allocator + Copy>(
 #[inline(always)]
 pub fn happened<'c, A: Allocator + Copy>(
     machine: &Machine<'c, A>,
-    other: &Code<'_, A>,
+    other: &Code<'c, A>,
     kinds: Kinds,
     before: Before,
     alike: u16,

@@ -57,7 +57,7 @@ fn before_move<'c, A: Allocator + Copy + 'c, H: History<A, Machine<'c, A>>>(
 /// The first event of a move, by the run behind it.
 #[inline(always)]
 fn happened_now<'c, A: Allocator + Copy + 'c, H: History<A, Machine<'c, A>>>(
-    other: &Code<'_, A>,
+    other: &Code<'c, A>,
     kinds: Kinds,
     history: &H,
     before: Before,
@@ -74,7 +74,7 @@ fn happened_now<'c, A: Allocator + Copy + 'c, H: History<A, Machine<'c, A>>>(
 /// end of the run, or where there is no memory for a move. Gives also how many bytes of output are told then.
 #[inline(never)]
 fn run_to_event<'c, A: Allocator + Copy + 'c, H: History<A, Machine<'c, A>>>(
-    other: &Code<'_, A>,
+    other: &Code<'c, A>,
     kinds: Kinds,
     history: &mut H,
     alike: u16,
@@ -105,7 +105,7 @@ fn run_to_event<'c, A: Allocator + Copy + 'c, H: History<A, Machine<'c, A>>>(
 /// The next event of a run, of which so many bytes of output are told: a byte that isn't told yet, without a move; or what
 /// comes of moves, `limit` at most.
 pub fn next_event<'c, A: Allocator + Copy + 'c, H: History<A, Machine<'c, A>>>(
-    other: &Code<'_, A>,
+    other: &Code<'c, A>,
     kinds: Kinds,
     history: &mut H,
     alike: u16,

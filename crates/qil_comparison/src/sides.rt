@@ -25,12 +25,13 @@ use std::alloc::Allocator;
 
 /// Writes what is told of a comparison.
 fn write_answer<
+    's,
     'c,
     A: Allocator + Copy + 'c,
     H: History<A, Machine<'c, A>>,
     K: History<A, Machine<'c, A>>,
     W: Sink,
->(sink: &mut W, good: &H, bad: &K, answer: Answer) -> Result<(), PutError>
+>(sink: &'s mut W, good: &'s H, bad: &'s K, answer: Answer) -> Result<(), PutError>
     requires writes { W.failures sink.old < 2 ^ 64 - 1 }
     ensures text { Puts result (W.contents sink.old) (W.contents sink.new) (told_text (H.program good.now) (K.program bad.now) (H.timeline good.now) (K.timeline bad.now) answer) }
     ensures counted { Counts result (W.failures sink.old) (W.failures sink.new) }

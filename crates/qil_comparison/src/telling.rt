@@ -63,10 +63,10 @@ fn put_way<P: Put>(out: &mut P, position: u64) -> Result<(), PutError>
 
 /// Puts where a machine stands after so many moves.
 // It knows of the machine what its readers tell, as what it calls does: with one that is known each call would compare all of them.
-fn put_stand<'c, P: Put, A: Allocator + Copy + 'c, M: Readers<A, Code<'c, A>>>(
-    out: &mut P,
+fn put_stand<'s, 'c, P: Put, A: Allocator + Copy + 'c, M: Readers<A, Code<'c, A>>>(
+    out: &'s mut P,
     position: u64,
-    machine: &M,
+    machine: &'s M,
 ) -> Result<(), PutError>
     requires { P.stops out.old < 2 ^ 64 - 1 }
     ensures { HasPut P.written P.stops P.device result out.old out.new
@@ -79,10 +79,10 @@ fn put_stand<'c, P: Put, A: Allocator + Copy + 'c, M: Readers<A, Code<'c, A>>>(
 }
 
 /// Puts what is told of one side.
-fn put_side<'c, A: Allocator + Copy + 'c, H: History<A, Machine<'c, A>>, P: Put>(
-    out: &mut P,
-    name: &[u8],
-    history: &H,
+fn put_side<'s, 'c, A: Allocator + Copy + 'c, H: History<A, Machine<'c, A>>, P: Put>(
+    out: &'s mut P,
+    name: &'s [u8],
+    history: &'s H,
     found: Found,
 ) -> Result<(), PutError>
     requires stops { P.stops out.old < 2 ^ 64 - 1 }
@@ -96,12 +96,13 @@ fn put_side<'c, A: Allocator + Copy + 'c, H: History<A, Machine<'c, A>>, P: Put>
 
 /// Puts what is told of both sides.
 fn put_sides<
+    's,
     'c,
     A: Allocator + Copy + 'c,
     H: History<A, Machine<'c, A>>,
     K: History<A, Machine<'c, A>>,
     P: Put,
->(out: &mut P, good: &H, bad: &K, answer: Answer) -> Result<(), PutError>
+>(out: &'s mut P, good: &'s H, bad: &'s K, answer: Answer) -> Result<(), PutError>
     requires stops { P.stops out.old < 2 ^ 64 - 1 }
     ensures { HasPut P.written P.stops P.device result out.old out.new (sides_text (H.program good.now) (K.program bad.now) (H.timeline good.now) (K.timeline bad.now) answer) }
 {
@@ -121,12 +122,13 @@ fn is_same(verdict: Verdict) -> bool
 
 /// Puts what is told of a comparison.
 pub fn put_answer<
+    's,
     'c,
     A: Allocator + Copy + 'c,
     H: History<A, Machine<'c, A>>,
     K: History<A, Machine<'c, A>>,
     P: Put,
->(out: &mut P, good: &H, bad: &K, answer: Answer) -> Result<(), PutError>
+>(out: &'s mut P, good: &'s H, bad: &'s K, answer: Answer) -> Result<(), PutError>
     requires stops { P.stops out.old < 2 ^ 64 - 1 }
     ensures { HasPut P.written P.stops P.device result out.old out.new (told_text (H.program good.now) (K.program bad.now) (H.timeline good.now) (K.timeline bad.now) answer) }
 {

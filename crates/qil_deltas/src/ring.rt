@@ -16,7 +16,7 @@ ghost use Rattle.qil_deltas.specs.Weights.{total, TakesLatestOff};
 use crate::newest::{Newest, take_latest};
 use circular_buffer::HeapCircularBuffer;
 use qil_code::Slot;
-use qil_history::{BackError, History, Poke};
+use qil_history::{BackError, History, Poke, SlotHistory};
 use qil_machine::{Delta, DeltaSink, Frame, Machine, MoveError, PokeError};
 use std::alloc::{AllocError, Allocator};
 use std::marker::Model;
@@ -151,22 +151,6 @@ impl<'c, A: Allocator + Copy> History<A, Machine<'c, A>> for Ring<'c, A> {
         }
     }
 
-    #[tactic(auto, using(qil_history::proofs::PokeLemmas::slot_never_dead))]
-    fn poke_temp(&mut self, slot: Slot, value: u64) -> Result<(), PokeError>
-        requires { position (recent_timeline self.old) < 2 ^ 62 }
-        ensures program { self.new.machine.program ≡ self.old.machine.program }
-        ensures ok { OnOk result (poked (recent_timeline self.old) (poke_slot self.old.machine.program (state_of self.old.machine) slot value) ≡ Ok (recent_timeline self.new)) }
-        ensures frame { (result ≡ Err PokeError.NoFrame) ↔ (poke_slot self.old.machine.program (state_of self.old.machine) slot value ≡ Err no_frame) }
-        ensures unknown { (result ≡ Err PokeError.UnknownTemporary) ↔ (poke_slot self.old.machine.program (state_of self.old.machine) slot value ≡ Err unknown_temporary) }
-        ensures live { result ≢ Err PokeError.DeadAddress }
-        ensures err { OnErr result (recent_timeline self.new ≡ recent_timeline self.old) }
-        ensures memory { result ≢ Err PokeError.OutOfMemory }
-        ensures cost { OnOk result (total self.new.deltas ≤ total self.old.deltas + temp_poke_cost) }
-        ensures kept { OnErr result (self.new.deltas ≡ self.old.deltas) }
-    {
-        self.poke(Poke::Slot(slot, value))
-    }
-
     #[tactic(auto, using(qil_history::proofs::PokeLemmas::temp_never_dead))]
     fn poke_named(&mut self, name: &[u8], value: u64) -> Result<(), PokeError>
         requires { position (recent_timeline self.old) < 2 ^ 62 }
@@ -209,11 +193,29 @@ impl<'c, A: Allocator + Copy> History<A, Machine<'c, A>> for Ring<'c, A> {
         self.newest.gone
     }
 
-    fn keeps(&self) -> Option<u64> {
-        Some(self.newest.deltas.capacity() as u64)
-    }
-
     fn machine(&self) -> &Machine<'c, A> {
         &self.machine
+    }
+}
+
+impl<'c, A: Allocator + Copy> SlotHistory<A, Machine<'c, A>> for Ring<'c, A> {
+    #[tactic(auto, using(qil_history::proofs::PokeLemmas::slot_never_dead))]
+    fn poke_temp(&mut self, slot: Slot, value: u64) -> Result<(), PokeError>
+        requires { position (recent_timeline self.old) < 2 ^ 62 }
+        ensures program { self.new.machine.program ≡ self.old.machine.program }
+        ensures ok { OnOk result (poked (recent_timeline self.old) (poke_slot self.old.machine.program (state_of self.old.machine) slot value) ≡ Ok (recent_timeline self.new)) }
+        ensures frame { (result ≡ Err PokeError.NoFrame) ↔ (poke_slot self.old.machine.program (state_of self.old.machine) slot value ≡ Err no_frame) }
+        ensures unknown { (result ≡ Err PokeError.UnknownTemporary) ↔ (poke_slot self.old.machine.program (state_of self.old.machine) slot value ≡ Err unknown_temporary) }
+        ensures live { result ≢ Err PokeError.DeadAddress }
+        ensures err { OnErr result (recent_timeline self.new ≡ recent_timeline self.old) }
+        ensures memory { result ≢ Err PokeError.OutOfMemory }
+        ensures cost { OnOk result (total self.new.deltas ≤ total self.old.deltas + temp_poke_cost) }
+        ensures kept { OnErr result (self.new.deltas ≡ self.old.deltas) }
+    {
+        self.poke(Poke::Slot(slot, value))
+    }
+
+    fn keeps(&self) -> Option<u64> {
+        Some(self.newest.deltas.capacity() as u64)
     }
 }

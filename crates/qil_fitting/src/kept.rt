@@ -20,7 +20,7 @@ use std::alloc::Allocator;
 
 /// Whether `Machine::undo` may put this back into the machine: all places that it names are there, and the machine
 /// would be one that the type allows. What a move of a machine gives fits that machine.
-pub fn fits<A: Allocator + Copy>(delta: &Delta<A>, machine: &Machine<'_, A>) -> bool
+pub fn fits<'s, 'c, A: Allocator + Copy>(delta: &'s Delta<A>, machine: &'s Machine<'c, A>) -> bool
     ensures { IsTrue result ↔ Fits delta.now machine.now }
 {
     fits_kind(machine, delta.kind())

@@ -66,22 +66,7 @@ pub trait History<A: Allocator, M: HasState<A>> {
         ensures oldest { (result ≡ Err BackError.Oldest) ↔ (((timeline self.old).past ≡ []) × (position (timeline self.old) ≢ 0)) }
         ensures err { OnErr result (timeline self.new ≡ timeline self.old) };
 
-    /// Sets a temporary of the innermost frame to a number, cut to its class.
-    ///
-    /// # Errors
-    ///
-    /// `NoFrame` where the run is done, `UnknownTemporary` where the innermost function has no such slot, and
-    /// `OutOfMemory`. The history is as it was.
-    fn poke_temp(&mut self, slot: Slot, value: u64) -> Result<(), PokeError>
-        requires { position (timeline self.old) < 2 ^ 62 }
-        ensures program { program self.new ≡ program self.old }
-        ensures ok { OnOk result (poked (timeline self.old) (poke_slot (program self.old) (timeline self.old).now slot value) ≡ Ok (timeline self.new)) }
-        ensures frame { (result ≡ Err PokeError.NoFrame) ↔ (poke_slot (program self.old) (timeline self.old).now slot value ≡ Err no_frame) }
-        ensures unknown { (result ≡ Err PokeError.UnknownTemporary) ↔ (poke_slot (program self.old) (timeline self.old).now slot value ≡ Err unknown_temporary) }
-        ensures live { result ≢ Err PokeError.DeadAddress }
-        ensures err { OnErr result (timeline self.new ≡ timeline self.old) };
-
-    /// As `poke_temp`, by the temporary's name, which is without its sigil.
+    /// Sets a temporary of the innermost frame, whose name is without its sigil, to a number, cut to its class.
     ///
     /// # Errors
     ///
@@ -119,14 +104,33 @@ pub trait History<A: Allocator, M: HasState<A>> {
     fn oldest(&self) -> u64
         ensures { result ≡ oldest (timeline self.now) };
 
-    /// How many moves are kept at most, if there is a bound.
-    fn keeps(&self) -> Option<u64>
-        ensures { result ≡ (timeline self.now).keeps };
-
     /// The machine now.
     fn machine(&self) -> &M
         ensures now { state_of (M.whole result.now) ≡ (timeline self.now).now }
         ensures program { (M.whole result.now).program ≡ program self.now };
+}
+
+/// What a history of machines offers beside its moves. Nothing that is generic in a history calls it, and so it stands apart: where
+/// a history becomes known, all that its bounds promise is compared.
+pub trait SlotHistory<A: Allocator, M: HasState<A>>: History<A, M> {
+    /// Sets a temporary of the innermost frame to a number, cut to its class.
+    ///
+    /// # Errors
+    ///
+    /// `NoFrame` where the run is done, `UnknownTemporary` where the innermost function has no such slot, and
+    /// `OutOfMemory`. The history is as it was.
+    fn poke_temp(&mut self, slot: Slot, value: u64) -> Result<(), PokeError>
+        requires { position (Self.timeline self.old) < 2 ^ 62 }
+        ensures program { Self.program self.new ≡ Self.program self.old }
+        ensures ok { OnOk result (poked (Self.timeline self.old) (poke_slot (Self.program self.old) (Self.timeline self.old).now slot value) ≡ Ok (Self.timeline self.new)) }
+        ensures frame { (result ≡ Err PokeError.NoFrame) ↔ (poke_slot (Self.program self.old) (Self.timeline self.old).now slot value ≡ Err no_frame) }
+        ensures unknown { (result ≡ Err PokeError.UnknownTemporary) ↔ (poke_slot (Self.program self.old) (Self.timeline self.old).now slot value ≡ Err unknown_temporary) }
+        ensures live { result ≢ Err PokeError.DeadAddress }
+        ensures err { OnErr result (Self.timeline self.new ≡ Self.timeline self.old) };
+
+    /// How many moves are kept at most, if there is a bound.
+    fn keeps(&self) -> Option<u64>
+        ensures { result ≡ (Self.timeline self.now).keeps };
 }
 
 /// The machine of a history. Runs ask for it by this and not by the trait's call, which makes the check of each function dear that

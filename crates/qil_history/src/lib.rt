@@ -4,6 +4,6 @@
 mod history;
 mod poke;
 
-pub use history::{BackError, HasState, History, machine_of};
+pub use history::{BackError, HasState, History, SlotHistory, machine_of};
 pub use poke::Poke;
 pub use qil_machine::{BlockId, Code, Machine, MoveError, PokeError, Slot};

@@ -20,10 +20,10 @@ use qil_streams::{Put, PutError, put_line};
 use std::alloc::Allocator;
 
 /// Puts why a run stopped, and the place.
-fn put_stopped<'c, P: Put, A: Allocator + Copy + 'c, M: Readers<A, Code<'c, A>>>(
-    out: &mut P,
+fn put_stopped<'s, 'c, P: Put, A: Allocator + Copy + 'c, M: Readers<A, Code<'c, A>>>(
+    out: &'s mut P,
     position: u64,
-    machine: &M,
+    machine: &'s M,
     reason: Reason,
 ) -> Result<(), PutError>
     requires { P.stops out.old < 2 ^ 64 - 1 }
@@ -55,8 +55,11 @@ pub fn put_reply<'c, P: Put, A: Allocator + Copy + 'c, M: Readers<A, Code<'c, A>
         Reply::Stopped(reason) => put_stopped(out, position, machine, reason),
         Reply::Added(number, kind) => put_stop(machine.code(), out, number, kind),
         Reply::Deleted(number) => put_deleted(out, number),
-        Reply::Stops => put_stops(out, machine.code(), stops),
-        Reply::Temporary(name) => put_printed(out, machine, name.bytes()),
+        Reply::Stops => put_stops(machine.code(), out, stops),
+        Reply::Temporary(name) => {
+            let name = name.bytes();
+            put_printed(out, machine, name)
+        }
         Reply::Temporaries => put_temps(out, machine),
         Reply::Bytes(address, count) => put_memory(out, machine, address, count),
         Reply::Frames => put_frames(out, machine),

@@ -13,8 +13,8 @@ use std::alloc::Allocator;
 
 /// Puts the line of each stop.
 fn put_listed<'c, P: Put, A: Allocator + Copy>(
-    out: &mut P,
     code: &Code<'c, A>,
+    out: &mut P,
     stops: &[NumberedStop],
 ) -> Result<(), PutError>
     requires { P.stops out.old < 2 ^ 64 - 1 }
@@ -28,8 +28,8 @@ fn put_listed<'c, P: Put, A: Allocator + Copy>(
 
 /// Puts the line of each stop, or that there is none.
 pub fn put_stops<'c, P: Put, A: Allocator + Copy>(
-    out: &mut P,
     code: &Code<'c, A>,
+    out: &mut P,
     stops: &[NumberedStop],
 ) -> Result<(), PutError>
     requires { P.stops out.old < 2 ^ 64 - 1 }
@@ -38,6 +38,6 @@ pub fn put_stops<'c, P: Put, A: Allocator + Copy>(
     if stops.len() == 0 {
         put_line(out, b"none")
     } else {
-        put_listed(out, code, stops)
+        put_listed(code, out, stops)
     }
 }

@@ -7,7 +7,7 @@ use crate::walk::{back_by, forward_by};
 use qil_code::Code;
 use qil_deltas::{Deltas, Ring};
 use qil_meaning::Reason;
-use qil_stops::{History, Machine, NumberedStop, PokeError, run, run_back};
+use qil_stops::{History, Machine, NumberedStop, PokeError, machine_of, run, run_back};
 use std::alloc::Allocator;
 
 /// Marks a history that goes by single moves: each of these has runs by the one `impl` below. Without the mark no type could have
@@ -59,6 +59,6 @@ impl<'c, A: Allocator + Copy + 'c, H: History<A, Machine<'c, A>> + Stepwise> Run
     }
 
     fn machine(&self) -> &Machine<'c, A> {
-        History::machine(self)
+        machine_of(self)
     }
 }

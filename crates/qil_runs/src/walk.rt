@@ -4,12 +4,12 @@ ghost use Rattle.std.specs.Prelude.{◌≡◌, ◌+◌, ◌<◌, ◌≤◌, ◌^
 ghost use Rattle.qil_meaning.specs.Timeline.{position, at_end};
 ghost use Rattle.qil_meaning.specs.Moves.{forward_by, back_by as gone_by};
 
-use qil_stops::{HasState, History, MoveError};
+use qil_stops::{History, Machine, MoveError};
 use std::alloc::Allocator;
 
 /// Moves forward up to so many times, and not past the end. Where memory runs out, answers how many moves were made.
 #[inline(never)]
-pub(crate) fn forward_by<A: Allocator, M: HasState<A>, H: History<A, M>>(
+pub(crate) fn forward_by<'c, A: Allocator + Copy + 'c, H: History<A, Machine<'c, A>>>(
     history: &mut H,
     count: u32,
 ) -> Result<(), u32>
@@ -32,7 +32,10 @@ pub(crate) fn forward_by<A: Allocator, M: HasState<A>, H: History<A, M>>(
 
 /// Moves back up to so many times, and not past the oldest state that is kept.
 #[inline(never)]
-pub(crate) fn back_by<A: Allocator, M: HasState<A>, H: History<A, M>>(history: &mut H, count: u32)
+pub(crate) fn back_by<'c, A: Allocator + Copy + 'c, H: History<A, Machine<'c, A>>>(
+    history: &mut H,
+    count: u32,
+)
     ensures program { H.program history.new ≡ H.program history.old }
     ensures near { position (H.timeline history.new) ≤ position (H.timeline history.old) }
     ensures moved { H.timeline history.new ≡ gone_by count (H.timeline history.old) }

@@ -90,11 +90,12 @@ impl<A: Allocator, H> Session<A, H> {
 
 impl<'c, A: Allocator + Copy + 'c, H: Runs<A, Code<'c, A>>> Session<A, H> {
     /// Puts the line of the place where the session stands.
-    pub fn put_now<P: Put>(&self, out: &mut P) -> Result<(), PutError>
+    pub fn put_now<'s, P: Put>(&'s self, out: &'s mut P) -> Result<(), PutError>
         requires { P.stops out.old < 2 ^ 64 - 1 }
         ensures { HasPut P.written P.stops P.device result out.old out.new (place_line (session_state H.program H.timeline self.now).timeline) }
     {
-        put_place(out, self.history.position(), self.history.machine())
+        let machine = self.history.machine();
+        put_place(out, self.history.position(), machine)
     }
 
     /// Replies to a command.
@@ -165,13 +166,9 @@ impl<'c, A: Allocator + Copy + 'c, H: Runs<A, Code<'c, A>>> Session<A, H> {
         ensures { HasPut P.written P.stops P.device result out.old out.new (text_in (session_state H.program H.timeline self.now) reply.entry) }
     {
         let position = self.history.position();
-        put_reply(
-            out,
-            position,
-            self.history.machine(),
-            self.stops.list(),
-            reply,
-        )
+        let machine = self.history.machine();
+        let stops = self.stops.list();
+        put_reply(out, position, machine, stops, reply)
     }
 
     /// Answers what a line says. Where the writing stops the session has moved all the same.

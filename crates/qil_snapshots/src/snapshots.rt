@@ -9,7 +9,7 @@ ghost use Rattle.qil_snapshots.specs.Kept.{cloned_timeline};
 ghost use Rattle.qil_history.specs.Pokes.{HasWidth, poke_of, Explains};
 
 use qil_code::Slot;
-use qil_history::{BackError, History, Poke};
+use qil_history::{BackError, History, Poke, SlotHistory};
 use qil_machine::{DeltaSink, Machine, MoveError, PokeError};
 use std::alloc::{AllocError, Allocator};
 use std::marker::Model;
@@ -176,11 +176,6 @@ impl<'c, A: Allocator + Copy> History<A, Machine<'c, A>> for Snapshots<'c, A> {
         take_latest(&mut self.machine, &mut self.clones)
     }
 
-    #[tactic(auto, using(qil_history::proofs::PokeLemmas::slot_never_dead))]
-    fn poke_temp(&mut self, slot: Slot, value: u64) -> Result<(), PokeError> {
-        self.poke(Poke::Slot(slot, value))
-    }
-
     #[tactic(auto, using(qil_history::proofs::PokeLemmas::temp_never_dead))]
     fn poke_named(&mut self, name: &[u8], value: u64) -> Result<(), PokeError> {
         self.poke(Poke::Named(name, value))
@@ -200,11 +195,18 @@ impl<'c, A: Allocator + Copy> History<A, Machine<'c, A>> for Snapshots<'c, A> {
         0
     }
 
-    fn keeps(&self) -> Option<u64> {
-        None
-    }
-
     fn machine(&self) -> &Machine<'c, A> {
         &self.machine
+    }
+}
+
+impl<'c, A: Allocator + Copy> SlotHistory<A, Machine<'c, A>> for Snapshots<'c, A> {
+    #[tactic(auto, using(qil_history::proofs::PokeLemmas::slot_never_dead))]
+    fn poke_temp(&mut self, slot: Slot, value: u64) -> Result<(), PokeError> {
+        self.poke(Poke::Slot(slot, value))
+    }
+
+    fn keeps(&self) -> Option<u64> {
+        None
     }
 }

@@ -33,7 +33,6 @@ use std::hash::RandomState;
 /// Serves a session that has made no move.
 fn open_session<
     'c,
-    'l,
     A: Allocator + Copy + 'c,
     L: HasMachine<A, Machine<'c, A>> + Drop,
     S: Source,
@@ -41,9 +40,9 @@ fn open_session<
     F: Files<A>,
 >(
     live: L,
-    opening: Opening<'l>,
+    opening: Opening<'c>,
     loaded: &Loaded<'_>,
-    launch: &'l Launch<A>,
+    launch: &'c Launch<A>,
     request: Request<'_>,
     files: &F,
     line: &mut Line<A, S, W>,
@@ -76,11 +75,11 @@ fn open_session<
 }
 
 /// Serves from a machine at its start, over all its deltas.
-fn open_whole<'c, 'l, A: Allocator + Copy + 'c, S: Source, W: Sink, F: Files<A>>(
+fn open_whole<'c, A: Allocator + Copy + 'c, S: Source, W: Sink, F: Files<A>>(
     machine: Machine<'c, A>,
-    opening: Opening<'l>,
+    opening: Opening<'c>,
     loaded: &Loaded<'_>,
-    launch: &'l Launch<A>,
+    launch: &'c Launch<A>,
     request: Request<'_>,
     files: &F,
     line: &mut Line<A, S, W>,
@@ -102,12 +101,12 @@ fn open_whole<'c, 'l, A: Allocator + Copy + 'c, S: Source, W: Sink, F: Files<A>>
 }
 
 /// Serves from a machine at its start, over the newest of its deltas.
-fn open_bounded<'c, 'l, A: Allocator + Copy + 'c, S: Source, W: Sink, F: Files<A>>(
+fn open_bounded<'c, A: Allocator + Copy + 'c, S: Source, W: Sink, F: Files<A>>(
     machine: Machine<'c, A>,
     bound: u64,
-    opening: Opening<'l>,
+    opening: Opening<'c>,
     loaded: &Loaded<'_>,
-    launch: &'l Launch<A>,
+    launch: &'c Launch<A>,
     request: Request<'_>,
     files: &F,
     line: &mut Line<A, S, W>,
@@ -134,11 +133,11 @@ fn open_bounded<'c, 'l, A: Allocator + Copy + 'c, S: Source, W: Sink, F: Files<A
 }
 
 /// Serves from a machine at its start: over all its deltas, or over the newest if there is a bound.
-fn open_machine<'c, 'l, A: Allocator + Copy + 'c, S: Source, W: Sink, F: Files<A>>(
+fn open_machine<'c, A: Allocator + Copy + 'c, S: Source, W: Sink, F: Files<A>>(
     machine: Machine<'c, A>,
-    opening: Opening<'l>,
+    opening: Opening<'c>,
     loaded: &Loaded<'_>,
-    launch: &'l Launch<A>,
+    launch: &'c Launch<A>,
     request: Request<'_>,
     files: &F,
     line: &mut Line<A, S, W>,
@@ -157,11 +156,11 @@ fn open_machine<'c, 'l, A: Allocator + Copy + 'c, S: Source, W: Sink, F: Files<A
 }
 
 /// Serves a program that is numbered.
-fn open_code<'c, 't, 'l, A: Allocator + Copy + 'c, S: Source, W: Sink, F: Files<A>>(
+fn open_code<'c, 't, A: Allocator + Copy + 'c, S: Source, W: Sink, F: Files<A>>(
     code: &'c Code<'t, A>,
-    opening: Opening<'l>,
+    opening: Opening<'c>,
     loaded: &Loaded<'_>,
-    launch: &'l Launch<A>,
+    launch: &'c Launch<A>,
     request: Request<'_>,
     files: &F,
     line: &mut Line<A, S, W>,

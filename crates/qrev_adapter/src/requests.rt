@@ -88,7 +88,7 @@ fn put_exception<A: Allocator>(body: Body<A>, place: &str) -> Result<Body<A>, Al
 
 /// Adds what is known of the fault that ended the run.
 fn exception_info<'c, A: Allocator + Copy + 'c, L: HasMachine<A, Machine<'c, A>>>(
-    debuggee: &Debuggee<'_, A, L>,
+    debuggee: &Debuggee<'c, A, L>,
     body: Body<A>,
 ) -> Result<Body<A>, Failure> {
     let place = fault_place(debuggee.alloc, debuggee.position(), debuggee.machine())?;
@@ -97,7 +97,7 @@ fn exception_info<'c, A: Allocator + Copy + 'c, L: HasMachine<A, Machine<'c, A>>
 
 /// The move to the beginning of the call of a frame.
 fn restart_frame<'c, A: Allocator + Copy + 'c, L: HasMachine<A, Machine<'c, A>>>(
-    debuggee: &Debuggee<'_, A, L>,
+    debuggee: &Debuggee<'c, A, L>,
     asked: Arguments<'_, '_, A>,
 ) -> Result<Then, Failure> {
     let number = asked.number("frameId").unwrap_or(0);
@@ -131,7 +131,7 @@ fn motion_asked<A: Allocator + Copy>(
 
 /// Does what a request asks that neither looks nor sets, and says what follows.
 fn control<'c, A: Allocator + Copy + 'c, L: HasMachine<A, Machine<'c, A>>>(
-    debuggee: &Debuggee<'_, A, L>,
+    debuggee: &Debuggee<'c, A, L>,
     command: &str,
     asked: Arguments<'_, '_, A>,
     body: Body<A>,
@@ -154,7 +154,7 @@ fn control<'c, A: Allocator + Copy + 'c, L: HasMachine<A, Machine<'c, A>>>(
 
 /// Does what a request asks that looks.
 fn look<'c, A: Allocator + Copy + 'c, L: HasMachine<A, Machine<'c, A>>>(
-    debuggee: &Debuggee<'_, A, L>,
+    debuggee: &Debuggee<'c, A, L>,
     command: &str,
     asked: Arguments<'_, '_, A>,
     body: Body<A>,
@@ -176,7 +176,7 @@ fn look<'c, A: Allocator + Copy + 'c, L: HasMachine<A, Machine<'c, A>>>(
 
 /// Evaluates what a request asks, which may be a command, and says whether the run stands elsewhere then.
 fn evaluated<'c, A: Allocator + Copy + 'c, L: HasMachine<A, Machine<'c, A>>>(
-    debuggee: &mut Debuggee<'_, A, L>,
+    debuggee: &mut Debuggee<'c, A, L>,
     asked: Arguments<'_, '_, A>,
     body: Body<A>,
 ) -> Result<(Body<A>, Then), Failure> {
@@ -190,7 +190,7 @@ fn evaluated<'c, A: Allocator + Copy + 'c, L: HasMachine<A, Machine<'c, A>>>(
 
 /// Does what a request asks, adds the members of its body, and says what follows.
 fn answer<'c, A: Allocator + Copy + 'c, L: HasMachine<A, Machine<'c, A>>>(
-    debuggee: &mut Debuggee<'_, A, L>,
+    debuggee: &mut Debuggee<'c, A, L>,
     command: &str,
     asked: Arguments<'_, '_, A>,
     body: Body<A>,
@@ -209,7 +209,7 @@ fn answer<'c, A: Allocator + Copy + 'c, L: HasMachine<A, Machine<'c, A>>>(
 
 /// Responds that a request isn't done, and why.
 pub fn refuse<'c, A: Allocator + Copy + 'c, L: HasMachine<A, Machine<'c, A>>, W: Sink>(
-    debuggee: &Debuggee<'_, A, L>,
+    debuggee: &Debuggee<'c, A, L>,
     port: &mut Port<A, W>,
     request: Request<'_>,
     failure: Failure,
@@ -229,7 +229,7 @@ pub fn refuse<'c, A: Allocator + Copy + 'c, L: HasMachine<A, Machine<'c, A>>, W:
 
 /// Does what a request asks, as far as that comes before its response, and gives the body of that.
 fn prepare<'c, A: Allocator + Copy + 'c, L: HasMachine<A, Machine<'c, A>>>(
-    debuggee: &mut Debuggee<'_, A, L>,
+    debuggee: &mut Debuggee<'c, A, L>,
     request: &Request<'_>,
     asked: Arguments<'_, '_, A>,
 ) -> Result<(Body<A>, Then), Failure> {
@@ -239,7 +239,7 @@ fn prepare<'c, A: Allocator + Copy + 'c, L: HasMachine<A, Machine<'c, A>>>(
 
 /// Responds to a request, and says what follows.
 pub fn respond<'c, A: Allocator + Copy + 'c, L: HasMachine<A, Machine<'c, A>>, W: Sink>(
-    debuggee: &mut Debuggee<'_, A, L>,
+    debuggee: &mut Debuggee<'c, A, L>,
     port: &mut Port<A, W>,
     request: Request<'_>,
     asked: Arguments<'_, '_, A>,
@@ -259,7 +259,7 @@ pub fn respond<'c, A: Allocator + Copy + 'c, L: HasMachine<A, Machine<'c, A>>, W
 
 /// Makes a move, and tells that the run stands.
 pub fn move_and_tell<'c, A: Allocator + Copy + 'c, L: HasMachine<A, Machine<'c, A>>, W: Sink>(
-    debuggee: &mut Debuggee<'_, A, L>,
+    debuggee: &mut Debuggee<'c, A, L>,
     port: &mut Port<A, W>,
     motion: Motion,
 ) -> Result<(), Trouble>

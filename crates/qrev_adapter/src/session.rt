@@ -20,7 +20,7 @@ use std::alloc::Allocator;
 
 /// Begins the run: the editor has made its breakpoints.
 fn begin<'c, A: Allocator + Copy + 'c, L: HasMachine<A, Machine<'c, A>>, W: Sink>(
-    debuggee: &mut Debuggee<'_, A, L>,
+    debuggee: &mut Debuggee<'c, A, L>,
     port: &mut Port<A, W>,
     request: Request<'_>,
     stops_on_entry: bool,
@@ -36,7 +36,7 @@ fn begin<'c, A: Allocator + Copy + 'c, L: HasMachine<A, Machine<'c, A>>, W: Sink
 
 /// Tells what follows a response.
 fn follow<'c, A: Allocator + Copy + 'c, L: HasMachine<A, Machine<'c, A>>, W: Sink>(
-    debuggee: &mut Debuggee<'_, A, L>,
+    debuggee: &mut Debuggee<'c, A, L>,
     port: &mut Port<A, W>,
     then: Then,
 ) -> Result<(), Trouble>
@@ -60,7 +60,7 @@ struct Stage {
 
 /// Begins the run, where it hasn't begun.
 fn begin_once<'c, A: Allocator + Copy + 'c, L: HasMachine<A, Machine<'c, A>>, W: Sink>(
-    debuggee: &mut Debuggee<'_, A, L>,
+    debuggee: &mut Debuggee<'c, A, L>,
     port: &mut Port<A, W>,
     stage: &mut Stage,
     request: Request<'_>,
@@ -81,7 +81,7 @@ fn begin_once<'c, A: Allocator + Copy + 'c, L: HasMachine<A, Machine<'c, A>>, W:
 
 /// Answers one request, and says how the session ends if it does.
 fn answer_one<'c, A: Allocator + Copy + 'c, L: HasMachine<A, Machine<'c, A>>, W: Sink>(
-    debuggee: &mut Debuggee<'_, A, L>,
+    debuggee: &mut Debuggee<'c, A, L>,
     port: &mut Port<A, W>,
     stage: &mut Stage,
     request: Request<'_>,
@@ -111,7 +111,7 @@ enum Next {
 
 /// Answers one message, and says what comes after it.
 fn answer_message<'c, A: Allocator + Copy + 'c, L: HasMachine<A, Machine<'c, A>>, W: Sink>(
-    debuggee: &mut Debuggee<'_, A, L>,
+    debuggee: &mut Debuggee<'c, A, L>,
     port: &mut Port<A, W>,
     stage: &mut Stage,
     body: &[u8],
@@ -146,7 +146,7 @@ fn answer_messages<
     S: Source,
     W: Sink,
 >(
-    debuggee: &mut Debuggee<'_, A, L>,
+    debuggee: &mut Debuggee<'c, A, L>,
     stops_on_entry: bool,
     line: &mut Line<A, S, W>,
 ) -> Result<Closed<A>, Ended>
@@ -181,7 +181,7 @@ fn close<
     W: Sink,
     F: Files<A>,
 >(
-    debuggee: &Debuggee<'_, A, L>,
+    debuggee: &Debuggee<'c, A, L>,
     launch: &Launch<A>,
     files: &F,
     line: &mut Line<A, S, W>,
@@ -214,7 +214,7 @@ pub fn serve_session<
     W: Sink,
     F: Files<A>,
 >(
-    mut debuggee: Debuggee<'_, A, L>,
+    mut debuggee: Debuggee<'c, A, L>,
     launch: &Launch<A>,
     files: &F,
     line: &mut Line<A, S, W>,

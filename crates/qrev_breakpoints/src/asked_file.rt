@@ -48,7 +48,7 @@ fn source_named<A: Allocator + Copy>(
 
 /// The source that a request is about.
 fn source_asked<'c, A: Allocator + Copy + 'c, L: HasMachine<A, Machine<'c, A>>>(
-    debuggee: &Debuggee<'_, A, L>,
+    debuggee: &Debuggee<'c, A, L>,
     path: &str,
 ) -> Result<AskedFile<A>, Failure> {
     let found = match &debuggee.source_map {
@@ -63,7 +63,7 @@ fn source_asked<'c, A: Allocator + Copy + 'c, L: HasMachine<A, Machine<'c, A>>>(
 
 /// The file that a request is about: the program's, or a source that its text came from.
 pub fn file_asked<'c, A: Allocator + Copy + 'c, L: HasMachine<A, Machine<'c, A>>>(
-    debuggee: &Debuggee<'_, A, L>,
+    debuggee: &Debuggee<'c, A, L>,
     source: Arguments<'_, '_, A>,
 ) -> Result<AskedFile<A>, Failure> {
     match source.text("path") {

@@ -115,7 +115,7 @@ fn put_text_lines<A: Allocator>(
 
 /// Adds the lines of a range at which a breakpoint stays.
 pub fn breakpoint_locations<'c, A: Allocator + Copy + 'c, L: HasMachine<A, Machine<'c, A>>>(
-    debuggee: &Debuggee<'_, A, L>,
+    debuggee: &Debuggee<'c, A, L>,
     asked: Arguments<'_, '_, A>,
     body: Body<A>,
 ) -> Result<Body<A>, Failure> {

@@ -127,7 +127,7 @@ enum Made {
 
 /// Deletes the stops of a family, the lowest number first.
 fn delete_stops<'c, A: Allocator + Copy + 'c, L: HasMachine<A, Machine<'c, A>>>(
-    debuggee: &mut Debuggee<'_, A, L>,
+    debuggee: &mut Debuggee<'c, A, L>,
     family: StopFamily,
 ) -> Result<(), Failure> {
     for index in 0..debuggee.stops.len() {
@@ -145,7 +145,7 @@ fn delete_stops<'c, A: Allocator + Copy + 'c, L: HasMachine<A, Machine<'c, A>>>(
 
 /// Deletes a stop, if it is still there.
 fn delete_stop<'c, A: Allocator + Copy + 'c, L: HasMachine<A, Machine<'c, A>>>(
-    debuggee: &mut Debuggee<'_, A, L>,
+    debuggee: &mut Debuggee<'c, A, L>,
     number: u64,
 ) -> Result<(), Failure> {
     match debuggee.line_of(&[Fragment::Bytes(b"delete "), Fragment::Number(number)]) {
@@ -156,7 +156,7 @@ fn delete_stop<'c, A: Allocator + Copy + 'c, L: HasMachine<A, Machine<'c, A>>>(
 
 /// Makes a stop by a line.
 fn make_stop<'c, A: Allocator + Copy + 'c, L: HasMachine<A, Machine<'c, A>>>(
-    debuggee: &mut Debuggee<'_, A, L>,
+    debuggee: &mut Debuggee<'c, A, L>,
     family: StopFamily,
     line: &[Fragment<'_>],
 ) -> Result<Made, Failure> {
@@ -175,7 +175,7 @@ fn make_stop<'c, A: Allocator + Copy + 'c, L: HasMachine<A, Machine<'c, A>>>(
 
 /// Adds a stop that the session refused.
 fn put_answered<'c, A: Allocator + Copy + 'c, L: HasMachine<A, Machine<'c, A>>>(
-    debuggee: &Debuggee<'_, A, L>,
+    debuggee: &Debuggee<'c, A, L>,
     list: BreakpointList<A>,
     from: usize,
 ) -> Result<BreakpointList<A>, AllocError> {
@@ -185,7 +185,7 @@ fn put_answered<'c, A: Allocator + Copy + 'c, L: HasMachine<A, Machine<'c, A>>>(
 
 /// Makes a breakpoint at a place, which is shown on a line of a file.
 fn break_at<'c, A: Allocator + Copy + 'c, L: HasMachine<A, Machine<'c, A>>>(
-    debuggee: &mut Debuggee<'_, A, L>,
+    debuggee: &mut Debuggee<'c, A, L>,
     list: BreakpointList<A>,
     family: StopFamily,
     spot: Spot<'_, '_, A>,
@@ -218,7 +218,7 @@ fn break_at<'c, A: Allocator + Copy + 'c, L: HasMachine<A, Machine<'c, A>>>(
 
 /// Makes a breakpoint at the place that a line of the text means.
 fn break_in_text<'c, A: Allocator + Copy + 'c, L: HasMachine<A, Machine<'c, A>>>(
-    debuggee: &mut Debuggee<'_, A, L>,
+    debuggee: &mut Debuggee<'c, A, L>,
     list: BreakpointList<A>,
     line: u64,
 ) -> Result<BreakpointList<A>, Failure> {
@@ -233,7 +233,7 @@ fn break_in_text<'c, A: Allocator + Copy + 'c, L: HasMachine<A, Machine<'c, A>>>
 /// Makes a breakpoint at the place that a line of a source means: that of the first line of the text which came from it, or
 /// from the least line after it of which there is one.
 fn break_in_source<'c, A: Allocator + Copy + 'c, L: HasMachine<A, Machine<'c, A>>>(
-    debuggee: &mut Debuggee<'_, A, L>,
+    debuggee: &mut Debuggee<'c, A, L>,
     list: BreakpointList<A>,
     source: &AskedSource<A>,
     line: u64,
@@ -261,7 +261,7 @@ fn break_in_source<'c, A: Allocator + Copy + 'c, L: HasMachine<A, Machine<'c, A>
 
 /// Makes one breakpoint at a line of a file.
 fn set_line<'c, A: Allocator + Copy + 'c, L: HasMachine<A, Machine<'c, A>>>(
-    debuggee: &mut Debuggee<'_, A, L>,
+    debuggee: &mut Debuggee<'c, A, L>,
     list: BreakpointList<A>,
     file: &AskedFile<A>,
     asked: Arguments<'_, '_, A>,
@@ -280,7 +280,7 @@ fn set_line<'c, A: Allocator + Copy + 'c, L: HasMachine<A, Machine<'c, A>>>(
 
 /// Makes breakpoints at lines of a file in place of those that are there.
 pub fn set_breakpoints<'c, A: Allocator + Copy + 'c, L: HasMachine<A, Machine<'c, A>>>(
-    debuggee: &mut Debuggee<'_, A, L>,
+    debuggee: &mut Debuggee<'c, A, L>,
     asked: Arguments<'_, '_, A>,
     body: Body<A>,
 ) -> Result<Body<A>, Failure> {
@@ -330,7 +330,7 @@ fn verb_for<'v>(family: StopFamily, words: &[u8]) -> &'v [u8] {
 
 /// Makes one stop by words.
 fn make_by_words<'c, A: Allocator + Copy + 'c, L: HasMachine<A, Machine<'c, A>>>(
-    debuggee: &mut Debuggee<'_, A, L>,
+    debuggee: &mut Debuggee<'c, A, L>,
     list: BreakpointList<A>,
     family: StopFamily,
     words: &[u8],
@@ -348,7 +348,7 @@ fn make_by_words<'c, A: Allocator + Copy + 'c, L: HasMachine<A, Machine<'c, A>>>
 
 /// Makes one stop by the words that a request says.
 fn set_words<'c, A: Allocator + Copy + 'c, L: HasMachine<A, Machine<'c, A>>>(
-    debuggee: &mut Debuggee<'_, A, L>,
+    debuggee: &mut Debuggee<'c, A, L>,
     list: BreakpointList<A>,
     family: StopFamily,
     asked: Arguments<'_, '_, A>,
@@ -361,7 +361,7 @@ fn set_words<'c, A: Allocator + Copy + 'c, L: HasMachine<A, Machine<'c, A>>>(
 
 /// Makes the stops of a family that words say, in place of those that are there.
 pub fn set_by_words<'c, A: Allocator + Copy + 'c, L: HasMachine<A, Machine<'c, A>>>(
-    debuggee: &mut Debuggee<'_, A, L>,
+    debuggee: &mut Debuggee<'c, A, L>,
     asked: Arguments<'_, '_, A>,
     family: StopFamily,
     body: Body<A>,

@@ -29,11 +29,13 @@ pub struct RequestedStop {
 }
 
 /// A session that an editor drives.
+///
+/// Its lifetime is that of its machine, too: what reads that through it is dear to check where the two are told apart.
 #[derive(Drop)]
-pub struct Debuggee<'l, A: Allocator, L: Debugged<A>> {
+pub struct Debuggee<'c, A: Allocator, L: Debugged<A>> {
     pub alloc: A,
-    pub recorder: Recorder<'l, A, L>,
-    pub shown: Shown<'l>,
+    pub recorder: Recorder<'c, A, L>,
+    pub shown: Shown<'c>,
     /// Where the text came from, if a map tells it.
     pub source_map: Option<SourceMap<A>>,
     /// The output that the editor was told.
@@ -53,7 +55,7 @@ impl From<LineError> for Failure {
     }
 }
 
-impl<'c, 'l, A: Allocator + Copy + 'c, L: HasMachine<A, Machine<'c, A>>> Debuggee<'l, A, L> {
+impl<'c, A: Allocator + Copy + 'c, L: HasMachine<A, Machine<'c, A>>> Debuggee<'c, A, L> {
     pub fn machine(&self) -> &Machine<'c, A> {
         self.recorder.live().machine()
     }

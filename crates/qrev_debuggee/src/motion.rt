@@ -51,7 +51,7 @@ fn why_at(end: DepthEnd) -> Why {
 
 /// Goes back to before a call, and makes the call again. Where the history doesn't go back so far it stays at its oldest state.
 fn go_to_beginning<'c, A: Allocator + Copy + 'c, L: HasMachine<A, Machine<'c, A>>>(
-    debuggee: &mut Debuggee<'_, A, L>,
+    debuggee: &mut Debuggee<'c, A, L>,
     depth: usize,
 ) -> Result<Why, Failure> {
     let mut end = debuggee.run_back_past_stops(depth)?;
@@ -71,7 +71,7 @@ fn go_to_beginning<'c, A: Allocator + Copy + 'c, L: HasMachine<A, Machine<'c, A>
 
 /// Makes a move, and says why the run stands after it.
 pub fn make_move<'c, A: Allocator + Copy + 'c, L: HasMachine<A, Machine<'c, A>>>(
-    debuggee: &mut Debuggee<'_, A, L>,
+    debuggee: &mut Debuggee<'c, A, L>,
     motion: Motion,
 ) -> Result<Why, Failure> {
     match motion {

@@ -286,7 +286,7 @@ fn put_targets<A: Allocator + Copy>(
 
 /// Adds what may stand in place of the word that ends at a column of a line.
 pub fn completions<'c, A: Allocator + Copy + 'c, L: HasMachine<A, Machine<'c, A>>>(
-    debuggee: &Debuggee<'_, A, L>,
+    debuggee: &Debuggee<'c, A, L>,
     asked: Arguments<'_, '_, A>,
     body: Body<A>,
 ) -> Result<Body<A>, Failure> {

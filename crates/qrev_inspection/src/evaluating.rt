@@ -108,7 +108,7 @@ fn named_by<A: Allocator + Copy>(
 
 /// Answers lines of commands, and says why the run stands if one of them moved the session.
 fn answer_lines<'c, A: Allocator + Copy + 'c, L: HasMachine<A, Machine<'c, A>>>(
-    debuggee: &mut Debuggee<'_, A, L>,
+    debuggee: &mut Debuggee<'c, A, L>,
     text: &str,
 ) -> Result<Option<Why>, Failure> {
     let mut why = None;
@@ -134,7 +134,7 @@ fn put_answers<A: Allocator + Copy>(
 
 /// Answers lines of commands, adds their answers, and says why the run stands if one of them moved the session.
 fn console<'c, A: Allocator + Copy + 'c, L: HasMachine<A, Machine<'c, A>>>(
-    debuggee: &mut Debuggee<'_, A, L>,
+    debuggee: &mut Debuggee<'c, A, L>,
     text: &str,
     body: Body<A>,
 ) -> Result<(Body<A>, Option<Why>), Failure> {
@@ -146,7 +146,7 @@ fn console<'c, A: Allocator + Copy + 'c, L: HasMachine<A, Machine<'c, A>>>(
 
 /// What is made of an expression that names nothing: in the console it is lines of commands.
 fn answer_unnamed<'c, A: Allocator + Copy + 'c, L: HasMachine<A, Machine<'c, A>>>(
-    debuggee: &mut Debuggee<'_, A, L>,
+    debuggee: &mut Debuggee<'c, A, L>,
     context: &str,
     text: &str,
     body: Body<A>,
@@ -162,7 +162,7 @@ fn answer_unnamed<'c, A: Allocator + Copy + 'c, L: HasMachine<A, Machine<'c, A>>
 
 /// Adds the value of an expression, or in the console the answers to commands.
 pub fn evaluate<'c, A: Allocator + Copy + 'c, L: HasMachine<A, Machine<'c, A>>>(
-    debuggee: &mut Debuggee<'_, A, L>,
+    debuggee: &mut Debuggee<'c, A, L>,
     asked: Arguments<'_, '_, A>,
     body: Body<A>,
 ) -> Result<(Body<A>, Option<Why>), Failure> {

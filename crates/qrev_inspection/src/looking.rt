@@ -35,7 +35,7 @@ fn page_said<A: Allocator + Copy>(asked: Arguments<'_, '_, A>, start: &str, coun
 
 /// Adds the frames of the page that a request asks for.
 pub fn stack_trace<'c, A: Allocator + Copy + 'c, L: HasMachine<A, Machine<'c, A>>>(
-    debuggee: &Debuggee<'_, A, L>,
+    debuggee: &Debuggee<'c, A, L>,
     asked: Arguments<'_, '_, A>,
     body: Body<A>,
 ) -> Result<Body<A>, Failure> {
@@ -68,7 +68,7 @@ fn frame_scopes<A: Allocator + Copy>(
 
 /// Adds the scopes of a frame.
 pub fn scopes<'c, A: Allocator + Copy + 'c, L: HasMachine<A, Machine<'c, A>>>(
-    debuggee: &Debuggee<'_, A, L>,
+    debuggee: &Debuggee<'c, A, L>,
     asked: Arguments<'_, '_, A>,
     body: Body<A>,
 ) -> Result<Body<A>, Failure> {
@@ -79,7 +79,7 @@ pub fn scopes<'c, A: Allocator + Copy + 'c, L: HasMachine<A, Machine<'c, A>>>(
 
 /// Adds the variables of the machine.
 fn machine_variables<'c, A: Allocator + Copy + 'c, L: HasMachine<A, Machine<'c, A>>>(
-    debuggee: &Debuggee<'_, A, L>,
+    debuggee: &Debuggee<'c, A, L>,
     page: Page,
     body: Body<A>,
 ) -> Result<Body<A>, AllocError> {
@@ -96,7 +96,7 @@ fn machine_variables<'c, A: Allocator + Copy + 'c, L: HasMachine<A, Machine<'c, 
 
 /// Adds the data of the program.
 fn data_variables<'c, A: Allocator + Copy + 'c, L: HasMachine<A, Machine<'c, A>>>(
-    debuggee: &Debuggee<'_, A, L>,
+    debuggee: &Debuggee<'c, A, L>,
     page: Page,
     body: Body<A>,
 ) -> Result<Body<A>, AllocError> {
@@ -139,7 +139,7 @@ fn frame_variables<A: Allocator + Copy>(
 
 /// Adds the variables of a scope.
 pub fn variables<'c, A: Allocator + Copy + 'c, L: HasMachine<A, Machine<'c, A>>>(
-    debuggee: &Debuggee<'_, A, L>,
+    debuggee: &Debuggee<'c, A, L>,
     asked: Arguments<'_, '_, A>,
     body: Body<A>,
 ) -> Result<Body<A>, Failure> {

@@ -149,7 +149,7 @@ fn span_said<A: Allocator + Copy>(asked: Arguments<'_, '_, A>) -> Result<(u64, u
 
 /// Adds the bytes from an address on.
 pub fn read_memory<'c, A: Allocator + Copy + 'c, L: HasMachine<A, Machine<'c, A>>>(
-    debuggee: &Debuggee<'_, A, L>,
+    debuggee: &Debuggee<'c, A, L>,
     asked: Arguments<'_, '_, A>,
     body: Body<A>,
 ) -> Result<Body<A>, Failure> {
@@ -169,7 +169,7 @@ fn are_live<A: Allocator + Copy>(machine: &Machine<'_, A>, start: u64, count: us
 
 /// Pokes bytes, as wide as they fit.
 fn poke_all<'c, A: Allocator + Copy + 'c, L: HasMachine<A, Machine<'c, A>>>(
-    debuggee: &mut Debuggee<'_, A, L>,
+    debuggee: &mut Debuggee<'c, A, L>,
     start: u64,
     bytes: &[u8],
 ) -> Result<(), Failure> {
@@ -209,7 +209,7 @@ fn bytes_said<A: Allocator + Copy>(
 
 /// Pokes bytes, if all that stand there are live.
 fn poke_live<'c, A: Allocator + Copy + 'c, L: HasMachine<A, Machine<'c, A>>>(
-    debuggee: &mut Debuggee<'_, A, L>,
+    debuggee: &mut Debuggee<'c, A, L>,
     start: u64,
     bytes: &[u8],
 ) -> Result<(), Failure> {
@@ -221,7 +221,7 @@ fn poke_live<'c, A: Allocator + Copy + 'c, L: HasMachine<A, Machine<'c, A>>>(
 
 /// Writes the bytes that are said, and gives how many they are.
 fn write_said<'c, A: Allocator + Copy + 'c, L: HasMachine<A, Machine<'c, A>>>(
-    debuggee: &mut Debuggee<'_, A, L>,
+    debuggee: &mut Debuggee<'c, A, L>,
     asked: Arguments<'_, '_, A>,
 ) -> Result<u64, Failure> {
     let Some(start) = address_said(asked) else {
@@ -234,7 +234,7 @@ fn write_said<'c, A: Allocator + Copy + 'c, L: HasMachine<A, Machine<'c, A>>>(
 
 /// Writes bytes from an address on, if all are live.
 pub fn write_memory<'c, A: Allocator + Copy + 'c, L: HasMachine<A, Machine<'c, A>>>(
-    debuggee: &mut Debuggee<'_, A, L>,
+    debuggee: &mut Debuggee<'c, A, L>,
     asked: Arguments<'_, '_, A>,
     body: Body<A>,
 ) -> Result<Body<A>, Failure> {

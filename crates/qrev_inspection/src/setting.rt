@@ -35,7 +35,7 @@ fn put_value<A: Allocator + Copy>(
 
 /// Answers the line that sets a temporary.
 fn answer_set<'c, 'x, A: Allocator + Copy + 'c, L: HasMachine<A, Machine<'c, A>>>(
-    debuggee: &mut Debuggee<'_, A, L>,
+    debuggee: &mut Debuggee<'c, A, L>,
     name: &'x [u8],
     value: &'x [u8],
 ) -> Result<Done, Failure> {
@@ -62,7 +62,7 @@ fn temp_now<'l, A: Allocator + Copy>(machine: &Machine<'_, A>, name: &[u8]) -> S
 
 /// Sets a temporary of the innermost frame, and gives its value after that.
 fn set_temp<'c, 'x, 'l, A: Allocator + Copy + 'c, L: HasMachine<A, Machine<'c, A>>>(
-    debuggee: &mut Debuggee<'_, A, L>,
+    debuggee: &mut Debuggee<'c, A, L>,
     name: &'x [u8],
     value: &'x [u8],
 ) -> Result<Set<'l>, Failure> {
@@ -73,7 +73,7 @@ fn set_temp<'c, 'x, 'l, A: Allocator + Copy + 'c, L: HasMachine<A, Machine<'c, A
 
 /// Answers the line that writes a word of this letter to a data object.
 fn answer_poke<'c, 'x, A: Allocator + Copy + 'c, L: HasMachine<A, Machine<'c, A>>>(
-    debuggee: &mut Debuggee<'_, A, L>,
+    debuggee: &mut Debuggee<'c, A, L>,
     letter: &'x str,
     name: &'x [u8],
     value: &'x [u8],
@@ -101,7 +101,7 @@ fn word_now<A: Allocator + Copy>(machine: &Machine<'_, A>, data: &Data<'_, A>) -
 
 /// Writes the shown word of a data object, and gives its value after that.
 fn set_data<'c, 'x, 'l, A: Allocator + Copy + 'c, L: HasMachine<A, Machine<'c, A>>>(
-    debuggee: &mut Debuggee<'_, A, L>,
+    debuggee: &mut Debuggee<'c, A, L>,
     name: &'x [u8],
     value: &'x [u8],
 ) -> Result<Set<'l>, Failure> {
@@ -131,7 +131,7 @@ fn refusal_of<A: Allocator + Copy>(machine: &Machine<'_, A>, reference: u64) -> 
 
 /// Sets a variable of a scope, and gives its value after that.
 fn set_in<'c, 'x, 'l, A: Allocator + Copy + 'c, L: HasMachine<A, Machine<'c, A>>>(
-    debuggee: &mut Debuggee<'_, A, L>,
+    debuggee: &mut Debuggee<'c, A, L>,
     reference: u64,
     name: &'x [u8],
     value: &'x [u8],
@@ -147,7 +147,7 @@ fn set_in<'c, 'x, 'l, A: Allocator + Copy + 'c, L: HasMachine<A, Machine<'c, A>>
 
 /// Sets the variable that is asked for, and gives its value after that.
 fn set_asked<'c, 'l, A: Allocator + Copy + 'c, L: HasMachine<A, Machine<'c, A>>>(
-    debuggee: &mut Debuggee<'_, A, L>,
+    debuggee: &mut Debuggee<'c, A, L>,
     asked: Arguments<'_, '_, A>,
 ) -> Result<Set<'l>, Failure> {
     let name = asked.text("name").unwrap_or("").as_bytes();
@@ -161,7 +161,7 @@ fn set_asked<'c, 'l, A: Allocator + Copy + 'c, L: HasMachine<A, Machine<'c, A>>>
 
 /// Sets a variable.
 pub fn set_variable<'c, A: Allocator + Copy + 'c, L: HasMachine<A, Machine<'c, A>>>(
-    debuggee: &mut Debuggee<'_, A, L>,
+    debuggee: &mut Debuggee<'c, A, L>,
     asked: Arguments<'_, '_, A>,
     body: Body<A>,
 ) -> Result<Body<A>, Failure> {

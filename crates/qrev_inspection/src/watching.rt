@@ -201,7 +201,7 @@ fn put_watch<A: Allocator + Copy>(
 
 /// Adds which stop would watch a variable.
 pub fn data_breakpoint_info<'c, A: Allocator + Copy + 'c, L: HasMachine<A, Machine<'c, A>>>(
-    debuggee: &Debuggee<'_, A, L>,
+    debuggee: &Debuggee<'c, A, L>,
     asked: Arguments<'_, '_, A>,
     body: Body<A>,
 ) -> Result<Body<A>, Failure> {

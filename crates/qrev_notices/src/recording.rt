@@ -116,7 +116,7 @@ fn transcript_name<A: Allocator + Copy>(alloc: A, record: &str) -> Result<String
 
 /// Writes a record, and says whether it could.
 fn write<'c, A: Allocator + Copy + 'c, L: HasMachine<A, Machine<'c, A>>, F: Files<A>>(
-    debuggee: &Debuggee<'_, A, L>,
+    debuggee: &Debuggee<'c, A, L>,
     record: &str,
     files: &F,
 ) -> Result<bool, AllocError> {
@@ -134,7 +134,7 @@ fn write<'c, A: Allocator + Copy + 'c, L: HasMachine<A, Machine<'c, A>>, F: File
 
 /// Writes the record of a session, if one was asked for, and tells nothing of it.
 pub fn keep_record<'c, A: Allocator + Copy + 'c, L: HasMachine<A, Machine<'c, A>>, F: Files<A>>(
-    debuggee: &Debuggee<'_, A, L>,
+    debuggee: &Debuggee<'c, A, L>,
     launch: &Launch<A>,
     files: &F,
 ) -> Result<(), AllocError> {
@@ -146,7 +146,7 @@ pub fn keep_record<'c, A: Allocator + Copy + 'c, L: HasMachine<A, Machine<'c, A>
 
 /// Writes a record, and gives what the editor is told of it.
 fn record_text<'c, A: Allocator + Copy + 'c, L: HasMachine<A, Machine<'c, A>>, F: Files<A>>(
-    debuggee: &Debuggee<'_, A, L>,
+    debuggee: &Debuggee<'c, A, L>,
     launch: &Launch<A>,
     record: &str,
     files: &F,
@@ -166,7 +166,7 @@ pub fn write_record<
     F: Files<A>,
     W: Sink,
 >(
-    debuggee: &Debuggee<'_, A, L>,
+    debuggee: &Debuggee<'c, A, L>,
     launch: &Launch<A>,
     files: &F,
     port: &mut Port<A, W>,

@@ -117,7 +117,7 @@ fn tell_new<A: Allocator + Copy, W: Sink>(
 
 /// Tells what is new of the output. After a move back that is nothing until the output is longer than what was told.
 fn tell_output<'c, A: Allocator + Copy + 'c, L: HasMachine<A, Machine<'c, A>>, W: Sink>(
-    debuggee: &mut Debuggee<'_, A, L>,
+    debuggee: &mut Debuggee<'c, A, L>,
     port: &mut Port<A, W>,
 ) -> Result<(), Trouble>
     ensures { Tells result (spoken W.contents port.old) (spoken W.contents port.new) }
@@ -236,7 +236,7 @@ fn stopped_event<A: Allocator + Copy>(
 
 /// The message that says that the run stands.
 fn stopped_message<'c, A: Allocator + Copy + 'c, L: HasMachine<A, Machine<'c, A>>>(
-    debuggee: &Debuggee<'_, A, L>,
+    debuggee: &Debuggee<'c, A, L>,
     why: Why,
 ) -> Result<Object<A, Whole>, AllocError>
     ensures { IfOk result (λ o. IsEventSoFar o.out.tokens) }
@@ -250,7 +250,7 @@ fn stopped_message<'c, A: Allocator + Copy + 'c, L: HasMachine<A, Machine<'c, A>
 
 /// Tells what is new of the output, and that the run stands.
 pub fn tell_stopped<'c, A: Allocator + Copy + 'c, L: HasMachine<A, Machine<'c, A>>, W: Sink>(
-    debuggee: &mut Debuggee<'_, A, L>,
+    debuggee: &mut Debuggee<'c, A, L>,
     why: Why,
     port: &mut Port<A, W>,
 ) -> Result<(), Trouble>

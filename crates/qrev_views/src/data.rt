@@ -86,11 +86,11 @@ fn put_object<A: Allocator + Copy, U: Drop>(
 }
 
 /// Adds the data objects of a page, in the order of the text.
-pub fn put_data<A: Allocator + Copy, U: Drop>(
+pub fn put_data<'c, A: Allocator + Copy, U: Drop>(
     alloc: A,
     list: Array<A, U>,
-    machine: &Machine<'_, A>,
-    program: &Program<'_, A>,
+    machine: &Machine<'c, A>,
+    program: &Program<'c, A>,
     page: Page,
 ) -> Result<Array<A, U>, AllocError>
     ensures { IfOk result (λ l. Adds list.out l.out

@@ -215,11 +215,11 @@ fn end_frame<A: Allocator, U: Drop>(
 }
 
 /// Adds a frame.
-fn put_frame<A: Allocator + Copy, U: Drop>(
+fn put_frame<'c, A: Allocator + Copy, U: Drop>(
     alloc: A,
     list: Array<A, U>,
-    machine: &Machine<'_, A>,
-    program: &Program<'_, A>,
+    machine: &Machine<'c, A>,
+    program: &Program<'c, A>,
     shown: Shown<'_>,
     source_map: Option<&SourceMap<A>>,
     frame: &Frame<A>,
@@ -275,11 +275,11 @@ fn frame_at<'m, A: Allocator + Copy>(machine: &'m Machine<'_, A>, inner: usize) 
 }
 
 /// Adds the frames of a page, the innermost first.
-fn put_page<A: Allocator + Copy, U: Drop>(
+fn put_page<'c, A: Allocator + Copy, U: Drop>(
     alloc: A,
     list: Array<A, U>,
-    machine: &Machine<'_, A>,
-    program: &Program<'_, A>,
+    machine: &Machine<'c, A>,
+    program: &Program<'c, A>,
     shown: Shown<'_>,
     source_map: Option<&SourceMap<A>>,
     page: Page,
@@ -307,12 +307,12 @@ fn put_page<A: Allocator + Copy, U: Drop>(
 
 /// Adds the frames of a page, and how many there are in all, each at the line of the source that its line came from, if it came
 /// from one. Where no call is open there is one item, which tells how the run ended after so many moves.
-pub fn put_frames<A: Allocator + Copy, U: Drop>(
+pub fn put_frames<'c, A: Allocator + Copy, U: Drop>(
     alloc: A,
     body: Object<A, U>,
     position: u64,
-    machine: &Machine<'_, A>,
-    program: &Program<'_, A>,
+    machine: &Machine<'c, A>,
+    program: &Program<'c, A>,
     shown: Shown<'_>,
     source_map: Option<&SourceMap<A>>,
     page: Page,

@@ -50,7 +50,7 @@ judge_here-judged-requires g c = λ lifetimes.
     let q = g.K.History.program c.args.bad.now in
     let good = c.next_event-one.ensures.program ∙ i.good_program in
     let bad = c.next_event-other.ensures.program ∙ i.bad_program in (
-      (refl, tt),
+      (refl, (refl, tt)),
       alike_as p q (g.H.History.program c.next_event-one.new.history) (g.K.History.program c.next_event-other.new.history) c.names_alike-alike.result (sym good) (sym bad)
           c.names_alike-alike.ensures,
     )

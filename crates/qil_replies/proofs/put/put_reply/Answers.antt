@@ -45,7 +45,7 @@ pub returns-in-Temporary : goal.returns-in-Temporary
 unfolding reply_text
 returns-in-Temporary g c =
     rw c.in-Temporary.is
-    (HasPut-as (ap (λ (x : Name). printed (g.M.Readers.whole c.args.machine.now).program (state_of (g.M.Readers.whole c.args.machine.now)).frames x) c.bytes.ensures) c.put_printed.ensures)
+    (HasPut-as (ap (λ (x : Name). printed (g.M.Readers.whole c.args.machine.now).program (state_of (g.M.Readers.whole c.args.machine.now)).frames x) c.bytes-name.ensures) c.put_printed.ensures)
 
 pub returns-in-Temporaries : goal.returns-in-Temporaries
 unfolding reply_text
