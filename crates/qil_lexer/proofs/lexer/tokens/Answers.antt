@@ -1,5 +1,5 @@
 -- Answers to the goals of `tokens`.
-use Rattle.std.proofs.Common.{length, subst, arith, Err}
+use Rattle.std.proofs.Common.{length, subst, arith, rules, refl, Err}
 use Rattle.std.proofs.lemmas.Result.{err_from_is_err_and}
 use Rattle.qil_lexer.specs.Cut.{IsGapBetween, TextFault}
 use Rattle.qil_lexer.specs.Walk.{IsNext, IfRefused}
@@ -42,3 +42,11 @@ returns-clause-only_cut g c = λ ts short cuts. one_cut c.args.text.now c.loop-t
 
 pub returns-clause-only_fault : goal.returns-clause-only_fault
 returns-clause-only_fault g c = λ code line fault. cut_no_fault c.args.text.now c.loop-tokens.tokens.items code line (omega arith) (returns-clause-cut g c) fault
+
+pub loop-tokens-init : goal.loop-tokens-init
+loop-tokens-init g c = record {
+  text = c.new-lexer.ensures.text;
+  pointer = refl;
+  slices = rw c.new-tokens.ensures.items (search rules);
+  goes_on = λ ts to. rw (c.new-lexer.ensures.start, c.new-tokens.ensures.items) (λ cuts. cuts);
+}
