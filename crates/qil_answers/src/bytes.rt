@@ -3,6 +3,7 @@
 ghost use Rattle.std.specs.Prelude.{◌≡◌, ◌+◌, ◌-◌, ◌^◌, ◌<◌};
 ghost use Rattle.std.specs.List.{flat_map};
 ghost use Rattle.qil_streams.specs.Device.{HasPut};
+ghost use Rattle.qil_memory.specs.Live.{live};
 ghost use Rattle.qil_state.specs.State.{state_of};
 ghost use Rattle.qil_answers.specs.Texts.{hex_digit, byte_text, quoted_byte};
 ghost use Rattle.qil_answers.specs.Shown.{spaced_byte, memory_shown, output_shown};
@@ -45,6 +46,16 @@ fn put_next_byte<P: Put>(out: &mut P, byte: Option<u8>) -> Result<(), PutError>
     put_byte(out, byte)
 }
 
+/// The byte at an address, if it is live.
+fn byte_at<'s, 'c, A: Allocator + Copy + 'c, M: Readers<A, Code<'c, A>>>(
+    machine: &'s M,
+    address: u64,
+) -> Option<u8>
+    ensures { result ≡ live (M.whole machine.now).memory address }
+{
+    machine.byte_after(address, 0)
+}
+
 /// Puts bytes of memory in a line, a space between one and the next.
 ///
 /// # Errors
@@ -62,7 +73,7 @@ pub fn put_memory<'s, 'c, P: Put, A: Allocator + Copy + 'c, M: Readers<A, Code<'
     if count == 0 {
         return out.put(b"\n");
     }
-    put_byte(out, machine.byte(address))?;
+    put_byte(out, byte_at(machine, address))?;
     for offset in 1..u64::from(count) {
         put_next_byte(out, machine.byte_after(address, offset))?;
     }

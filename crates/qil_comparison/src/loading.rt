@@ -128,12 +128,12 @@ fn start_both<'c, 'g, 'i, A: Allocator + Copy + 'c, S: Source, W: Sink>(
 }
 
 /// Numbers the bad program next to the good one, and runs both.
-fn number_bad<'c, 'g, 'i, 't, A: Allocator + Copy + 'c, S: Source, W: Sink>(
+fn number_bad<'c, 'g, 's, 't, 'i, A: Allocator + Copy + 'c, S: Source, W: Sink>(
     alloc: A,
     keys: RandomState,
     good: &'c Code<'g, A>,
-    checked: &'i Checked<'t, A>,
-    image: &'i Image<'t, A>,
+    checked: &'s Checked<'t, A>,
+    image: &'s Image<'i, A>,
     request: &Request<'_>,
     source: &mut S,
     sink: &mut W,
@@ -235,11 +235,11 @@ fn load_bad<'c, 'g, 't, A: Allocator + Copy + 'c, S: Source, W: Sink>(
 }
 
 /// Numbers the good program, and loads the bad text next to it.
-fn number_good<'c, 'g, 't, A: Allocator + Copy + 'c, S: Source, W: Sink>(
+fn number_good<'c, 'g, 'i, 't, A: Allocator + Copy + 'c, S: Source, W: Sink>(
     alloc: A,
     keys: RandomState,
     checked: &'c Checked<'g, A>,
-    image: &'c Image<'g, A>,
+    image: &'c Image<'i, A>,
     bad: &Text<'t>,
     request: &Request<'_>,
     source: &mut S,

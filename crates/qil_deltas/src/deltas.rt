@@ -12,7 +12,7 @@ ghost use Rattle.qil_history.specs.Pokes.{HasWidth, poke_of, poke_cost, Explains
 ghost use Rattle.qil_deltas.specs.Weights.{total, TakesLatestOff};
 
 use qil_code::Slot;
-use qil_history::{BackError, History, Poke, SlotHistory};
+use qil_history::{BackError, History, Poke, SlotHistory, apply_poke, poke_refusal};
 use qil_machine::{Delta, DeltaSink, Machine, MoveError, PokeError};
 use std::alloc::Allocator;
 use std::marker::Model;
@@ -74,9 +74,9 @@ impl<'c, A: Allocator + Copy> Deltas<'c, A> {
         ensures kept { OnErr result (self.new.deltas ≡ self.old.deltas) }
     {
         if self.deltas.reserve(1).is_err() {
-            return Err(poke.refusal(&mut self.machine));
+            return Err(poke_refusal(&mut self.machine, poke));
         }
-        let delta = poke.apply(&mut self.machine)?;
+        let delta = apply_poke(&mut self.machine, poke)?;
         self.deltas.keep(delta);
         Ok(())
     }

@@ -16,7 +16,7 @@ ghost use Rattle.qil_deltas.specs.Weights.{total, TakesLatestOff};
 use crate::newest::{Newest, take_latest};
 use circular_buffer::HeapCircularBuffer;
 use qil_code::Slot;
-use qil_history::{BackError, History, Poke, SlotHistory};
+use qil_history::{BackError, History, Poke, SlotHistory, apply_poke};
 use qil_machine::{Delta, DeltaSink, Frame, Machine, MoveError, PokeError};
 use std::alloc::{AllocError, Allocator};
 use std::marker::Model;
@@ -100,7 +100,7 @@ impl<'c, A: Allocator + Copy> Ring<'c, A> {
         ensures cost { OnOk result (total self.new.deltas ≤ total self.old.deltas + poke_cost poke.entry) }
         ensures kept { OnErr result (self.new.deltas ≡ self.old.deltas) }
     {
-        let delta = poke.apply(&mut self.machine)?;
+        let delta = apply_poke(&mut self.machine, poke)?;
         self.newest.keep(delta);
         Ok(())
     }

@@ -12,7 +12,7 @@ use crate::depth_end::DepthEnd;
 use qil_meaning::Reason;
 use qil_stops::{
     BackError, History, Machine, MoveError, NumberedStop, Stops, bottom_or_limit, end_or, is_over,
-    machine_of, readings, stopped_here,
+    machine_of, readings_here, stopped_here,
 };
 use std::alloc::Allocator;
 
@@ -75,14 +75,15 @@ fn forward_to_depth<'c, A: Allocator + Copy + 'c, H: History<A, Machine<'c, A>>>
     ensures program { H.program history.new ≡ H.program history.old }
     ensures run { RunsToDepth (H.program history.old) (named_stops (H.program history.old) list.now) most limit (H.timeline history.old) result.0 result.1 (H.timeline history.new) }
 {
-    let before = readings(list, machine_of(history));
+    let before = readings_here(history, list);
     for moves in 0..limit {
         match history.forward() {
             Ok(()) => {}
             Err(MoveError::AtEnd) => return (DepthEnd::Stopped(Reason::End), moves),
             Err(MoveError::OutOfMemory) => return (DepthEnd::Stopped(Reason::Memory), moves),
         }
-        if let Some(reason) = stopped_here(history, list, before.as_slice()) {
+        let read = before.as_slice();
+        if let Some(reason) = stopped_here(history, list, read) {
             return (DepthEnd::Stopped(end_or(history, reason)), moves + 1);
         }
         if depth(history) <= most {
@@ -119,14 +120,15 @@ fn back_to_depth<'c, A: Allocator + Copy + 'c, H: History<A, Machine<'c, A>>>(
     ensures program { H.program history.new ≡ H.program history.old }
     ensures run { RunsBackToDepth (named_stops (H.program history.old) list.now) most limit (H.timeline history.old) result.0 result.1 (H.timeline history.new) }
 {
-    let before = readings(list, machine_of(history));
+    let before = readings_here(history, list);
     for taken in 0..limit {
         match history.back() {
             Ok(()) => {}
             Err(BackError::AtStart) => return (DepthEnd::Stopped(Reason::Start), taken),
             Err(BackError::Oldest) => return (DepthEnd::Stopped(Reason::Oldest), taken),
         }
-        if let Some(reason) = stopped_here(history, list, before.as_slice()) {
+        let read = before.as_slice();
+        if let Some(reason) = stopped_here(history, list, read) {
             return (DepthEnd::Stopped(reason), taken + 1);
         }
         if depth(history) <= most {

@@ -150,10 +150,6 @@ impl<'c, A: Allocator + Copy + 'c, M: CopiedMachine<A, FlatMachine<'c, A>>> Read
         machine_of(&self.machine).status()
     }
 
-    fn is_final(&self) -> bool {
-        machine_of(&self.machine).is_final()
-    }
-
     fn depth(&self) -> usize {
         machine_of(&self.machine).depth()
     }
@@ -164,10 +160,6 @@ impl<'c, A: Allocator + Copy + 'c, M: CopiedMachine<A, FlatMachine<'c, A>>> Read
 
     fn output(&self) -> &[u8] {
         self.machine.output()
-    }
-
-    fn byte(&self, address: u64) -> Option<u8> {
-        machine_of(&self.machine).byte(address)
     }
 
     fn byte_after(&self, address: u64, offset: u64) -> Option<u8> {

@@ -1,6 +1,6 @@
 //! What a machine says of itself. Nothing here takes memory.
 
-ghost use Rattle.std.specs.Prelude.{◌≡◌, ◌≢◌, ◌+◌, ◌==◌, ◌&&◌, ◌↔◌, ◌<◌, ◌≤◌, ℕ, List, Some, None, false, IsTrue, length, option_map, reverse, slice_get};
+ghost use Rattle.std.specs.Prelude.{◌≡◌, ◌+◌, ◌==◌, ◌&&◌, ◌<◌, ◌≤◌, ℕ, List, Some, None, false, length, option_map, reverse, slice_get};
 ghost use Rattle.qil_tree.specs.declared.tree.Block.{Block};
 ghost use Rattle.qil_tree.specs.declared.tree.Func.{Func};
 ghost use Rattle.qil_layout.specs.Layout.{low_bytes};
@@ -161,13 +161,6 @@ impl<'c, A: Allocator + Copy> FlatMachine<'c, A> {
         self.status
     }
 
-    /// Whether the run is over.
-    pub fn is_final(&self) -> bool
-        ensures { IsTrue result ↔ (self.now.whole.status ≢ Status.Running) }
-    {
-        self.status != Status::Running
-    }
-
     /// How many calls are not over.
     pub fn depth(&self) -> usize
         ensures { result ≡ length self.now.whole.frames }
@@ -189,13 +182,6 @@ impl<'c, A: Allocator + Copy> FlatMachine<'c, A> {
         ensures { result.now ≡ self.now.whole.output }
     {
         self.output.as_slice()
-    }
-
-    /// The byte at an address, if it is live.
-    pub fn byte(&self, address: u64) -> Option<u8>
-        ensures { result ≡ live self.now.whole.memory address }
-    {
-        self.memory.byte(address)
     }
 
     /// The byte so far after an address, if it is live. After the last address there is none.

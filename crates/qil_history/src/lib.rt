@@ -5,5 +5,5 @@ mod history;
 mod poke;
 
 pub use history::{BackError, HasState, History, SlotHistory, machine_of};
-pub use poke::Poke;
+pub use poke::{Poke, apply_poke, poke_refusal};
 pub use qil_machine::{BlockId, Code, Machine, MoveError, PokeError, Slot};

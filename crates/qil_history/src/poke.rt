@@ -20,39 +20,40 @@ pub enum Poke<'n> {
     Bytes(u64, u64, u64),
 }
 
-impl<'n> Poke<'n> {
-    /// Pokes a machine: what `Machine::undo` takes to go back. It takes no memory.
-    pub fn apply<A: Allocator + Copy>(
-        self,
-        machine: &mut Machine<'_, A>,
-    ) -> Result<Delta<A>, PokeError>
-        requires { HasWidth self }
-        ensures poke { OnOk result (poke_of machine.old.program (state_of machine.old) self.entry ≡ Ok (state_of machine.new)) }
-        ensures made { IfOk result (λ d. Made d machine.old machine.new) }
-        ensures cost { IfOk result (λ d. weight d ≤ poke_cost self.entry) }
-        ensures why { IfErr result (Explains (poke_of machine.old.program (state_of machine.old) self.entry)) }
-        ensures memory { result ≢ Err PokeError.OutOfMemory }
-        ensures err { OnErr result (machine.new ≡ machine.old) }
-    {
-        match self {
-            Poke::Slot(slot, value) => machine.poke_temp(slot, value),
-            Poke::Named(name, value) => machine.poke_named(name, value),
-            Poke::Bytes(address, width, number) => machine.poke_memory(address, width, number),
-        }
+/// Pokes a machine: what `Machine::undo` takes to go back. It takes no memory.
+pub fn apply_poke<'c, A: Allocator + Copy>(
+    machine: &mut Machine<'c, A>,
+    poke: Poke<'_>,
+) -> Result<Delta<A>, PokeError>
+    requires { HasWidth poke }
+    ensures poke { OnOk result (poke_of machine.old.program (state_of machine.old) poke.entry ≡ Ok (state_of machine.new)) }
+    ensures made { IfOk result (λ d. Made d machine.old machine.new) }
+    ensures cost { IfOk result (λ d. weight d ≤ poke_cost poke.entry) }
+    ensures why { IfErr result (Explains (poke_of machine.old.program (state_of machine.old) poke.entry)) }
+    ensures memory { result ≢ Err PokeError.OutOfMemory }
+    ensures err { OnErr result (machine.new ≡ machine.old) }
+{
+    match poke {
+        Poke::Slot(slot, value) => machine.poke_temp(slot, value),
+        Poke::Named(name, value) => machine.poke_named(name, value),
+        Poke::Bytes(address, width, number) => machine.poke_memory(address, width, number),
     }
+}
 
-    /// Why it isn't kept as a move where there is no memory for that: what refuses it, or out of memory. The machine stays.
-    pub fn refusal<A: Allocator + Copy>(self, machine: &mut Machine<'_, A>) -> PokeError
-        requires { HasWidth self }
-        ensures why { Explains (poke_of machine.old.program (state_of machine.old) self.entry) result }
-        ensures machine { machine.new ≡ machine.old }
-    {
-        match self.apply(machine) {
-            Ok(delta) => {
-                machine.undo(delta);
-                PokeError::OutOfMemory
-            }
-            Err(error) => error,
+/// Why it isn't kept as a move where there is no memory for that: what refuses it, or out of memory. The machine stays.
+pub fn poke_refusal<'c, A: Allocator + Copy>(
+    machine: &mut Machine<'c, A>,
+    poke: Poke<'_>,
+) -> PokeError
+    requires { HasWidth poke }
+    ensures why { Explains (poke_of machine.old.program (state_of machine.old) poke.entry) result }
+    ensures machine { machine.new ≡ machine.old }
+{
+    match apply_poke(machine, poke) {
+        Ok(delta) => {
+            machine.undo(delta);
+            PokeError::OutOfMemory
         }
+        Err(error) => error,
     }
 }

@@ -1,6 +1,7 @@
 -- The lemmas.
 pub mod RoomLemmas
 pub mod TableLemmas
+pub mod OneMore
 pub mod Starts
 pub mod Named
 pub mod LawLemmas

@@ -23,9 +23,9 @@ pub struct Loaded<'l> {
 
 impl<'l> Loaded<'l> {
     /// What is reported of a program with its image.
-    pub fn new<'a, A: Allocator + Copy>(
+    pub fn new<'a, 'i, A: Allocator + Copy>(
         checked: &'l Checked<'a, A>,
-        image: &Image<'a, A>,
+        image: &'l Image<'i, A>,
     ) -> Loaded<'l>
         requires { image.now ≡ checked.now.program }
         ensures { IsLoaded result checked.entry.now }

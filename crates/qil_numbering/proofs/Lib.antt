@@ -1,5 +1,6 @@
 -- The lemmas of this crate.
 pub mod Parts
+pub mod OneMore
 pub mod Defining
 pub mod Tables
 pub mod Whole

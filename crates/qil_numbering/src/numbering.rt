@@ -31,13 +31,13 @@ fn numbered<'c, A: Allocator + Copy>(
 /// # Errors
 ///
 /// Only out of memory.
-// The text may live longer than the program and its image are lent. They are taken at one lifetime here, once: at the calls in
-// front of this one, next to all that is alive there, each would cost a check of minutes.
-pub fn number<'c, 't, A: Allocator + Copy>(
+// The text may live longer than the program is lent, and the program than its image. They are taken at one lifetime here, once: at
+// the calls in front of this one, next to all that is alive there, each would cost a check of minutes.
+pub fn number<'c, 't, 'i, A: Allocator + Copy>(
     alloc: A,
     keys: RandomState,
     checked: &'c Checked<'t, A>,
-    image: &'c Image<'t, A>,
+    image: &'c Image<'i, A>,
 ) -> Result<Code<'c, A>, AllocError>
     requires { image.now ≡ checked.now.program }
     ensures { IfOk result (λ code. code ≡ checked.entry.now.program) }

@@ -6,4 +6,4 @@ mod readers;
 
 pub use frame_view::FrameView;
 pub use qil_machine::Machine;
-pub use readers::{HasProgram, Readers, code_of};
+pub use readers::{HasProgram, Readers, code_of, is_final};

@@ -35,10 +35,6 @@ pub trait Readers<A: Allocator, C: HasProgram<A>> {
     fn status(&self) -> Status
         ensures { result ≡ (whole self.now).status };
 
-    /// Whether the run is over.
-    fn is_final(&self) -> bool
-        ensures { IsTrue result ↔ ((whole self.now).status ≢ Status.Running) };
-
     /// How many calls are not over.
     fn depth(&self) -> usize
         ensures { result ≡ length (whole self.now).frames };
@@ -51,10 +47,6 @@ pub trait Readers<A: Allocator, C: HasProgram<A>> {
     /// The bytes that were written.
     fn output(&self) -> &[u8]
         ensures { result.now ≡ (whole self.now).output };
-
-    /// The byte at an address, if it is live.
-    fn byte(&self, address: u64) -> Option<u8>
-        ensures { result ≡ live (whole self.now).memory address };
 
     /// The byte so far after an address, if it is live. After the last address there is none.
     fn byte_after(&self, address: u64, offset: u64) -> Option<u8>
@@ -78,10 +70,6 @@ impl<'c, A: Allocator + Copy> Readers<A, Code<'c, A>> for Machine<'c, A> {
         Machine::status(self)
     }
 
-    fn is_final(&self) -> bool {
-        Machine::is_final(self)
-    }
-
     fn depth(&self) -> usize {
         self.frames().len()
     }
@@ -94,10 +82,6 @@ impl<'c, A: Allocator + Copy> Readers<A, Code<'c, A>> for Machine<'c, A> {
 
     fn output(&self) -> &[u8] {
         Machine::output(self)
-    }
-
-    fn byte(&self, address: u64) -> Option<u8> {
-        Machine::byte(self, address)
     }
 
     fn byte_after(&self, address: u64, offset: u64) -> Option<u8> {
@@ -122,6 +106,14 @@ pub fn code_of<'c, 'm, A: Allocator + Copy + 'c, M: Readers<A, Code<'c, A>>>(
     ensures { result.now ≡ (M.whole machine.now).program }
 {
     machine.code()
+}
+
+/// Whether the run is over.
+#[inline(always)]
+pub fn is_final<A: Allocator, C: HasProgram<A>, M: Readers<A, C>>(machine: &M) -> bool
+    ensures { IsTrue result ↔ ((M.whole machine.now).status ≢ Status.Running) }
+{
+    machine.status() != Status::Running
 }
 
 /// A frame, as a reader sees it.

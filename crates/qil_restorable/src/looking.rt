@@ -22,7 +22,7 @@ pub fn is_over<A: Allocator + Copy, C: HasProgram<A>, M: Restorable<A, C>>(machi
     ensures { result ≡ is_final (state_of (M.present machine.now)).status }
 {
     machine.is_read();
-    machine.is_final()
+    qil_readers::is_final(machine)
 }
 
 /// What a watch reads: the number in the bytes, or the value of the temporary. Nothing where the bytes are dead, or the

@@ -20,7 +20,7 @@ use std::alloc::Allocator;
 fn is_over<'c, A: Allocator + Copy + 'c, M: Readers<A, Code<'c, A>>>(machine: &M) -> bool
     ensures { result ≡ is_final (state_of (M.whole machine.now)).status }
 {
-    machine.is_final()
+    qil_replies::is_final(machine)
 }
 
 /// Replies to `step N`.

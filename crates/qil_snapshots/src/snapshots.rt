@@ -9,7 +9,7 @@ ghost use Rattle.qil_snapshots.specs.Kept.{cloned_timeline};
 ghost use Rattle.qil_history.specs.Pokes.{HasWidth, poke_of, Explains};
 
 use qil_code::Slot;
-use qil_history::{BackError, History, Poke, SlotHistory};
+use qil_history::{BackError, History, Poke, SlotHistory, apply_poke, poke_refusal};
 use qil_machine::{DeltaSink, Machine, MoveError, PokeError};
 use std::alloc::{AllocError, Allocator};
 use std::marker::Model;
@@ -88,8 +88,8 @@ fn step<A: Allocator + Copy>(machine: &mut Machine<'_, A>) -> Result<(), MoveErr
 }
 
 /// Pokes, and keeps nothing of it.
-fn poke_alone<A: Allocator + Copy>(
-    machine: &mut Machine<'_, A>,
+fn poke_alone<'c, A: Allocator + Copy>(
+    machine: &mut Machine<'c, A>,
     poke: Poke<'_>,
 ) -> Result<(), PokeError>
     requires { HasWidth poke }
@@ -98,7 +98,7 @@ fn poke_alone<A: Allocator + Copy>(
     ensures why { IfErr result (Explains (poke_of machine.old.program (state_of machine.old) poke.entry)) }
     ensures err { OnErr result (machine.new ≡ machine.old) }
 {
-    match poke.apply(machine) {
+    match apply_poke(machine, poke) {
         Ok(_) => Ok(()),
         Err(error) => Err(error),
     }
@@ -147,7 +147,7 @@ impl<'c, A: Allocator + Copy> Snapshots<'c, A> {
         ensures err { OnErr result (cloned_timeline self.new ≡ cloned_timeline self.old) }
     {
         if keep_clone(&self.machine, &mut self.clones).is_err() {
-            return Err(poke.refusal(&mut self.machine));
+            return Err(poke_refusal(&mut self.machine, poke));
         }
         poke_cloned(&mut self.machine, &mut self.clones, poke)
     }

@@ -23,9 +23,9 @@ pub fn is_over<'c, A: Allocator + Copy>(machine: &Machine<'c, A>) -> bool
 }
 
 /// What each stop reads now.
-pub fn readings<'c, A: Allocator + Copy>(
-    stops: &[NumberedStop],
-    machine: &Machine<'c, A>,
+pub fn readings<'s, 'c, A: Allocator + Copy>(
+    stops: &'s [NumberedStop],
+    machine: &'s Machine<'c, A>,
 ) -> ArrayVec<Option<u64>, 64>
     requires few { length stops.now ≤ 64 }
     requires readable { AreReadable stops.now }
@@ -41,10 +41,10 @@ pub fn readings<'c, A: Allocator + Copy>(
 
 /// The number of the first watch that reads otherwise than before.
 #[inline(always)]
-fn first_watch<'c, A: Allocator + Copy>(
-    stops: &[NumberedStop],
-    before: &[Option<u64>],
-    machine: &Machine<'c, A>,
+fn first_watch<'s, 'c, A: Allocator + Copy>(
+    stops: &'s [NumberedStop],
+    before: &'s [Option<u64>],
+    machine: &'s Machine<'c, A>,
 ) -> Option<u64>
     requires count { length before.now ≡ length stops.now }
     requires readable { AreReadable stops.now }
@@ -60,9 +60,9 @@ fn first_watch<'c, A: Allocator + Copy>(
 
 /// The number of the first breakpoint that holds.
 #[inline(always)]
-fn first_break<'c, A: Allocator + Copy>(
-    stops: &[NumberedStop],
-    machine: &Machine<'c, A>,
+fn first_break<'s, 'c, A: Allocator + Copy>(
+    stops: &'s [NumberedStop],
+    machine: &'s Machine<'c, A>,
 ) -> Option<u64>
     ensures { result ≡ first_break (state_of machine.now) (named_stops machine.now.program stops.now) }
 {
@@ -76,10 +76,10 @@ fn first_break<'c, A: Allocator + Copy>(
 
 /// The same of one stop alone, without a loop: most runs have one.
 #[inline(always)]
-fn only_stopped<'c, A: Allocator + Copy>(
-    stop: &NumberedStop,
+fn only_stopped<'s, 'c, A: Allocator + Copy>(
+    stop: &'s NumberedStop,
     before: Option<u64>,
-    machine: &Machine<'c, A>,
+    machine: &'s Machine<'c, A>,
 ) -> Option<Reason>
     requires { IsReadable stop.now.kind }
     ensures { (old : State) → Tells machine.now.program old stop.now.kind before → result ≡ stopped (named_stops machine.now.program (stop.now ∷ [])) old (state_of machine.now) }
@@ -96,10 +96,10 @@ fn only_stopped<'c, A: Allocator + Copy>(
 /// Which stop holds now, after a move from a state that is reported by what was read there: a watch before a breakpoint, and of
 /// each kind the one with the lowest number.
 #[inline(always)]
-pub fn stopped<'c, A: Allocator + Copy>(
-    stops: &[NumberedStop],
-    before: &[Option<u64>],
-    machine: &Machine<'c, A>,
+pub fn stopped<'s, 'c, A: Allocator + Copy>(
+    stops: &'s [NumberedStop],
+    before: &'s [Option<u64>],
+    machine: &'s Machine<'c, A>,
 ) -> Option<Reason>
     requires count { length before.now ≡ length stops.now }
     requires readable { AreReadable stops.now }

@@ -8,8 +8,8 @@ mod running;
 mod stop;
 mod stops;
 
-pub use found::{is_over, readings};
+pub use found::is_over;
 pub use qil_history::{BackError, HasState, History, Machine, MoveError, PokeError, machine_of};
-pub use running::{bottom_or_limit, end_or, run, run_back, stopped_here};
+pub use running::{bottom_or_limit, end_or, readings_here, run, run_back, stopped_here};
 pub use stop::{NumberedStop, Place, StopKind, Watched};
 pub use stops::{StopError, Stops};

@@ -11,6 +11,7 @@ ghost use Rattle.qil_stops.specs.Readings.{AllTell};
 
 use crate::found::{is_over, readings, stopped};
 use crate::stop::NumberedStop;
+use arrayvec::ArrayVec;
 use qil_history::{BackError, History, Machine, MoveError, machine_of};
 use qil_meaning::Reason;
 use std::alloc::Allocator;
@@ -72,32 +73,48 @@ fn run_watching<'c, A: Allocator + Copy + 'c, H: History<A, Machine<'c, A>>>(
     ensures program { H.program history.new ≡ H.program history.old }
     ensures run { RunsOn (H.program history.old) (named_stops (H.program history.old) list.now) limit (H.timeline history.old) result.0 result.1 (H.timeline history.new) }
 {
-    let before = readings(list, machine_of(history));
+    let before = readings_here(history, list);
     for moves in 0..limit {
         match history.forward() {
             Ok(()) => {}
             Err(MoveError::AtEnd) => return (Reason::End, moves),
             Err(MoveError::OutOfMemory) => return (Reason::Memory, moves),
         }
-        if let Some(reason) = stopped_here(history, list, before.as_slice()) {
+        let read = before.as_slice();
+        if let Some(reason) = stopped_here(history, list, read) {
             return (end_or(history, reason), moves + 1);
         }
     }
     (end_or(history, Reason::Limit), limit)
 }
 
+/// What each stop reads where the history stands.
+pub fn readings_here<'s, 'c, A: Allocator + Copy + 'c, H: History<A, Machine<'c, A>>>(
+    history: &'s H,
+    list: &'s [NumberedStop],
+) -> ArrayVec<Option<u64>, 64>
+    requires few { length list.now ≤ 64 }
+    requires readable { AreReadable list.now }
+    ensures count { length result.items ≡ length list.now }
+    ensures reported { AllTell (H.program history.now) (H.timeline history.now).now list.now result.items }
+{
+    let machine = machine_of(history);
+    readings(list, machine)
+}
+
 /// The stop that holds where the history stands, after a move from a state that is reported by what was read there.
 #[inline(always)]
-pub fn stopped_here<'c, A: Allocator + Copy + 'c, H: History<A, Machine<'c, A>>>(
-    history: &H,
-    list: &[NumberedStop],
-    before: &[Option<u64>],
+pub fn stopped_here<'s, 'c, A: Allocator + Copy + 'c, H: History<A, Machine<'c, A>>>(
+    history: &'s H,
+    list: &'s [NumberedStop],
+    before: &'s [Option<u64>],
 ) -> Option<Reason>
     requires count { length before.now ≡ length list.now }
     requires readable { AreReadable list.now }
     ensures { (old : State) → AllTell (H.program history.now) old list.now before.now → result ≡ stopped (named_stops (H.program history.now) list.now) old (H.timeline history.now).now }
 {
-    stopped(list, before, machine_of(history))
+    let machine = machine_of(history);
+    stopped(list, before, machine)
 }
 
 /// Why a run stops after a move: the end comes before each other reason.
@@ -169,14 +186,15 @@ fn back_watching<'c, A: Allocator + Copy + 'c, H: History<A, Machine<'c, A>>>(
     ensures program { H.program history.new ≡ H.program history.old }
     ensures run { RunsBack (named_stops (H.program history.old) list.now) limit (H.timeline history.old) result.0 result.1 (H.timeline history.new) }
 {
-    let before = readings(list, machine_of(history));
+    let before = readings_here(history, list);
     for taken in 0..limit {
         match history.back() {
             Ok(()) => {}
             Err(BackError::AtStart) => return (Reason::Start, taken),
             Err(BackError::Oldest) => return (Reason::Oldest, taken),
         }
-        if let Some(reason) = stopped_here(history, list, before.as_slice()) {
+        let read = before.as_slice();
+        if let Some(reason) = stopped_here(history, list, read) {
             return (reason, taken + 1);
         }
     }

@@ -81,7 +81,10 @@ fn reading<'c, A: Allocator + Copy>(watched: Watched, machine: &Machine<'c, A>) 
 impl StopKind {
     /// What it reads; a breakpoint reads nothing.
     #[inline(always)]
-    pub(crate) fn read<'c, A: Allocator + Copy>(&self, machine: &Machine<'c, A>) -> Option<u64>
+    pub(crate) fn read<'s, 'c, A: Allocator + Copy>(
+        &'s self,
+        machine: &'s Machine<'c, A>,
+    ) -> Option<u64>
         requires { IsReadable self.now }
         ensures { Tells machine.now.program (state_of machine.now) self.now result }
     {
@@ -93,7 +96,10 @@ impl StopKind {
 
     /// Whether it is a breakpoint, and the run stands there.
     #[inline(always)]
-    pub(crate) fn is_held<'c, A: Allocator + Copy>(&self, machine: &Machine<'c, A>) -> bool
+    pub(crate) fn is_held<'s, 'c, A: Allocator + Copy>(
+        &'s self,
+        machine: &'s Machine<'c, A>,
+    ) -> bool
         ensures { result ≡ passes (is_held (state_of machine.now)) (named_kind machine.now.program self.now) }
     {
         match *self {

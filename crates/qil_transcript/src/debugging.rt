@@ -382,11 +382,11 @@ fn debug_code<'c, 't, A: Allocator + Copy + 'c, S: Source, P: Put>(
 }
 
 /// Debugs a program that is laid out.
-fn debug_laid_out<'t, A: Allocator + Copy, S: Source, P: Put>(
+fn debug_laid_out<'s, 't, 'i, A: Allocator + Copy, S: Source, P: Put>(
     alloc: A,
     keys: RandomState,
-    checked: &Checked<'t, A>,
-    image: &Image<'t, A>,
+    checked: &'s Checked<'t, A>,
+    image: &'s Image<'i, A>,
     request: &Request<'_>,
     source: &mut S,
     out: &mut P,

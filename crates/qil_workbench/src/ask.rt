@@ -29,9 +29,9 @@ fn ask_code<R: Print, A: Allocator + Copy>(
 }
 
 /// Numbers a program, and asks its code.
-fn ask_laid_out<'t, R: Print, A: Allocator + Copy>(
-    checked: &Checked<'t, A>,
-    image: &Image<'t, A>,
+fn ask_laid_out<'s, 't, 'i, R: Print, A: Allocator + Copy>(
+    checked: &'s Checked<'t, A>,
+    image: &'s Image<'i, A>,
     asking: &Asking<'_, R, A>,
 ) -> Answer
     requires { image.now ≡ checked.now.program }

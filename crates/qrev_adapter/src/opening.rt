@@ -193,9 +193,9 @@ fn opening_of<'l, A: Allocator>(text: &'l [u8], launch: &'l Launch<A>) -> Openin
 }
 
 /// Serves a program that is laid out.
-fn open_laid_out<'c, 't, 'l, A: Allocator + Copy, S: Source, W: Sink, F: Files<A>>(
+fn open_laid_out<'c, 't, 'i, 'l, A: Allocator + Copy, S: Source, W: Sink, F: Files<A>>(
     checked: &'c Checked<'t, A>,
-    image: &'c Image<'t, A>,
+    image: &'c Image<'i, A>,
     keys: RandomState,
     opening: Opening<'l>,
     launch: &'l Launch<A>,

@@ -18,7 +18,7 @@ returns-in_err-put_byte g c =
     let a = c.args.address in
     let n = c.args.count in
     rw (memory_first (state_of (g.M.Readers.whole c.args.machine.now)) a n (positive n c.if-count-eq0.false))
-    (HasPut-stop _ _ c.from_residual.ensures.1 _ _ _ (byte_text (m a)) (later_bytes m (a + 1) (n - 1)) (rw c.byte.ensures at c.in_err-put_byte.ensures))
+    (HasPut-stop _ _ c.from_residual.ensures.1 _ _ _ (byte_text (m a)) (later_bytes m (a + 1) (n - 1)) (rw c.byte_at.ensures at c.in_err-put_byte.ensures))
 
 pub loop-offset-init : goal.loop-offset-init
 loop-offset-init g c =
@@ -28,7 +28,7 @@ loop-offset-init g c =
     record {
       text = reported_more _ (byte_text (m a)) (later_bytes m (a + 1) (n - 1)) _ _ _
           (reported_as _ _ _ _ _ (memory_first (state_of (g.M.Readers.whole c.args.machine.now)) a n (positive n c.if-count-eq0.false)) (reported_none (memory_shown (state_of (g.M.Readers.whole c.args.machine.now)) a n) _))
-          (rw c.byte.ensures at c.in_ok-put_byte.ensures.text);
+          (rw c.byte_at.ensures at c.in_ok-put_byte.ensures.text);
       counted = c.in_ok-put_byte.ensures.counted;
       device = c.put_byte.ensures.device;
     }

@@ -9,7 +9,7 @@ use Rattle.qil_deltas.proofs.deltas.Deltas.poke.Goals as goal
 pub invariant_of-self-2 : goal.invariant_of-self-2
 invariant_of-self-2 g c =
     let one_more = c.keep.ensures ∙ ap (λ xs. xs ++ c.in_ok-delta.delta ∷ []) c.reserve.ensures.items in
-    stays_kept c.self.inside.machine c.apply.new.machine c.self.inside.deltas.items c.keep.new.self.items c.in_ok-delta.delta one_more c.in_ok-delta.ensures.made c.self.invariant
+    stays_kept c.self.inside.machine c.apply_poke.new.machine c.self.inside.deltas.items c.keep.new.self.items c.in_ok-delta.delta one_more c.in_ok-delta.ensures.made c.self.invariant
 
 pub returns-clause-ok : goal.returns-clause-ok
 returns-clause-ok g c =
@@ -17,11 +17,11 @@ returns-clause-ok g c =
     let now = c.args.self.now in
     let one_more = c.keep.ensures ∙ ap (λ xs. xs ++ c.in_ok-delta.delta ∷ []) c.reserve.ensures.items in
     let same = ap (λ (k : Moved A). poke_of k.machine.program (state_of k.machine) c.args.poke) c.self.view_is in
-    pokes_kept c.self.inside.machine c.apply.new.machine c.self.inside.deltas.items c.keep.new.self.items c.in_ok-delta.delta now
+    pokes_kept c.self.inside.machine c.apply_poke.new.machine c.self.inside.deltas.items c.keep.new.self.items c.in_ok-delta.delta now
     (poke_of now.machine.program (state_of now.machine) c.args.poke) c.self.view_is one_more c.in_ok-delta.ensures.made (sym same ∙ c.in_ok-delta.ensures.poke)
 
 pub returns-clause-cost : goal.returns-clause-cost
 returns-clause-cost g c =
     let one_more = c.keep.ensures ∙ ap (λ xs. xs ++ c.in_ok-delta.delta ∷ []) c.reserve.ensures.items in
-    adds_weight c.self.inside.machine c.apply.new.machine c.self.inside.deltas.items c.keep.new.self.items c.in_ok-delta.delta c.args.self.now (poke_cost c.args.poke)
+    adds_weight c.self.inside.machine c.apply_poke.new.machine c.self.inside.deltas.items c.keep.new.self.items c.in_ok-delta.delta c.args.self.now (poke_cost c.args.poke)
     c.self.view_is one_more c.in_ok-delta.ensures.cost

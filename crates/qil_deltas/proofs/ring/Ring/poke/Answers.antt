@@ -9,7 +9,7 @@ use Rattle.qil_deltas.proofs.ring.Ring.poke.Goals as goal
 
 pub invariant_of-self-2 : goal.invariant_of-self-2
 invariant_of-self-2 g c =
-    stays_recent c.self.inside.machine c.apply.new.machine c.self.inside.newest.deltas.items c.in_ok-delta.delta c.self.inside.newest.gone c.self.inside.newest.deltas.capacity c.keep.new.self.gone c.keep.new.self.deltas c.args.self.now
+    stays_recent c.self.inside.machine c.apply_poke.new.machine c.self.inside.newest.deltas.items c.in_ok-delta.delta c.self.inside.newest.gone c.self.inside.newest.deltas.capacity c.keep.new.self.gone c.keep.new.self.deltas c.args.self.now
     c.self.view_is c.self.invariant c.in_ok-delta.ensures.made c.keep.ensures.kept c.keep.ensures.counted c.requires.before
 
 pub returns-clause-ok : goal.returns-clause-ok
@@ -17,7 +17,7 @@ returns-clause-ok g c =
     let A = g.row.A.Denot in
     let now = c.args.self.now in
     let same = ap (λ (k : Recent A). poke_of k.machine.program (state_of k.machine) c.args.poke) c.self.view_is in
-    pokes_on c.self.inside.machine c.apply.new.machine c.self.inside.newest.deltas.items c.in_ok-delta.delta c.self.inside.newest.gone c.self.inside.newest.deltas.capacity c.keep.new.self.gone c.keep.new.self.deltas now
+    pokes_on c.self.inside.machine c.apply_poke.new.machine c.self.inside.newest.deltas.items c.in_ok-delta.delta c.self.inside.newest.gone c.self.inside.newest.deltas.capacity c.keep.new.self.gone c.keep.new.self.deltas now
     (poke_of now.machine.program (state_of now.machine) c.args.poke) c.self.view_is c.in_ok-delta.ensures.made c.keep.ensures.kept c.keep.ensures.counted (sym same ∙ c.in_ok-delta.ensures.poke)
 
 pub returns-clause-cost : goal.returns-clause-cost

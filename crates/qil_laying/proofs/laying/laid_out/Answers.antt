@@ -3,7 +3,7 @@ use Rattle.std.proofs.Common.{◌∙◌, ap, length, arith, List, ℕ, Option}
 use Rattle.qil_layout.specs.Layout.{bytes_from}
 use Rattle.qil_names.specs.Tables.{value_at}
 use Rattle.qil_layout.proofs.FewFunctions.{few_functions}
-use Rattle.qil_laying.proofs.laying.layout.Goals as goal
+use Rattle.qil_laying.proofs.laying.laid_out.Goals as goal
 
 pub names_of-requires : goal.names_of-requires
 names_of-requires g c =
