@@ -61,7 +61,7 @@ fn byte_at<'s, 'c, A: Allocator + Copy + 'c, M: Readers<A, Code<'c, A>>>(
 /// # Errors
 ///
 /// `PutError` where `out` stopped. Then a prefix of the line was put.
-pub fn put_memory<'s, 'c, P: Put, A: Allocator + Copy + 'c, M: Readers<A, Code<'c, A>>>(
+pub fn put_memory<'s, 'c, A: Allocator + Copy + 'c, M: Readers<A, Code<'c, A>>, P: Put>(
     out: &'s mut P,
     machine: &'s M,
     address: u64,
@@ -132,7 +132,7 @@ fn put_counted<P: Put>(out: &mut P, bytes: &[u8]) -> Result<(), PutError>
 /// # Errors
 ///
 /// `PutError` where `out` stopped. Then a prefix of the line was put.
-pub fn put_output<'s, 'c, P: Put, A: Allocator + Copy + 'c, M: Readers<A, Code<'c, A>>>(
+pub fn put_output<'s, 'c, A: Allocator + Copy + 'c, M: Readers<A, Code<'c, A>>, P: Put>(
     out: &'s mut P,
     machine: &'s M,
 ) -> Result<(), PutError>

@@ -15,17 +15,16 @@ use qil_streams::{Put, PutError, put_line};
 use std::alloc::Allocator;
 
 /// Puts the place of a frame.
-fn put_frame<'c, P: Put, A: Allocator + Copy + 'c, M: Readers<A, Code<'c, A>>>(
+fn put_frame<'c, A: Allocator + Copy, P: Put>(
+    code: &Code<'c, A>,
     out: &mut P,
-    machine: &M,
     frame: &FrameView<'_>,
 ) -> Result<(), PutError>
     requires { P.stops out.old < 2 ^ 64 - 1 }
-    ensures text { (callers : List SlotFrame) → Puts result (P.written out.old) (P.written out.new) (frame_line (frame_state (M.whole machine.now).program callers frame.now)) }
+    ensures text { (callers : List SlotFrame) → Puts result (P.written out.old) (P.written out.new) (frame_line (frame_state code.now callers frame.now)) }
     ensures counted { Counts result (P.stops out.old) (P.stops out.new) }
     ensures device { P.device out.new ≡ P.device out.old }
 {
-    let code = code_of(machine);
     put_fragments(
         out,
         &[
@@ -59,7 +58,7 @@ fn frame_at<'c, 'm, A: Allocator + Copy + 'c, M: Readers<A, Code<'c, A>>>(
 /// # Errors
 ///
 /// `PutError` where `out` stopped. Then a prefix of the text was put.
-pub fn put_frames<'s, 'c, P: Put, A: Allocator + Copy + 'c, M: Readers<A, Code<'c, A>>>(
+pub fn put_frames<'s, 'c, A: Allocator + Copy + 'c, M: Readers<A, Code<'c, A>>, P: Put>(
     out: &'s mut P,
     machine: &'s M,
 ) -> Result<(), PutError>
@@ -70,7 +69,8 @@ pub fn put_frames<'s, 'c, P: Put, A: Allocator + Copy + 'c, M: Readers<A, Code<'
         return put_line(out, b"none");
     };
     for inner in 0..machine.depth() {
-        put_frame(out, machine, &frame_at(machine, inner))?;
+        let code = code_of(machine);
+        put_frame(code, out, &frame_at(machine, inner))?;
     }
     Ok(())
 }

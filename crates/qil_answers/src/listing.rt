@@ -18,7 +18,7 @@ use qil_tree::{Inst, Jump, Phi};
 use std::alloc::Allocator;
 
 /// Puts a phi.
-fn put_phi<P: Put, A: Allocator>(out: &mut P, phi: &Phi<'_, A>) -> Result<(), PutError>
+fn put_phi<A: Allocator, P: Put>(out: &mut P, phi: &Phi<'_, A>) -> Result<(), PutError>
     requires { P.stops out.old < 2 ^ 64 - 1 }
     ensures { HasPut P.written P.stops P.device result out.old out.new (phi_row phi.now) }
 {
@@ -48,7 +48,7 @@ fn put_prefix<P: Put>(out: &mut P, at: u32, index: u64) -> Result<(), PutError>
 }
 
 /// Puts an instruction.
-fn put_inst<P: Put, A: Allocator>(
+fn put_inst<A: Allocator, P: Put>(
     out: &mut P,
     at: u32,
     index: u64,
@@ -73,7 +73,7 @@ fn put_jump<P: Put>(out: &mut P, at: u32, index: u64, jump: &Jump<'_>) -> Result
 }
 
 /// Puts phis.
-fn put_phis<P: Put, A: Allocator>(out: &mut P, phis: &[Phi<'_, A>]) -> Result<(), PutError>
+fn put_phis<A: Allocator, P: Put>(out: &mut P, phis: &[Phi<'_, A>]) -> Result<(), PutError>
     requires { P.stops out.old < 2 ^ 64 - 1 }
     ensures { HasPut P.written P.stops P.device result out.old out.new (flat_map phi_row phis.now) }
 {
@@ -84,7 +84,7 @@ fn put_phis<P: Put, A: Allocator>(out: &mut P, phis: &[Phi<'_, A>]) -> Result<()
 }
 
 /// Puts instructions.
-fn put_insts<P: Put, A: Allocator>(
+fn put_insts<A: Allocator, P: Put>(
     out: &mut P,
     at: u32,
     insts: &[Inst<'_, A>],
@@ -99,7 +99,7 @@ fn put_insts<P: Put, A: Allocator>(
 }
 
 /// Puts the rows of a block.
-fn put_rows<P: Put, A: Allocator>(
+fn put_rows<A: Allocator, P: Put>(
     out: &mut P,
     at: u32,
     phis: &[Phi<'_, A>],
@@ -115,7 +115,7 @@ fn put_rows<P: Put, A: Allocator>(
 }
 
 /// Puts the line that says in which block a frame is.
-fn put_head<'c, P: Put, A: Allocator + Copy>(
+fn put_head<'c, A: Allocator + Copy, P: Put>(
     code: &Code<'c, A>,
     out: &mut P,
     frame: &FrameView<'_>,
@@ -136,7 +136,7 @@ fn put_head<'c, P: Put, A: Allocator + Copy>(
 }
 
 /// Puts the rows of the block that a frame is in.
-fn put_block_of<'c, P: Put, A: Allocator + Copy>(
+fn put_block_of<'c, A: Allocator + Copy, P: Put>(
     code: &Code<'c, A>,
     out: &mut P,
     frame: &FrameView<'_>,
@@ -161,7 +161,7 @@ fn put_block_of<'c, P: Put, A: Allocator + Copy>(
 /// # Errors
 ///
 /// `PutError` where `out` stopped. Then a prefix of the text was put.
-pub fn put_block<'s, 'c, P: Put, A: Allocator + Copy + 'c, M: Readers<A, Code<'c, A>>>(
+pub fn put_block<'s, 'c, A: Allocator + Copy + 'c, M: Readers<A, Code<'c, A>>, P: Put>(
     out: &'s mut P,
     machine: &'s M,
 ) -> Result<(), PutError>

@@ -56,7 +56,7 @@ fn fault_detail<'c: 'm, 'm, A: Allocator + Copy + 'c, M: Readers<A, Code<'c, A>>
 }
 
 /// Puts the line of the place of a run that goes on.
-fn put_standing<'s, 'c, P: Put, A: Allocator + Copy + 'c, M: Readers<A, Code<'c, A>>>(
+fn put_standing<'s, 'c, A: Allocator + Copy + 'c, M: Readers<A, Code<'c, A>>, P: Put>(
     out: &'s mut P,
     position: u64,
     machine: &'s M,
@@ -119,7 +119,7 @@ fn put_fault<'w, P: Put>(
 /// # Errors
 ///
 /// `PutError` where `out` stopped. Then a prefix of the line was put.
-pub fn put_place<'s, 'c, P: Put, A: Allocator + Copy + 'c, M: Readers<A, Code<'c, A>>>(
+pub fn put_place<'s, 'c, A: Allocator + Copy + 'c, M: Readers<A, Code<'c, A>>, P: Put>(
     out: &'s mut P,
     position: u64,
     machine: &'s M,

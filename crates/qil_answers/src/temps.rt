@@ -48,7 +48,7 @@ fn put_value<P: Put>(out: &mut P, name: &[u8], value: Option<u64>) -> Result<(),
 /// # Errors
 ///
 /// `PutError` where `out` stopped. Then a prefix of the text was put.
-pub fn put_printed<'s, 'c, P: Put, A: Allocator + Copy + 'c, M: Readers<A, Code<'c, A>>>(
+pub fn put_printed<'s, 'c, A: Allocator + Copy + 'c, M: Readers<A, Code<'c, A>>, P: Put>(
     out: &'s mut P,
     machine: &'s M,
     name: &'s [u8],
@@ -66,7 +66,7 @@ pub fn put_printed<'s, 'c, P: Put, A: Allocator + Copy + 'c, M: Readers<A, Code<
 }
 
 /// Puts a line for each slot of a frame.
-fn put_slots<'c, P: Put, A: Allocator + Copy>(
+fn put_slots<'c, A: Allocator + Copy, P: Put>(
     code: &Code<'c, A>,
     out: &mut P,
     frame: &FrameView<'_>,
@@ -90,7 +90,7 @@ fn put_slots<'c, P: Put, A: Allocator + Copy>(
 /// # Errors
 ///
 /// `PutError` where `out` stopped. Then a prefix of the text was put.
-pub fn put_temps<'s, 'c, P: Put, A: Allocator + Copy + 'c, M: Readers<A, Code<'c, A>>>(
+pub fn put_temps<'s, 'c, A: Allocator + Copy + 'c, M: Readers<A, Code<'c, A>>, P: Put>(
     out: &'s mut P,
     machine: &'s M,
 ) -> Result<(), PutError>

@@ -127,7 +127,7 @@ fn put_next_byte<P: Put>(out: &mut P, byte: Option<u8>) -> Result<(), PutError>
 }
 
 /// Puts so many bytes of memory from an address on in a line.
-fn put_bytes<P: Put, A: Allocator + Copy>(
+fn put_bytes<A: Allocator + Copy, P: Put>(
     machine: &Machine<'_, A>,
     out: &mut P,
     start: u64,
@@ -147,7 +147,7 @@ fn put_bytes<P: Put, A: Allocator + Copy>(
 }
 
 /// Puts a write to data.
-fn put_write<P: Put, A: Allocator + Copy>(
+fn put_write<A: Allocator + Copy, P: Put>(
     machine: &Machine<'_, A>,
     out: &mut P,
     start: u64,
@@ -163,7 +163,7 @@ fn put_write<P: Put, A: Allocator + Copy>(
 }
 
 /// Puts the values of the parameters of the innermost frame, commas between them.
-fn put_params<P: Put, A: Allocator + Copy>(
+fn put_params<A: Allocator + Copy, P: Put>(
     machine: &Machine<'_, A>,
     out: &mut P,
 ) -> Result<(), PutError>
@@ -182,7 +182,7 @@ fn put_params<P: Put, A: Allocator + Copy>(
 }
 
 /// Puts a call: of the function of the innermost frame.
-fn put_call<P: Put, A: Allocator + Copy>(
+fn put_call<A: Allocator + Copy, P: Put>(
     machine: &Machine<'_, A>,
     out: &mut P,
 ) -> Result<(), PutError>
@@ -212,7 +212,7 @@ fn put_last_seen<P: Put>(out: &mut P, value: Seen<'_>) -> Result<(), PutError>
 }
 
 /// Puts what a function returned, if it is a value, and the end of the line.
-fn put_returned<P: Put, A: Allocator + Copy>(
+fn put_returned<A: Allocator + Copy, P: Put>(
     machine: &Machine<'_, A>,
     out: &mut P,
     func: FuncId,
@@ -228,7 +228,7 @@ fn put_returned<P: Put, A: Allocator + Copy>(
 }
 
 /// Puts a return, with its value if there is one.
-fn put_return<P: Put, A: Allocator + Copy>(
+fn put_return<A: Allocator + Copy, P: Put>(
     machine: &Machine<'_, A>,
     out: &mut P,
     func: FuncId,
@@ -248,7 +248,7 @@ fn put_return<P: Put, A: Allocator + Copy>(
 }
 
 /// Puts the line of an event.
-fn put_event<P: Put, A: Allocator + Copy>(
+fn put_event<A: Allocator + Copy, P: Put>(
     machine: &Machine<'_, A>,
     out: &mut P,
     event: Event,
@@ -266,7 +266,7 @@ fn put_event<P: Put, A: Allocator + Copy>(
 }
 
 /// Puts the line of what was found.
-pub fn put_found<P: Put, A: Allocator + Copy>(
+pub fn put_found<A: Allocator + Copy, P: Put>(
     machine: &Machine<'_, A>,
     out: &mut P,
     found: Found,

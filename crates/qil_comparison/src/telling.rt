@@ -63,7 +63,7 @@ fn put_way<P: Put>(out: &mut P, position: u64) -> Result<(), PutError>
 
 /// Puts where a machine stands after so many moves.
 // It knows of the machine what its readers tell, as what it calls does: with one that is known each call would compare all of them.
-fn put_stand<'s, 'c, P: Put, A: Allocator + Copy + 'c, M: Readers<A, Code<'c, A>>>(
+fn put_stand<'s, 'c, A: Allocator + Copy + 'c, M: Readers<A, Code<'c, A>>, P: Put>(
     out: &'s mut P,
     position: u64,
     machine: &'s M,

@@ -10,5 +10,5 @@ mod stops;
 mod texts;
 
 pub use put::put_reply;
-pub use qil_answers::{Readers, is_final, put_place};
+pub use qil_answers::{Readers, code_of, is_final, put_place};
 pub use reply::{CommandRefusal, Reply};

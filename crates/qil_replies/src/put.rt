@@ -11,7 +11,8 @@ use crate::reply::Reply;
 use crate::stops::put_stops;
 use crate::texts::{put_deleted, put_reason, put_stop, refusal_words};
 use qil_answers::{
-    Readers, put_block, put_frames, put_memory, put_output, put_place, put_printed, put_temps,
+    Readers, code_of, put_block, put_frames, put_memory, put_output, put_place, put_printed,
+    put_temps,
 };
 use qil_code::Code;
 use qil_meaning::Reason;
@@ -20,7 +21,7 @@ use qil_streams::{Put, PutError, put_line};
 use std::alloc::Allocator;
 
 /// Puts why a run stopped, and the place.
-fn put_stopped<'s, 'c, P: Put, A: Allocator + Copy + 'c, M: Readers<A, Code<'c, A>>>(
+fn put_stopped<'s, 'c, A: Allocator + Copy + 'c, M: Readers<A, Code<'c, A>>, P: Put>(
     out: &'s mut P,
     position: u64,
     machine: &'s M,
@@ -38,7 +39,7 @@ fn put_stopped<'s, 'c, P: Put, A: Allocator + Copy + 'c, M: Readers<A, Code<'c, 
 /// # Errors
 ///
 /// `PutError` where `out` stopped. Then a prefix of the text was put.
-pub fn put_reply<'c, P: Put, A: Allocator + Copy + 'c, M: Readers<A, Code<'c, A>>>(
+pub fn put_reply<'c, A: Allocator + Copy + 'c, M: Readers<A, Code<'c, A>>, P: Put>(
     out: &mut P,
     position: u64,
     machine: &M,
@@ -53,9 +54,9 @@ pub fn put_reply<'c, P: Put, A: Allocator + Copy + 'c, M: Readers<A, Code<'c, A>
         Reply::Refused(refusal) => put_line(out, refusal_words(refusal)),
         Reply::Place => put_place(out, position, machine),
         Reply::Stopped(reason) => put_stopped(out, position, machine, reason),
-        Reply::Added(number, kind) => put_stop(machine.code(), out, number, kind),
+        Reply::Added(number, kind) => put_stop(code_of(machine), out, number, kind),
         Reply::Deleted(number) => put_deleted(out, number),
-        Reply::Stops => put_stops(machine.code(), out, stops),
+        Reply::Stops => put_stops(code_of(machine), out, stops),
         Reply::Temporary(name) => {
             let name = name.bytes();
             put_printed(out, machine, name)

@@ -12,7 +12,7 @@ use qil_streams::{Put, PutError, put_line};
 use std::alloc::Allocator;
 
 /// Puts the line of each stop.
-fn put_listed<'c, P: Put, A: Allocator + Copy>(
+fn put_listed<'c, A: Allocator + Copy, P: Put>(
     code: &Code<'c, A>,
     out: &mut P,
     stops: &[NumberedStop],
@@ -27,7 +27,7 @@ fn put_listed<'c, P: Put, A: Allocator + Copy>(
 }
 
 /// Puts the line of each stop, or that there is none.
-pub fn put_stops<'c, P: Put, A: Allocator + Copy>(
+pub fn put_stops<'c, A: Allocator + Copy, P: Put>(
     code: &Code<'c, A>,
     out: &mut P,
     stops: &[NumberedStop],

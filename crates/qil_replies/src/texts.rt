@@ -91,7 +91,7 @@ fn width_letter(width: u64) -> &'static [u8]
 }
 
 /// Puts the line of a stop: its number, and what it looks for.
-pub fn put_stop<'c, P: Put, A: Allocator + Copy>(
+pub fn put_stop<'c, A: Allocator + Copy, P: Put>(
     code: &Code<'c, A>,
     out: &mut P,
     number: u64,

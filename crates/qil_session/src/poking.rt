@@ -4,7 +4,7 @@ ghost use Rattle.std.specs.Prelude.{◌≡◌, ℕ, ◌+◌, ◌<◌, ◌^◌, O
 ghost use Rattle.qil_commands.specs.declared.command.Command.TheVariants as commands;
 ghost use Rattle.qil_meaning.specs.Timeline.{position};
 ghost use Rattle.qil_stops.specs.Listed.{Listed};
-ghost use Rattle.qil_replies.specs.SessionState.{session_at};
+ghost use Rattle.qil_replies.specs.SessionState.{resolved_address, session_at};
 ghost use Rattle.qil_replies.specs.Answers.{Replies};
 
 use crate::words::{resolved_address, width_bytes};
@@ -12,7 +12,7 @@ use qil_code::Code;
 use qil_commands::Address;
 use qil_machine::PokeError;
 use qil_meaning::Reason;
-use qil_replies::{CommandRefusal, Readers, Reply};
+use qil_replies::{CommandRefusal, Reply, code_of};
 use qil_runs::Runs;
 use qil_tree::Width;
 use std::alloc::Allocator;
@@ -38,6 +38,17 @@ pub fn set<'c, 'r, A: Allocator + Copy + 'c, H: Runs<A, Code<'c, A>>>(
     }
 }
 
+/// Where the bytes begin that are set, if that is known.
+// Only the history's bound names the machine's lifetime. Here it is the second, as it is for what reads the code.
+fn start_of<'s, 'c, A: Allocator + Copy + 'c, H: Runs<A, Code<'c, A>>>(
+    history: &'s H,
+    address: &'s Address<'s>,
+) -> Option<u64>
+    ensures { result ≡ resolved_address (H.program history.now) address.now }
+{
+    resolved_address(code_of(history.machine()), address)
+}
+
 /// Replies to `poke b ADDR N`.
 pub fn poke<'c, 'r, A: Allocator + Copy + 'c, H: Runs<A, Code<'c, A>>>(
     history: &mut H,
@@ -51,7 +62,7 @@ pub fn poke<'c, 'r, A: Allocator + Copy + 'c, H: Runs<A, Code<'c, A>>>(
     ensures replied { (stops : Listed) (limit : ℕ) → Replies (session_at (H.program history.old) (H.timeline history.old) stops limit) (session_at (H.program history.old) (H.timeline history.new) stops limit)
         (Ok (Some (commands.Poke width address.entry value))) result }
 {
-    let Some(start) = resolved_address(history.machine().code(), &address) else {
+    let Some(start) = start_of(history, &address) else {
         return Reply::Refused(CommandRefusal::UnknownPlace);
     };
     match history.poke_memory(start, width_bytes(width), value) {

@@ -18,7 +18,7 @@ use qil_code::Code;
 use qil_commands::{Command, Refused};
 use qil_depths::{DepthEnd, run_back_to_depth, run_to_depth};
 use qil_machine::Machine;
-use qil_replies::{CommandRefusal, Readers, Reply, put_place, put_reply};
+use qil_replies::{CommandRefusal, Reply, code_of, put_place, put_reply};
 use qil_runs::Runs;
 use qil_stops::{History, Stops};
 use qil_streams::{Put, PutError};
@@ -116,15 +116,15 @@ impl<'c, A: Allocator + Copy + 'c, H: Runs<A, Code<'c, A>>> Session<A, H> {
                 poke(&mut self.history, width, address, value)
             }
             Command::Break(func, at) => {
-                let code = self.history.machine().code();
+                let code = code_of(self.history.machine());
                 add_break(&mut self.stops, code, func.bytes(), at)
             }
             Command::WatchBytes(width, address) => {
-                let code = self.history.machine().code();
+                let code = code_of(self.history.machine());
                 watch_bytes(&mut self.stops, code, width, address)
             }
             Command::WatchTemp(func, name) => {
-                let code = self.history.machine().code();
+                let code = code_of(self.history.machine());
                 watch_temp(&mut self.stops, code, func.bytes(), name.bytes())
             }
             Command::Delete(number) => delete(&mut self.stops, number),
@@ -132,7 +132,7 @@ impl<'c, A: Allocator + Copy + 'c, H: Runs<A, Code<'c, A>>> Session<A, H> {
             Command::Print(name) => Reply::Temporary(name),
             Command::Temps => Reply::Temporaries,
             Command::Mem(address, count) => {
-                show_bytes(self.history.machine().code(), &address, count)
+                show_bytes(code_of(self.history.machine()), &address, count)
             }
             Command::Where => Reply::Frames,
             Command::List => Reply::Block,

@@ -387,7 +387,7 @@ fn put_call<'p, 'a, P: Put>(
 /// # Errors
 ///
 /// `PutError` where `out` stopped. Then a prefix of the text was put.
-pub fn inst_text<P: Put, A: Allocator>(inst: &Inst<'_, A>, out: &mut P) -> Result<(), PutError>
+pub fn inst_text<A: Allocator, P: Put>(inst: &Inst<'_, A>, out: &mut P) -> Result<(), PutError>
     requires { P.stops out.old < 2 ^ 64 - 1 }
     ensures { HasPut P.written P.stops P.device result out.old out.new (inst_text inst.now) }
 {
@@ -502,7 +502,7 @@ fn put_phi<P: Put>(out: &mut P, target: &Target) -> Result<(), PutError>
 /// # Errors
 ///
 /// `PutError` where `out` stopped. Then a prefix of the text was put.
-pub fn phi_text<P: Put, A: Allocator>(phi: &Phi<'_, A>, out: &mut P) -> Result<(), PutError>
+pub fn phi_text<A: Allocator, P: Put>(phi: &Phi<'_, A>, out: &mut P) -> Result<(), PutError>
     requires { P.stops out.old < 2 ^ 64 - 1 }
     ensures { HasPut P.written P.stops P.device result out.old out.new (phi_text phi.now) }
 {

@@ -19,7 +19,7 @@ returns-in_err-put_frame g c =
       text = rw (frames_some p fs _ c.in-Some.ensures.frame)
           (reported_stop _ (frame_line (frame_state p (drop (i + 1) fs) c.frame_at.result)) (frame_lines p (drop (i + 1) fs)) _ _ _
           (reported_as _ _ _ _ _ (frames_step p fs i c.frame_at.result c.frame_at.ensures) c.loop-inner.invariant.text)
-          _ _ c.from_residual.ensures.1 c.in_err-put_frame.field-0.0 (c.in_err-put_frame.ensures.text (drop (i + 1) fs)));
+          _ _ c.from_residual.ensures.1 c.in_err-put_frame.field-0.0 (rw c.code_of-code.ensures at c.in_err-put_frame.ensures.text (drop (i + 1) fs)));
       counted = search rules;
       device = search rules;
     }
@@ -32,7 +32,7 @@ loop-inner-preserved g c =
     record {
       text = reported_more _ (frame_line (frame_state p (drop (i + 1) fs) c.frame_at.result)) (frame_lines p (drop (i + 1) fs)) _ _ _
           (reported_as _ _ _ _ _ (frames_step p fs i c.frame_at.result c.frame_at.ensures) c.loop-inner.invariant.text)
-          (c.in_ok-put_frame.ensures.text (drop (i + 1) fs));
+          (rw c.code_of-code.ensures at c.in_ok-put_frame.ensures.text (drop (i + 1) fs));
       counted = c.in_ok-put_frame.ensures.counted ∙ c.loop-inner.invariant.counted;
       device = c.put_frame.ensures.device ∙ c.loop-inner.invariant.device;
     }

@@ -30,7 +30,7 @@ returns-in-Stopped g c = rw c.in-Stopped.is c.put_stopped.ensures
 pub returns-in-Added : goal.returns-in-Added
 unfolding reply_text
 returns-in-Added g c =
-    rw c.in-Added.is (HasPut-as (ap (λ (p : Program g.row.A.Denot). stop_line p c.in-Added.number c.in-Added.kind) c.code.ensures) c.put_stop.ensures)
+    rw c.in-Added.is (HasPut-as (ap (λ (p : Program g.row.A.Denot). stop_line p c.in-Added.number c.in-Added.kind) c.code_of.ensures) c.put_stop.ensures)
 
 pub returns-in-Deleted : goal.returns-in-Deleted
 unfolding reply_text
@@ -39,7 +39,7 @@ returns-in-Deleted g c = rw c.in-Deleted.is c.put_deleted.ensures
 pub returns-in-Stops : goal.returns-in-Stops
 unfolding reply_text
 returns-in-Stops g c =
-    rw c.in-Stops.is (HasPut-as (ap (λ (p : Program g.row.A.Denot). stops_shown p c.args.stops.now) c.code-in-Stops.ensures) c.put_stops.ensures)
+    rw c.in-Stops.is (HasPut-as (ap (λ (p : Program g.row.A.Denot). stops_shown p c.args.stops.now) c.code_of-in-Stops.ensures) c.put_stops.ensures)
 
 pub returns-in-Temporary : goal.returns-in-Temporary
 unfolding reply_text

@@ -31,4 +31,4 @@ pub returns-in-Mem-clause-replied : goal.returns-in-Mem-clause-replied
 returns-in-Mem-clause-replied g c =
     rw c.in-Mem.is
     (replies_mem (session_state g.H.Runs.program g.H.Runs.timeline c.args.self.now) c.in-Mem.address c.in-Mem.count c.show_bytes.result
-    (c.show_bytes.ensures ∙ ap (λ p. memory_reply c.in-Mem.count (resolved_address p c.in-Mem.address)) (c.code.ensures ∙ c.machine-in-Mem.ensures.program ∙ ap (λ (k : Kept g.row.H.Denot). g.H.Runs.program k.history) c.self.view_is)))
+    (c.show_bytes.ensures ∙ ap (λ p. memory_reply c.in-Mem.count (resolved_address p c.in-Mem.address)) (c.code_of.ensures ∙ c.machine-in-Mem.ensures.program ∙ ap (λ (k : Kept g.row.H.Denot). g.H.Runs.program k.history) c.self.view_is)))
