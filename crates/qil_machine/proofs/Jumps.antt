@@ -229,7 +229,7 @@ pub branched_set : {A : Type 0} (m now : Whole A) (fr : SlotFrame) (vs : List (O
 branched_set {A} m now fr vs a e g v same ok at of read is = branched m now fr vs a e g v same ok at of read ∙ rw (positive_test v is) refl
 
 -- an edge that may take memory has several moves
-several : (n : ℕ) (P : Type 0) → (n ≤ 1 → P → ⊥) → P → 1 < n
+pub several : (n : ℕ) (P : Type 0) → (n ≤ 1 → P → ⊥) → P → 1 < n
 several n P few p = ⊎_elim (λ lt. lt) (λ ge. absurd (few ge p)) (cases_lt 1 n)
 
 takes_at : {A : Type 0} (p : Program A) (fs : List SlotFrame) (fr : SlotFrame) (a : NumberedOperand) (e g : Edge A) (v : ℕ) → FramesFit p fs → slice_get fs 0 ≡ Some fr → IsRead p fr classes.W a (Ok v) → EdgeTakes (if v == 0 then g else e) → BranchTakes p fs a e g

@@ -21,6 +21,18 @@ use Rattle.qil_machine.specs.Places.{IsRunning, IsLeaving, Made}
 use Rattle.qil_machine.specs.Results.{gives, received_value, status_after}
 use Rattle.qil_machine.proofs.Made.{assigned, stored, copied, grown, returned, left, floor_low}
 
+-- a machine with other frames and another memory, from what its type keeps to what its definitions see
+pub moved : {A : Type 0} (m now : Whole A) (to : Whole A → List SlotFrame) (gs : List SlotFrame) (mem : Buffers) → m ≡ now → gs ≡ to m → whole m.program gs mem m.output m.status ≡ record now { frames = to now; memory = mem }
+moved {A} m now to gs mem same e =
+    subst (λ (w : Whole A). whole m.program gs mem m.output m.status ≡ record w { frames = to w; memory = mem }) same (ap (λ fs. whole m.program fs mem m.output m.status) e)
+
+-- the same machine, where its memory is as it was
+pub still_seen : {A : Type 0} (m now : Whole A) (mem : Buffers) → m ≡ now → mem ≡ m.memory → whole m.program m.frames mem m.output m.status ≡ now
+still_seen m now mem same e = ap (λ b. whole m.program m.frames b m.output m.status) e ∙ same
+
+pub still_machine : {A : Type 0} (m : Whole A) (mem : Buffers) → IsMachine m → mem ≡ m.memory → IsMachine (whole m.program m.frames mem m.output m.status)
+still_machine m mem ok e = subst (λ b. IsMachine (whole m.program m.frames b m.output m.status)) (sym e) ok
+
 pub assigned_made : {A : Type 0} (m now : Whole A) (d : Move) (s : Slot) (k : ℕ) (v old : Option ℕ) (hs gs : List SlotFrame) → m ≡ now → IsMachine m → IsRunning now → HasSlot now.frames s → IsNext now.program now.frames k
     → hs ≡ on_innermost (with_slot s v) m.frames → old ≡ held m.frames s → gs ≡ on_innermost (at_index (k + 1)) hs → d ≡ slots_move (at k) (one s old)
     → Made d now (whole m.program gs m.memory m.output m.status)

@@ -1,5 +1,5 @@
 -- What the calls did, in words of the map of live bytes.
-use Rattle.std.proofs.Common.{◌≡◌, ◌≢◌, ℕ, ◌+◌, ◌<◌, ◌≤◌, List, [], length, Option, Some, None, Result, Ok, Err, IsErrAnd, IfErr, inl, true, false, ◌==◌, if◌then◌else◌, ◌-◌, IsTrue, refl, sym, ap, subst, ◌∙◌, arith, ⊎_elim}
+use Rattle.std.proofs.Common.{◌≡◌, ◌≢◌, ℕ, ◌+◌, ◌<◌, ◌≤◌, List, [], length, Option, Some, None, Result, Ok, Err, IsErrAnd, IfOk, IfErr, OnOk, OnErr, inl, true, false, ◌==◌, if◌then◌else◌, ◌-◌, IsTrue, refl, sym, ap, subst, ◌∙◌, arith, ⊎_elim}
 use Rattle.std.proofs.lemmas.Bool.Decides.{nat_tests}
 use Rattle.qil_layout.specs.Layout.{low_bytes, zeros}
 use Rattle.qil_layout.proofs.BytesLemmas.{length-low_bytes, length-zeros}
@@ -46,6 +46,9 @@ written_keeps m w saved a n t s new kept xs h count e f g top is = rw is (record
 pub release_undo : (m w : Buffers) (saved : Kept) (a t : ℕ) → w ≡ with_top m a → t ≡ m.top → saved ≡ record { address = a; bytes = []; top = t } → undone saved w ≡ m
 release_undo m w saved a t e s is = rw (is, e, s) (ap (λ (x : Buffers). with_top x m.top) (with_bytes-nil (with_top m a) a))
 
+pub nothing_undone : (m : Buffers) (saved : Kept) (a t : ℕ) → t ≡ m.top → saved ≡ record { address = a; bytes = []; top = t } → undone saved m ≡ m
+nothing_undone m saved a t e is = rw (is, e) (ap (λ (x : Buffers). with_top x m.top) (with_bytes-nil m a))
+
 pub nothing_fits : (w : Buffers) (saved : Kept) (a t : ℕ) → IsMemory w → stack_base ≤ t → t ≤ stack_end → saved ≡ record { address = a; bytes = []; top = t } → Fits saved w
 nothing_fits w saved a t i low high is = rw is (fits_of (record { address = a; bytes = []; top = t }) w i low high (inl refl))
 
@@ -55,6 +58,33 @@ some_places m a n bs some e h = ⊎_elim
     (λ (none : length bs ≡ 0). absurd (omega arith))
     (λ (x : HasBytes m a (length bs)). subst (HasBytes m a) e x)
     h
+
+-- ---- a call that failed
+
+pub failed_if : {A E : Type 0} (Q : E → Type 0) (P : A → Type 0) (r : Result A E) → IsErrAnd r Q → IfOk r P
+failed_if Q P (Ok a) h = absurd h
+failed_if Q P (Err e) h = tt
+
+pub failed_on : {A E : Type 0} (Q : E → Type 0) (P : Type 0) (r : Result A E) → IsErrAnd r Q → OnOk r P
+failed_on Q P (Ok a) h = absurd h
+failed_on Q P (Err e) h = tt
+
+pub failed_same : {A E : Type 0} (P : Type 0) (r : Result A E) → P → OnErr r P
+failed_same P (Ok a) p = tt
+failed_same P (Err e) p = p
+
+-- and that for another reason
+pub failed_other : {A E : Type 0} (e other : E) (X : Type 0) (r : Result A E) → IsErrAnd r (λ x. x ≡ e) → (e ≡ other → ⊥) → (X → ⊥) → (r ≡ Err other → X) × (X → r ≡ Err other)
+failed_other e other X (Ok a) h apart never = absurd h
+failed_other e other X (Err x) h apart never = (λ is. absurd (apart (let same : x ≡ other = cc in sym h ∙ same)), λ p. absurd (never p))
+
+pub failed_apart : {A E : Type 0} (e other : E) (r : Result A E) → IsErrAnd r (λ x. x ≡ e) → (e ≡ other → ⊥) → r ≡ Err other → ⊥
+failed_apart e other (Ok a) h apart is = absurd h
+failed_apart e other (Err x) h apart is = apart (let same : x ≡ other = cc in sym h ∙ same)
+
+-- few bytes are always kept
+pub few_kept : (m : Buffers) (a n : ℕ) (bytes : List ℕ) → HasBytes m a n → bytes ≡ bytes_at m a n → n ≤ 32 → (length bytes ≤ 32 → IsTrue false) → ⊥
+few_kept m a n bytes h is little kept = let count = length-bytes_at m a n h in let long = ap length is in absurd (let never : IsTrue false = kept (omega arith) in cc)
 
 -- ---- blit
 

@@ -2,7 +2,7 @@
 use Rattle.std.proofs.Common.{◌≡◌, ◌∙◌, sym, ap, refl, subst, ℕ, zero, suc, ◌+◌, ◌<◌, ◌⊎◌, inl, inr, List, [], ◌∷◌, ◌++◌, length, get_or, drop, Some, None, add-one, drop-cons, append_assoc, append-nil, ◌≤◌}
 use Rattle.std.specs.Prelude.{map, slice_get, unwrap_or}
 use Rattle.std.specs.List.{All, flat_map}
-use Rattle.std.proofs.lemmas.List.{drop_all, length-map}
+use Rattle.std.proofs.lemmas.List.{drop_all, drop_more, length-map}
 use Rattle.std.proofs.lemmas.List.Elements.{All-nil, All-cons, All-append}
 use Rattle.std.proofs.lemmas.Option.{get_or_from_slice_get}
 
@@ -57,3 +57,11 @@ flat_more f s xs i x ys zs all same is lt more before =
 pub flat_all : {X Y : Type 0} (f : X → List Y) (s xs : List X) (i : ℕ) (ys all : List Y) → s ≡ xs → length s ≤ i → ys ++ flat_map f (drop i xs) ≡ all → ys ≡ all
 flat_all f s xs i ys all same end before =
     sym (append-nil ys) ∙ ap (λ l. ys ++ flat_map f l) (sym (subst (λ l. drop i l ≡ []) same (drop_all i s end))) ∙ before
+
+-- the same of a list that is made anew, an element at a time
+pub copied_more : {X : Type 0} (xs : List X) (i : ℕ) (d : X) (ys zs all : List X) → i < length xs → zs ≡ ys ++ get_or xs i d ∷ [] → ys ++ drop i xs ≡ all → zs ++ drop (i + 1) xs ≡ all
+copied_more xs i d ys zs all lt more before =
+    ap (λ l. l ++ drop (i + 1) xs) more ∙ append_assoc ys (get_or xs i d ∷ []) (drop (i + 1) xs) ∙ ap (λ l. ys ++ l) (sym (drop_more xs i d lt)) ∙ before
+
+pub copied_all : {X : Type 0} (xs : List X) (i : ℕ) (ys all : List X) → length xs ≤ i → ys ++ drop i xs ≡ all → ys ≡ all
+copied_all xs i ys all end before = sym (append-nil ys) ∙ ap (λ l. ys ++ l) (sym (drop_all i xs end)) ∙ before
