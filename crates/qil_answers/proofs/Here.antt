@@ -17,7 +17,7 @@ use Rattle.qil_code.specs.declared.numbered.Slot.{Slot}
 use Rattle.qil_code.proofs.Has.{name-at}
 use Rattle.qil_frames.specs.Frames.{SlotFrame, HasSlot}
 use Rattle.qil_state.specs.State.{func_name, label_in, frame_state, frames_state, PlaceFits, FrameFits, FramesFit, head_names}
-use Rattle.qil_readers.specs.qil_machine.Readings.{temp_here}
+use Rattle.qil_history.specs.qil_machine.Readings.{temp_here}
 use Rattle.qil_pieces.specs.Texts.{text_of}
 use Rattle.qil_answers.specs.Texts.{value_line, standing_line}
 use Rattle.qil_answers.specs.Shown.{temps_in, temps_of_frame, is_among, printed}

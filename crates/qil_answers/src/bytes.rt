@@ -10,7 +10,7 @@ ghost use Rattle.qil_answers.specs.Shown.{spaced_byte, memory_shown, output_show
 
 use qil_code::Code;
 use qil_pieces::{Fragment, put_fragments};
-use qil_readers::Readers;
+use qil_history::Readers;
 use qil_streams::{Put, PutError};
 use std::alloc::Allocator;
 

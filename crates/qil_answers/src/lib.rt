@@ -15,5 +15,5 @@ pub use frames::put_frames;
 pub use listing::put_block;
 pub use names::{func_name, label_name, temp_name};
 pub use place::put_place;
-pub use qil_readers::{Machine, Readers, code_of, is_final};
+pub use qil_history::{Machine, Readers, code_of, is_final};
 pub use temps::{put_printed, put_temps};

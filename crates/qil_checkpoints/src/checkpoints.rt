@@ -22,11 +22,11 @@ use crate::replaying::{go_back, jump, poke};
 use crate::searching::{hit_or_lowest, search_back};
 use arrayvec::ArrayVec;
 use qil_code::Slot;
+use qil_history::HasProgram;
 use qil_machine::PokeError;
 use qil_meaning::Reason;
-use qil_readers::HasProgram;
-use qil_restorable::{HasCopies, Restorable, is_over, readings, stopped};
-use qil_stops::NumberedStop;
+use qil_stops::looking::{is_over, readings, stopped};
+use qil_stops::{HasCopies, NumberedStop, Restorable};
 use std::alloc::{AllocError, Allocator};
 use std::marker::Model;
 

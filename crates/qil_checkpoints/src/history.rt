@@ -5,12 +5,11 @@ ghost use Rattle.qil_checkpoints.specs.Held.{held_timeline};
 
 use crate::checkpoints::Checkpoints;
 use crate::poked::KeptPoke;
+use qil_deltas::Runs;
+use qil_history::HasProgram;
 use qil_machine::PokeError;
 use qil_meaning::Reason;
-use qil_readers::HasProgram;
-use qil_restorable::Restorable;
-use qil_runs::Runs;
-use qil_stops::NumberedStop;
+use qil_stops::{NumberedStop, Restorable};
 use std::alloc::Allocator;
 
 impl<A: Allocator + Copy, C: HasProgram<A>, M: Restorable<A, C>> Runs<A, C> for Checkpoints<A, M> {

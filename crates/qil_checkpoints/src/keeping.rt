@@ -5,8 +5,8 @@ ghost use Rattle.qil_state.specs.State.{state_of};
 ghost use Rattle.qil_checkpoints.specs.declared.poked.Poked.{Poked};
 ghost use Rattle.qil_checkpoints.specs.Held.{ArePositions, StillHolds, Holds};
 
-use qil_readers::HasProgram;
-use qil_restorable::Restorable;
+use qil_history::HasProgram;
+use qil_stops::Restorable;
 use std::alloc::Allocator;
 
 /// Whether the latest copy is of a state at or after a position.

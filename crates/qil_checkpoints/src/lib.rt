@@ -14,4 +14,4 @@ mod searching;
 pub use checkpoints::Checkpoints;
 pub use hit::Hit;
 pub use poked::{KeptPoke, Poked};
-pub use qil_restorable::Restorable;
+pub use qil_stops::Restorable;

@@ -10,9 +10,9 @@ ghost use Rattle.qil_checkpoints.specs.Walk.{after_poke, HasWidth, poke_at, AreP
 ghost use Rattle.qil_checkpoints.specs.Held.{first_of, count_to, IsKept, Holds, Reaches};
 
 use crate::poked::{KeptPoke, Poked};
+use qil_history::HasProgram;
 use qil_machine::PokeError;
-use qil_readers::HasProgram;
-use qil_restorable::Restorable;
+use qil_stops::Restorable;
 use std::alloc::Allocator;
 
 /// How many of the pokes were made before a position.

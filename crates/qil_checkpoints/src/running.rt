@@ -8,10 +8,9 @@ ghost use Rattle.qil_stops.specs.Named.{named_stops};
 ghost use Rattle.qil_checkpoints.specs.Held.{held_timeline};
 
 use crate::checkpoints::Checkpoints;
+use qil_history::HasProgram;
 use qil_meaning::Reason;
-use qil_readers::HasProgram;
-use qil_restorable::{HasCopies, Restorable};
-use qil_stops::NumberedStop;
+use qil_stops::{HasCopies, NumberedStop, Restorable};
 use std::alloc::Allocator;
 
 /// A copy is kept at positions that are multiples of this.

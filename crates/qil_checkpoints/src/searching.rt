@@ -15,10 +15,10 @@ ghost use Rattle.qil_checkpoints.specs.Hits.{stop_at, IsLastHit, IsNextStand, Is
 use crate::hit::Hit;
 use crate::poked::{KeptPoke, Poked};
 use crate::replaying::{count_to, jump, part_of, poke_again};
+use qil_history::HasProgram;
 use qil_meaning::Reason;
-use qil_readers::HasProgram;
-use qil_restorable::{Restorable, first_break, read_again, readings};
-use qil_stops::NumberedStop;
+use qil_stops::looking::{first_break, read_again, readings};
+use qil_stops::{NumberedStop, Restorable};
 use std::alloc::Allocator;
 
 /// The poke that was made at a position, if one was, by those that were made from there on.

@@ -11,12 +11,12 @@ use Rattle.qil_streams.proofs.DeviceLemmas.{Appends-nil, Appends-append, Consume
 use Rattle.qil_meaning.specs.State.{State}
 use Rattle.qil_meaning.specs.Timeline.{Timeline}
 use Rattle.qil_replies.specs.SessionState.{SessionState, session_at}
-use Rattle.qil_serving.specs.qil_session.Kept.{Kept, session_state}
+use Rattle.qil_session.specs.Kept.{Kept, session_state}
 use Rattle.qil_replies.specs.Answers as sessions
-use Rattle.qil_script.proofs.ReachedLemmas.{ample}
-use Rattle.qil_serving.specs.declared.serving.IoFault.{IoFault}
-use Rattle.qil_serving.specs.declared.serving.IoFault.TheVariants.{Read, Write, TooLong}
-use Rattle.qil_serving.specs.Serve.{IsServed, IsTooLong, CountsServe, TakesFew}
+use Rattle.qil_replies.proofs.ReachedLemmas.{ample}
+use Rattle.qil_session.specs.declared.serving.IoFault.{IoFault}
+use Rattle.qil_session.specs.declared.serving.IoFault.TheVariants.{Read, Write, TooLong}
+use Rattle.qil_session.specs.Serve.{IsServed, IsTooLong, CountsServe, TakesFew}
 use Rattle.qil_compare.specs.declared.event.Kinds.{Kinds}
 use Rattle.qil_compare.specs.declared.comparing.Verdict.{Verdict}
 use Rattle.qil_compare.specs.declared.comparing.Verdict.TheVariants as verdicts

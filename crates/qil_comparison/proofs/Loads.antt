@@ -16,8 +16,8 @@ use Rattle.qil_loading.specs.declared.load.LoadError.{LoadError}
 use Rattle.qil_loading.specs.declared.load.LoadError.TheVariants as errors
 use Rattle.qil_loading.specs.declared.refusal.Refusal.{Refusal}
 use Rattle.qil_loading.specs.declared.refusal.Refusal.TheVariants as refusals
-use Rattle.qil_script.specs.Transcript.{Begins}
-use Rattle.qil_serving.proofs.Explaining.{Explained}
+use Rattle.qil_replies.specs.Transcript.{Begins}
+use Rattle.qil_session.proofs.Explaining.{Explained}
 use Rattle.qil_comparison.specs.declared.request.SideName.{SideName}
 use Rattle.qil_comparison.specs.declared.request.SideName.TheVariants.{Good, Bad}
 use Rattle.qil_comparison.specs.declared.request.Text.{Text}

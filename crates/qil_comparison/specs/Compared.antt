@@ -15,9 +15,9 @@ use Rattle.qil_loading.specs.declared.refusal.Refusal.{Refusal}
 use Rattle.qil_replies.specs.SessionState.{SessionState, session_at}
 use Rattle.qil_replies.specs.Answers as sessions
 use Rattle.qil_replies.specs.Answers.{quits}
-use Rattle.qil_script.specs.Transcript as scripts
-use Rattle.qil_script.specs.Transcript.{Begins}
-use Rattle.qil_serving.specs.Serve.{IsTooLong}
+use Rattle.qil_replies.specs.Transcript as scripts
+use Rattle.qil_replies.specs.Transcript.{Begins}
+use Rattle.qil_session.specs.Serve.{IsTooLong}
 use Rattle.qil_compare.specs.declared.comparing.Verdict.{Verdict}
 use Rattle.qil_compare.specs.declared.comparing.Verdict.TheVariants.{Same, Part, Limit}
 use Rattle.qil_compare.specs.declared.comparing.Answer.{Answer}

@@ -11,9 +11,9 @@ use Rattle.qil_loading.specs.declared.load.LoadError.TheVariants as errors
 use Rattle.qil_loading.specs.declared.refusal.Refusal.TheVariants as refusals
 use Rattle.qil_replies.specs.SessionState.{SessionState}
 use Rattle.qil_replies.specs.Answers.{IsAnswered, quits}
-use Rattle.qil_serving.specs.declared.serving.IoFault.{IoFault}
-use Rattle.qil_serving.specs.declared.serving.IoFault.TheVariants.{Read, Write, TooLong}
-use Rattle.qil_serving.specs.Serve.{IsTooLong}
+use Rattle.qil_session.specs.declared.serving.IoFault.{IoFault}
+use Rattle.qil_session.specs.declared.serving.IoFault.TheVariants.{Read, Write, TooLong}
+use Rattle.qil_session.specs.Serve.{IsTooLong}
 use Rattle.qil_compare.specs.declared.comparing.Verdict.{Verdict}
 use Rattle.qil_comparison.specs.declared.request.SideName.{SideName}
 use Rattle.qil_comparison.specs.declared.request.Text.{Text}

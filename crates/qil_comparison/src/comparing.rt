@@ -4,7 +4,7 @@ ghost use Rattle.std.specs.Prelude.{◌≡◌, ◌≢◌, ◌-◌, ◌^◌, ◌<
 ghost use Rattle.qil_rules.specs.Verdict as accepted;
 ghost use Rattle.qil_meaning.specs.State.{State};
 ghost use Rattle.qil_loading.specs.declared.refusal.Refusal.{Refusal};
-ghost use Rattle.qil_serving.specs.Serve.{TakesFew};
+ghost use Rattle.qil_session.specs.Serve.{TakesFew};
 ghost use Rattle.qil_comparison.specs.declared.request.Request.{Request};
 ghost use Rattle.qil_comparison.specs.declared.request.SideName.{SideName};
 ghost use Rattle.qil_comparison.specs.Compared.{Begin, CountsFaults, IsRefusedOn, IsUncompared, IsUntouched, Written, setup_of, text_on};

@@ -9,7 +9,7 @@ ghost use Rattle.qil_layout.specs.declared.error.LayoutCode.{LayoutCode};
 ghost use Rattle.qil_meaning.specs.declared.start.StartFault.{StartFault};
 ghost use Rattle.qil_loading.specs.Load.{Accepts, Checks, Refuses};
 ghost use Rattle.qil_loading.specs.declared.refusal.Refusal.{Refusal};
-ghost use Rattle.qil_serving.specs.Serve.{TakesFew};
+ghost use Rattle.qil_session.specs.Serve.{TakesFew};
 ghost use Rattle.qil_comparison.specs.declared.request.SideName.{SideName};
 ghost use Rattle.qil_comparison.specs.declared.request.Text.{Text};
 ghost use Rattle.qil_comparison.specs.Compared.{Begin, CountsFaults, IsRefusedOn, IsUntouched, Written, setup_of};

@@ -4,7 +4,7 @@ ghost use Rattle.std.specs.Prelude.{◌≡◌, ◌≢◌, [], ℕ, ◌-◌, ◌^
 ghost use Rattle.std.specs.Io.KnownBytes.{Appends};
 ghost use Rattle.qil_meaning.specs.Timeline.{position};
 ghost use Rattle.qil_replies.specs.SessionState.{session_at};
-ghost use Rattle.qil_serving.specs.Serve.{TakesFew};
+ghost use Rattle.qil_session.specs.Serve.{TakesFew};
 ghost use Rattle.qil_comparison.specs.Compared.{CountsFaults, IsUntouched};
 ghost use Rattle.qil_comparison.specs.Handed.{IsServedBy, served_outcome};
 
@@ -12,7 +12,7 @@ use crate::outcome::Outcome;
 use qil_compare::Verdict;
 use qil_history::History;
 use qil_machine::Machine;
-use qil_serving::{IoFault, Session, Stepwise, serve};
+use qil_session::{IoFault, Session, Stepwise, serve};
 use qil_streams::{Sink, Source};
 use std::alloc::Allocator;
 

@@ -6,7 +6,7 @@ ghost use Rattle.qil_meaning.specs.State.{State};
 ghost use Rattle.qil_meaning.specs.Timeline.{position};
 ghost use Rattle.qil_state.specs.State.{state_of};
 ghost use Rattle.qil_streams.specs.Device.{Counts, Puts};
-ghost use Rattle.qil_serving.specs.Serve.{TakesFew};
+ghost use Rattle.qil_session.specs.Serve.{TakesFew};
 ghost use Rattle.qil_comparison.specs.declared.request.Text.{Text};
 ghost use Rattle.qil_comparison.specs.Told.{told_text};
 ghost use Rattle.qil_comparison.specs.Compared.{Begin, CountsFaults, IsUntouched, Written, setup_of, keeps, good_begun, bad_begun};
@@ -19,7 +19,7 @@ use qil_compare::{Answer, compare};
 use qil_deltas::{Deltas, Ring};
 use qil_history::History;
 use qil_machine::Machine;
-use qil_serving::Stepwise;
+use qil_session::Stepwise;
 use qil_streams::{Outlet, PutError, Sink, Source};
 use std::alloc::Allocator;
 

@@ -3,3 +3,4 @@ pub mod KeptLemmas
 pub mod RingLemmas
 pub mod Rooms
 pub mod WeightLemmas
+pub mod CloneLemmas

@@ -1,3 +1,4 @@
 -- The definitions.
 pub mod Kept
 pub mod Weights
+pub mod Cloned

@@ -5,3 +5,13 @@ pub mod Doing
 pub mod Known
 pub mod Stepping
 pub mod Rows
+pub mod Cutting
+pub mod Reading
+pub mod Entered
+pub mod Placed
+pub mod Outward
+pub mod Sameness
+pub mod ReadFrom
+pub mod WriteFrom
+pub mod SameBytes
+pub mod DataLength

@@ -17,8 +17,8 @@ use Rattle.qil_code.specs.declared.numbered.Slot.{Slot}
 use Rattle.qil_flat.specs.declared.inst.FlatPlace.{FlatPlace}
 use Rattle.qil_flat.specs.Flat.{Flat}
 use Rattle.qil_frames.specs.Frames.{SlotFrame, held}
-use Rattle.qil_callstack.specs.Calls.{ActiveCall, ActiveCalls, on_innermost, with_slot}
-use Rattle.qil_callstack.proofs.Placed.{frames-with_slot}
+use Rattle.qil_flat.specs.StackCalls.{ActiveCall, ActiveCalls, on_innermost, with_slot}
+use Rattle.qil_flat.proofs.Placed.{frames-with_slot}
 use Rattle.qil_state.specs.declared.status.Status.{Status}
 use Rattle.qil_state.specs.State.{Whole, whole, IsMachine, frames_state, head_names, state_of}
 use Rattle.qil_state.proofs.Place.{none_some}

@@ -15,8 +15,8 @@ use Rattle.qil_flat.specs.Flat.{Flat, IsFlat}
 use Rattle.qil_flat.proofs.Found.{last_or_before}
 use Rattle.qil_flat.proofs.Laying.{no_block}
 use Rattle.qil_frames.specs.Frames.{SlotFrame}
-use Rattle.qil_callstack.specs.Calls.{ActiveCall, ActiveCalls, ip_of}
-use Rattle.qil_callstack.specs.Shown.{slot_frame}
+use Rattle.qil_flat.specs.StackCalls.{ActiveCall, ActiveCalls, ip_of}
+use Rattle.qil_flat.specs.Shown.{slot_frame}
 use Rattle.qil_state.specs.declared.status.Status.{Status}
 use Rattle.qil_state.specs.State.{FrameFits, FramesFit}
 use Rattle.qil_state.proofs.Place.{none_some, some_same}

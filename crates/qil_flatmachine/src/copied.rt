@@ -14,12 +14,11 @@ ghost use Rattle.qil_stops.specs.Readings.{AllTell};
 
 use crate::machine::FlatMachine;
 use qil_code::{BlockId, Code, Slot};
+use qil_history::{FrameView, Readers};
 use qil_layout::FuncId;
 use qil_machine::PokeError;
-use qil_readers::{FrameView, Readers};
-use qil_restorable::{HasCopies, Restorable, Watchable};
 use qil_state::Status;
-use qil_stops::NumberedStop;
+use qil_stops::{HasCopies, NumberedStop, Restorable, Watchable};
 use std::alloc::{AllocError, Allocator};
 
 /// A machine of the type F with copies of some of its states, by few calls.

@@ -6,9 +6,7 @@ ghost use Rattle.qil_state.specs.State.{state_of};
 ghost use Rattle.qil_flatmachine.specs.Kept.{IsOf};
 
 use crate::machine::FlatMachine;
-use qil_callstack::{CallStack, KeptCalls};
-use qil_flat::FlatCode;
-use qil_keeping::KeptMemory;
+use qil_flat::{CallStack, FlatCode, KeptCalls, KeptMemory};
 use qil_memory::Memory;
 use qil_state::Status;
 use std::alloc::{AllocError, Allocator};

@@ -10,17 +10,16 @@ ghost use Rattle.qil_memory.specs.Live.{live, read};
 ghost use Rattle.qil_meaning.specs.Stops.{is_at, reading, temp_in, value_reading};
 ghost use Rattle.qil_code.specs.Numbered.{func_at, block_at, names_of};
 ghost use Rattle.qil_frames.specs.Frames.{SlotFrame, HasSlot, held};
-ghost use Rattle.qil_callstack.specs.Shown.{active_call, slot_frame};
+ghost use Rattle.qil_flat.specs.Shown.{active_call, slot_frame};
 ghost use Rattle.qil_state.specs.State.{FrameFits, IsMachine, state_of, head_names};
 ghost use Rattle.qil_machine.specs.Readings.{frame_of, stands_at, temp_here};
 ghost use Rattle.qil_flatmachine.specs.Seen.{place_in};
 
 use crate::machine::FlatMachine;
-use qil_callstack::ShownCall;
 use qil_code::{BlockId, Code, Slot};
-use qil_flat::FlatPlace;
+use qil_flat::{FlatPlace, ShownCall};
+use qil_history::FrameView;
 use qil_layout::FuncId;
-use qil_readers::FrameView;
 use qil_state::Status;
 use std::alloc::Allocator;
 

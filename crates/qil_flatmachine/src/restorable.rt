@@ -7,10 +7,9 @@ use crate::copied::CopiedMachine;
 use crate::kept::KeptState;
 use crate::machine::FlatMachine;
 use qil_code::Slot;
+use qil_history::{FrameView, Readers};
 use qil_machine::PokeError;
-use qil_readers::{FrameView, Readers};
-use qil_restorable::HasCopies;
-use qil_stops::NumberedStop;
+use qil_stops::{HasCopies, NumberedStop};
 use std::alloc::{AllocError, Allocator};
 use std::marker::Model;
 

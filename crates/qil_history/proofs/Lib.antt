@@ -1,2 +1,3 @@
 -- The lemmas.
 pub mod PokeLemmas
+pub mod FarBytes

@@ -1,4 +1,4 @@
-//! The reply to a command as a value, and its text.
+//! The reply to a command as a value, and its text; and what a transcript is.
 //!
 //! A debugger's prefix reads the value; a transcript has the text, which `put_reply` puts. `specs/Reply.antt` says the text of each
 //! reply in the field's words, over the state that a machine represents and the stops.
@@ -6,9 +6,11 @@
 
 mod put;
 mod reply;
+mod script;
 mod stops;
 mod texts;
 
 pub use put::put_reply;
 pub use qil_answers::{Readers, code_of, is_final, put_place};
 pub use reply::{CommandRefusal, Reply};
+pub use script::script_has_answers;

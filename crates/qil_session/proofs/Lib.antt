@@ -3,3 +3,7 @@ pub mod MoveAnswers
 pub mod PokeAnswers
 pub mod StopAnswers
 pub mod ShownAnswers
+pub mod KeptLemmas
+pub mod ServeLemmas
+pub mod FewLemmas
+pub mod Explaining

@@ -10,7 +10,7 @@ ghost use Rattle.qil_session.specs.Kept.{session_state};
 use crate::session::{Next, Session};
 use qil_code::Code;
 use qil_commands::{Command, read_command};
-use qil_runs::Runs;
+use qil_deltas::Runs;
 use qil_streams::{Put, PutError};
 use std::alloc::Allocator;
 

@@ -10,9 +10,9 @@ ghost use Rattle.qil_replies.specs.SessionState.{session_at};
 ghost use Rattle.qil_replies.specs.Answers.{Replies, back_refusal};
 
 use qil_code::Code;
+use qil_deltas::Runs;
 use qil_meaning::Reason;
 use qil_replies::{CommandRefusal, Readers, Reply};
-use qil_runs::Runs;
 use qil_stops::Stops;
 use std::alloc::Allocator;
 

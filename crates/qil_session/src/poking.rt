@@ -10,10 +10,10 @@ ghost use Rattle.qil_replies.specs.Answers.{Replies};
 use crate::words::{resolved_address, width_bytes};
 use qil_code::Code;
 use qil_commands::Address;
+use qil_deltas::Runs;
 use qil_machine::PokeError;
 use qil_meaning::Reason;
 use qil_replies::{CommandRefusal, Reply, code_of};
-use qil_runs::Runs;
 use qil_tree::Width;
 use std::alloc::Allocator;
 

@@ -23,8 +23,8 @@ use Rattle.qil_meaning.specs.Timeline.{begun}
 use Rattle.qil_meaning.specs.declared.start.StartFault.{StartFault}
 use Rattle.qil_replies.specs.SessionState.{SessionState}
 use Rattle.qil_replies.specs.Answers.{IsAnswered, answers}
-use Rattle.qil_serving.specs.Serve.{TakesFew}
-use Rattle.qil_serving.specs.declared.serving.IoFault.TheVariants.{Read, Write, TooLong}
+use Rattle.qil_session.specs.Serve.{TakesFew}
+use Rattle.qil_session.specs.declared.serving.IoFault.TheVariants.{Read, Write, TooLong}
 use Rattle.qil_transcript.specs.declared.outcome.Outcome.{Outcome}
 use Rattle.qil_transcript.specs.declared.outcome.Outcome.TheVariants as outcomes
 use Rattle.qil_loading.specs.declared.load.LoadError.{LoadError}
@@ -34,12 +34,12 @@ use Rattle.qil_loading.specs.declared.refusal.Refusal.TheVariants as refusals
 use Rattle.qil_loading.specs.Load.{Accepts, Checks, Refuses, RefusesCheck, IsCheckFault}
 use Rattle.qil_loading.specs.LoadError.{of_layout}
 use Rattle.qil_loading.specs.Lines.{refused_line}
-use Rattle.qil_script.specs.Transcript.{Setup, Begins, IsSession, load_lines, opened}
+use Rattle.qil_replies.specs.Transcript.{Setup, Begins, IsSession, load_lines, opened}
 use Rattle.qil_transcript.specs.Debug.{IsNoSession, Written}
 use Rattle.qil_transcript.specs.Handed.{IsRefused, of_start}
-use Rattle.qil_script.proofs.ReachedLemmas.{ample}
-use Rattle.qil_serving.proofs.Explaining.{Explained}
-use Rattle.qil_serving.proofs.ServeLemmas.{Promise}
+use Rattle.qil_replies.proofs.ReachedLemmas.{ample}
+use Rattle.qil_session.proofs.Explaining.{Explained}
+use Rattle.qil_session.proofs.ServeLemmas.{Promise}
 
 -- the load lines of a program
 abbrev pub heading : {A : Type 0} → Setup → Verdict A → State → List ℕ

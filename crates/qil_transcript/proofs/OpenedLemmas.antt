@@ -3,8 +3,8 @@ use Rattle.std.proofs.Common.{◌≡◌, ℕ, [], sym, ◌∙◌, ap}
 use Rattle.qil_tree.specs.declared.tree.Program.{Program}
 use Rattle.qil_meaning.specs.State.{State}
 use Rattle.qil_meaning.specs.Timeline.{Timeline, begun}
-use Rattle.qil_serving.specs.qil_session.Kept.{Kept, session_state}
-use Rattle.qil_script.specs.Transcript.{Setup, opened}
+use Rattle.qil_session.specs.Kept.{Kept, session_state}
+use Rattle.qil_replies.specs.Transcript.{Setup, opened}
 
 -- a session over a history that has made no move is at the start of its program
 pub begun_session : {A H : Type 0} (program : H → Program A) (timeline : H → Timeline) (k : Kept H) (h : H) (s : Setup) (p : Program A) (start : State) (limit : ℕ)

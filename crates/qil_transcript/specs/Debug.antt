@@ -9,8 +9,8 @@ use Rattle.qil_loading.specs.declared.refusal.Refusal.{Refusal}
 use Rattle.qil_replies.specs.Answers.{quits}
 use Rattle.qil_transcript.specs.declared.outcome.Outcome.{Outcome}
 use Rattle.qil_transcript.specs.declared.outcome.Outcome.TheVariants.{Ended, Refused, ReadFault, WriteFault, TooLong, Memory}
-use Rattle.qil_serving.specs.Serve.{IsTooLong}
-use Rattle.qil_script.specs.Transcript.{Setup, IsSession}
+use Rattle.qil_session.specs.Serve.{IsTooLong}
+use Rattle.qil_replies.specs.Transcript.{Setup, IsSession}
 
 -- ---- transcripts
 

@@ -12,7 +12,7 @@ use Rattle.qil_loading.specs.Lines.{refused_line}
 use Rattle.qil_transcript.specs.declared.debugging.Request.{Request}
 use Rattle.qil_transcript.specs.declared.outcome.Outcome.{Outcome}
 use Rattle.qil_transcript.specs.declared.outcome.Outcome.TheVariants as outcomes
-use Rattle.qil_script.specs.Transcript.{Setup}
+use Rattle.qil_replies.specs.Transcript.{Setup}
 
 -- a text with a request
 abbrev pub setup_of : List ℕ → Request → Setup

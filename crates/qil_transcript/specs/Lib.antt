@@ -1,4 +1,4 @@
 -- What `debug` writes.
-pub use Rattle.qil_serving.specs.Serve
+pub use Rattle.qil_session.specs.Serve
 pub mod Debug
 pub mod Handed

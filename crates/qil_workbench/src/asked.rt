@@ -4,10 +4,9 @@ ghost use Rattle.std.specs.Prelude.{◌≡◌, true};
 ghost use Rattle.qil_memory.specs.Calls.{IsWidth};
 
 use qil_code::Code;
-use qil_deltas::Deltas;
+use qil_deltas::{Deltas, Snapshots};
 use qil_history::{BackError, History};
 use qil_machine::{MoveError, PokeError};
-use qil_snapshots::Snapshots;
 use std::alloc::Allocator;
 use std::str::SplitWhitespace;
 

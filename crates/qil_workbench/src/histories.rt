@@ -6,10 +6,9 @@ use crate::answer::Answer;
 use crate::asked::{Asked, Came, Globals, ask_clones, ask_deltas, read_line};
 use crate::started::started;
 use qil_code::Code;
-use qil_deltas::Deltas;
+use qil_deltas::{Deltas, Snapshots};
 use qil_history::History;
 use qil_machine::{Delta, Machine};
-use qil_snapshots::Snapshots;
 use std::alloc::Allocator;
 
 /// Whether two histories hold the same: the first as many records as the other moves, and a machine that is equal in all that

@@ -6,7 +6,7 @@ use Rattle.qil_state.specs.State.{Whole, state_of}
 use Rattle.qil_loading.specs.Load.{Accepts}
 use Rattle.qil_loading.specs.Lines.{IsLoaded}
 use Rattle.qil_loading.specs.declared.loaded.Loaded.{Loaded}
-use Rattle.qrev_recorder.specs.qil_script.Transcript.{Setup, Begins}
+use Rattle.qrev_recorder.specs.qil_replies.Transcript.{Setup, Begins}
 
 -- a text is accepted, of which this is reported and this is the program
 pub record IsAccepted {A : Type 0} (text : List ℕ) (loaded : Loaded) (p : Program A) : Type 0 where

@@ -1,7 +1,7 @@
 //! The record of a session: the script of what was done in it, and its transcript.
 
 ghost use Rattle.qil_streams.specs.Script.{lines_of};
-ghost use Rattle.qrev_debuggee.specs.qil_script.Transcript.{IsSession};
+ghost use Rattle.qrev_debuggee.specs.qil_replies.Transcript.{IsSession};
 ghost use Rattle.qrev_debuggee.specs.qrev_recorder.Record.{setup_of};
 ghost use Rattle.qrev_notices.specs.Conversation.{spoken, Tells};
 

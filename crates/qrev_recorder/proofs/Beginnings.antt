@@ -6,8 +6,8 @@ use Rattle.qil_meaning.specs.State.{State}
 use Rattle.qil_meaning.specs.Timeline.{Timeline, begun}
 use Rattle.qil_loading.specs.Lines.{IsLoaded}
 use Rattle.qil_loading.specs.declared.loaded.Loaded.{Loaded}
-use Rattle.qil_script.specs.qil_replies.SessionState.{SessionState, session_at}
-use Rattle.qil_script.specs.Transcript.{Setup, Begins}
+use Rattle.qil_replies.specs.SessionState.{SessionState, session_at}
+use Rattle.qil_replies.specs.Transcript.{Setup, Begins}
 use Rattle.qrev_recorder.specs.Record.{IsBeginning}
 
 -- without stops, over a timeline that has made no move, it is at the start of its program

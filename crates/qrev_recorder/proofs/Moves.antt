@@ -12,14 +12,14 @@ use Rattle.qil_meaning.specs.Stops.{Numbered}
 use Rattle.qil_meaning.specs.Runs.{if_holds, bottom, stop_on, stop_back}
 use Rattle.qil_meaning.specs.declared.reason.Reason.{Reason}
 use Rattle.qil_meaning.specs.declared.reason.Reason.TheVariants.{End, Start, Oldest}
-use Rattle.qil_script.specs.qil_replies.declared.reply.Reply.TheVariants as replies
-use Rattle.qil_script.specs.qil_replies.SessionState.{SessionState}
-use Rattle.qil_script.specs.qil_replies.Answers.{Answer, Replies, answer, IsValid, if_back, goes_to, refuses}
-use Rattle.qil_script.specs.Transcript.{Setup}
-use Rattle.qil_depths.proofs.qil_stops.Walks.{IsWalked, walked-all}
-use Rattle.qil_script.proofs.ReachedLemmas.{none_valid}
-use Rattle.qil_depths.specs.Depths.{RunsToDepth, RunsBackToDepth}
-use Rattle.qil_depths.specs.declared.depth_end.DepthEnd.{DepthEnd}
+use Rattle.qil_replies.specs.declared.reply.Reply.TheVariants as replies
+use Rattle.qil_replies.specs.SessionState.{SessionState}
+use Rattle.qil_replies.specs.Answers.{Answer, Replies, answer, IsValid, if_back, goes_to, refuses}
+use Rattle.qil_replies.specs.Transcript.{Setup}
+use Rattle.qil_stops.proofs.Walks.{IsWalked, walked-all}
+use Rattle.qil_replies.proofs.ReachedLemmas.{none_valid}
+use Rattle.qil_stops.specs.Depths.{RunsToDepth, RunsBackToDepth}
+use Rattle.qil_stops.specs.declared.depth_end.DepthEnd.{DepthEnd}
 use Rattle.qrev_recorder.specs.Record.{IsRecording, KeepsMoves}
 use Rattle.qrev_recorder.proofs.Recording.{moves_kept}
 

@@ -6,7 +6,7 @@ use Rattle.std.specs.Prelude.{Result}
 use Rattle.std.specs.Io.KnownBytes.{Appends}
 use Rattle.qil_commands.specs.declared.command.Command.{Command}
 use Rattle.qil_commands.specs.declared.command.Refused.{Refused}
-use Rattle.qil_script.specs.qil_replies.declared.reply.Reply.TheVariants as replies
+use Rattle.qil_replies.specs.declared.reply.Reply.TheVariants as replies
 use Rattle.qil_streams.specs.Reader.{IsLine}
 use Rattle.qil_streams.specs.Script.{lines_of}
 use Rattle.qil_streams.proofs.ScriptLemmas.{WholeLines-end}
@@ -15,12 +15,12 @@ use Rattle.qil_rules.specs.Verdict.{Verdict}
 use Rattle.qil_meaning.specs.State.{State}
 use Rattle.qil_meaning.specs.Timeline.{begun}
 use Rattle.qil_loading.specs.declared.loaded.Loaded.{Loaded}
-use Rattle.qil_script.specs.qil_replies.declared.reply.Reply.{Reply}
-use Rattle.qil_script.specs.qil_replies.SessionState.{SessionState, text_in}
-use Rattle.qil_script.specs.qil_replies.Answers.{Replies, answer, answer_text, is_quit}
-use Rattle.qil_script.specs.Transcript.{Setup, IsSession, opened, load_lines}
-use Rattle.qil_script.specs.Reached.{Reached}
-use Rattle.qil_script.proofs.ReachedLemmas.{Reached-nil, Reached-line, Reported-answered}
+use Rattle.qil_replies.specs.declared.reply.Reply.{Reply}
+use Rattle.qil_replies.specs.SessionState.{SessionState, text_in}
+use Rattle.qil_replies.specs.Answers.{Replies, answer, answer_text, is_quit}
+use Rattle.qil_replies.specs.Transcript.{Setup, IsSession, opened, load_lines}
+use Rattle.qil_replies.specs.Reached.{Reached}
+use Rattle.qil_replies.proofs.ReachedLemmas.{Reached-nil, Reached-line, Reported-answered}
 use Rattle.qrev_recorder.specs.Record.{IsBeginning, IsRecording, KeepsMoves}
 
 reply_text_is : {A : Type 0} (old new : SessionState A) (line : List ℕ) (reply : Reply) (r : Replies old new (command_of line) reply)

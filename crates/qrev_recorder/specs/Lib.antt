@@ -1,4 +1,4 @@
 -- The words of this crate's contracts.
 pub mod Record
 -- what this crate's own are stated with, for what stands on it
-pub use Rattle.qil_script.specs as qil_script
+pub use Rattle.qil_replies.specs as qil_replies

@@ -9,10 +9,10 @@ use Rattle.qil_commands.specs.Command.{command_of}
 use Rattle.qil_commands.specs.declared.command.Command.{Command}
 use Rattle.qil_commands.specs.declared.command.Refused.{Refused}
 use Rattle.qil_streams.specs.Reader.{IsLine}
-use Rattle.qil_script.specs.qil_replies.declared.reply.Reply.TheVariants as replies
-use Rattle.qil_script.specs.qil_replies.SessionState.{SessionState, text_in}
-use Rattle.qil_script.specs.Transcript.{Setup, Begins, opened, load_lines}
-use Rattle.qil_script.specs.Reached.{Reached}
+use Rattle.qil_replies.specs.declared.reply.Reply.TheVariants as replies
+use Rattle.qil_replies.specs.SessionState.{SessionState, text_in}
+use Rattle.qil_replies.specs.Transcript.{Setup, Begins, opened, load_lines}
+use Rattle.qil_replies.specs.Reached.{Reached}
 use Rattle.qrev_recorder.specs.declared.recorder.Opening.{Opening}
 
 -- what `debug` is given for the same session

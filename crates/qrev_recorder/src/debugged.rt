@@ -3,14 +3,14 @@
 ghost use Rattle.std.specs.Prelude.{◌≡◌, ℕ, ◌≤◌, ◌-◌, ◌<◌, ◌^◌};
 ghost use Rattle.qil_streams.specs.Device.{Puts};
 ghost use Rattle.qil_meaning.specs.Timeline.{position, oldest, at_end};
-ghost use Rattle.qil_depths.specs.qil_stops.Named.{named_stops};
-ghost use Rattle.qil_depths.specs.Depths.{RunsToDepth, RunsBackToDepth};
-ghost use Rattle.qil_script.specs.qil_replies.SessionState.{SessionState, text_in};
-ghost use Rattle.qil_script.specs.qil_replies.Answers.{Replies};
+ghost use Rattle.qil_stops.specs.Named.{named_stops};
+ghost use Rattle.qil_stops.specs.Depths.{RunsToDepth, RunsBackToDepth};
+ghost use Rattle.qil_replies.specs.SessionState.{SessionState, text_in};
+ghost use Rattle.qil_replies.specs.Answers.{Replies};
 
 use qil_commands::{Command, Refused};
-use qil_depths::{DepthEnd, HasState, Stops};
-use qil_script::Reply;
+use qil_replies::Reply;
+use qil_stops::{DepthEnd, HasState, Stops};
 use qil_streams::{Buffer, Put, PutError};
 use std::alloc::Allocator;
 

@@ -1,7 +1,7 @@
 //! What a line did, and why one isn't answered.
 
 use qil_meaning::Reason;
-use qil_script::{CommandRefusal, Reply};
+use qil_replies::{CommandRefusal, Reply};
 use std::alloc::AllocError;
 
 /// What a line did.

@@ -6,17 +6,17 @@ ghost use Rattle.qil_commands.specs.Command.{command_of};
 ghost use Rattle.qil_commands.specs.declared.command.Command.TheVariants as commands;
 ghost use Rattle.qil_streams.specs.Reader.{IsLine};
 ghost use Rattle.qil_loading.specs.Lines.{IsLoaded};
-ghost use Rattle.qil_script.specs.qil_replies.declared.reply.Reply.TheVariants as replies;
-ghost use Rattle.qil_script.specs.qil_replies.SessionState.{text_in};
-ghost use Rattle.qil_script.specs.qil_replies.Answers as answers;
-ghost use Rattle.qil_script.specs.Transcript.{load_lines};
+ghost use Rattle.qil_replies.specs.declared.reply.Reply.TheVariants as replies;
+ghost use Rattle.qil_replies.specs.SessionState.{text_in};
+ghost use Rattle.qil_replies.specs.Answers as answers;
+ghost use Rattle.qil_replies.specs.Transcript.{load_lines};
 ghost use Rattle.qrev_recorder.specs.Record.{KeepsMoves};
 
 use crate::debugged::Debugged;
 use qil_commands::{Command, Refused, read_command};
 use qil_loading::{Loaded, put_loaded_line};
 use qil_pieces::{Fragment, put_fragments};
-use qil_script::Reply;
+use qil_replies::Reply;
 use qil_streams::{Buffer, Put, PutError};
 use std::alloc::{AllocError, Allocator};
 

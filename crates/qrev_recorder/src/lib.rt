@@ -11,6 +11,6 @@ mod recorder;
 
 pub use debugged::{Debugged, HasMachine};
 pub use done::{Done, LineError};
-pub use qil_depths::DepthEnd;
-pub use qil_script::CommandRefusal;
+pub use qil_replies::CommandRefusal;
+pub use qil_stops::DepthEnd;
 pub use recorder::{Opening, Record, Recorder};

@@ -3,16 +3,16 @@
 ghost use Rattle.std.specs.Prelude.{◌≡◌, ◌<◌, ◌≤◌, ◌^◌, true, IfOk, IfSome, IfNone};
 ghost use Rattle.qil_meaning.specs.Timeline.{position};
 ghost use Rattle.qil_streams.specs.Script.{lines_of};
-ghost use Rattle.qil_script.specs.Transcript.{IsSession};
+ghost use Rattle.qil_replies.specs.Transcript.{IsSession};
 ghost use Rattle.qrev_recorder.specs.Record.{setup_of, IsBeginning, IsRecording};
 
 use crate::debugged::Debugged;
 use crate::done::{Done, LineError, done_by};
 use crate::keeping::{add_line, is_line, is_quit, keep_backs, keep_steps, loaded_text, reply_text};
 use qil_commands::read_command;
-use qil_depths::{DepthEnd, Stops};
 use qil_loading::Loaded;
 use qil_meaning::Reason;
+use qil_stops::{DepthEnd, Stops};
 use std::alloc::{AllocError, Allocator};
 
 /// The position from which on no line is answered. No session comes near it.

@@ -1,7 +1,7 @@
 -- The runs over calls of a session, by which way it goes.
 use Rattle.std.specs.Prelude.{ℕ}
-use Rattle.qil_depths.specs.Depths.{RunsToDepth, RunsBackToDepth}
-use Rattle.qil_depths.specs.declared.depth_end.DepthEnd.{DepthEnd}
+use Rattle.qil_stops.specs.Depths.{RunsToDepth, RunsBackToDepth}
+use Rattle.qil_stops.specs.declared.depth_end.DepthEnd.{DepthEnd}
 use Rattle.qil_meaning.specs.Timeline.{Timeline}
 use Rattle.qil_session.specs.qil_replies.SessionState.{SessionState}
 use Rattle.qil_stops.specs.Named.{named_stops}

@@ -8,11 +8,10 @@ ghost use Rattle.qil_meaning.specs.Timeline.{position};
 ghost use Rattle.qrev_sessions.specs.Ways.{RunsBy};
 ghost use Rattle.qrev_sessions.specs.declared.running.Way.TheVariants.{Forward};
 
-use qil_depths::DepthEnd;
 use qil_history::History;
 use qil_machine::Machine;
 use qil_session::Session;
-use qil_stops::Stops;
+use qil_stops::{DepthEnd, Stops};
 use std::alloc::Allocator;
 
 /// Which way a session runs, and where it stops: at its own stops or at these.

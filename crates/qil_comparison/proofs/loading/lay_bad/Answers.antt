@@ -2,7 +2,7 @@
 use Rattle.std.proofs.Common.{◌∙◌, ap, sym}
 use Rattle.qil_tree.specs.declared.tree.Program.{Program}
 use Rattle.qil_meaning.specs.Start.{start_of}
-use Rattle.qil_serving.proofs.Explaining.{layout-explained, layout-shortage}
+use Rattle.qil_session.proofs.Explaining.{layout-explained, layout-shortage}
 use Rattle.qil_comparison.specs.declared.request.SideName.TheVariants.{Good}
 use Rattle.qil_comparison.specs.Compared.{opened_as}
 use Rattle.qil_comparison.proofs.Loads.{unloaded, start_unloaded, start_shortage, lies_not}

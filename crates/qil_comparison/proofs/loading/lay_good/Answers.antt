@@ -3,7 +3,7 @@ use Rattle.std.proofs.Common.{◌∙◌, ap, sym, subst}
 use Rattle.qil_tree.specs.declared.tree.Program.{Program}
 use Rattle.qil_meaning.specs.Start.{start_of}
 use Rattle.qil_loading.specs.Load.{Accepts}
-use Rattle.qil_serving.proofs.Explaining.{layout-explained, layout-shortage}
+use Rattle.qil_session.proofs.Explaining.{layout-explained, layout-shortage}
 use Rattle.qil_comparison.specs.declared.request.SideName.TheVariants.{Good, Bad}
 use Rattle.qil_comparison.specs.Compared.{setup_of, opened_as}
 use Rattle.qil_comparison.proofs.Loads.{unloaded, unstarted, starts_refused, ok_is_no_fault, lies_not, good_unloaded, bad_unloaded, good_begins}

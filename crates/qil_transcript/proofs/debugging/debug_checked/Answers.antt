@@ -3,7 +3,7 @@ use Rattle.std.proofs.Common.{◌∙◌, ap}
 use Rattle.qil_tree.specs.declared.tree.Program.{Program}
 use Rattle.qil_meaning.specs.Start.{start_of}
 use Rattle.qil_transcript.specs.Handed.{setup_of}
-use Rattle.qil_serving.proofs.Explaining.{layout-explained, layout-shortage}
+use Rattle.qil_session.proofs.Explaining.{layout-explained, layout-shortage}
 use Rattle.qil_transcript.proofs.DebugLemmas.{Written-refuse, refused-no_session, shortage-not_refused}
 use Rattle.qil_transcript.proofs.debugging.debug_checked.Goals as goal
 

@@ -1,6 +1,6 @@
 -- Answers to the goals of `run`.
 use Rattle.std.specs.Prelude.{None}
-use Rattle.qil_serving.specs.qil_session.Kept.{session_state}
+use Rattle.qil_session.specs.Kept.{session_state}
 use Rattle.qil_transcript.proofs.DebugLemmas.{Written-ended, Written-too_long, Written-read, Written-write, Written-load, opened_with, stopped_heading}
 use Rattle.qil_transcript.proofs.debugging.run.Goals as goal
 

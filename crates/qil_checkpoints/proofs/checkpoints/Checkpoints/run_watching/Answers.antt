@@ -6,7 +6,7 @@ use Rattle.qil_stops.specs.Named.{named_stops}
 use Rattle.qil_stops.specs.Readings.{AllTell}
 use Rattle.qil_stops.proofs.OnWay.{IsOnWay, on-begun, on-more, on-halt, on-end}
 use Rattle.qil_stops.proofs.Telling.{found-at, reported-still}
-use Rattle.qil_restorable.proofs.Told.{told-as}
+use Rattle.qil_stops.proofs.Told.{told-as}
 use Rattle.qil_checkpoints.specs.Held.{held_timeline}
 use Rattle.qil_checkpoints.proofs.Onward.{no-step}
 use Rattle.qil_checkpoints.proofs.Quiet.{before-last-by, ended}

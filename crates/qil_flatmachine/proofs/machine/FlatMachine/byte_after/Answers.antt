@@ -1,6 +1,6 @@
 -- After the last address nothing is live.
 use Rattle.std.proofs.Common.{◌≡◌, ◌+◌, ◌∙◌, ap, arith, sym}
-use Rattle.qil_readers.proofs.FarBytes.{dead_far}
+use Rattle.qil_history.proofs.FarBytes.{dead_far}
 use Rattle.qil_flatmachine.specs.Seen.{FlatWhole}
 use Rattle.qil_flatmachine.proofs.machine.FlatMachine.byte_after.Goals as goal
 

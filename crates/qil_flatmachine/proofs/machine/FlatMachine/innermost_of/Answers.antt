@@ -1,6 +1,6 @@
 -- From the innermost call outward, to the first of the function.
 use Rattle.std.proofs.Common.{◌∙◌, arith, refl, sym}
-use Rattle.qil_callstack.specs.Shown.{active_call, slot_frame}
+use Rattle.qil_flat.specs.Shown.{active_call, slot_frame}
 use Rattle.qil_flatmachine.specs.Seen.{place_in}
 use Rattle.qil_flatmachine.proofs.Viewing.{all_left, as_many, call_now, found_innermost, func_placed, never_lost, passed_by, shown_now}
 use Rattle.qil_flatmachine.proofs.machine.FlatMachine.innermost_of.Goals as goal

@@ -1,7 +1,7 @@
 -- What a slot holds is what its temporary holds.
 use Rattle.std.proofs.Common.{◌∙◌, ap, refl, sym}
 use Rattle.qil_frames.specs.Frames.{held}
-use Rattle.qil_callstack.proofs.Placed.{held-frames}
+use Rattle.qil_flat.proofs.Placed.{held-frames}
 use Rattle.qil_machine.proofs.Watching.{is_held}
 use Rattle.qil_flatmachine.specs.Seen.{FlatWhole, place_in}
 use Rattle.qil_flatmachine.proofs.Replacing.{machine_now}

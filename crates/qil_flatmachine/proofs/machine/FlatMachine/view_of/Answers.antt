@@ -1,6 +1,6 @@
 -- The frame of the place that a call is at.
 use Rattle.std.proofs.Common.{◌∙◌}
-use Rattle.qil_callstack.specs.Shown.{active_call}
+use Rattle.qil_flat.specs.Shown.{active_call}
 use Rattle.qil_flatmachine.proofs.Viewing.{few_slots, never_lost, never_strange, viewed_is}
 use Rattle.qil_flatmachine.proofs.machine.FlatMachine.view_of.Goals as goal
 

@@ -2,7 +2,7 @@
 use Rattle.qil_meaning.specs.Targets.{after}
 use Rattle.qil_state.specs.State.{state_of}
 use Rattle.qil_stops.proofs.Naming.{no_length}
-use Rattle.qil_restorable.proofs.Unbroken.{unbroken-none}
+use Rattle.qil_stops.proofs.Unbroken.{unbroken-none}
 use Rattle.qil_flatmachine.proofs.restorable.RestorableMachineCopiedMachineFlatMachine.run_quietly.Goals as goal
 
 pub returns-then-is_empty-clause-unbroken : goal.returns-then-is_empty-clause-unbroken

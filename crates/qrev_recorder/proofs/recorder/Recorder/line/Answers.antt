@@ -1,7 +1,7 @@
 -- Answers to the goals of `Recorder::line`.
 use Rattle.std.proofs.Common.{◌≡◌, ◌++◌, ap, sym, ◌∙◌, refl}
 use Rattle.std.proofs.Math.Logic.{∥∥₁_elim, ∥∥₁_prop}
-use Rattle.qil_script.specs.qil_replies.Answers.{is_quit, Replies}
+use Rattle.qil_replies.specs.Answers.{is_quit, Replies}
 use Rattle.qrev_recorder.proofs.Recording.{line_more, text_is}
 use Rattle.qrev_recorder.proofs.recorder.Recorder.line.Goals as goal
 

@@ -1,6 +1,6 @@
 -- Answers to the goals of `Recorder::new`.
 use Rattle.std.proofs.Common.{ap, ◌∙◌}
-use Rattle.qil_script.specs.qil_replies.SessionState.{SessionState}
+use Rattle.qil_replies.specs.SessionState.{SessionState}
 use Rattle.qrev_recorder.proofs.Recording.{recording_begun, text_is}
 use Rattle.qrev_recorder.proofs.recorder.Recorder.new.Goals as goal
 

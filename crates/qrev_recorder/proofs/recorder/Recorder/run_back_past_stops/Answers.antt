@@ -3,7 +3,7 @@ use Rattle.std.proofs.Common.{ap, arith}
 use Rattle.std.proofs.Math.Logic.{∥∥₁_elim, ∥∥₁_prop}
 use Rattle.qrev_recorder.proofs.Recording.{same_state}
 use Rattle.qrev_recorder.proofs.Moves.{run_back_kept, stays_back}
-use Rattle.qil_script.specs.qil_replies.SessionState.{SessionState}
+use Rattle.qil_replies.specs.SessionState.{SessionState}
 use Rattle.qrev_recorder.proofs.recorder.Recorder.run_back_past_stops.Goals as goal
 
 pub invariant_of-self : goal.invariant_of-self

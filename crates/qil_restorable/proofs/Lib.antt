@@ -1,3 +1,0 @@
--- The lemmas.
-pub mod Told
-pub mod Unbroken

@@ -1,0 +1,16 @@
+-- The moves so far, after none of which the run was to stop, nor so few calls were open.
+use Rattle.std.proofs.Common.{◌≡◌}
+use Rattle.qil_meaning.specs.Timeline.{gone}
+use Rattle.qil_stops.specs.Named.{named_stops}
+use Rattle.qil_stops.specs.Readings.{AllTell}
+use Rattle.qil_stops.proofs.BackWay.{IsBackWay}
+use Rattle.qil_stops.proofs.Walking.{AreDeep}
+use Rattle.qil_stops.proofs.depth_running.back_to_depth.Given as goal
+
+abbrev pub invariant-loop-taken : goal.invariant-loop-taken
+invariant-loop-taken g l = record {
+  program : g.H.History.program l.history ≡ g.H.History.program l.fn.history;
+  way : IsBackWay (named_stops (g.H.History.program l.fn.history) l.list) (g.H.History.timeline l.fn.history) l.taken (g.H.History.timeline l.history);
+  deep : AreDeep (λ j. gone j (g.H.History.timeline l.fn.history)) l.most l.taken;
+  reported : AllTell (g.H.History.program l.fn.history) (g.H.History.timeline l.history).now l.list l.before.items;
+}

@@ -1,0 +1,10 @@
+-- No breakpoint so far holds.
+use Rattle.std.proofs.Common.{◌≡◌, drop}
+use Rattle.qil_meaning.specs.Stops.{is_held, first_break}
+use Rattle.qil_state.specs.State.{state_of}
+use Rattle.qil_stops.specs.Named.{named_stops}
+use Rattle.qil_stops.proofs.Naming.{first_by}
+use Rattle.qil_stops.proofs.looking.first_break.Given as goal
+
+abbrev pub invariant-loop-stop : goal.invariant-loop-stop
+invariant-loop-stop g l = first_break (state_of (g.M.HasCopies.present l.machine)) (named_stops (g.M.HasCopies.present l.machine).program l.stops) ≡ first_by (g.M.HasCopies.present l.machine).program (is_held (state_of (g.M.HasCopies.present l.machine))) (drop l.stop-index l.stops)
