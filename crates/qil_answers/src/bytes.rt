@@ -9,8 +9,8 @@ ghost use Rattle.qil_answers.specs.Texts.{hex_digit, byte_text, quoted_byte};
 ghost use Rattle.qil_answers.specs.Shown.{spaced_byte, memory_shown, output_shown};
 
 use qil_code::Code;
-use qil_pieces::{Fragment, put_fragments};
 use qil_history::Readers;
+use qil_pieces::{Fragment, put_fragments};
 use qil_streams::{Put, PutError};
 use std::alloc::Allocator;
 

@@ -9,8 +9,8 @@ ghost use Rattle.qil_answers.specs.Shown.{frames_shown};
 
 use crate::names::{func_name, innermost, label_name};
 use qil_code::Code;
-use qil_pieces::{Fragment, put_fragments};
 use qil_history::{FrameView, Readers, code_of};
+use qil_pieces::{Fragment, put_fragments};
 use qil_streams::{Put, PutError, put_line};
 use std::alloc::Allocator;
 

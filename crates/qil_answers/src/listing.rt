@@ -10,8 +10,8 @@ ghost use Rattle.qil_answers.specs.Listing.{phi_row, row, row_prefix, inst_rows,
 
 use crate::names::{func_name, innermost, label_name};
 use qil_code::Code;
-use qil_pieces::{Fragment, put_fragments};
 use qil_history::{FrameView, Readers, code_of};
+use qil_pieces::{Fragment, put_fragments};
 use qil_streams::{Put, PutError, put_line};
 use qil_texts::{inst_text, jump_text, phi_text};
 use qil_tree::{Inst, Jump, Phi};

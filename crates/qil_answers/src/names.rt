@@ -6,8 +6,8 @@ ghost use Rattle.qil_code.specs.Slots.{name_at};
 ghost use Rattle.qil_state.specs.State.{func_name, label_in, FramesFit};
 
 use qil_code::{BlockId, Code, Slot};
-use qil_layout::FuncId;
 use qil_history::{FrameView, Readers};
+use qil_layout::FuncId;
 use std::alloc::Allocator;
 
 /// The name of a function, without its sigil.

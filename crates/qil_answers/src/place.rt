@@ -9,9 +9,9 @@ ghost use Rattle.qil_answers.specs.Texts.{fault_words, fault_detail, fault_line,
 
 use crate::names::{func_name, innermost, label_name, temp_name};
 use qil_code::Code;
+use qil_history::{Readers, code_of};
 use qil_ops::DivFault;
 use qil_pieces::{Fragment, put_fragments};
-use qil_history::{Readers, code_of};
 use qil_state::{Fault, Status};
 use qil_streams::{Put, PutError};
 use std::alloc::Allocator;

@@ -10,8 +10,8 @@ ghost use Rattle.qil_answers.specs.Slots.{slot_lines};
 
 use crate::names::{innermost, temp_name};
 use qil_code::{Code, Slot};
-use qil_pieces::{Fragment, put_fragments};
 use qil_history::{FrameView, Readers, code_of};
+use qil_pieces::{Fragment, put_fragments};
 use qil_streams::{Put, PutError, put_line};
 use std::alloc::Allocator;
 
