@@ -3,15 +3,18 @@ use Rattle.std.proofs.Common.{◌≡◌, ◌≢◌, ◌∙◌, ◌↔◌, sym, a
 use Rattle.std.proofs.lemmas.Bool.Decides.{nat_tests}
 use Rattle.std.proofs.lemmas.Slice.Eq.{bytes_eq-Decides}
 use Rattle.std.specs.Str.{bytes_eq}
+use denote.Enum.Bare.{sameb}
 use Rattle.qil_tree.specs.declared.ops.Class.{Class}
+use Rattle.qil_tree.specs.declared.ops.Class.TheVariants as classes
+use Rattle.qil_tree.specs.contracts.ops.Class.{the_type}
 use Rattle.qil_tree.specs.declared.tree.PhiSource.{PhiSource}
 use Rattle.qil_checker.specs.declared.lookup.TableKind.TheVariants.{Labels}
-use Rattle.qil_rules.specs.declared.mention.MentionKind.TheVariants.{Label, PhiLabel, PhiOf, Defines, Uses}
+use Rattle.qil_rules.specs.declared.mention.MentionKind.TheVariants.{Label, Edge, PhiLabel, PhiOf, Defines, Uses}
 use Rattle.qil_rules.specs.declared.mention.Mention.{Mention}
 use Rattle.qil_rules.specs.Text.{IsAt, FirstClass, IsUndefined, LacksLabel, IsFirstLabel, ArePredecessors, labels_of}
-use Rattle.qil_rules.specs.Rules.{IsSecondLabel, IsLostLabel, IsUndefinedUse, IsWrongPhi}
+use Rattle.qil_rules.specs.Rules.{IsSecondLabel, IsLostLabel, IsJumpToFirst, IsOtherClass, IsUndefinedUse, IsNarrowUse, IsWrongPhi}
 use Rattle.qil_checker.specs.Tables.{first, is_named}
-use Rattle.qil_checker.proofs.Texts.Places.{mention_stands, one_what, label_found, label_absent}
+use Rattle.qil_checker.proofs.Texts.Places.{mention_stands, one_what, label_found, label_absent, other_class, two_classes}
 
 some_same : {A : Type 0} {a b : A} → Some a ≡ Some b → a ≡ b
 some_same e = cc
@@ -56,6 +59,32 @@ lost_phi_label text x k m b there is lacks =
         | inr phi ↦ (let same = some_same (sym phi ∙ here) in cc)
       ]) lost.2),
     )
+
+same_edge : (a b x y : List ℕ) → Edge a x ≡ Edge b y → x ≡ y
+same_edge a b x y e = cc
+
+-- a jump leads to the first block exactly if its label is that block's
+pub jump_to_first : (text : List Mention) (from x : List ℕ) (k : ℕ) (m : Mention) (r : Bool) → slice_get text k ≡ Some m → m.what ≡ Edge from x
+    → (IsTrue r ↔ IsFirstLabel text x) → IsTrue r ↔ IsJumpToFirst text k
+jump_to_first text from x k m r there is first =
+    let here : IsAt text k (Edge from x) = mention_stands text k m (Edge from x) there is in (
+      λ t. (x, from, here, first.0 t),
+      λ jump. first.1 (subst (IsFirstLabel text) (same_edge jump.1 from jump.0 x (some_same (sym jump.2 ∙ here))) jump.3),
+    )
+
+-- ---- classes
+
+-- a definition has another class exactly if the first of its temporary has
+pub class_differs : (text : List Mention) (x : List ℕ) (c d : Class) (k : ℕ) (m : Mention) (r : Bool) → slice_get text k ≡ Some m → m.what ≡ Defines x c
+    → FirstClass text x d → r ≡ not (sameb the_type d c) → IsTrue r ↔ IsOtherClass text k
+class_differs text x c d k m r there is first e =
+    let here : IsAt text k (Defines x c) = mention_stands text k m (Defines x c) there is in
+    let test = other_class d c r e in
+    (λ t. (x, c, d, here, first, test.0 t), λ two. test.1 (two_classes text k x c d here first two))
+
+pub narrow_use : (text : List Mention) (x : List ℕ) (k : ℕ) (m : Mention) → slice_get text k ≡ Some m → m.what ≡ Uses x classes.L
+    → FirstClass text x classes.W → IsTrue true ↔ IsNarrowUse text k
+narrow_use text x k m there is first = (λ t. (x, mention_stands text k m (Uses x classes.L) there is, first), λ narrow. refl)
 
 -- ---- uses
 
