@@ -29,6 +29,10 @@ class Silent(Exception):
     """What was waited for didn't come."""
 
 
+class NoTerminal(Exception):
+    """This machine gives no pseudo-terminals, for want of /dev/pts."""
+
+
 class Terminal:
     """A command at a terminal of its own."""
 
@@ -40,7 +44,10 @@ class Terminal:
         variables.pop("COLUMNS", None)
         size = struct.pack("HHHH", 40, columns, 0, 0)
         # Tests run in threads: behind the fork nothing is done that could wait for one.
-        self.child, self.device = pty.fork()
+        try:
+            self.child, self.device = pty.fork()
+        except OSError as error:
+            raise NoTerminal from error
         if self.child == 0:
             fcntl.ioctl(0, termios.TIOCSWINSZ, size)
             os.chdir(folder)

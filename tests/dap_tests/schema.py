@@ -6,6 +6,8 @@ import shutil
 import subprocess
 import tempfile
 
+from harness.running import Skipped
+
 DEFINITIONS = pathlib.Path("/usr/share/nodejs/@vscode/debugprotocol/lib/debugProtocol.d.ts")
 OLD_DEFINITIONS = pathlib.Path("/usr/share/nodejs/vscode-debugprotocol/lib/debugProtocol.d.ts")
 OPTIONS = {"compilerOptions": {"noEmit": True, "strict": True, "target": "es2015", "types": []}, "files": ["messages.ts"]}
@@ -67,8 +69,9 @@ def refused_lines(messages, path, known, seconds):
 def faults(logs, seconds):
     """For each session what its messages have otherwise than the definitions, or None."""
     path = definitions()
-    if path is None or shutil.which("tsc") is None:
-        print("skipped: the protocol's definitions or tsc (node-vscode-debugprotocol, node-typescript) aren't here")
+    lack = "tsc" if shutil.which("tsc") is None else "node-vscode-debugprotocol" if path is None else None
+    if lack:
+        yield from ((f"schema: {name}", Skipped(lack)) for name in [*logs, *(what for what, _ in PLANTED)])
         return
     known = set(re.findall(r"interface (\w+)", path.read_text()))
     sent = [(name, message) for name, log in logs.items() for message in log if message.get("type") != "request"]

@@ -1,4 +1,5 @@
 """Which program is asked, a run of it, what it did otherwise than it must, and the count of what passed."""
+import collections
 import itertools
 import os
 import pathlib
@@ -128,14 +129,23 @@ def difference(wanted, given):
     return None
 
 
+class Skipped(NamedTuple):
+    """What a case gives in place of a fault if it needs a tool that isn't here."""
+
+    tool: str
+
+
 class Tally:
-    """How many cases passed and failed. A failing one has a line."""
+    """How many cases passed and failed, and how many wait for which tool. A failing one has a line, and each missing tool."""
 
     def __init__(self):
         self.passed = self.failed = 0
+        self.waiting = collections.Counter()
 
     def add(self, name, fault):
-        if fault:
+        if isinstance(fault, Skipped):
+            self.waiting[fault.tool] += 1
+        elif fault:
             self.failed += 1
             print(f"{name}: {fault}", flush=True)
         else:
@@ -143,5 +153,8 @@ class Tally:
 
     def end(self):
         """Prints the last line, and gives the exit status."""
-        print(f"{self.passed} passed, {self.failed} failed")
-        return 1 if self.failed or not self.passed else 0
+        for tool, count in self.waiting.items():
+            print(f"skipped: {tool} isn't here, and {count} {'test waits' if count == 1 else 'tests wait'} for it")
+        skipped = f", {self.waiting.total()} skipped" if self.waiting else ""
+        print(f"{self.passed} passed, {self.failed} failed{skipped}")
+        return 1 if self.failed or not (self.passed or self.waiting) else 0
