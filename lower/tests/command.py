@@ -53,6 +53,7 @@ class Wrapper:
         shutil.copy(TOP / "qrev", self.top / "qrev")
         (self.top / "lower").symlink_to(FOLDER)
         (self.top / "release").mkdir()
+        shutil.copy(TOP / "release" / "program", self.top / "release" / "program")
         (self.top / "release" / "qrev-x86_64-linux").symlink_to(running.program)
         fits = self.top / "release" / "fits"
         fits.write_text("#!/bin/sh\nexit 0\n")

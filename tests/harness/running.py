@@ -135,6 +135,10 @@ class Skipped(NamedTuple):
     tool: str
 
 
+# What a machine without /dev/pts lacks.
+TERMINAL = "a pseudo-terminal"
+
+
 class Tally:
     """How many cases passed and failed, and how many wait for which tool. A failing one has a line, and each missing tool."""
 

@@ -11,7 +11,7 @@ import termios
 import time
 
 from harness.preloaded import library
-from harness.running import FIRST, LOADED, TOP, Case, difference, quoted
+from harness.running import TERMINAL, Skipped, FIRST, LOADED, TOP, Case, difference, quoted
 
 EXAMPLE = TOP / "examples" / "squares.ssa"
 SCRIPT = (TOP / "examples" / "squares.script").read_bytes()
@@ -122,7 +122,10 @@ def held_by_hand(running):
 
 def ended_by_hand(running):
     """The end of input is told at a terminal behind an unfinished line, once; what comes behind it isn't waited for."""
-    ours, theirs = os.openpty()
+    try:
+        ours, theirs = os.openpty()
+    except OSError:
+        return Skipped(TERMINAL)
     process = started(running, SUM, stdin=theirs, stdout=subprocess.PIPE)
     os.close(theirs)
     # The first ends the piece, the second is a read of no bytes.
