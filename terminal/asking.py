@@ -15,16 +15,18 @@ from .shell import Shell, command
 from .stops import Answered, FixedState, questions_of
 from .timeline import Timeline, common
 from .values import BYTES, brief
+from .ways import why_not
 
 MOST_SHOWN = 1000
 CHANGES = (*MOVES, "break", "watch", "delete")
 
 
-@command("why", "why [%x | WIDTH ADDRESS | N ADDRESS | out N | jump | call | N | back]", "watch")
+@command("why", "why [%x | WIDTH ADDRESS | N ADDRESS | out N | jump | call | not @b | N | back]", "watch")
 def why(shell: Shell, rest: str) -> None:
     """Says where a value comes from: the instruction that set it, with its operands; `why N` asks on about the N-th of
     them, `why back` comes back. Alone it is about the end of the run or, before that, about how the run came here.
-    `why out N` is about a byte of the output (the first is 0), `why jump` and `why call` about how control came here.
+    `why out N` is about a byte of the output (the first is 0), `why jump` and `why call` about how control came here,
+    `why not @b` about why it didn't come to a block.
     `goto why` takes the session there."""
     words = rest.split()
     if words == ["back"]:
@@ -62,6 +64,8 @@ def asked(shell: Shell, words: list[str], rest: str) -> Cause:
         if not there:
             raise Refused("the run is over: `why` alone asks about its end")
         return causes.of(Question("call" if words == ["call"] else "control", there))
+    if words[:1] == ["not"] and len(words) == 2:
+        return why_not(shell, words[1])
     if len(words) == 1 and words[0].startswith("%"):
         shell.temporary(words[0])
         return causes.of(causes.temporary(words[0], shell.frames.frame(at, session.selected)))
@@ -70,7 +74,7 @@ def asked(shell: Shell, words: list[str], rest: str) -> Cause:
         if not 1 <= count <= MOST_BYTES_ASKED:
             raise Wrong(f"{words[0]}: from 1 to {MOST_BYTES_ASKED} bytes were expected")
         return causes.of(causes.memory(shell.number(rest.partition(words[0])[2]), count, at))
-    raise Wrong(f"{rest}: %TEMPORARY, WIDTH ADDRESS, N ADDRESS, out N, jump, call, back or a number was expected")
+    raise Wrong(f"{rest}: %TEMPORARY, WIDTH ADDRESS, N ADDRESS, out N, jump, call, not @b, back or a number was expected")
 
 
 def of_output(shell: Shell, text: str) -> Cause:

@@ -130,12 +130,18 @@ class Causes:
     def executed(self, at: Timeline, head: str, wanted: tuple[int, int] | None = None) -> Cause:
         """The instruction that comes next in a state, with its operands; of a blit the bytes that are asked about."""
         place, instruction = self.innermost(at)
-        questions = [self.temporary(operand.text, at, self.parameter_told(instruction, index))
-                     for index, operand in enumerate(instruction.operands)
-                     if operand.is_temporary and operand not in instruction.operands[:index]]
-        questions += self.bytes_read(at, instruction, wanted)
+        questions = self.operands_asked(at, instruction)
+        read = self.bytes_read(at, instruction, wanted)
+        # What a load took comes before where it took it.
+        questions = read + questions if instruction.operation in LOADED else questions + read
         questions.append(self.control(at, place))
         return Cause(at, [head, self.line_told(at, place, instruction)] + [ASKED] * len(questions), questions)
+
+    def operands_asked(self, at: Timeline, instruction: Instruction) -> list[Question]:
+        """Each temporary that the instruction that comes next reads."""
+        return [self.temporary(operand.text, at, self.parameter_told(instruction, index))
+                for index, operand in enumerate(instruction.operands)
+                if operand.is_temporary and operand not in instruction.operands[:index]]
 
     def parameter_told(self, instruction: Instruction, index: int) -> str:
         """Which parameter an argument becomes."""
@@ -283,7 +289,15 @@ class Causes:
         _, instruction = self.innermost(at)
         if instruction.operation != "ret":
             return self.executed(at, f"{question.text} was given back by the built-in of")
-        return self.executed(at, f"{question.text} was given back by")
+        cause = self.executed(at, f"{question.text} was given back by")
+        # A wrong argument is as likely as a wrong body.
+        entry = self.frames.entry(at)
+        called = entry.at(entry.position - 1)
+        cause.lines += ["  to the call", self.line_told(called, *self.innermost(called))]
+        questions = self.operands_asked(called, self.innermost(called)[1])
+        cause.lines += [ASKED] * len(questions)
+        cause.questions += questions
+        return cause
 
     def add_stale(self, cause: Cause, asked: Timeline, instruction: Instruction) -> None:
         """Where what was loaded was changed in memory since, before the value was used: says so, and by what."""

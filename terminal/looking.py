@@ -6,12 +6,12 @@ import shlex
 
 from .answers import read_output
 from .expressions import Unset, Wrong
+from .habits import save_stops
 from .scratch import Refused
 from .shell import COMMANDS, Shell, command
 from .values import BYTES, FORMATS, formatted, shown_bytes
 
 MOST_UNITS = 4096
-AROUND_LIST = 5
 SIZES = {"b": "b", "h": "h", "w": "w", "l": "l", "g": "l"}
 PER_LINE = {"b": 8, "h": 8, "w": 4, "l": 2}
 
@@ -199,15 +199,18 @@ def frame(shell: Shell, rest: str) -> None:
     select(shell, int(rest) if rest else shell.session.selected)
 
 
+def selected_values(shell: Shell) -> dict[str, int | None]:
+    """The temporaries of the selected frame, None for one that is unset."""
+    session = shell.session
+    if not session.frames():
+        raise Refused("no frame: the run is over")
+    return session.scratch.go(shell.frames.frame(session.timeline, session.selected)).temporaries()
+
+
 @command("temps locals", "temps")
 def temps(shell: Shell, rest: str) -> None:
-    """Shows all temporaries of the selected frame."""
-    frames = shell.session.frames()
-    if not frames:
-        raise Refused("no frame: the run is over")
-    session = shell.session
-    scratch = session.scratch.go(shell.frames.frame(session.timeline, session.selected))
-    values = scratch.temporaries()
+    """Shows all temporaries of the selected frame. `info locals` leaves out those that are unset."""
+    values = selected_values(shell)
     if not values:
         shell.say("none")
     for name, value in values.items():
@@ -218,31 +221,38 @@ def temps(shell: Shell, rest: str) -> None:
 def list_(shell: Shell, rest: str) -> None:
     """Shows the text around where the run stands, then on from there; or around a line, a function or a label."""
     program, place = shell.session.program, shell.session.place
-    here = 0
-    frames = shell.session.frames()
+    here, around = 0, shell.list_size // 2
+    frames, selected = shell.session.frames(), shell.session.selected
     if frames:
-        here = program.line_of(frames[0].function, frames[0].label, frames[0].index)
+        # A caller stands behind its call.
+        frame = frames[selected]
+        here = program.line_of(frame.function, frame.label, frame.index - (selected > 0))
     if rest:
-        middle = shell.line_of(rest)
+        first = shell.line_of(rest) - around
     elif shell.line_shown:
-        middle = shell.line_shown + AROUND_LIST + 1
+        first = shell.line_shown + 1
     else:
-        middle = here or 1 + AROUND_LIST
-    if middle - AROUND_LIST > len(program.lines):
+        first = (here or 1 + around) - around
+    if first > len(program.lines):
         raise Refused(f"the text has {len(program.lines)} lines")
-    beside = []
-    if here and not place.end and abs(middle - here) <= AROUND_LIST:
+    beside, last = [], first + shell.list_size - 1
+    if here and not place.end and not selected and first <= here <= last:
         instruction = program.functions[place.function].at(place.label, place.index)
         beside = shell.screen.operands(place.function, instruction) + shell.screen.jump_said(place, instruction)
-    shell.say(*shell.screen.text_lines(middle - AROUND_LIST, middle + AROUND_LIST, here, beside))
-    shell.line_shown = middle + AROUND_LIST
+    shell.say(*shell.screen.text_lines(first, last, here, beside))
+    shell.line_shown = last
 
 
 @command("out", "out")
 def out(shell: Shell, rest: str) -> None:
-    """Shows all that the program has written up to here."""
+    """Shows all that the program has written up to here, each line behind the number of its first byte: `why out N` asks about
+    a byte."""
     written = read_output(shell.session.ask("out")[0])
-    shell.say(f"{len(written)} bytes", *(shown_bytes(line) for line in written.splitlines(keepends=True)))
+    shell.say(f"{len(written)} bytes")
+    begin, digits = 0, len(str(len(written)))
+    for line in written.splitlines(keepends=True):
+        shell.say(f"{begin:{digits}}  {shown_bytes(line)}")
+        begin += len(line)
 
 
 @command("info i", "info stops|locals|frame|display|checkpoints|functions|data|symbol ADDRESS|session", "info")
@@ -250,7 +260,7 @@ def info(shell: Shell, rest: str) -> None:
     """Shows the stops, the temporaries, the frame, what is displayed, the checkpoints, the functions, the data, whose an
     address is, or how large the session is."""
     word, _, more = rest.partition(" ")
-    known = {"stops": "stops", "breakpoints": "stops", "b": "stops", "watchpoints": "stops", "locals": "temps",
+    known = {"stops": "stops", "breakpoints": "stops", "break": "stops", "b": "stops", "watchpoints": "stops",
              "temps": "temps", "display": "display", "frame": "frame", "f": "frame", "out": "out"}
     if word in known:
         COMMANDS[known[word]].call(shell, "")
@@ -285,15 +295,28 @@ def session_told(shell: Shell, _rest: str) -> list[str]:
             f"{session.memory_taken() // (1 << 20)} MB"]
 
 
-OTHERS = {"functions": functions_told, "data": data_told, "symbol": symbol_told, "checkpoints": checkpoints_told,
+def locals_told(shell: Shell, _rest: str) -> list[str]:
+    """The temporaries that are set, and how many aren't."""
+    values = selected_values(shell)
+    left = sum(value is None for value in values.values())
+    shown = [shell.shown(name, "") for name, value in values.items() if value is not None]
+    return shown + ([f"{left} unset"] if left else []) or ["none"]
+
+
+OTHERS = {"functions": functions_told, "locals": locals_told, "data": data_told, "symbol": symbol_told, "checkpoints": checkpoints_told,
           "session": session_told}
 
 
-@command("save", "save FILE", "file", is_repeated=False)
+@command("save", "save FILE | save breakpoints FILE", "file", is_repeated=False)
 def save(shell: Shell, rest: str) -> None:
-    """Writes the session's lines to a file: a script that leads to the same state, and says how to play it."""
+    """Writes the session's lines to a file: a script that leads to the same state, and says how to play it. With `breakpoints` it
+    writes commands that set the stops again, for `source`."""
     if not rest:
         raise Wrong("save FILE was expected")
+    word, _, file = rest.partition(" ")
+    if word in ("breakpoints", "stops"):
+        save_stops(shell, file.strip())
+        return
     try:
         pathlib.Path(rest).write_text("".join(line + "\n" for line in shell.session.lines))
     except OSError as error:
@@ -322,10 +345,10 @@ def short(name: str) -> str:
 
 HELP = "An empty line repeats. `help COMMAND` tells more; Ctrl-C stops a run; docs/TERMINAL.md has it all."
 TOPICS = {
-    "move": "step next finish continue run back reverse-next reverse-finish reverse goto checkpoint restart",
-    "look": "print x display undisplay bt up down frame temps list mem out info",
-    "stop": "break tbreak watch ignore condition stops delete",
-    "ask": "why readers writers when compare",
+    "move": "step next until advance finish continue run start back reverse-next reverse-finish reverse goto checkpoint restart",
+    "look": "print x display undisplay bt up down frame temps list disas mem out info",
+    "stop": "break tbreak watch ignore condition commands disable enable stops delete",
+    "ask": "why path readers writers when compare",
     "change": "set poke",
-    "session": "save help quit",
+    "session": "save source help quit",
 }

@@ -8,6 +8,7 @@ from .shell import Leave, Shell, command
 from .timeline import Timeline
 
 MOST_MOVES = (1 << 32) - 1
+MOST_LISTED = 1000
 
 
 def repeated(shell: Shell, text: str, move) -> None:
@@ -107,7 +108,7 @@ def reverse_finish(shell: Shell, rest: str) -> None:
     shell.outcome(shell.runs.finish_back(shell.session.selected))
 
 
-@command("run r start", "run", is_repeated=False)
+@command("run r", "run", is_repeated=False)
 def run(shell: Shell, rest: str) -> None:
     """Begins again: goes back to the start and runs on to the first stop. Stops stay; pokes are taken back."""
     shell.session.go(Timeline())
@@ -159,9 +160,12 @@ def restart(shell: Shell, rest: str) -> None:
     go(shell, shell.checkpoints[rest])
 
 
-@command("set", "set %x EXPRESSION", "expression", is_repeated=False)
+@command("set", "set %x EXPRESSION | set listsize N", "expression", is_repeated=False)
 def set_(shell: Shell, rest: str) -> None:
-    """Sets a temporary of the innermost frame. That is a move, which `back` takes back."""
+    """Sets a temporary of the innermost frame. That is a move, which `back` takes back. `set listsize N` has `list` show N lines."""
+    if rest.split()[:1] == ["listsize"]:
+        shell.list_size = shell.count(rest.partition(" ")[2], MOST_LISTED, shell.list_size)
+        return
     rest = rest.removeprefix("var ")
     name, _, value = rest.replace("=", " = ", 1).partition(" ") if "=" in rest.split(" ")[0] else rest.partition(" ")
     value = value.strip().removeprefix("=").strip() if not value.strip().startswith("==") else value

@@ -14,6 +14,7 @@ from .expressions import WORDS as EXPRESSION_WORDS
 from .shell import COMMANDS, Leave, Shell
 
 PROMPT = "(qrev) "
+GATHERING = "> "
 HISTORY = "~/.qrev_terminal_history"
 MOST_HISTORY = 2000
 
@@ -89,7 +90,7 @@ class Prompt:
         waiting = self.shell.waiting
         waiting.is_at_prompt = True
         try:
-            return input(PROMPT)
+            return input(PROMPT if self.shell.gathering is None else GATHERING)
         finally:
             waiting.is_at_prompt = False
 

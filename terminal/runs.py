@@ -9,7 +9,7 @@ from dataclasses import dataclass
 
 from .answers import Place
 from .frames import Frames
-from .levels import MOST_STOPS, Levels, stop_line
+from .levels import MOST_STOPS, CodePlace, Levels, stop_line
 from .scratch import MOST_AT_ONCE, Hit, Refused
 from .session import Session
 from .stops import FRAME_OVER, Answered, Filter, FrameWatch, Stop
@@ -60,6 +60,34 @@ class Target:
         return here == self.place and level == 0
 
 
+class Places:
+    """Places at which a run ends: in any frame; or, if it is said where the frame's caller goes on and how many frames there are
+    then, in this frame, and there too."""
+
+    def __init__(self, session: Session, places: list[CodePlace], behind: tuple[CodePlace, int] | None = None):
+        self.places, self.behind = places, behind
+        self.depth = len(session.frames())
+
+    def begin(self, _session: Session, _is_forward: bool, lines: list[str]) -> list[str]:
+        """The lines of a run to them, behind those that there are already."""
+        wanted = [*self.places, *([self.behind[0]] if self.behind else [])]
+        if len(lines) + len(wanted) > MOST_STOPS:
+            raise Refused(f"{len(wanted)} places are too many; `tbreak PLACE` and `continue` lead to one of them")
+        return [stop_line(place) for place in wanted]
+
+    @property
+    def questions(self) -> list[str]:
+        return ["where"] if self.behind else []
+
+    def is_at(self, place: Place, _is_forward: bool, frames: list[str] | None) -> bool:
+        """Whether a hit is at one of them."""
+        here = (place.function, place.label, place.index)
+        if self.behind is None:
+            return here in self.places
+        depth = len(frames or ())
+        return here in self.places and depth == self.depth or (here, depth) == self.behind
+
+
 @dataclass(frozen=True)
 class Outcome:
     """How a run ended: in words, and at which stop. Where it made no move, why."""
@@ -74,9 +102,9 @@ class Runs:
         self.scratch, self.waiting = session.scratch, session.waiting
         self.stops: list[Stop] = []
 
-    def run(self, is_forward: bool, target: Target | None = None) -> Outcome:
+    def run(self, is_forward: bool, target: Target | Places | None = None) -> Outcome:
         """Runs to a stop, or to the target where there is one."""
-        if target is None and all(stop.is_plain for stop in self.stops):
+        if target is None and all(stop.is_plain for stop in self.active):
             outcome = self.run_plainly("continue" if is_forward else "reverse")
         else:
             outcome = self.run_filtered(is_forward, target)
@@ -114,9 +142,9 @@ class Runs:
             said = ": " + Filter([], self.session.program, is_forward).memory_change(stop.memory.value, now)
         return Outcome(f"{kind} {stop.number}, {stop.what}{said}", stop)
 
-    def run_filtered(self, is_forward: bool, target: Target | None) -> Outcome:
+    def run_filtered(self, is_forward: bool, target: Target | Places | None) -> Outcome:
         here = self.session.timeline
-        filter = Filter(self.stops, self.session.program, is_forward)
+        filter = Filter(self.active, self.session.program, is_forward)
         self.look_at_watches()
         lines = filter.lines + (target.begin(self.session, is_forward, filter.lines) if target else [])
         questions, is_known = filter.questions(target.questions if target else [])
@@ -133,7 +161,7 @@ class Runs:
             reached = self.scratch.timeline.position if self.scratch.pipe else position
             position, outcome = (max if is_forward else min)(position, reached), Outcome(STOPPED)
             self.waiting.begin()
-        for stop in self.stops:
+        for stop in self.active:
             stop.ignored = filter.left[id(stop)]
         if not outcome and last is not None and not self.session.place.end:
             position, outcome = max(last, 0), Outcome("limit")
@@ -141,7 +169,7 @@ class Runs:
             self.session.go(here.at(position))
         return outcome or Outcome(refusal="at end" if is_forward else "at start")
 
-    def outcome_at(self, hit: Hit, filter: Filter, questions: list[str], target: Target | None,
+    def outcome_at(self, hit: Hit, filter: Filter, questions: list[str], target: Target | Places | None,
                    is_forward: bool) -> Outcome | None:
         """What ends the run at a hit, or nothing."""
         if hit.stop is None:
@@ -157,7 +185,7 @@ class Runs:
     def look_at_watches(self) -> None:
         """What the watches of frames and of stack bytes read where the run begins."""
         session = self.session
-        for stop in self.stops:
+        for stop in self.active:
             if stop.memory:
                 found = session.memory(stop.memory.address, stop.memory.count)
                 if None not in found or not stop.memory.is_on_stack:
@@ -176,21 +204,35 @@ class Runs:
 
     # Stops.
 
+    @property
+    def active(self) -> list[Stop]:
+        """The stops that are switched on."""
+        return [stop for stop in self.stops if stop.is_on]
+
     def add(self, stop: Stop) -> Stop:
         """Sets a stop: its lines go to the session, and the number of the first is its own."""
-        for line in stop.lines:
-            answer = self.session.change(line)[0]
-            if answer.startswith("no: "):
-                for number in stop.numbers:
-                    self.session.change(f"delete {number}")
-                raise Refused(f"{line}: {answer[4:]}")
-            stop.numbers.append(int(answer.split(" ")[1]))
+        self.switch_on(stop)
+        stop.number = stop.numbers[0]
         self.stops.append(stop)
         return stop
 
-    def delete(self, stop: Stop) -> None:
+    def switch_on(self, stop: Stop) -> None:
+        """Has the session stop there, unless it does."""
+        for line in stop.lines[len(stop.numbers):]:
+            answer = self.session.change(line)[0]
+            if answer.startswith("no: "):
+                self.switch_off(stop)
+                raise Refused(f"{line}: {answer[4:]}")
+            stop.numbers.append(int(answer.split(" ")[1]))
+
+    def switch_off(self, stop: Stop) -> None:
+        """Has the session pass it over; the stop keeps its number."""
         for number in stop.numbers:
             self.session.change(f"delete {number}")
+        stop.numbers.clear()
+
+    def delete(self, stop: Stop) -> None:
+        self.switch_off(stop)
         self.stops.remove(stop)
 
     # Over calls, and out of them.

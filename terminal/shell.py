@@ -1,6 +1,7 @@
 """The prompt's lines: what each does, and what it says. The commands themselves stand in modules by their kinds."""
 from __future__ import annotations
 
+import difflib
 import shlex
 import sys
 from dataclasses import dataclass
@@ -22,6 +23,8 @@ from .waiting import Interrupted, Waiting
 MEGABYTE = 1 << 20
 FAULT = "a fault of the front end"
 MEMORY_TOLD = 512
+# How deeply files of commands, and commands at stops, may lead to one another.
+MOST_NESTED = 16
 
 
 @dataclass(frozen=True)
@@ -102,8 +105,12 @@ class Shell:
         self.chain: list[Cause] = []
         self.line_shown = 0
         self.examined, self.unit, self.format = 0, "w", "x"
+        self.list_size = 11
         self.last = ""
         self.has_said_end = False
+        # The commands of a stop, while their lines are being typed; and how many files and stops the line at hand comes from.
+        self.gathering: list[str] | None = None
+        self.nested = 0
 
     # What is said.
 
@@ -166,6 +173,20 @@ class Shell:
         if outcome.reason == "end" and not self.has_said_end:
             self.has_said_end = True
             self.say("the run is over: `why` says what it comes of, `back` goes back into it")
+        if outcome.stop and outcome.stop.commands:
+            self.do_nested(outcome.stop.commands)
+
+    def do_nested(self, lines: Sequence[str]) -> None:
+        """Does lines that weren't typed here."""
+        if self.nested >= MOST_NESTED:
+            raise Refused("commands that lead to commands are nested too deeply")
+        self.nested += 1
+        try:
+            for line in lines:
+                self.do(line)
+        finally:
+            self.nested -= 1
+            self.last = ""
 
     def tell_memory(self) -> None:
         taken = self.session.memory_taken()
@@ -278,6 +299,12 @@ class Shell:
 
     def do(self, line: str) -> None:
         line = line.strip()
+        if self.gathering is not None:
+            if line == "end":
+                self.gathering = None
+            elif line:
+                self.gathering.append(line)
+            return
         if not line:
             line = self.last
             if not line:
@@ -297,7 +324,9 @@ class Shell:
             return next(iter(begun.values()))
         if begun:
             raise Wrong(f"{word}: could be {', '.join(sorted(begun))}")
-        raise Wrong(f"{word}: no such command; `help` lists them")
+        nearest = difflib.get_close_matches(word, COMMANDS, 1)
+        meant = f"; `{nearest[0]}` is one" if nearest else ""
+        raise Wrong(f"{word}: no such command{meant}; `help` lists them")
 
 
 REFUSALS = {

@@ -68,6 +68,7 @@ def add_breakpoint(shell: Shell, rest: str, is_once: bool) -> None:
     line = shell.session.program.line_of(*place)
     stop = Stop(f"{place[0]} {place[1]} {place[2]} (line {line})", [f"break {place[0]} {place[1]} {place[2]}"], [], place,
                 condition, text, is_once=is_once)
+    stop.typed = f"{'tbreak' if is_once else 'break'} {' '.join(map(str, place))}" + (f" if {text}" if text else "")
     shell.say(f"break {shell.runs.add(stop)}")
 
 
@@ -101,6 +102,8 @@ def watch(shell: Shell, rest: str) -> None:
     else:
         raise Wrong(f"{words[0]}: %TEMPORARY, $FUNCTION %TEMPORARY, a width (b, h, w, l) or a number of bytes was expected")
     stop.condition, stop.condition_text = condition, text
+    if not stop.frame:
+        stop.typed = f"watch {rest}"
     shell.say(f"watch {shell.runs.add(stop)}")
 
 
@@ -177,4 +180,7 @@ def condition(shell: Shell, rest: str) -> None:
     stop = stop_named(shell, number)
     stop.condition = shell.parsed(text) if text.strip() else None
     stop.condition_text = text.strip()
+    if stop.typed:
+        what = stop.typed.partition(" if ")[0]
+        stop.typed = f"{what} if {stop.condition_text}" if stop.condition else what
     shell.say(str(stop))

@@ -17,7 +17,8 @@ MOST_NUMBER = 8
 
 @dataclass
 class Stop:
-    """A stop: the lines that make it and the debugger's numbers of them, of which the first is its own."""
+    """A stop: the lines that make it, and the debugger's numbers of them, none while it is switched off. Its own number is the
+    first of those that it had first. `typed` is the line that sets it again, unless it is about one frame."""
     what: str
     lines: list[str]
     numbers: list[int]
@@ -29,10 +30,13 @@ class Stop:
     memory: MemoryWatch | None = None
     frame: FrameWatch | None = None
     hits: int = 0
+    number: int = 0
+    typed: str = ""
+    commands: list[str] = field(default_factory=list)
 
     @property
-    def number(self) -> int:
-        return self.numbers[0]
+    def is_on(self) -> bool:
+        return bool(self.numbers)
 
     @property
     def is_plain(self) -> bool:
@@ -47,6 +51,10 @@ class Stop:
             parts.append(f"the next {self.ignored} are passed over")
         if self.is_once:
             parts.append("once")
+        if not self.is_on:
+            parts.append("switched off")
+        if self.commands:
+            parts.append(f"types {len(self.commands)} lines" if len(self.commands) > 1 else f"types `{self.commands[0]}`")
         if self.hits:
             parts.append(f"stopped {self.hits} times" if self.hits > 1 else "stopped once")
         return ", ".join(parts)

@@ -479,9 +479,42 @@ def bare(program: str) -> str | None:
         session.close()
 
 
+def stops_kept(program: str) -> str | None:
+    """Stops that were written to a file are set again from it, and one that is about a frame is told as left out; a file that
+    reads itself ends, and what is wrong in a file is told with its place."""
+    with tempfile.TemporaryDirectory(prefix="stops-") as place:
+        file, own, wrong = (pathlib.Path(place) / name for name in ("stops", "own", "wrong"))
+        own.write_text(f"source {own}\n")
+        wrong.write_text("# a comment\n\np 1 + 1\nprint\np 3\n")
+        session = Held(program, str(SQUARES))
+        try:
+            for line in ("b 14 if %i > 2", "commands\np %i\nend", "tbreak $fill", "watch w $bias", "ignore 3 1", "disable 3",
+                         "watch %i"):
+                session.do(line)
+            told = session.do(f"save breakpoints {file}")
+            if "3 stops" not in told or "left out, as it is about one frame: 4: %i of this call of $main" not in told:
+                return f"{told!r}"
+            session.do("delete")
+            session.do(f"source {file}")
+            found = session.do("stops").splitlines()
+            wanted = ["$fill @body 0 (line 14), if %i > 2, types `p %i`", "$fill @start 0 (line 8), once",
+                      "w $bias+0, the next 1 are passed over, switched off"]
+            if [line.partition(": ")[2] for line in found] != wanted:
+                return f"{found} in place of {wanted}"
+            told = session.do(f"source {own}")
+            if "nested too deeply" not in told:
+                return f"a file that reads itself: {told!r}"
+            told = session.do(f"source {wrong}")
+            if told != f"1 + 1 = 2\n{wrong}:4: print EXPRESSION was expected\n":
+                return f"a file with something wrong: {told!r}"
+            return session.replayed_fault()
+        finally:
+            session.close()
+
+
 HABITS = {call.__name__.replace("_", " "): call for call in (
     interrupted, interrupted_at_the_prompt, left, completed, bad_lines, refused, broken, narrow, without_readline, wrapped,
-    memory_told, bounded, fast, deep, saved_and_compared, mapped, lowered, bare)}
+    memory_told, bounded, fast, deep, saved_and_compared, stops_kept, mapped, lowered, bare)}
 
 
 def tried(call, program: str) -> str | None:

@@ -46,6 +46,29 @@ MOVES: Lines = [
     ("fin", ["#88 done 30"]), ("rc", ["stop: start", "#0 $main @start 0"]),
 ]
 
+# What users of gdb type by habit. A round of `$main`'s loop, which adds up, is eight moves; the first begins at #51.
+GDB: Lines = [
+    ("b 14 if %i > 2", ["break 1"]), ("commands\np %i\np %i * 2\nend", []),
+    ("c", ["stop: break 1", "#31 $fill @body 0", "%i = 3\n", "%i * 2 = 6\n"]),
+    ("disable 1", ["1: $fill @body 0 (line 14), if %i > 2, switched off, types 2 lines, stopped once"]),
+    ("start", ["#0 $main @start 0"]), ("c", ["stop: end", "#88 done 30"]),
+    ("enable", ["1: $fill @body 0 (line 14), if %i > 2, types 2 lines, stopped once"]),
+    ("run", ["stop: break 1", "#31 $fill @body 0", "%i = 3\n"]), ("d", ["deleted 1"]),
+    ("advance 19", ["#36 $fill @body 5", "> 19 "]), ("until", ["#37 $fill @body 6"]), ("until", ["#49 $fill @end 0", "> 22 "]),
+    ("until", ["#50 $main @start 1"]), ("goto 4", ["#4 $fill @body 0"]), ("until 27", ["#50 $main @start 1"]),
+    ("goto 44", ["#44 $fill @body 4"]),
+    ("path", ["$fill went through 11 blocks, from #1 to #44", "  #1  @start\n  #2  @loop @body  x 5\n"]),
+    ("why not @end", ["control didn't come to @end in this call of $fill",
+                      "#39 $fill @loop 1  line 12: jnz %more, @body, @end", "[1] %more = 1  so it went to @body"]),
+    ("why 1", ["%more =w cslew %i, 4"]), ("why not @start", ["no jump of $fill leads to @start"]),
+    ("why not @nowhere", ["$fill has no such label"]),
+    ("path $main", ["$main went through 1 block, from #0 to #0"]), ("disas", ["   6  function $fill", "> 18 ", "  23  }"]),
+    ("up", ["frame 1 $main @start 1"]), ("disas", ["> 27 ", "  45  }"]), ("list", ["  22 ", "> 27 ", "  32 "]),
+    ("set listsize 3", []), ("list 20", ["  19 ", "  20 ", "  21 "]), ("list", ["  22 ", "  24 "]),
+    ("info locals", ["10 unset"]), ("goto 88", ["#88 done 30"]), ("path $fill", ["  #47  @loop @end"]),
+    ("stps", ["no such command; `stops` is one"]), ("source /nowhere/at-all", ["/nowhere/at-all: No such file"]),
+]
+
 # On the stack of examples/digits.ssa after 101 moves: docs/LANGUAGE.md has the picture.
 VALUES: Lines = [
     ("goto 101", ["#101 $number @digit 3", "%t2=49, %at.next=frame 1 $main alloc %count+3"]),
@@ -71,7 +94,7 @@ VALUES: Lines = [
     ("info data", ["line 4: $numbers 65536, 12 bytes"]),
     ("info functions", ["line 6: $number(w %value)", "line 32: $main()"]),
     ("display %rest", ["1: %rest = 1"]), ("display/x w[%count]", ["has no such temporary"]), ("s", ["1: %rest = 1"]),
-    ("undisplay 1", []), ("info display", []), ("out", ["5 bytes", '"7\\n"', '"42\\n"']), ("l", ["> 18 ", "%rest=1"]),
+    ("undisplay 1", []), ("info display", []), ("out", ["5 bytes", '0  "7\\n"', '2  "42\\n"']), ("l", ["> 18 ", "%rest=1"]),
     ("list $main", [" 32 "]), ("list @write", [" 20  @write"]), ("list 1", [" 1  # Writes"]), ("list 999", ["54"]),
     ("back 3", ["#99 $number @digit 1"]), ("p depth", ["depth = 2"]), ("p position", ["position = 99"]),
     (f"poke w $numbers {HALF}", ["#100"]), ("p/f w[$numbers]", ["= 0.5"]),
@@ -160,10 +183,10 @@ BUFFERS: Lines = [
 # 6 + 7 * 256 is 1798, and a store of the same value is the last one.
 COPY: Lines = [
     ("c", ["exit 1798"]), ("why", ["line 20: call $exit(w %again)", "[1] %again = 1798"]),
-    ("why 1", ["[1] %word = 65552 ($to+8)", "[2] w $to+8 = 1798"]),
-    ("why 2", ["w $to+8 = 1798: stored by", "#8 $main @start 8", "[1] %value = 1798"]),
-    ("why 1", ["[2] w $to+8 = 1798"]),
-    ("why 2", ["byte 1 of w $to+8", "#3 $main @start 3  line 11: storeb 7, %byte", "bytes 0, 2, 3 of w $to+8",
+    ("why 1", ["[1] w $to+8 = 1798", "[2] %word = 65552 ($to+8)"]),
+    ("why 1", ["w $to+8 = 1798: stored by", "#8 $main @start 8", "[1] %value = 1798"]),
+    ("why 1", ["[1] w $to+8 = 1798"]),
+    ("why 1", ["byte 1 of w $to+8", "#3 $main @start 3  line 11: storeb 7, %byte", "bytes 0, 2, 3 of w $to+8",
                "#1 $main @start 1  line 9: blit $from, %to, 8", "[4] w $from+4 = 6"]),
     ("why 4", ["w $from+4 = 6 so since the start: line 3, $from"]),
     ("writers w $to+8", ["#1 ", "#3 ", "#6 ", "#7 ", "#8 ", "5 writes"]),
@@ -186,10 +209,10 @@ CAUSES: dict[pathlib.Path, Lines] = {
     ],
     # The index of row 1, column 2 is made with 2 in the place of 3.
     EXAMPLES / "transpose.ssa": [
-        ("c", ["done 5"]), ("why", ["[1] %t2 = 5"]), ("why 1", ["[2] w $to+20 = 5"]),
-        ("why 2", ["#105 $transpose @body 11", "[1] %t8 = 5"]),
-        ("why 1", ["%t8 =w loadsw %t7", "[1] %t7 = 65552 ($from+16)", "[2] w $from+16 = 5"]),
-        ("why 1", ["[1] %t6 = 16"]), ("why 1", ["[1] %t5 = 4"]),
+        ("c", ["done 5"]), ("why", ["[1] %t2 = 5"]), ("why 1", ["[1] w $to+20 = 5"]),
+        ("why 1", ["#105 $transpose @body 11", "[1] %t8 = 5"]),
+        ("why 1", ["%t8 =w loadsw %t7", "[1] w $from+16 = 5", "[2] %t7 = 65552 ($from+16)"]),
+        ("why 2", ["[1] %t6 = 16"]), ("why 1", ["[1] %t5 = 4"]),
         ("why 1", ["[1] %t4 = 4"]), ("why 1", ["[1] %t3 = 2", "[2] %column = 2"]),
         ("why 1", ["%t3 =w mul %row, 2", "[1] %row = 1"]),
     ],
@@ -211,10 +234,10 @@ CAUSES: dict[pathlib.Path, Lines] = {
     ],
     # A byte of a buffer of four is written before its beginning, over the count.
     EXAMPLES / "digits.ssa": [
-        ("c", ["done 822083587"]), ("why", []), ("why 1", ["[2] w frame 0 $main alloc %count+0 = 822083587"]),
-        ("why 2", ["[1] %t5 = 822083587"]),
-        ("why 1", ["[1] %t4 = 822083586"]), ("why 1", ["[2] w frame 0 $main alloc %count+0 = 822083586"]),
-        ("why 2", ["byte 3 of w frame 0 $main alloc %count+0", "#101 $number @digit 3",
+        ("c", ["done 822083587"]), ("why", []), ("why 1", ["[1] w frame 0 $main alloc %count+0 = 822083587"]),
+        ("why 1", ["[1] %t5 = 822083587"]),
+        ("why 1", ["[1] %t4 = 822083586"]), ("why 1", ["[1] w frame 0 $main alloc %count+0 = 822083586"]),
+        ("why 1", ["byte 3 of w frame 0 $main alloc %count+0", "#101 $number @digit 3",
                    "%at.next = 16777219 (frame 1 $main alloc %count+3)", "bytes 0, 1, 2 of w"]),
         ("why 2", ["%at.next =l sub %at, 1", "[1] %at = 16777220 (frame 0 $number alloc %buffer+0)"]),
     ],
@@ -235,8 +258,8 @@ CAUSES: dict[pathlib.Path, Lines] = {
         ("why 1", ["[1] %count = 0", "[2] %is.high = 0"]),
         ("why 2", ["line 8: ret %is.high"]), ("why 1", ["%is.high =w csgtw %byte, 127", "%byte = 4294967209 (-87)"]),
         ("why 1", ["is argument 1 of 1"]),
-        ("why 1", ["%byte =w loadsb %at", "[2] b $text+4 = 169 (-87)"]),
-        ("why 2", ["so since the start: line 3, $text"]),
+        ("why 1", ["%byte =w loadsb %at", "[1] b $text+4 = 169 (-87)"]),
+        ("why 1", ["so since the start: line 3, $text"]),
     ],
     # The first product is gone before it is added.
     OWN / "reuse.ssa": [
@@ -248,7 +271,9 @@ CAUSES: dict[pathlib.Path, Lines] = {
     OWN / "order.ssa": [
         ("c", ["done 0"]), ("why out 0", ['byte 0 of the output, 40 ("("), was written by', "[1] %digit = 40"]),
         ("why 1", ["[1] %left = 4294967288 (-8)"]),
-        ("why 1", ["line 6: ret %rest"]), ("why 1", ["%rest =w sub %from, %what", "[1] %from = 2", "[2] %what = 10"]),
+        ("why 1", ["line 6: ret %rest", "to the call", "call $less(w %small, w %large)",
+                   "[3] %small = 2  -> %from of $less", "[4] %large = 10  -> %what of $less"]),
+        ("why 1", ["%rest =w sub %from, %what", "[1] %from = 2", "[2] %what = 10"]),
         ("why 1", ["%from = 2 is argument 1 of 2 of the call", "[1] %small = 2  -> %from of $less",
                    "[2] %large = 10  -> %what of $less"]),
     ],

@@ -1,0 +1,160 @@
+"""The way that control took through a call, and why it didn't come to a block."""
+from __future__ import annotations
+
+from typing import Sequence
+
+from .causes import ASKED, Cause, Question
+from .expressions import Wrong
+from .levels import MOST_STOPS, own_hits, stop_line
+from .scratch import Refused
+from .shell import Shell, command
+from .text import Function
+from .timeline import Timeline
+
+# How many blocks a round of a loop has at most, for rounds to be told as one.
+MOST_BLOCKS_IN_ROUND = 32
+MOST_TOLD = 200
+
+
+@command("path", "path [$f]", "place", is_repeated=False)
+def path(shell: Shell, rest: str) -> None:
+    """Shows the blocks through which the call of the selected frame went up to here, with rounds of a loop as one line; of $f the
+    innermost call of it, or the last one that is over."""
+    function, at = call_of(shell, rest.strip())
+    blocks = blocks_of(shell, function, at)
+    rounds = folded([label for _, label in blocks])
+    shown, number = [], 0
+    for labels, times in rounds:
+        shown.append(f"  #{blocks[number][0]}  {' '.join(labels)}" + (f"  x {times}" if times > 1 else ""))
+        number += len(labels) * times
+    if len(shown) > MOST_TOLD:
+        shown[:-MOST_TOLD] = [f"  .. {len(shown) - MOST_TOLD} lines before are left out"]
+    times = f"{len(blocks)} blocks" if len(blocks) > 1 else "1 block"
+    shell.say(f"{function.name} went through {times}, from #{blocks[0][0]} to #{at.position}", *shown)
+
+
+def call_of(shell: Shell, name: str) -> tuple[Function, Timeline]:
+    """A function, and the last state in which a call of it was the innermost frame."""
+    session, functions = shell.session, shell.session.program.functions
+    if name and name not in functions:
+        raise Wrong(f"{name}: a function was expected, of {', '.join(functions)}"[:240])
+    at = shell.frames.before_end(session.timeline)
+    frames = shell.frames.where(at)
+    index = session.selected if session.frames() else 0
+    if name:
+        index = next((index for index, frame in enumerate(frames) if frame.function == name), -1)
+    if index < 0:
+        return functions[name], last_call(shell, name, at)
+    return functions[frames[index].function], shell.frames.frame(at, index)
+
+
+def last_call(shell: Shell, name: str, at: Timeline) -> Timeline:
+    """The last state before one in which a call of that function was about to return."""
+    returns = [(name, label, index) for label, index, instruction in shell.session.program.functions[name].places()
+               if instruction.operation == "ret"]
+    lines = [stop_line(place) for place in returns[:MOST_STOPS]]
+    hit = next(shell.session.scratch.go(at).hits(False, lines, most=1), None) if lines else None
+    if hit is None or hit.stop is None:
+        raise Refused(f"no call of {name} is over before #{at.position}, and none goes on")
+    return at.at(hit.position)
+
+
+def blocks_of(shell: Shell, function: Function, at: Timeline) -> list[tuple[int, str]]:
+    """The blocks through which a call went, each with the position at which it was entered, the first one first."""
+    labels = list(function.blocks)
+    found: set[tuple[int, str]] = set()
+    here = shell.frames.where(at)[0]
+    if here.index == 0:
+        found.add((at.position, here.label))
+    # A run takes a bounded number of stops, of which some may be wanted to tell the calls of the function apart.
+    size = MOST_STOPS // 2
+    for first in range(0, len(labels), size):
+        places = [(label, 0) for label in labels[first:first + size]]
+        found.update((position, place[0]) for position, place in
+                     own_hits(shell.session.program, shell.session.scratch, at, function.name, places))
+    # Behind a poke, a state stands at the place of the one before.
+    return sorted(each for each in found if not at.poke_at(each[0] - 1))
+
+
+def folded(labels: Sequence[str]) -> list[tuple[list[str], int]]:
+    """The same labels, where what comes several times in a row is one entry with its number. The shortest round counts."""
+    found: list[tuple[list[str], int]] = []
+    at = 0
+    while at < len(labels):
+        size, times = next(((size, times) for size in range(1, MOST_BLOCKS_IN_ROUND + 1)
+                            if (times := repetitions(labels, at, size)) > 1), (1, 1))
+        found.append((list(labels[at:at + size]), times))
+        at += size * times
+    return joined(found)
+
+
+def repetitions(labels: Sequence[str], at: int, size: int) -> int:
+    """How often the labels from one on, so many of them, come in a row."""
+    times = 1
+    while labels[at:at + size] == labels[at + size * times:at + size * (times + 1)] and at + size * times < len(labels):
+        times += 1
+    return times
+
+
+def joined(rounds: list[tuple[list[str], int]]) -> list[tuple[list[str], int]]:
+    """The same with what came once in one entry with what came once before."""
+    found: list[tuple[list[str], int]] = []
+    for labels, times in rounds:
+        if times == 1 and found and found[-1][1] == 1:
+            found[-1] = (found[-1][0] + labels, 1)
+        else:
+            found.append((labels, times))
+    return found
+
+
+def why_not(shell: Shell, label: str) -> Cause:
+    """Each jump that could have led to a block of the selected frame's function, with the way that it took last."""
+    frames = shell.session.frames()
+    if not frames:
+        raise Refused("the run is over; `back` goes into it, where a frame can be asked about")
+    at = shell.frames.frame(shell.session.timeline, shell.session.selected)
+    function = shell.session.program.functions[frames[shell.session.selected].function]
+    if label not in function.blocks:
+        raise Wrong(f"{label}: {function.name} has no such label; it has {', '.join(function.blocks)}"[:240])
+    jumps = [(block.label, len(block.body) - 1) for block in function.blocks.values() if label in block.body[-1].labels]
+    if not jumps:
+        return Cause(at, [f"no jump of {function.name} leads to {label}"])
+    reached = dict(last_times(shell, function, at, [*jumps, (label, 0)]))
+    cause = Cause(at, [])
+    for place in jumps:
+        tell_jump(shell, cause, function, at.at(reached[place]) if place in reached else None, place, label)
+    here = f"control came to {label} at #{reached[label, 0]}, and since then it could have by" if (label, 0) in reached else \
+        f"control didn't come to {label} in this call of {function.name}; it could have by"
+    cause.lines.insert(0, here)
+    return cause
+
+
+def last_times(shell: Shell, function: Function, at: Timeline, places: list[tuple[str, int]]) -> dict[tuple[str, int], int]:
+    """For each place of a call, the last position at which it stood there, if it did."""
+    found: dict[tuple[str, int], int] = {}
+    for first in range(0, len(places), MOST_STOPS // 2):
+        some = places[first:first + MOST_STOPS // 2]
+        for position, place in own_hits(shell.session.program, shell.session.scratch, at, function.name, some):
+            if place in some:
+                found.setdefault(place, position)
+            if all(each in found for each in some):
+                break
+    return found
+
+
+def tell_jump(shell: Shell, cause: Cause, function: Function, there: Timeline | None, place: tuple[str, int], label: str) -> None:
+    """Adds a jump to what is told, with the value by which it went another way, which can be asked about."""
+    block, index = place
+    jump = function.at(block, index)
+    if there is None:
+        cause.lines.append(f"  line {jump.line}: {jump.written()}  of {block}, which control didn't come to in this call")
+        return
+    causes = shell.causes
+    cause.lines.append(causes.line_told(there, *causes.innermost(there)))
+    taken = shell.session.scratch.go(there.at(there.position)).ask("step 1", "back 1")[0][-1].split()[2]
+    condition = jump.operands[0].text if jump.operands else ""
+    if not condition.startswith("%"):
+        cause.questions.append(causes.control(there, causes.innermost(there)[0]))
+    else:
+        cause.questions.append(Question(**{**vars(causes.temporary(condition, there)), "note": f"so it went to {taken}"}))
+    cause.lines.append(ASKED)
