@@ -142,13 +142,13 @@ def save_stops(shell: Shell, file: str) -> None:
     if not file:
         raise Wrong("save breakpoints FILE was expected")
     lines, left = [], []
-    for number, stop in enumerate(shell.runs.stops, 1):
+    for stop in shell.runs.stops:
         if not stop.typed:
             left.append(stop)
             continue
         lines.append(stop.typed)
-        lines += [f"ignore {number} {stop.ignored}"] * bool(stop.ignored)
-        lines += [] if stop.is_on else [f"disable {number}"]
+        lines += [f"ignore last {stop.ignored}"] * bool(stop.ignored)
+        lines += [] if stop.is_on else ["disable last"]
         lines += ["commands", *stop.commands, "end"] if stop.commands else []
     try:
         pathlib.Path(file).write_text("".join(line + "\n" for line in lines))

@@ -142,6 +142,9 @@ def memory_watch(shell: Shell, width: str, text: str) -> Stop:
 
 def stop_named(shell: Shell, text: str) -> Stop:
     known = {str(stop.number): stop for stop in shell.runs.stops}
+    if text == "last" and known:
+        # For lines of a file, which don't know the numbers.
+        return shell.runs.stops[-1]
     if text not in known:
         raise Wrong(f"{text or 'nothing'}: the number of a stop was expected; there are: {', '.join(known) or 'none'}")
     return known[text]
