@@ -100,9 +100,9 @@ class Gathering:
             if is_done and sent == len(self.parts):
                 return
 
-    def wait(self) -> Gathering:
+    def wait(self, seconds: float | None = None) -> Gathering:
         with self.news:
-            self.news.wait_for(lambda: self.is_done)
+            self.news.wait_for(lambda: self.is_done, seconds)
         return self
 
     # Gathering.
@@ -112,10 +112,10 @@ class Gathering:
         queue: SimpleQueue[tuple[int, int] | None] = SimpleQueue()
         follower = threading.Thread(target=self.gather_values, args=(queue,), daemon=True)
         try:
-            self.gather_begin()
+            pipe = self.gather_begin()
             follower.start()
             try:
-                self.gather_places(queue)
+                self.gather_places(pipe, queue)
             finally:
                 queue.put(None)
                 follower.join()
@@ -136,7 +136,8 @@ class Gathering:
             raise pipe.refused
         return pipe
 
-    def gather_begin(self) -> None:
+    def gather_begin(self) -> Pipe:
+        """The first state; the process that is in it."""
         pipe = self.process()
         place = pipe.loaded[1].split(" ", 1)[1]
         entry = self.table.program.functions[place.split(" ")[0]]
@@ -149,7 +150,7 @@ class Gathering:
         self.add(b"P", self.places.tobytes())
         if names:
             self.add_values(pipe.ask_text("".join(f"print {name}\n" for name in names)))
-        pipe.close()
+        return pipe
 
     def lead(self, pipe: Pipe, position: int) -> None:
         """Leads a new process to a position, by steps and by the pokes on the way."""
@@ -169,9 +170,8 @@ class Gathering:
         self.lead(pipe, position)
         return pipe
 
-    def gather_places(self, queue: SimpleQueue[tuple[int, int] | None]) -> None:
-        pipe, position, size = self.process(), 0, FIRST
-        is_over = False
+    def gather_places(self, pipe: Pipe, queue: SimpleQueue[tuple[int, int] | None]) -> None:
+        position, size, is_over = 0, FIRST, False
         while position < self.most and not is_over and not self.is_stopped:
             count = min(size, self.most - position)
             lines = self.lines(position, count)
@@ -209,7 +209,7 @@ class Gathering:
         asked = Asked(self.table)
         pipe = self.process()
         try:
-            while span := queue.get():
+            while (span := queue.get()) and not self.is_stopped:
                 begin, end = span
                 places = self.places[begin:end + 1]
                 lines = list(map(asked.__getitem__, zip(places, places[1:])))

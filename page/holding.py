@@ -27,6 +27,8 @@ from .table import Table
 MOST_MOVES = 1 << 21
 # How many objects, and bytes of each, are compared at a rest.
 MOST_OBJECTS, MOST_BYTES = 64, 256
+# How long the end of a gathering is waited for, in seconds.
+PATIENCE = 3
 POKE = re.compile(r"set %[\w.$]+ -?\d{1,20}|poke [bhwl] (\d{1,20}|\$[\w.$]+(\+\d{1,20})?) -?\d{1,20}", re.ASCII)
 
 
@@ -68,7 +70,7 @@ class Held:
     # The session.
 
     def check_position(self, position: Any) -> int:
-        last = len(self.gathering.places) - 1
+        last = len(self.gathering.wait().places) - 1
         if not isinstance(position, int) or isinstance(position, bool) or not 0 <= position <= last:
             raise Refused(f"a position from 0 to {last} was expected")
         return position
@@ -121,7 +123,9 @@ class Held:
 
     def close(self) -> None:
         if not self.refused:
+            # The copy of the text goes away with the session, so nothing may be started any more.
             self.gathering.stop()
+            self.gathering.wait(PATIENCE)
         self.session.close()
 
 

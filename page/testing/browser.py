@@ -19,6 +19,9 @@ OPTIONS = ("--headless=new", "--no-sandbox", "--disable-gpu", "--no-first-run", 
 READY = "document.documentElement.dataset.ready === 'yes'"
 FRAMES = "new Promise(done => requestAnimationFrame(() => requestAnimationFrame(done)))"
 SHIFT = 8
+# The codes of keys without a sign.
+CODES = {"Escape": 27, "Enter": 13, "Backspace": 8, "ArrowLeft": 37, "ArrowUp": 38, "ArrowRight": 39, "ArrowDown": 40, "End": 35,
+         "Home": 36}
 
 
 def found() -> str | None:
@@ -129,7 +132,7 @@ class Browser:
         text = {"text": key} if len(key) == 1 else {"text": "\r"} if key == "Enter" else {}
         for kind in ("keyDown", "keyUp"):
             self.send("Input.dispatchKeyEvent", type=kind, key=key, modifiers=SHIFT if shift else 0,
-                      **(text if kind == "keyDown" else {}))
+                      windowsVirtualKeyCode=CODES.get(key, 0), code=key if key in CODES else "", **(text if kind == "keyDown" else {}))
         self.settle()
 
     def keys(self, *keys: str) -> None:

@@ -20,16 +20,15 @@ from typing import Any, Callable, Iterator, Sequence
 from terminal.answers import Place
 from terminal.causes import Cause, Causes, Question
 from terminal.frames import Frames
-from terminal.pipe import Ended
-from terminal.scratch import Launch, Refused, Scratch
+from terminal.scratch import Launch, Scratch
 from terminal.screen import SourceMap
 from terminal.text import LOADED, STORED, Program
-from terminal.timeline import Timeline
+from terminal.timeline import Poke, Timeline
 from terminal.values import Names
 from terminal.waiting import Waiting
 
 from ..exporting import joined
-from ..gathering import Gathering, length_of
+from ..gathering import Gathering
 from ..table import Table
 
 HERE = pathlib.Path(__file__).resolve().parent
@@ -42,10 +41,10 @@ const found = JSON.parse(readFileSync(0, "utf8")).map(({told, stream, questions}
 const bytes = Buffer.from(JSON.stringify(found));
 for (let at = 0; at < bytes.length;) at += writeSync(1, bytes, at);
 """
-TOLD_MOVE = re.compile(r"^  #(\d+) ")
+TOLD_MOVE = re.compile(r"^(?:  |.* by hand: )#(\d+) ")
 NOT_SURE = "  stores of the same value behind that weren't looked for"
 # Moves that a random program is followed for; one that goes on is left out.
-MOST_MOVES = 20_000
+MOST_MOVES = 2_000
 # What a program and a question are to a test: the state, and what is asked there.
 Asked = list[Any]
 
@@ -66,8 +65,8 @@ class Case:
 class Terminal:
     """The terminal's `why`, asked about states of a run."""
 
-    def __init__(self, launch: Launch, program: Program):
-        self.program, self.scratch = program, Scratch(launch, Waiting())
+    def __init__(self, launch: Launch, program: Program, run: Timeline):
+        self.program, self.scratch, self.run = program, Scratch(launch, Waiting()), run
         names = Names(program)
         self.frames = Frames(program, names, self.scratch)
         self.causes = Causes(program, names, self.frames, self.scratch)
@@ -75,7 +74,7 @@ class Terminal:
     def answer(self, asked: Asked) -> Any:
         """What is wanted of the page, or None for a question that the terminal doesn't answer for sure."""
         of, position = asked[:2]
-        at = Timeline(position)
+        at = self.run.at(position)
         if of == "byte":
             return self.scratch.go(at).memory(asked[2], 1)[0]
         cause = self.cause(of, at, asked)
@@ -142,34 +141,39 @@ def questions_of(program: Program, gathering: Gathering, chosen: random.Random, 
         yield ["output", moves, index]
 
 
-def case_of(program_path: str, name: str, file: str, words: Sequence[str], states: int, seed: int, most: int = 1 << 21) -> Case | None:
-    """A run with questions and the terminal's answers; None of one that is refused or is too long."""
-    launch = Launch(program_path, file, tuple(words))
-    try:
-        if length_of(launch, most) is None:
-            return None
-    except Ended:
-        return None
-    program = Program(pathlib.Path(file).read_bytes())
-    table = Table(program)
-    gathering = Gathering(launch, table, most).begin().wait()
-    case = Case(name, table.told(name, SourceMap(pathlib.Path(file + ".map"))), b"".join(gathering.parts))
-    terminal = Terminal(launch, program)
+class Live:
+    """Addresses of data and of the stack that are live in a state, chosen at random."""
 
-    def live(position: int, chosen: random.Random) -> list[int]:
-        """Addresses of data and of the stack that are live in a state."""
+    def __init__(self, terminal: Terminal, gathering: Gathering, run: Timeline):
+        self.terminal, self.gathering, self.run = terminal, gathering, run
+
+    def __call__(self, position: int, chosen: random.Random) -> list[int]:
+        program, scratch = self.terminal.program, self.terminal.scratch
         found = [data.address + chosen.randrange(data.size) for data in chosen.sample(program.data, min(2, len(program.data)))
                  if data.size]
-        function = table.places[gathering.places[position]][0]
-        at = Timeline(position)
-        for each, value in terminal.scratch.go(at).temporaries().items():
-            is_made = any(one.result == each and one.operation.startswith("alloc")
-                          for _, _, one in program.functions[function].places())
-            if is_made and value is not None and terminal.scratch.memory(value, 1)[0] is not None:
+        function = self.gathering.table.places[self.gathering.places[position]][0]
+        made = {one.result for _, _, one in program.functions[function].places() if one.operation.startswith("alloc")}
+        for name, value in scratch.go(self.run.at(position)).temporaries().items():
+            if name in made and value is not None and scratch.memory(value, 1)[0] is not None:
                 found.append(value)
         return found
+
+
+def case_of(program_path: str, name: str, file: str, words: Sequence[str], states: int, seed: int, most: int = 1 << 21,
+            pokes: tuple[Poke, ...] = ()) -> Case | None:
+    """A run with questions and the terminal's answers; None of one that is refused or is too long."""
+    launch = Launch(program_path, file, tuple(words))
+    program = Program(pathlib.Path(file).read_bytes())
+    table = Table(program)
+    gathering = Gathering(launch, table, most, pokes=pokes)
+    gathering.gather()
+    if not gathering.end:
+        return None
+    case = Case(name, table.told(name, SourceMap(pathlib.Path(file + ".map"))), b"".join(gathering.parts))
+    run = Timeline(len(gathering.places) - 1, pokes)
+    terminal = Terminal(launch, program, run)
     try:
-        for asked in questions_of(program, gathering, random.Random(seed), states, live):
+        for asked in questions_of(program, gathering, random.Random(seed), states, Live(terminal, gathering, run)):
             wanted = terminal.answer(asked)
             if wanted is not None or asked[0] == "byte":
                 case.questions.append(asked)
@@ -189,10 +193,10 @@ def random_cases(program_path: str, count: int, folder: str) -> Iterator[Case]:
         text, arguments = random_program(random.Random(seed))
         file = pathlib.Path(folder) / f"{seed}.ssa"
         file.write_bytes(text)
-        try:
-            case = case_of(program_path, f"random program {seed}", str(file), list(map(str, arguments)), 2, seed, MOST_MOVES)
-        except (Refused, UnicodeDecodeError) as error:
-            raise RuntimeError(f"seed {seed}: {error}") from error
+        words = list(map(str, arguments))
+        if subprocess.run([program_path, str(file), *words], stdin=subprocess.DEVNULL, stdout=subprocess.DEVNULL).returncode:
+            continue
+        case = case_of(program_path, f"random program {seed}", str(file), words, 2, seed, MOST_MOVES)
         if case:
             count -= 1
             yield case
@@ -217,3 +221,63 @@ def faults_of(case: Case, given: list[Any]) -> Iterator[str]:
     for asked, wanted, answer in zip(case.questions, case.wanted, given):
         if not same(wanted, answer):
             yield f"{case.name}: {asked}: the page answers {answer} and the terminal {wanted}"
+
+
+# Tests.
+
+EXAMPLES = [*sorted((TOP / "examples").glob("*.ssa")), *sorted((TOP / "terminal" / "testing").glob("*.ssa"))]
+STATES, RANDOM = 8, 500
+
+
+def faults(cases: list[Case]) -> str | None:
+    """The first of the answers that differ, with how many do."""
+    if not any(case.questions for case in cases):
+        return "no question was asked"
+    given = answered_in_node(cases) if has_node() else answered_in_browser(cases)
+    found = [fault for case, answers in zip(cases, given) for fault in faults_of(case, answers)]
+    return f"{found[0]} ({len(found)} of {sum(len(case.questions) for case in cases)})" if found else None
+
+
+def answered_in_browser(cases: list[Case]) -> list[list[Any]]:
+    from .browser import Browser
+    browser = Browser()
+    try:
+        browser.run(f"(() => {{ {joined(CORE)} {(HERE / 'causes.js').read_text()} window.answersOf = answersOf; }})()")
+        call = "answersOf(given.told, Uint8Array.from(atob(given.stream), sign => sign.charCodeAt(0)), given.questions)"
+        return [browser.run(f"(given => {call})({json.dumps(case.given())})") for case in cases]
+    finally:
+        browser.close()
+
+
+def of_examples(program: str) -> str | None:
+    """Random states of the examples, which are the stories too, and of the terminal's own programs."""
+    cases = [case_of(program, file.stem, str(file), (), STATES, 1) for file in EXAMPLES]
+    return faults([case for case in cases if case])
+
+
+def of_random_programs(program: str) -> str | None:
+    with tempfile.TemporaryDirectory(prefix="page-") as folder:
+        return faults(list(random_cases(program, RANDOM, folder)))
+
+
+# Values by hand, each at a position, with the number of frames there.
+POKES = {"squares": (Poke(45, "poke w $bias 0", 2), Poke(61, "set %sum 100", 1)),
+         "account": (Poke(12, "poke w $balance 7", 2), Poke(14, "set %i 1", 1)), "digits": (Poke(40, "set %rest 77", 2),)}
+
+
+def of_pokes(program: str) -> str | None:
+    """The same where values were set by hand; of bytes that a poke wrote only what they are, since the terminal passes over a
+    poke that leaves a byte as it was."""
+    cases = []
+    for name, pokes in POKES.items():
+        case = case_of(program, f"{name} with pokes", str(TOP / "examples" / f"{name}.ssa"), (), STATES, 2, pokes=pokes)
+        if case:
+            kept = [index for index, asked in enumerate(case.questions) if asked[0] != "memory"]
+            case.questions = [case.questions[index] for index in kept]
+            case.wanted = [case.wanted[index] for index in kept]
+            cases.append(case)
+    return faults(cases)
+
+
+CASES: dict[str, Callable[[str], str | None]] = {"examples": of_examples, "random programs": of_random_programs,
+                                                 "values by hand": of_pokes}
