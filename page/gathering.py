@@ -23,7 +23,7 @@ from array import array
 from queue import SimpleQueue
 from typing import Any, Iterator
 
-from terminal.answers import read_bytes, read_output
+from terminal.answers import read_output
 from terminal.pipe import Ended, Pipe
 from terminal.scratch import Launch
 from terminal.text import DATA
@@ -258,7 +258,7 @@ def data_bytes(pipe: Pipe, table: Table) -> bytes:
 def live_bytes(pipe: Pipe, address: int, size: int) -> bytes:
     """So many bytes of memory; 0 for each that isn't live."""
     lines = [f"mem {address + at} {min(MOST_BYTES, size - at)}" for at in range(0, size, MOST_BYTES)]
-    return bytes(byte or 0 for answer in pipe.ask(*lines) for byte in read_bytes(answer[0]))
+    return b"".join(bytes.fromhex(answer[0].replace("--", "00")) for answer in pipe.ask(*lines))
 
 
 def length_of(launch: Launch, most: int) -> int | None:

@@ -22,6 +22,7 @@ from terminal.waiting import Waiting
 
 from .gathering import Gathering, length_of
 from .table import Table
+from .windows import Long
 
 # A run of at most so many moves is shown whole; of a longer one an overview, and windows.
 MOST_MOVES = 1 << 21
@@ -37,7 +38,7 @@ class Held:
 
     def __init__(self, launch: Launch, source: bytes, file: str, named: Sequence[str], texts: Sequence[str] | None = None,
                  most: int = MOST_MOVES):
-        self.launch, self.file, self.most = launch, file, most
+        self.launch, self.source, self.file, self.most = launch, source, file, most
         # What stands for the program on a command line of ./qrev, and what comes last there.
         self.named, self.texts = list(named), [] if texts is None else ["--", *texts]
         self.lock = threading.Lock()
@@ -49,15 +50,30 @@ class Held:
         self.program: Program = self.session.program
         self.table = Table(self.program)
         self.map = SourceMap(pathlib.Path(file + ".map"))
+        self.gathering: Gathering
         self.total = length_of(launch, most)
-        self.gathering = self.gathered(())
+        self.long: Long | None = None
+        if self.total is None:
+            self.begin_long()
+        else:
+            self.gathering = self.gathered(())
+
+    def begin_long(self) -> None:
+        """Of a run that is too long for arrays an overview is made, and its first window."""
+        # A session that keeps each move would take 24 bytes of each.
+        self.session.close()
+        self.launch = replace(self.launch, words=(*self.launch.words, "--replay"))
+        plain = replace(self.launch, words=self.launch.words[:-1])
+        self.session = Session(self.launch, self.source, self.waiting)
+        self.long = Long(plain, self.table)
+        self.gathering = self.long.window(0)
 
     def gathered(self, pokes: tuple[Poke, ...]) -> Gathering:
         return Gathering(self.launch, self.table, self.most, None if pokes else self.total, pokes).begin()
 
     def told(self) -> dict[str, Any]:
         """The program as the page reads it, and the command that plays its script."""
-        return {**self.table.told(self.title, self.map), "command": self.command()}
+        return {**self.table.told(self.title, self.map), "command": self.command(), "long": self.long is not None}
 
     @property
     def title(self) -> str:
@@ -70,7 +86,7 @@ class Held:
     # The session.
 
     def check_position(self, position: Any) -> int:
-        last = len(self.gathering.wait().places) - 1
+        last = self.long.overview.moves if self.long else len(self.gathering.wait().places) - 1
         if not isinstance(position, int) or isinstance(position, bool) or not 0 <= position <= last:
             raise Refused(f"a position from 0 to {last} was expected")
         return position
@@ -108,6 +124,8 @@ class Held:
         """A value by hand, which is a move of the session; the run from there on is gathered anew."""
         if not isinstance(line, str) or not POKE.fullmatch(line):
             raise Refused("`set %x VALUE` or `poke WIDTH ADDRESS VALUE` was expected, with a number")
+        if self.long:
+            raise Refused(f"a run of more than {self.most} moves is only looked at")
         if self.gathering.places[position] == self.table.end:
             raise Refused("the run is over here; go back into it first")
         self.go(position)
@@ -118,6 +136,14 @@ class Held:
         self.gathering = self.gathered(self.session.timeline.pokes)
         return self.answered()
 
+    def reach(self, position: int) -> dict[str, Any]:
+        """Another window of a long run, with a position in it."""
+        if not self.long:
+            raise Refused("all of this run is shown")
+        window = self.long.window(position)
+        self.gathering = window
+        return {"base": window.base}
+
     def script(self) -> str:
         return "".join(line + "\n" for line in self.session.lines)
 
@@ -126,6 +152,8 @@ class Held:
             # The copy of the text goes away with the session, so nothing may be started any more.
             self.gathering.stop()
             self.gathering.wait(PATIENCE)
+            if self.long:
+                self.long.close()
         self.session.close()
 
 

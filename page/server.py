@@ -101,6 +101,8 @@ class Handler(http.server.BaseHTTPRequestHandler):
             self.reply_json({**held.told(), "page": self.server.page})
         elif path == "api/stream":
             self.stream()
+        elif path == "api/overview" and held.long:
+            self.reply_json(held.long.overview.told())
         elif path == "api/script":
             self.reply(200, "text/plain; charset=utf-8", held.script().encode())
         elif (path or PAGE) in FILES:
@@ -149,9 +151,11 @@ class Handler(http.server.BaseHTTPRequestHandler):
     def acted(self, path: str, asked: dict[str, Any]) -> Any:
         """What a request of the page that leads the session is answered; None for an unknown one."""
         held = self.server.held
-        if path not in ("api/go", "api/poke"):
+        if path not in ("api/go", "api/poke", "api/window"):
             return None
         if asked.get("page") != self.server.page:
             raise Refused("another page leads this session now; reload this one to lead it again")
         position = held.check_position(asked.get("position"))
+        if path == "api/window":
+            return held.reach(position)
         return held.go(position) if path == "api/go" else held.poke(position, asked.get("line"))

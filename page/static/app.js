@@ -13,7 +13,7 @@ import {Values} from "./values.js";
 import {WIDTHS, spaced} from "./program.js";
 import {byId} from "./element.js";
 
-const MOST_PINS = 4, LEAST_WIDE = 12, SETTLE = 40, SAID = 4000;
+const MOST_PINS = 4, LEAST_WIDE = 12, SETTLE = 40, SAID = 4000, OVERVIEW = 120;
 
 class App {
   constructor() {
@@ -39,13 +39,14 @@ class App {
     byId("file").textContent = this.program.file;
     document.title = `${this.program.file} · qrev`;
     this.code.build();
-    await this.load();
+    if (this.program.long) await this.overviewed();
+    await this.load(this.long ? 0 : null);
     document.documentElement.dataset.ready = "yes";
   }
 
   listen() {
-    const acts = {first: () => this.go(0), back: () => this.go(this.cursor - 1), forth: () => this.go(this.cursor + 1),
-      last: () => this.go(this.run.moves), whole: () => this.show(0, this.run.moves), keys: () => byId("help").showModal(),
+    const acts = {first: () => this.goTo(0), back: () => this.go(this.cursor - 1), forth: () => this.go(this.cursor + 1),
+      last: () => this.goTo(this.wholeMoves), whole: () => this.show(0, this.run.moves), keys: () => byId("help").showModal(),
       theme: () => this.theme(), poke: () => this.poke(), script: () => this.script(), save: () => this.save()};
     for (const [id, act] of Object.entries(acts)) byId(id).addEventListener("click", () => (id === "theme" || this.run?.isComplete) && act());
     byId("position").addEventListener("change", event => this.typed(event.target));
@@ -58,9 +59,9 @@ class App {
   /** Takes the run from its source, and shows it: its calls while it comes, and then all. */
   async load(cursor = null, was = "") {
     const begun = performance.now(), before = this.run;
-    byId("progress").hidden = false;
+    if (!this.long) byId("progress").hidden = false;
     const run = await this.source.run(this.program, growing => this.growing(growing));
-    byId("progress").hidden = true;
+    if (!this.long) byId("progress").hidden = true;
     this.run = run;
     this.memory = new Memory(run);
     this.causes = new Causes(run, this.memory);
@@ -69,9 +70,9 @@ class App {
     this.header(was);
     this.cursor = cursor ?? run.moves;
     this.selected = 0;
-    this.view = before?.isComplete && cursor !== null ? [this.view[0], Math.min(run.moves, this.view[1])] : [0, Math.max(1, run.moves)];
+    this.view = before?.isComplete && cursor !== null && !this.long ? [this.view[0], Math.min(run.moves, this.view[1])] : [0, Math.max(1, run.moves)];
     if (this.view[1] - this.view[0] < LEAST_WIDE) this.view = [0, Math.max(1, run.moves)];
-    this.walk.begin(this.causes.root(this.cursor), 2);
+    this.walk.begin(this.long && !this.isAtEnd ? this.firstQuestion() : this.causes.root(this.cursor), 2);
     this.draw();
     this.code.heat();
     this.tree.draw();
@@ -81,10 +82,8 @@ class App {
 
   /** The run as far as it has come. */
   growing(run) {
-    if (this.run?.isComplete && this.run !== run) {
-      // The run before stays in view until the new one is whole.
-      return;
-    }
+    // The run before stays in view until the new one is whole.
+    if (this.run?.isComplete && this.run !== run) return;
     this.run = run;
     this.view = [0, Math.max(1, this.wholeMoves)];
     byId("moves").textContent = `${spaced(run.moves)} moves${run.total ? ` of ${spaced(run.total)}` : ""} gathered`;
@@ -94,17 +93,59 @@ class App {
   }
 
   header(was) {
-    const {run} = this, end = byId("end");
-    end.textContent = run.isOver ? run.end : "goes on";
-    end.title = end.textContent;
-    end.className = run.end.startsWith("fault") ? "pill is-fault" : "pill";
+    const {run, long} = this, end = byId("end"), told = long ? long.end : run.isOver ? run.end : "goes on";
+    end.textContent = end.title = told || "looking for the end";
+    end.className = told.startsWith("fault") ? "pill is-fault" : "pill";
     byId("was").textContent = was && was !== run.end ? `was ${was}` : "";
-    byId("moves").textContent = `${spaced(this.wholeMoves)} moves`;
+    byId("moves").textContent = `${spaced(this.wholeMoves)} moves${long ? `, ${spaced(run.moves)} shown` : ""}`;
+    byId("poke").hidden = !this.source.isLive || Boolean(long);
+  }
+
+  // Long runs.
+
+  /** Takes the overview as far as it has come, and goes on until it is whole. */
+  async overviewed() {
+    const told = await (await this.source.ask("api/overview")).json();
+    this.long = {...told, most: told.stacks.reduce((most, stack) => Math.max(most, stack.length), 1)};
+    if (this.run?.isComplete) {
+      this.header("");
+      this.timeline.draw();
+    }
+    byId("progress").hidden = told.isDone;
+    byId("progress").removeAttribute("value");
+    if (!told.isDone) setTimeout(() => this.overviewed().catch(() => {}), OVERVIEW);
+  }
+
+  /** Another window of a long run, with the cursor at a position of the whole run; of many wishes the last one counts. */
+  async reach(position) {
+    this.wished = Math.max(0, Math.min(this.long.moves, position));
+    if (this.isReaching) return;
+    this.isReaching = true;
+    const begun = performance.now();
+    try {
+      while (this.wished !== null) {
+        const there = this.wished;
+        this.wished = null;
+        const {base} = await (await this.source.ask("api/window", {position: there})).json();
+        await this.load(there - base);
+      }
+    } catch (error) {
+      this.say(error.message);
+    }
+    this.isReaching = false;
+    this.reachedIn = performance.now() - begun;
+  }
+
+  /** To a position of the whole run. */
+  goTo(position) {
+    const here = position - this.run.base;
+    if (this.long && (here < 0 || here > this.run.moves)) this.reach(position); else this.go(here);
   }
 
   // Where things are.
 
   get wholeMoves() {
+    if (this.long) return Math.max(1, this.long.moves, this.run.base + this.run.moves);
     return Math.max(1, this.run.isComplete ? this.run.moves : this.run.total ?? this.run.moves);
   }
 
@@ -141,6 +182,11 @@ class App {
   }
 
   go(position) {
+    const whole = position + this.run.base;
+    if (this.long && (position < 0 || position > this.run.moves) && whole >= 0 && whole <= this.long.moves) {
+      this.reach(whole);
+      return;
+    }
     this.move(position);
     const {run, cursor} = this, place = run.placeAt(cursor);
     byId("heard").textContent = place ? `${run.placeLine(cursor)}, line ${place.instruction.line}: ${place.instruction.text}` : run.placeLine(cursor);
@@ -150,7 +196,7 @@ class App {
 
   typed(input) {
     const digits = input.value.replace(/\D/g, "");
-    if (digits) this.go(Number(digits) - this.run.base);
+    if (digits) this.goTo(Number(digits));
     input.blur();
     this.draw();
   }
@@ -181,7 +227,9 @@ class App {
   }
 
   select(index) {
-    this.selected = Math.max(0, Math.min(this.run.framesOf(this.cursor).length - 1, index));
+    const {run, cursor} = this, known = run.framesOf(cursor).filter(frame => run.innermostState(frame, cursor) >= 0);
+    if (index >= known.length && known.length < run.framesOf(cursor).length) this.say("where this frame stands was set before this window");
+    this.selected = Math.max(0, Math.min(known.length - 1, index));
     this.draw();
   }
 

@@ -9,7 +9,7 @@ function table(app) {
     ["⇧← ⇧→", "the same over calls", {}],
     ["[ ]", "the last, the next time that this line runs", {"[": () => app.again(-1), "]": () => app.again(1)}],
     ["{ }", "to the call of this frame, to its return", {"{": () => app.out(-1), "}": () => app.out(1)}],
-    ["Home End", "the start, the end", {Home: () => app.go(0), End: () => app.go(app.run.moves)}],
+    ["Home End", "the start, the end", {Home: () => app.goTo(0), End: () => app.goTo(app.wholeMoves)}],
     ["g", "to a position", {g: () => byId("position").select()}],
     ["u d", "the frame that called, the frame that was called", {u: () => app.select(app.selected + 1), d: () => app.select(app.selected - 1)}],
     ["w", "why: the end, or the first operand", {w: () => app.ask(app.firstQuestion())}],
