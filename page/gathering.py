@@ -34,10 +34,11 @@ from .table import Table
 # Moves that are asked for at a time: few at first, so that something is drawn at once.
 FIRST, CHUNK = 2_000, 40_000
 MOST_BYTES = 256
-NUMBERED = re.compile(r"^#\d+ ", re.MULTILINE)
+# What stands behind the position of a place line, or in a refusal.
+PLACE = re.compile(r" (.*)\n")
 VALUE = re.compile(r"= (\d+)\n")
 UNSET = " unset\n"
-AT_END, NO_MEMORY = "no: at end", "stop: memory"
+AT_END, NO_MEMORY = "at end", "memory"
 STEP = "step"
 
 
@@ -191,7 +192,7 @@ class Gathering:
 
     def take_places(self, told: str) -> bool:
         """Keeps the places that were told; True where the run is over."""
-        lines = NUMBERED.sub("", told).split("\n")[:-1]
+        lines = PLACE.findall(told)
         known = len(self.places)
         try:
             self.places.extend(map(self.table.ids.__getitem__, lines))
@@ -215,7 +216,8 @@ class Gathering:
                 lines = list(map(asked.__getitem__, zip(places, places[1:])))
                 for poke in (at for at in self.pokes if begin <= at < end):
                     lines[poke - begin] = poke_asked(self.pokes[poke])
-                text = "\n".join(lines) + "\n"
+                # Moves that set nothing are made by one line with the next one.
+                text = ("\n".join(lines) + "\n").replace("step\nstep\nprint", "step 2\nprint")
                 pipe = self.with_room(pipe, len(text), begin)
                 self.add_values(pipe.ask_text(text))
         except (Ended, OSError) as error:

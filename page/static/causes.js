@@ -196,7 +196,33 @@ export class Causes {
   }
 
   of_end({position}) {
-    return this.executed(this.run.beforeEnd(position), "comes of");
+    const {end} = this.run, move = this.run.beforeEnd(position), cause = this.executed(move, "comes of");
+    const address = /^fault dead address (\d+)$/.exec(end)?.[1];
+    if (address) cause.note = this.deadNote(BigInt(address));
+    else if (end === "fault stack full") cause.note = this.stackNote(move);
+    return cause;
+  }
+
+  /** What lies near an address without bytes. */
+  deadNote(address) {
+    const {program} = this, number = BigInt.asIntN(64, address), isNear = number >= 0n && number <= 0xffffffffn;
+    if (isNear && program.isStack(Number(number))) return `${address} is in the stack, above its top`;
+    if (!program.data.length) return `${address} is neither in the data nor in the stack`;
+    const far = ({address: begin, size}) => [BigInt(begin) - number, number - BigInt(begin + size), 0n].reduce((one, other) => one > other ? one : other);
+    const data = program.data.reduce((one, other) => far(other) < far(one) ? other : one), offset = number - BigInt(data.address);
+    return `the nearest data is ${data.name}, of ${data.size} bytes: ${data.name}${offset < 0n ? "" : "+"}${offset}`;
+  }
+
+  /** Which allocs of the innermost frame took how much of the stack. */
+  stackNote(position) {
+    const {run} = this, counts = new Map(), {func} = run.placeAt(position);
+    for (const {instruction} of run.program.table.slice(func.entry, func.last)) if (ALLOCATIONS.has(instruction.op)) counts.set(instruction, 0);
+    for (let at = run.before(position); at >= 0; at = run.before(at)) {
+      const {instruction} = run.placeAt(at);
+      if (counts.has(instruction) && run.pokes[at] === undefined) counts.set(instruction, counts.get(instruction) + 1);
+    }
+    const told = [...counts].map(([{line, text}, count]) => `${count} by line ${line}: ${text}`);
+    return `this call of ${func.name} has made ${told.join(", ")}`;
   }
 
   of_output({position, index}) {
@@ -242,9 +268,4 @@ export class Causes {
     if (kind === KINDS.alloc) return this.executed(move, "made, as zeros, by");
     return this.executed(move, "stored by", {address: found[0], count: found.at(-1) - found[0] + 1});
   }
-}
-
-/** Whether an instruction makes room on the stack. */
-export function isAllocation(instruction) {
-  return ALLOCATIONS.has(instruction.op);
 }

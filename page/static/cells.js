@@ -125,7 +125,7 @@ export class Cells {
   age(write) {
     const {memory, cursor} = this.app;
     if (write < 0) return 0;
-    return Math.round(100 - 72 * Math.min(1, Math.log1p(cursor - memory.writes.pos[write]) / Math.log1p(Math.max(30, cursor))));
+    return Math.round(82 - 56 * Math.min(1, Math.log1p(cursor - memory.writes.pos[write]) / Math.log1p(Math.max(30, cursor))));
   }
 
   /** What the next move makes of a piece. */

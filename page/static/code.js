@@ -2,7 +2,7 @@
 import {STORED, lowerBound} from "./program.js";
 import {byId, classes, element} from "./element.js";
 
-const TALL = 20, TAB = "    ", TOP = 4;
+const TALL = 20, TAB = "    ";
 // Lines that are elements at a time; a longer text is cut to what is near the place.
 const MOST_LINES = 3000, MARGIN = 1000;
 const MOST_STATES = 4000;
@@ -34,6 +34,10 @@ export class Code {
     this.app = app;
     box.addEventListener("click", event => this.click(event));
     box.addEventListener("scroll", () => this.scrolled());
+    new ResizeObserver(() => {
+      this.scrolledLine = 0;
+      if (app.run?.isComplete) this.scrollTo(app.place);
+    }).observe(box);
   }
 
   click(event) {
@@ -73,7 +77,7 @@ export class Code {
   }
 
   scrolled() {
-    const line = Math.floor((this.box.scrollTop - TOP) / TALL), shown = line + this.box.clientHeight / TALL;
+    const line = Math.floor(this.box.scrollTop / TALL), shown = line + this.box.clientHeight / TALL;
     const isNear = (line > this.first + MARGIN / 2 || this.first === 1) && (shown < this.last - MARGIN / 2 || this.last === this.lines.length);
     if (this.lines.length > MOST_LINES && !isNear) this.redraw(line);
   }
@@ -110,10 +114,11 @@ export class Code {
   scrollTo({func, instruction: {line}}) {
     if (this.scrolledLine === line) return;
     this.scrolledLine = line;
-    const top = (line - 1) * TALL + TOP, {scrollTop, clientHeight} = this.box, start = (func.line - 1) * TALL + TOP;
-    if (top < scrollTop + 24 || top > scrollTop + clientHeight - 60) {
-      this.box.scrollTop = top - start < clientHeight - 70 ? start - 14 : top - clientHeight / 2;
-    }
+    const top = (line - 1) * TALL, {scrollTop, clientHeight} = this.box, start = (func.line - 1) * TALL;
+    if (top >= scrollTop + TALL && top <= scrollTop + clientHeight - 3 * TALL) return;
+    const wanted = top - start < clientHeight - 4 * TALL ? start : top - clientHeight / 2;
+    // No line is cut at the top.
+    this.box.scrollTop = Math.max(0, Math.round(wanted / TALL) * TALL);
   }
 
   /** Beside each line of the frame's function the value that it set last, found by going back along the frame. */

@@ -43,14 +43,20 @@ class Extremes {
     return {least, most};
   }
 
-  /** The first index whose set is by a move from `position` on. */
-  index(position) {
-    let low = 0, high = this.sets.length;
+  /** The first index of some sets, in the order of time, whose set is by a move from `position` on. */
+  index(position, sets = this.sets) {
+    let low = 0, high = sets.length;
     while (low < high) {
       const middle = (low + high) >>> 1;
-      if (this.run.setPos[this.sets[middle]] < position) low = middle + 1; else high = middle;
+      if (this.run.setPos[sets[middle]] < position) low = middle + 1; else high = middle;
     }
     return low;
+  }
+
+  /** The sets of one frame that are seen from a position to another one, with the one before. */
+  own(id, frame, from, to) {
+    const sets = this.run.setsInFrame(id, frame);
+    return sets.subarray(Math.max(0, this.index(from, sets) - 1), this.index(to, sets));
   }
 }
 
@@ -63,20 +69,28 @@ export function extremesOf(run, id) {
 /** Draws a plot into a box; gives the least and the greatest value that are seen. */
 export function plot(context, app, id, box, color) {
   const {run} = app, [from, to] = app.view, values = extremesOf(run, id);
-  const low = Math.max(0, values.index(from) - 1), high = values.index(to);
+  const low = Math.max(0, values.index(from) - 1), high = values.index(to), own = values.own(id, app.frame, from, to);
   const {least, most} = values.between(low, high);
   if (!(least <= most)) return null;
   const scale = {x: position => box.left + (position - from) / (to - from) * box.wide,
     y: value => most === least ? box.top + box.tall / 2 : box.top + box.tall - 3 - (value - least) / (most - least) * (box.tall - 6)};
-  if (high - low > 3 * box.wide) dense(context, values, {low, high}, box, scale, app, color);
-  else steps(context, values, {low, high}, box, scale, app, color);
+  const isDense = high - low > 3 * box.wide, isOwn = own.length > .9 * (high - low);
+  if (isDense) columns(context, values, high, box, scale, app, color(isOwn ? "spark" : "spark-other"));
+  else if (!isOwn) stepLine(context, values, values.sets.subarray(low, high), app.frame, scale, app, color("spark-other"));
+  if (!isDense || !isOwn) stepLine(context, values, thinned(own, 4 * box.wide), null, scale, app, color("spark"));
   return {least, most};
 }
 
+/** Of so many values that one wouldn't be seen beside the next one, every so many. */
+function thinned(sets, most) {
+  const stride = Math.ceil(sets.length / most);
+  return stride > 1 ? sets.filter((_, index) => index % stride === 0) : sets;
+}
+
 /** So many values that a column has several: what lies between its least and its greatest one. */
-function dense(context, values, {high}, box, scale, app, color) {
-  const [from, to] = app.view, {run} = app;
-  context.fillStyle = color("spark-other");
+function columns(context, values, high, box, scale, app, color) {
+  const [from, to] = app.view;
+  context.fillStyle = color;
   let begin = values.index(from);
   for (let x = 0; x < box.wide; x++) {
     const end = x + 1 >= box.wide ? high : values.index(from + (x + 1) / box.wide * (to - from));
@@ -86,30 +100,23 @@ function dense(context, values, {high}, box, scale, app, color) {
     }
     begin = end;
   }
-  const own = app.frame, begun = run.frames.begin[own], ended = Math.min(run.endOf(own), begun + 200000);
-  stepLine(context, values, values.index(begun - 1), values.index(ended), frame => frame === own, scale, app, color("spark"));
 }
 
-function steps(context, values, {low, high}, box, scale, app, color) {
-  stepLine(context, values, low, high, frame => frame !== app.frame, scale, app, color("spark-other"));
-  stepLine(context, values, low, high, frame => frame === app.frame, scale, app, color("spark"));
-}
-
-/** Each value of some frames as a level, from the move that set it to the next one of its frame. */
-function stepLine(context, values, low, high, isWanted, scale, app, color) {
-  const {run} = app, {sets} = values;
+/** Each value as a level, from the move that set it to the next one of its frame; those of one frame are left out. */
+function stepLine(context, values, sets, without, scale, app, color) {
+  const {run} = app;
   context.strokeStyle = color;
   context.lineWidth = 1.25;
   context.beginPath();
   let level = null;
-  for (let index = low; index < high; index++) {
+  for (let index = 0; index < sets.length; index++) {
     const set = sets[index], frame = run.frameOfSet(set), value = values.number(set);
-    if (!isWanted(frame) || Number.isNaN(value)) {
+    if (frame === without || Number.isNaN(value)) {
       level = null;
       continue;
     }
     const begin = scale.x(run.setPos[set] + 1), y = scale.y(value);
-    const isSame = index + 1 < high && run.frameOfSet(sets[index + 1]) === frame;
+    const isSame = index + 1 < sets.length && run.frameOfSet(sets[index + 1]) === frame;
     const end = isSame ? run.setPos[sets[index + 1]] + 1 : Math.min(run.endOf(frame), app.view[1]);
     if (level === frame) context.lineTo(begin, y); else context.moveTo(begin, y);
     context.lineTo(Math.max(begin + .8, scale.x(end)), y);

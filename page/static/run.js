@@ -217,6 +217,20 @@ export class Run {
     return set >= 0 && this.frameOfSet(set) === frame ? set : -1;
   }
 
+  /** The sets of a temporary in one frame, in the order of time. */
+  setsInFrame(id, frame) {
+    const {order, starts} = this.byFrame;
+    const from = wanted => {
+      let low = starts[id], high = starts[id + 1];
+      while (low < high) {
+        const middle = (low + high) >>> 1;
+        if (this.frameOfSet(order[middle]) < wanted) low = middle + 1; else high = middle;
+      }
+      return low;
+    };
+    return order.subarray(from(frame), from(frame + 1));
+  }
+
   /** The sets of a temporary in the order of time. */
   setsInTime(id) {
     return this.inTime.order.subarray(this.inTime.starts[id], this.inTime.starts[id + 1]);

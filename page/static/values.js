@@ -2,7 +2,8 @@
 import {classes, element} from "./element.js";
 import {plot} from "./plot.js";
 
-const MOST_FRAMES = 40;
+// Of more frames the outermost two and the innermost ones are shown.
+const MOST_FRAMES = 12, OUTERMOST = 2;
 
 export class Values {
   constructor(box, app) {
@@ -20,13 +21,19 @@ export class Values {
 
   /** The frames of the state, the outermost first: a click looks into one. */
   frames() {
-    const {app} = this, {run} = app, frames = run.framesOf(app.cursor);
-    const tabs = frames.slice(0, MOST_FRAMES).map((frame, index) => element("button",
-      {class: classes("frame", index === app.selected && "is-on"), "aria-pressed": String(index === app.selected),
-        onclick: () => app.select(index), title: `${run.funcOf(frame).name}, called at #${run.frames.begin[frame] + run.base}`},
-      element("i", {class: "swatch", css: {background: `var(--f${run.frames.func[frame] % 8})`}}), run.funcOf(frame).name)).reverse();
-    const more = frames.length > MOST_FRAMES ? element("span", {class: "more"}, `${frames.length - MOST_FRAMES} more`) : null;
-    return element("div", {class: "frames", role: "group", "aria-label": "frames"}, more, ...tabs);
+    const {app} = this, {run} = app, frames = run.framesOf(app.cursor), count = frames.length;
+    const tab = (frame, index) => {
+      const isKnown = run.innermostState(frame, app.cursor) >= 0, called = run.frames.begin[frame] - 1;
+      return element("button", {class: classes("frame", index === app.selected && "is-on"), "aria-pressed": String(index === app.selected),
+        disabled: !isKnown, onclick: () => app.select(index),
+        title: isKnown && called >= 0 ? `${run.funcOf(frame).name}, called at #${called + run.base}` : run.funcOf(frame).name},
+      element("i", {class: "swatch", css: {background: `var(--f${run.frames.func[frame] % 8})`}}), run.funcOf(frame).name);
+    };
+    const tabs = frames.map((frame, index) => [frame, index]).filter(([, index]) => count <= MOST_FRAMES || index < MOST_FRAMES - OUTERMOST
+      || index >= count - OUTERMOST || index === app.selected).map(([frame, index]) => tab(frame, index)).reverse();
+    const left = count - tabs.length;
+    if (left) tabs.splice(OUTERMOST, 0, element("span", {class: "more"}, `${left} frames more`));
+    return element("div", {class: "frames", role: "group", "aria-label": "frames"}, ...tabs);
   }
 
   row([name, width, id]) {
