@@ -147,10 +147,13 @@ class Function:
 
 @dataclass(frozen=True)
 class Data:
+    """An object: where it lies, at which of its bytes an address of what begins, and the name of its section."""
     name: str
     line: int
     address: int
     size: int
+    pointers: tuple[tuple[int, str], ...] = ()
+    section: str = ""
 
 
 class Reader:
@@ -161,6 +164,7 @@ class Reader:
         self.at = 0
         self.functions: dict[str, Function] = {}
         self.data: list[Data] = []
+        self.section = ""
 
     @property
     def token(self) -> Token:
@@ -184,10 +188,15 @@ class Reader:
     def read(self) -> None:
         while self.token.kind != "end":
             word = self.take()
-            if word.text == "data":
+            if word.text == "section":
+                self.skip_newlines()
+                self.section = self.take().text[1:-1]
+            elif word.text == "data":
                 self.read_data()
+                self.section = ""
             elif word.text == "function":
                 self.read_function()
+                self.section = ""
 
     def read_data(self) -> None:
         """An object, behind its word; it lies at the next multiple of its alignment."""
@@ -199,6 +208,7 @@ class Reader:
                 self.skip_newlines()
                 alignment = int(self.take().text)
         letter, is_first = "b", True
+        pointers = []
         while not self.skip("}"):
             token = self.take()
             if token.kind == "word":
@@ -207,10 +217,12 @@ class Reader:
                 self.skip_newlines()
                 self.take()
             elif token.kind in ("number", "string", "global"):
+                if token.kind == "global":
+                    pointers.append((size, token.text))
                 size += item_size(letter, token, is_first)
                 is_first = False
         end = self.data[-1].address + self.data[-1].size if self.data else DATA
-        self.data.append(Data(name.text, name.line, -(-end // alignment) * alignment, size))
+        self.data.append(Data(name.text, name.line, -(-end // alignment) * alignment, size, tuple(pointers), self.section))
 
     def read_function(self) -> None:
         type = self.take().text if self.token.kind == "word" else None

@@ -1,0 +1,162 @@
+"""What the server holds: the session that the page leads, and the arrays of its run.
+
+Whatever the page does to the session is a line of the command language, and is kept. At each rest of its cursor the page is
+told what the session answers there, and compares that with what it shows.
+"""
+from __future__ import annotations
+
+import pathlib
+import re
+import shlex
+import threading
+from dataclasses import replace
+from typing import Any, Sequence
+
+from terminal.answers import read_value
+from terminal.scratch import Launch, Refused
+from terminal.screen import SourceMap
+from terminal.session import Session
+from terminal.text import Program
+from terminal.timeline import Poke, Timeline
+from terminal.waiting import Waiting
+
+from .gathering import Gathering, length_of
+from .table import Table
+from .windows import Long
+
+# A run of at most so many moves is shown whole; of a longer one an overview, and windows.
+MOST_MOVES = 1 << 21
+# How many objects, and bytes of each, are compared at a rest.
+MOST_OBJECTS, MOST_BYTES = 64, 256
+# How long the end of a gathering is waited for, in seconds.
+PATIENCE = 3
+POKE = re.compile(r"set %[\w.$]+ -?\d{1,20}|poke [bhwl] (\d{1,20}|\$[\w.$]+(\+\d{1,20})?) -?\d{1,20}", re.ASCII)
+
+
+class Held:
+    """The session of one run, and what is gathered of it."""
+
+    def __init__(self, launch: Launch, source: bytes, file: str, named: Sequence[str], texts: Sequence[str] | None = None,
+                 most: int = MOST_MOVES):
+        self.launch, self.source, self.file, self.most = launch, source, file, most
+        # What stands for the program on a command line of ./qrev, and what comes last there.
+        self.named, self.texts = list(named), [] if texts is None else ["--", *texts]
+        self.lock = threading.Lock()
+        self.waiting = Waiting()
+        self.session = Session(launch, source, self.waiting)
+        self.refused = self.session.pipe.refused
+        if self.refused:
+            return
+        self.program: Program = self.session.program
+        self.table = Table(self.program)
+        self.map = SourceMap(pathlib.Path(file + ".map"))
+        self.gathering: Gathering
+        self.total = length_of(launch, most)
+        self.long: Long | None = None
+        if self.total is None:
+            self.begin_long()
+        else:
+            self.gathering = self.gathered(())
+
+    def begin_long(self) -> None:
+        """Of a run that is too long for arrays an overview is made, and its first window."""
+        # A session that keeps each move would take 24 bytes of each.
+        self.session.close()
+        self.launch = replace(self.launch, words=(*self.launch.words, "--replay"))
+        plain = replace(self.launch, words=self.launch.words[:-1])
+        self.session = Session(self.launch, self.source, self.waiting)
+        self.long = Long(plain, self.table)
+        self.gathering = self.long.window(0)
+
+    def gathered(self, pokes: tuple[Poke, ...]) -> Gathering:
+        return Gathering(self.launch, self.table, self.most, None if pokes else self.total, pokes).begin()
+
+    def told(self) -> dict[str, Any]:
+        """The program as the page reads it, and the command that plays its script."""
+        return {**self.table.told(self.title, self.map), "command": self.command(), "long": self.long is not None}
+
+    @property
+    def title(self) -> str:
+        """The program's file, or the texts that it was lowered from."""
+        return " ".join(pathlib.Path(name).name for name in self.named if name != "--lower")
+
+    def command(self) -> str:
+        return f"./qrev {shlex.join([*self.named, *self.launch.words, *self.texts])}"
+
+    # The session.
+
+    def check_position(self, position: Any) -> int:
+        last = self.long.overview.moves if self.long else len(self.gathering.wait().places) - 1
+        if not isinstance(position, int) or isinstance(position, bool) or not 0 <= position <= last:
+            raise Refused(f"a position from 0 to {last} was expected")
+        return position
+
+    def pokes(self) -> tuple[Poke, ...]:
+        return tuple(Poke(position, line) for position, line in sorted(self.gathering.pokes.items()))
+
+    def go(self, position: int) -> dict[str, Any]:
+        """Leads the session to a state of the run that is shown, by steps and the pokes that were made on the way there."""
+        self.session.go(Timeline(position, self.shown_pokes()).at(position))
+        return self.answered()
+
+    def shown_pokes(self) -> tuple[Poke, ...]:
+        """The pokes of the run that is shown, as the session knows them where it made them."""
+        made = {(poke.position, poke.line): poke for poke in self.session.timeline.pokes}
+        return tuple(made.get((poke.position, poke.line), poke) for poke in self.pokes())
+
+    def answered(self) -> dict[str, Any]:
+        """What the session itself says where it stands, for the page to compare."""
+        session = self.session
+        values = {}
+        if not session.place.end:
+            for line in session.ask("temps"):
+                if line.startswith("%"):
+                    value = read_value(line)
+                    values[line.split(" ")[0]] = None if value is None else str(value)
+        data = [[each.address, bytes(byte or 0 for byte in session.memory(each.address, min(each.size, MOST_BYTES))).hex()]
+                for each in self.program.data[:MOST_OBJECTS] if each.size]
+        written = int(session.ask("out")[0].split(" ")[1])
+        frames = [f"{place.function} {place.label} {place.index}" for place in session.frames()]
+        return {"place": str(session.place), "values": values, "frames": frames, "data": data, "written": written,
+                "lines": len(session.lines)}
+
+    def poke(self, position: int, line: Any) -> dict[str, Any]:
+        """A value by hand, which is a move of the session; the run from there on is gathered anew."""
+        if not isinstance(line, str) or not POKE.fullmatch(line):
+            raise Refused("`set %x VALUE` or `poke WIDTH ADDRESS VALUE` was expected, with a number")
+        if self.long:
+            raise Refused(f"a run of more than {self.most} moves is only looked at")
+        if self.gathering.places[position] == self.table.end:
+            raise Refused("the run is over here; go back into it first")
+        self.go(position)
+        answer = self.session.change(line)
+        if answer[0].startswith("no: "):
+            raise Refused(f"{line}: {answer[0][4:]}")
+        self.gathering.stop()
+        self.gathering = self.gathered(self.session.timeline.pokes)
+        return self.answered()
+
+    def reach(self, position: int) -> dict[str, Any]:
+        """Another window of a long run, with a position in it."""
+        if not self.long:
+            raise Refused("all of this run is shown")
+        window = self.long.window(position)
+        self.gathering = window
+        return {"base": window.base}
+
+    def script(self) -> str:
+        return "".join(line + "\n" for line in self.session.lines)
+
+    def close(self) -> None:
+        if not self.refused:
+            # The copy of the text goes away with the session, so nothing may be started any more.
+            self.gathering.stop()
+            self.gathering.wait(PATIENCE)
+            if self.long:
+                self.long.close()
+        self.session.close()
+
+
+def without_bounds(launch: Launch) -> Launch:
+    """A launch whose processes keep all moves: the page goes everywhere."""
+    return replace(launch, history=None, words=tuple(word for word in launch.words if not word.startswith("--replay")))

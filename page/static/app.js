@@ -1,0 +1,452 @@
+// The page: what is shown, where the cursor stands, and what the acts do.
+import {Agreed} from "./agreed.js";
+import {Causes} from "./causes.js";
+import {Cells} from "./cells.js";
+import {Code} from "./code.js";
+import {Keys} from "./keys.js";
+import {Memory} from "./memory.js";
+import {Output} from "./output.js";
+import {Source} from "./source.js";
+import {Timeline} from "./timeline.js";
+import {Tree, Walk} from "./tree.js";
+import {Values} from "./values.js";
+import {WIDTHS, spaced} from "./program.js";
+import {byId} from "./element.js";
+
+const MOST_PINS = 4, LEAST_WIDE = 12, SETTLE = 40, SAID = 4000, OVERVIEW = 120;
+
+class App {
+  constructor() {
+    this.source = new Source();
+    this.agreed = new Agreed(this);
+    this.cursor = this.selected = this.line = 0;
+    this.view = [0, 1];
+    this.pins = [];
+    this.walk = new Walk(this);
+    this.timeline = new Timeline(byId("timeline"), this);
+    this.code = new Code(byId("code"), this);
+    this.values = new Values(byId("values"), this);
+    this.tree = new Tree(byId("causes"), this);
+    this.cells = new Cells(byId("memory"), this);
+    this.output = new Output(byId("output"), this);
+    this.readColors();
+  }
+
+  async begin() {
+    this.keys = new Keys(this);
+    this.listen();
+    this.program = await this.source.program();
+    byId("file").textContent = this.program.file;
+    document.title = `${this.program.file} · qrev`;
+    this.code.build();
+    if (this.program.long) await this.overviewed();
+    await this.load(this.long ? 0 : null);
+    document.documentElement.dataset.ready = "yes";
+  }
+
+  listen() {
+    const acts = {first: () => this.goTo(0), back: () => this.go(this.cursor - 1), forth: () => this.go(this.cursor + 1),
+      last: () => this.goTo(this.wholeMoves), whole: () => this.show(0, this.run.moves), keys: () => byId("help").showModal(),
+      theme: () => this.theme(), poke: () => this.poke(), script: () => this.script(), save: () => this.save()};
+    for (const [id, act] of Object.entries(acts)) byId(id).addEventListener("click", () => (id === "theme" || this.run?.isComplete) && act());
+    byId("position").addEventListener("change", event => this.typed(event.target));
+    byId("poking").addEventListener("close", () => this.poked());
+    matchMedia("(prefers-color-scheme: dark)").addEventListener("change", () => this.recolor());
+    addEventListener("resize", () => this.run?.isComplete && this.values.sparks());
+    byId("poke").hidden = byId("script").hidden = !this.source.isLive;
+  }
+
+  /** Takes the run from its source, and shows it: its calls while it comes, and then all. */
+  async load(cursor = null, was = "") {
+    const begun = performance.now(), before = this.run;
+    if (!this.long) byId("progress").hidden = false;
+    const run = await this.source.run(this.program, growing => this.growing(growing));
+    if (!this.long) byId("progress").hidden = true;
+    this.run = run;
+    this.memory = new Memory(run);
+    this.causes = new Causes(run, this.memory);
+    this.cells.build();
+    this.output.build();
+    this.header(was);
+    this.cursor = cursor ?? run.moves;
+    this.selected = 0;
+    this.view = before?.isComplete && cursor !== null && !this.long ? [this.view[0], Math.min(run.moves, this.view[1])] : [0, Math.max(1, run.moves)];
+    if (this.view[1] - this.view[0] < LEAST_WIDE) this.view = [0, Math.max(1, run.moves)];
+    this.walk.begin(this.long && !this.isAtEnd ? this.firstQuestion() : this.causes.root(this.cursor), 2);
+    this.draw();
+    this.code.heat();
+    this.tree.draw();
+    this.loadedIn = performance.now() - begun;
+    this.agreed.rest();
+  }
+
+  /** The run as far as it has come. */
+  growing(run) {
+    // The run before stays in view until the new one is whole.
+    if (this.run?.isComplete && this.run !== run) return;
+    this.run = run;
+    this.view = [0, Math.max(1, this.wholeMoves)];
+    byId("moves").textContent = `${spaced(run.moves)} moves${run.total ? ` of ${spaced(run.total)}` : ""} gathered`;
+    const bar = byId("progress");
+    if (run.total) bar.value = run.moves / run.total; else bar.removeAttribute("value");
+    this.timeline.draw();
+  }
+
+  header(was) {
+    const {run, long} = this, end = byId("end"), told = long ? long.end : run.isOver ? run.end : "goes on";
+    end.textContent = end.title = told || "looking for the end";
+    end.className = told.startsWith("fault") ? "pill is-fault" : "pill";
+    byId("was").textContent = was && was !== run.end ? `was ${was}` : "";
+    byId("moves").textContent = `${spaced(this.wholeMoves)} moves${long ? `, ${spaced(run.moves)} shown` : ""}`;
+    byId("poke").hidden = !this.source.isLive || Boolean(long);
+  }
+
+  // Long runs.
+
+  /** Takes the overview as far as it has come, and goes on until it is whole. */
+  async overviewed() {
+    const told = await (await this.source.ask("api/overview")).json();
+    this.long = {...told, most: told.stacks.reduce((most, stack) => Math.max(most, stack.length), 1)};
+    if (this.run?.isComplete) {
+      this.header("");
+      this.timeline.draw();
+    }
+    byId("progress").hidden = told.isDone;
+    byId("progress").removeAttribute("value");
+    if (!told.isDone) setTimeout(() => this.overviewed().catch(() => {}), OVERVIEW);
+  }
+
+  /** Another window of a long run, with the cursor at a position of the whole run; of many wishes the last one counts. */
+  async reach(position) {
+    this.wished = Math.max(0, Math.min(this.long.moves, position));
+    if (this.isReaching) return;
+    this.isReaching = true;
+    const begun = performance.now();
+    try {
+      while (this.wished !== null) {
+        const there = this.wished;
+        this.wished = null;
+        const {base} = await (await this.source.ask("api/window", {position: there})).json();
+        await this.load(there - base);
+      }
+    } catch (error) {
+      this.say(error.message);
+    }
+    this.isReaching = false;
+    this.reachedIn = performance.now() - begun;
+  }
+
+  /** To a position of the whole run. */
+  goTo(position) {
+    const here = position - this.run.base;
+    if (this.long && (here < 0 || here > this.run.moves)) this.reach(position); else this.go(here);
+  }
+
+  // Where things are.
+
+  get wholeMoves() {
+    if (this.long) return Math.max(1, this.long.moves, this.run.base + this.run.moves);
+    return Math.max(1, this.run.isComplete ? this.run.moves : this.run.total ?? this.run.moves);
+  }
+
+  get isAtEnd() {
+    return this.run.placeAt(this.cursor) === null;
+  }
+
+  get frame() {
+    const frames = this.run.framesOf(this.cursor);
+    return frames[Math.min(this.selected, frames.length - 1)];
+  }
+
+  /** The state whose place is shown: of a caller the one before its call, of the end the one before the last move. */
+  get state() {
+    return this.run.beforeEnd(this.run.innermostState(this.frame, this.cursor));
+  }
+
+  get place() {
+    return this.run.placeAt(this.state);
+  }
+
+  firstQuestion() {
+    if (this.isAtEnd) return this.causes.root(this.cursor);
+    return this.causes.operands(this.state)[0] ?? this.causes.control(this.state);
+  }
+
+  // Moves.
+
+  /** Moves the page's cursor alone; the session follows when it rests (`go`). */
+  move(position) {
+    this.cursor = Math.max(0, Math.min(this.run.moves, position));
+    this.selected = 0;
+    this.draw();
+  }
+
+  go(position) {
+    const whole = position + this.run.base;
+    if (this.long && (position < 0 || position > this.run.moves) && whole >= 0 && whole <= this.long.moves) {
+      this.reach(whole);
+      return;
+    }
+    this.move(position);
+    const {run, cursor} = this, place = run.placeAt(cursor);
+    byId("heard").textContent = place ? `${run.placeLine(cursor)}, line ${place.instruction.line}: ${place.instruction.text}` : run.placeLine(cursor);
+    this.keepInView();
+    this.agreed.rest();
+  }
+
+  typed(input) {
+    const digits = input.value.replace(/\D/g, "");
+    if (digits) this.goTo(Number(digits));
+    input.blur();
+    this.draw();
+  }
+
+  keepInView() {
+    const [from, to] = this.view, wide = to - from, margin = wide * .08;
+    if (this.cursor >= from && this.cursor <= to) return;
+    const begin = this.cursor < from ? this.cursor - margin : this.cursor + margin - wide;
+    this.show(begin, begin + wide);
+  }
+
+  /** Shows a window of the run. */
+  show(from, to) {
+    const {moves} = this.run, wide = Math.max(1, Math.min(moves, Math.max(Math.min(moves, LEAST_WIDE), to - from)));
+    const begin = Math.max(0, Math.min(moves - wide, from));
+    this.view = [begin, begin + wide];
+    this.timeline.draw();
+    clearTimeout(this.settling);
+    this.settling = setTimeout(() => {
+      this.code.heat();
+      this.values.sparks();
+    }, SETTLE);
+  }
+
+  zoom(factor) {
+    const [from, to] = this.view, at = Math.max(from, Math.min(to, this.cursor));
+    this.show(at - (at - from) * factor, at + (to - at) * factor);
+  }
+
+  select(index) {
+    const {run, cursor} = this, known = run.framesOf(cursor).filter(frame => run.innermostState(frame, cursor) >= 0);
+    if (index >= known.length && known.length < run.framesOf(cursor).length) this.say("where this frame stands was set before this window");
+    this.selected = Math.max(0, Math.min(known.length - 1, index));
+    this.draw();
+  }
+
+  /** Over calls, as `next` and `reverse-next`. */
+  over(direction) {
+    const {run} = this, depth = run.frames.depth[run.frameAt[this.cursor]];
+    let at = this.cursor + direction;
+    while (at > 0 && at < run.moves && run.frames.depth[run.frameAt[at]] > depth) at += direction;
+    this.go(at);
+  }
+
+  /** To the call of the frame, or to where it is over. */
+  out(direction) {
+    const {run, frame} = this, at = direction < 0 ? run.frames.begin[frame] - 1 : run.endOf(frame);
+    if (at >= 0 && at <= run.moves) this.go(at); else this.say(direction < 0 ? "this frame was there from the start" : "this frame doesn't return");
+  }
+
+  /** The next or the last time that a line runs. */
+  nextAt(line, direction) {
+    const {run, program} = this, wanted = new Uint8Array(program.table.length);
+    for (const {id} of program.placesOf.get(line) ?? []) wanted[id] = 1;
+    for (let at = this.cursor + direction; at >= 0 && at <= run.moves; at += direction) {
+      if (wanted[run.places[at]]) return this.go(at);
+    }
+    return this.say(direction > 0 ? "this line doesn't run again" : "this line didn't run before");
+  }
+
+  again(direction) {
+    this.nextAt(this.place.instruction.line, direction);
+  }
+
+  // What is kept in the timeline.
+
+  mark(line, direction) {
+    this.line = line;
+    this.nextAt(line, direction);
+    this.draw();
+  }
+
+  markHere() {
+    this.line = this.place.instruction.line;
+    this.draw();
+  }
+
+  pin(id) {
+    this.pins = this.pins.includes(id) ? this.pins.filter(each => each !== id) : [...this.pins, id].slice(-MOST_PINS);
+    this.draw();
+  }
+
+  keepHere() {
+    const {func, instruction} = this.place, name = instruction.result ?? instruction.operands.find(([text]) => text[0] === "%")?.[0];
+    if (name) this.pin(func.ids.get(name));
+  }
+
+  clear() {
+    this.line = 0;
+    this.pins = [];
+    this.draw();
+  }
+
+  // Causes.
+
+  ask(question, depth = 1) {
+    this.walk.begin(question, depth);
+    this.drawCauses();
+  }
+
+  /** Opens a cause and goes there: the instruction comes next. */
+  choose(node) {
+    this.walk.open(node);
+    this.walk.chosen = node;
+    this.follow();
+  }
+
+  /** The next or the last of the causes that are shown. */
+  step(by) {
+    const rows = this.walk.rows(), next = rows[rows.indexOf(this.walk.chosen) + by];
+    if (!next) return;
+    this.walk.chosen = next;
+    this.follow();
+  }
+
+  effect() {
+    if (!this.walk.chosen?.parent) return;
+    this.walk.chosen = this.walk.chosen.parent;
+    this.follow();
+  }
+
+  follow() {
+    const move = this.walk.chosen.cause?.move ?? null;
+    if (move !== null) this.go(move);
+    this.drawCauses();
+  }
+
+  slice() {
+    this.walk.slice();
+    this.drawCauses();
+  }
+
+  // Values by hand, and the script.
+
+  /** Asks for a value by hand: of the bytes that were asked about, or of a temporary. */
+  poke() {
+    if (!this.source.isLive) return;
+    if (this.isAtEnd) return this.say("the run is over here; go back into it first");
+    const asked = this.walk.chosen?.question, {func} = this.place;
+    const bytes = asked?.of === "memory" && WIDTHS[asked.count] && this.program.nameOf(BigInt(asked.address));
+    const name = this.place.instruction.operands.find(([text]) => text[0] === "%")?.[0] ?? func.temporaries[0]?.[0];
+    byId("line").value = bytes ? `poke ${WIDTHS[asked.count]} ${bytes.replace(/\+0$/, "")} ` : name ? `set ${name} ` : "poke w $";
+    byId("poking").returnValue = "";
+    byId("poking").showModal();
+    return byId("line").setSelectionRange(99, 99);
+  }
+
+  async poked() {
+    const line = byId("line").value.trim().replace(/\s+/g, " ");
+    if (byId("poking").returnValue === "yes" && line) await this.make(line);
+  }
+
+  /** Makes a value by hand at the cursor; the run from there on is another one. */
+  async make(line) {
+    const was = this.run.end, cursor = this.cursor;
+    try {
+      await this.source.ask("api/poke", {position: cursor, line});
+      await this.load(cursor + 1, was);
+    } catch (error) {
+      this.say(error.message);
+    }
+  }
+
+  async script() {
+    if (!this.source.isLive) return;
+    this.lines = await (await this.source.ask("api/script")).text();
+    byId("command").textContent = `${this.program.command} < page.script`;
+    byId("lines").textContent = this.lines || "nothing was done yet";
+    byId("scripted").showModal();
+  }
+
+  save() {
+    const link = document.createElement("a");
+    link.href = URL.createObjectURL(new Blob([this.lines], {type: "text/plain"}));
+    link.download = "page.script";
+    link.click();
+    URL.revokeObjectURL(link.href);
+  }
+
+  // Drawing.
+
+  draw() {
+    byId("position").value = spaced(this.cursor + this.run.base);
+    this.timeline.draw();
+    this.code.draw();
+    this.values.draw();
+    this.cells.draw();
+    this.output.draw();
+  }
+
+  drawCauses() {
+    this.tree.draw();
+    this.timeline.draw();
+    this.code.badges();
+    this.cells.draw();
+    this.output.draw();
+  }
+
+  get isDark() {
+    const {theme} = document.documentElement.dataset;
+    return theme ? theme === "dark" : matchMedia("(prefers-color-scheme: dark)").matches;
+  }
+
+  theme() {
+    document.documentElement.dataset.theme = this.isDark ? "light" : "dark";
+    this.recolor();
+  }
+
+  recolor() {
+    this.readColors();
+    if (!this.run?.isComplete) return;
+    this.timeline.draw();
+    this.values.sparks();
+  }
+
+  /** The colours of the style sheet, for what is painted. */
+  readColors() {
+    const style = getComputedStyle(document.documentElement), found = {}, names = "sans mono ground sunken edge edge-strong ink muted faint now "
+      + "on-now cause cause-soft output poke fault silhouette read veil heat-strong spark spark-other on-frame";
+    const numbered = "fw".split("").flatMap(letter => Array.from({length: 8}, (_, index) => `${letter}${index}`));
+    for (const name of [...names.split(" "), ...numbered, "b0", "b1", "b2", "b3"]) {
+      const text = style.getPropertyValue(`--${name}`).trim(), pair = /^light-dark\(\s*([^,]+),\s*([^)]+)\)$/.exec(text);
+      found[name] = pair ? pair[this.isDark ? 2 : 1].trim() : text;
+    }
+    this.colors = found;
+  }
+
+  // What is told in passing.
+
+  tip(text, event) {
+    const box = byId("tip");
+    box.hidden = !text;
+    if (!text) return;
+    box.textContent = text;
+    const {clientX, clientY} = event, {offsetWidth, offsetHeight} = box;
+    box.style.left = `${Math.max(4, Math.min(clientX + 14, innerWidth - offsetWidth - 8))}px`;
+    box.style.top = `${clientY + 18 + offsetHeight > innerHeight ? clientY - offsetHeight - 10 : clientY + 18}px`;
+  }
+
+  say(text) {
+    const box = byId("said");
+    box.textContent = text;
+    clearTimeout(this.saying);
+    this.saying = setTimeout(() => { box.textContent = ""; }, SAID);
+  }
+}
+
+const app = window.app = new App();
+app.begin().catch(error => {
+  document.documentElement.dataset.ready = "failed";
+  byId("said").textContent = error.message;
+  throw error;
+});

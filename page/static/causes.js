@@ -1,0 +1,271 @@
+// Where a value comes from: each question has one answer, the move that set it, and what that read can be asked in turn.
+// The answers are those of `why` at the terminal (terminal/causes.py); page/test holds the two together.
+import {ALLOCATIONS, LOADED, WIDTHS, numeral, sizeOf} from "./program.js";
+import {KINDS} from "./memory.js";
+
+const MOST_BYTES = 48;
+const BEFORE = "before this window";
+
+export class Causes {
+  constructor(run, memory) {
+    this.run = run;
+    this.program = run.program;
+    this.memory = memory;
+  }
+
+  // Questions. Each is about a state, in whose innermost frame it is asked.
+
+  temporary(name, position) {
+    const {run, program} = this, frame = run.frameAt[position], id = run.funcOf(frame).ids.get(name);
+    const set = run.lastSet(id, frame, position), width = program.widths[id];
+    const value = set < 0 ? null : run.value(set);
+    const shown = set < 0 && run.isUnknown(frame) ? "?" : this.shown(value, width, position);
+    return {of: "temporary", position, name, width, value, label: name, shown};
+  }
+
+  bytes(address, count, position, label) {
+    const value = count <= 8 ? this.memory.value(address, count, position) : null;
+    const near = this.memory.nameOf(BigInt(address), position) ?? String(address);
+    const shown = count > 8 ? `${count} bytes` : value === null ? "not live" : this.shown(value, WIDTHS[count] ?? "l", position);
+    return {of: "memory", position, address, count, value, label: label ?? `${WIDTHS[count] ?? `${count} bytes at`} ${near}`, shown};
+  }
+
+  control(position) {
+    const place = this.run.placeAt(position);
+    return place.block.order ? {of: "control", position, label: `the way to ${place.block.label}`}
+      : {of: "call", position, label: `the call of ${place.func.name}`};
+  }
+
+  output(index) {
+    const byte = this.run.out[index];
+    const shown = byte >= 32 && byte < 127 ? `“${String.fromCharCode(byte)}”` : `\\${byte.toString(8).padStart(3, "0")}`;
+    return {of: "output", position: this.memory.outPos[index], index, label: `byte ${index} of the output`, shown};
+  }
+
+  /** The question of how the run ended, or of how it came to a state. */
+  root(position) {
+    const {run} = this;
+    return run.placeAt(position) ? this.control(position) : {of: "end", position, label: run.end};
+  }
+
+  /** A value as it is read best: an address by its name. */
+  shown(value, width, position) {
+    if (value === null) return "unset";
+    return (width === "l" && this.memory.nameOf(value, position)) || numeral(value, width);
+  }
+
+  // Answers.
+
+  /** The cause: the move that did it, in words, and the questions that what it read can be asked. */
+  of(question) {
+    return this[`of_${question.of}`](question);
+  }
+
+  made(move, verb, questions, more = {}) {
+    return {move, verb, place: move === null ? null : this.run.placeAt(move), questions, ...more};
+  }
+
+  /** The instruction that comes next in a state, with its operands; of a blit the bytes that are asked about. */
+  executed(move, verb, wanted = null) {
+    const place = this.run.placeAt(move);
+    const questions = [...this.operands(move), ...this.bytesRead(move, place.instruction, wanted), this.control(move)];
+    return this.made(move, verb, questions);
+  }
+
+  operands(position) {
+    const {operands} = this.run.placeAt(position).instruction;
+    return [...new Set(operands.map(([text]) => text).filter(text => text[0] === "%"))].map(name => this.temporary(name, position));
+  }
+
+  /** What a load or a blit takes from memory, where that is live. */
+  bytesRead(move, instruction, wanted) {
+    if (!(instruction.op in LOADED) && instruction.op !== "blit") return [];
+    const [from, to] = instruction.operands.map(([text]) => this.run.operand(text, move));
+    if (from === null || from > 0xffffffffn) return [];
+    let address = Number(from), count = sizeOf(instruction);
+    if (instruction.op === "blit" && wanted && to !== null) {
+      const begin = Math.max(wanted.address, Number(to));
+      count = Math.min(wanted.address + wanted.count, Number(to) + count) - begin;
+      address += begin - Number(to);
+    }
+    count = Math.min(count, MOST_BYTES);
+    for (let at = 0; at < count; at++) if (this.memory.byte(address + at, move) === null) return [];
+    return count > 0 ? [this.bytes(address, count, move)] : [];
+  }
+
+  of_temporary({name, position}) {
+    const {run} = this, at = run.beforeEnd(position), frame = run.frameAt[at], func = run.funcOf(frame);
+    const set = run.lastSet(func.ids.get(name), frame, at);
+    if (set < 0 || run.setPos[set] < 0) return this.unset(name, at, func, set);
+    const move = run.setPos[set], {instruction} = run.placeAt(move);
+    if (run.pokes[move] !== undefined) return this.made(move, "set by hand", [], {note: run.pokes[move]});
+    if (run.frameAt[move] !== frame) return instruction.op === "ret" ? this.executed(move, "given back by") : this.ofParameter(name, move, func);
+    if (instruction.labels.length) return this.ofPhi(name, move);
+    if (instruction.op === "call") return this.executed(move, "given back by the built-in of");
+    const cause = this.executed(move, "set by");
+    this.addStale(cause, at, instruction);
+    this.addBefore(cause, name, func);
+    return cause;
+  }
+
+  /** Of a temporary that no move set: an argument of the command line, unset, or not known. */
+  unset(name, at, func, set) {
+    if (this.run.base && (set >= 0 || this.run.frames.begin[this.run.frameAt[at]] === 0)) return this.made(null, BEFORE, []);
+    if (set >= 0) return this.made(null, "an argument of the command line", []);
+    const lines = new Map();
+    for (const block of func.blocks) {
+      for (const each of [...block.phis, ...block.body]) if (each.result === name) lines.set(each.line, `line ${each.line} (${block.label})`);
+    }
+    const note = lines.size ? `it is set at ${[...lines.values()].join(", ")}` : "";
+    return this.made(null, "nothing set it in this call", [this.control(at)], {note, isAlarm: true});
+  }
+
+  ofParameter(name, move, func) {
+    const cause = this.executed(move, "argument of the call");
+    const index = func.parameters.findLastIndex(([, parameter]) => parameter === name);
+    const own = this.run.placeAt(move).instruction.operands[index + 1]?.[0];
+    // The other arguments have no part in this value.
+    for (const question of cause.questions) question.isAside = question.of === "temporary" && question.name !== own;
+    return cause;
+  }
+
+  ofPhi(name, move) {
+    const {run} = this, {block, instruction} = run.placeAt(move), target = run.placeAt(move + 1).block;
+    const phi = target.phis.findLast(each => each.result === name);
+    const [text] = phi.operands[phi.labels.indexOf(block.label)];
+    const questions = text[0] === "%" ? [this.temporary(text, move)] : [];
+    for (const question of this.operands(move)) questions.push({...question, isWay: true});
+    return this.made(move, `taken for ${block.label} by`, [...questions, this.control(move)], {phi, instruction});
+  }
+
+  /** Where what was loaded was changed in memory since, before the value was used: says so, and by what. */
+  addStale(cause, asked, instruction) {
+    if (!(instruction.op in LOADED)) return;
+    const {memory, run} = this, {move} = cause;
+    const from = run.operand(instruction.operands[0][0], move);
+    if (from === null) return;
+    const address = Number(from), count = sizeOf(instruction);
+    const after = memory.value(address, count, asked);
+    if (after === null || after === memory.value(address, count, move)) return;
+    const change = this.lastChange(address, count, move, asked);
+    if (change < 0) return;
+    const poke = run.pokes[change];
+    cause.questions.push({...this.bytes(address, count, asked), isStale: true});
+    Object.assign(cause, {changed: change, isAlarm: true,
+      note: `but memory was changed since, by ${poke === undefined ? `line ${run.placeAt(change).instruction.line}` : "hand"} at #${change + run.base}`});
+  }
+
+  /** The last move between two states by which bytes came to read otherwise, or -1. */
+  lastChange(address, count, from, to) {
+    const {memory} = this, {writes} = memory;
+    let position = to;
+    for (;;) {
+      let latest = -1;
+      for (let at = address; at < address + count; at++) latest = Math.max(latest, writes.last(at, position));
+      if (latest < 0 || writes.pos[latest] < from) return -1;
+      position = writes.pos[latest];
+      if (memory.value(address, count, position) !== memory.value(address, count, position + 1)) return position;
+    }
+  }
+
+  /** Of a temporary that the text sets at several places: the value that was there before. */
+  addBefore(cause, name, func) {
+    const count = func.blocks.reduce((sum, block) => sum + [...block.phis, ...block.body].filter(each => each.result === name).length, 0);
+    if (count < 2) return;
+    const before = this.temporary(name, cause.move);
+    if (before.value !== null) cause.questions.push({...before, isAside: true, note: "before it was set again"});
+  }
+
+  of_control({position}) {
+    const {run} = this, at = run.beforeEnd(position);
+    if (!run.placeAt(at).block.order) return this.of_call({position});
+    let state = at;
+    while (run.placeAt(state).k) {
+      const before = run.before(state);
+      if (before < 0) return this.made(null, BEFORE, []);
+      state = before;
+    }
+    const move = run.stepsBegun(state) - 1;
+    return move < 0 ? this.made(null, BEFORE, []) : this.executed(move, `control came to ${run.placeAt(at).block.label} by`);
+  }
+
+  of_call({position}) {
+    const {run} = this, frame = run.frameAt[run.beforeEnd(position)], begin = run.frames.begin[frame];
+    if (!begin) return this.made(null, run.base ? BEFORE : `the run begins with ${run.funcOf(frame).name}`, []);
+    return this.executed(begin - 1, `${run.funcOf(frame).name} was called by`);
+  }
+
+  of_end({position}) {
+    const {end} = this.run, move = this.run.beforeEnd(position), cause = this.executed(move, "comes of");
+    const address = /^fault dead address (\d+)$/.exec(end)?.[1];
+    if (address) cause.note = this.deadNote(BigInt(address));
+    else if (end === "fault stack full") cause.note = this.stackNote(move);
+    return cause;
+  }
+
+  /** What lies near an address without bytes. */
+  deadNote(address) {
+    const {program} = this, number = BigInt.asIntN(64, address), isNear = number >= 0n && number <= 0xffffffffn;
+    if (isNear && program.isStack(Number(number))) return `${address} is in the stack, above its top`;
+    if (!program.data.length) return `${address} is neither in the data nor in the stack`;
+    const far = ({address: begin, size}) => [BigInt(begin) - number, number - BigInt(begin + size), 0n].reduce((one, other) => one > other ? one : other);
+    const data = program.data.reduce((one, other) => far(other) < far(one) ? other : one), offset = number - BigInt(data.address);
+    return `the nearest data is ${data.name}, of ${data.size} bytes: ${data.name}${offset < 0n ? "" : "+"}${offset}`;
+  }
+
+  /** Which allocs of the innermost frame took how much of the stack. */
+  stackNote(position) {
+    const {run} = this, counts = new Map(), {func} = run.placeAt(position);
+    for (const {instruction} of run.program.table.slice(func.entry, func.last)) if (ALLOCATIONS.has(instruction.op)) counts.set(instruction, 0);
+    for (let at = run.before(position); at >= 0; at = run.before(at)) {
+      const {instruction} = run.placeAt(at);
+      if (counts.has(instruction) && run.pokes[at] === undefined) counts.set(instruction, counts.get(instruction) + 1);
+    }
+    const told = [...counts].map(([{line, text}, count]) => `${count} by line ${line}: ${text}`);
+    return `this call of ${func.name} has made ${told.join(", ")}`;
+  }
+
+  of_output({position, index}) {
+    if (position < 0) return this.made(null, BEFORE, []);
+    const cause = this.executed(position, "written by"), text = this.memory.reads.texts?.get(position);
+    if (text) {
+      const address = text.address + index - text.from;
+      if (this.memory.byte(address, position)) cause.questions.unshift(this.bytes(address, 1, position));
+    }
+    return cause;
+  }
+
+  /** The writes that made some bytes what they are: one for all of them, or several for some each. */
+  of_memory({address, count, position}) {
+    const groups = new Map();
+    for (let at = address; at < address + count; at++) {
+      const write = this.memory.isLive(at, position) ? this.memory.writes.last(at, position) : -1;
+      if (!groups.has(write)) groups.set(write, []);
+      groups.get(write).push(at);
+    }
+    const ordered = [...groups].sort(([one], [other]) => other - one);
+    if (ordered.length === 1) return this.writer(ordered[0][0], ordered[0][1], position);
+    const questions = ordered.map(([write, found]) => ({
+      of: "writer", position, write, found, label: `byte${found.length > 1 ? "s" : ""} ${found.map(each => each - address).join(", ")}`,
+      shown: found.map(each => String(this.memory.byte(each, position) ?? "not live")).join(" ")}));
+    return this.made(null, `${ordered.length} writes`, questions);
+  }
+
+  of_writer({write, found, position}) {
+    return this.writer(write, found, position);
+  }
+
+  writer(write, found, position) {
+    const {run, memory, program} = this;
+    if (write < 0 && !memory.isLive(found[0], position)) return this.made(null, "no live bytes", []);
+    if (write < 0 && run.base) return this.made(null, BEFORE, []);
+    if (write < 0) {
+      const data = program.dataAt(found[0]);
+      return this.made(null, "so since the start", [], {note: data ? `line ${data.line}, ${data.name}` : ""});
+    }
+    const move = memory.writes.pos[write], kind = memory.writes.kind[write];
+    if (kind === KINDS.poke) return this.made(move, "by hand", [], {note: run.pokes[move]});
+    if (kind === KINDS.alloc) return this.executed(move, "made, as zeros, by");
+    return this.executed(move, "stored by", {address: found[0], count: found.at(-1) - found[0] + 1});
+  }
+}

@@ -1,0 +1,213 @@
+// The program's text: how often each line ran in the moves that are shown, and beside it the value that it set last.
+import {STORED, lowerBound} from "./program.js";
+import {byId, classes, element} from "./element.js";
+
+const TALL = 20, TAB = "    ";
+// Lines that are elements at a time; a longer text is cut to what is near the place.
+const MOST_LINES = 3000, MARGIN = 1000;
+const MOST_STATES = 4000;
+const KEYWORDS = new Set("function data export align section type call jmp jnz ret hlt phi".split(" "));
+const TOKEN = /#.*|"(?:\\.|[^"\\])*"?|[%$@:][\w.$]+|-?\d+|[a-z]\w*|\s+|./g;
+
+/** A line of the text, its tokens in elements; temporaries can be asked about. */
+function tokensOf(line) {
+  const found = [];
+  for (const [token] of line.replaceAll("\t", TAB).matchAll(TOKEN)) {
+    const kind = {"#": "comment", "%": "temp", $: "global", "@": "label", '"': "string"}[token[0]]
+      ?? (/^-?\d/.test(token) ? "number" : KEYWORDS.has(token) ? "keyword" : "");
+    if (!kind || token.length === 1 && kind !== "number") found.push(token);
+    else found.push(element("span", {class: `t-${kind}`, data: kind === "temp" ? {temp: token} : {}}, token));
+  }
+  return found;
+}
+
+/** How often each place was run in the moves that are shown. */
+export function countsOf(run, from, to) {
+  const counts = new Uint32Array(run.program.table.length), end = Math.min(run.moves, Math.ceil(to)), {places} = run;
+  for (let move = Math.max(0, Math.floor(from)); move < end; move++) counts[places[move]]++;
+  return counts;
+}
+
+export class Code {
+  constructor(box, app) {
+    this.box = box;
+    this.app = app;
+    box.addEventListener("click", event => this.click(event));
+    box.addEventListener("scroll", () => this.scrolled());
+    new ResizeObserver(() => {
+      this.scrolledLine = 0;
+      if (app.run?.isComplete) this.scrollTo(app.place);
+    }).observe(box);
+  }
+
+  click(event) {
+    const {app} = this, hit = selector => event.target.closest(selector);
+    const asked = hit("[data-temp]")?.dataset.temp ?? hit("[data-value]")?.dataset.value, line = hit("[data-line]");
+    const {func} = app.place;
+    if (asked && func.ids.has(asked)) app.ask(app.causes.temporary(asked, app.state));
+    else if (line && hit(".gutter")) app.mark(Number(line.dataset.line), event.shiftKey ? -1 : 1);
+  }
+
+  build() {
+    this.lines = this.app.program.lines;
+    this.first = 1;
+    this.rows = new Map();
+    this.counts = new Map();
+    this.render(1);
+  }
+
+  /** Makes the lines around one elements: all of them, if they aren't too many. */
+  render(line) {
+    const {lines} = this, whole = lines.length <= MOST_LINES;
+    const first = whole ? 1 : Math.max(1, line - MOST_LINES / 2), last = whole ? lines.length : Math.min(lines.length, first + MOST_LINES);
+    Object.assign(this, {first, last});
+    this.rows = new Map();
+    for (let number = first; number <= last; number++) this.rows.set(number, this.row(number));
+    const space = count => element("div", {css: {height: `${count * TALL}px`}});
+    this.box.replaceChildren(space(first - 1), ...this.rows.values(), space(lines.length - last));
+  }
+
+  row(number) {
+    const runs = this.app.program.placesOf.has(number);
+    return element("div", {class: "line", data: {line: number}},
+      element("button", {class: "gutter", disabled: !runs, tabindex: "-1", "aria-label": `line ${number}`,
+        title: runs ? "when this line ran, in the timeline, and to the next time (with shift to the last)" : null},
+      element("i", {class: "heat"}), element("b", {class: "count"}), element("span", {class: "number"}, String(number))),
+      element("span", {class: "badge"}), element("code", {}, ...tokensOf(this.lines[number - 1])), element("span", {class: "beside"}));
+  }
+
+  scrolled() {
+    const line = Math.floor(this.box.scrollTop / TALL), shown = line + this.box.clientHeight / TALL;
+    const isNear = (line > this.first + MARGIN / 2 || this.first === 1) && (shown < this.last - MARGIN / 2 || this.last === this.lines.length);
+    if (this.lines.length > MOST_LINES && !isNear) this.redraw(line);
+  }
+
+  redraw(line) {
+    this.render(Math.max(1, line));
+    this.decorate();
+    this.heat();
+  }
+
+  draw() {
+    const {app} = this, {place} = app, {line} = place.instruction;
+    byId("place").textContent = `${place.func.name} ${place.block.label} ${place.k}`;
+    byId("source").textContent = app.program.map?.[line - 1] ?? "";
+    if (!this.rows.has(line)) this.render(line);
+    this.decorate();
+    this.scrollTo(place);
+  }
+
+  decorate() {
+    const {app} = this, {place} = app, {func, instruction} = place;
+    const isHere = app.selected === 0 && !app.isAtEnd;
+    for (const [number, row] of this.rows) {
+      row.className = classes("line", number >= func.line && number <= func.lastLine + 1 && "is-frame", row.isCold && "is-cold",
+        number === instruction.line && (isHere ? "is-now" : "is-caller"), number === app.line && "is-marked");
+      if (row.lastChild.firstChild) row.lastChild.replaceChildren();
+    }
+    this.values(place);
+    if (isHere) this.operands(place);
+    this.badges();
+  }
+
+  /** Brings the place into view, with the beginning of its function if that fits. */
+  scrollTo({func, instruction: {line}}) {
+    if (this.scrolledLine === line) return;
+    this.scrolledLine = line;
+    const top = (line - 1) * TALL, {scrollTop, clientHeight} = this.box, start = (func.line - 1) * TALL;
+    if (top >= scrollTop + TALL && top <= scrollTop + clientHeight - 3 * TALL) return;
+    const wanted = top - start < clientHeight - 4 * TALL ? start : top - clientHeight / 2;
+    // No line is cut at the top.
+    this.box.scrollTop = Math.max(0, Math.round(wanted / TALL) * TALL);
+  }
+
+  /** Beside each line of the frame's function the value that it set last, found by going back along the frame. */
+  values(place) {
+    const {app} = this, {run} = app, {func} = place, {state} = app;
+    const found = new Map(), seen = new Set(), wanted = func.last - func.entry;
+    let at = run.before(state), before = state;
+    for (let count = 0; at >= 0 && seen.size < wanted && count < MOST_STATES; count++) {
+      const here = run.placeAt(at), isFirst = !seen.has(here.id);
+      seen.add(here.id);
+      this.setsBetween(here, before, place, found);
+      if (here.instruction.op in STORED && isFirst && run.program.dominates(func, here.block, here.k, place.block, place.k)) {
+        found.set(`store ${here.id}`, {line: here.instruction.line, text: this.storeTold(here, at)});
+      }
+      before = at;
+      at = run.before(at);
+    }
+    const frame = run.frameAt[state];
+    for (const [, name] of func.parameters) {
+      const set = run.lastSet(func.ids.get(name), frame, state);
+      if (set >= 0 && run.setPos[set] < Math.max(run.frames.begin[frame], 0)) found.set(name, {line: func.line, set, name});
+    }
+    for (const value of found.values()) this.put(value, func);
+  }
+
+  /** The values that were set on the way to a state of this frame. */
+  setsBetween(here, state, place, found) {
+    const {run} = this.app, {func} = place, move = run.stepsBegun(state) - 1;
+    for (let set = lowerBound(run.setPos, Math.max(move, 0)); set < run.setPos.length && run.setPos[set] < state; set++) {
+      const name = run.program.names[run.setTemp[set]];
+      if (found.has(name) || run.frameOfSet(set) !== run.frameAt[state]) continue;
+      const isPhi = here.instruction.labels.length > 0, target = isPhi ? run.placeAt(state).block : here.block;
+      const line = isPhi ? target.phis.find(phi => phi.result === name)?.line ?? here.instruction.line : here.instruction.line;
+      const isStale = !run.program.dominates(func, target, isPhi ? -1 : here.k, place.block, place.k);
+      found.set(name, {line, set, name, isStale});
+    }
+  }
+
+  storeTold({instruction}, move) {
+    const {run, memory, causes} = this.app, [value, address] = instruction.operands.map(([text]) => run.operand(text, move));
+    return address === null ? "" : `${memory.nameOf(address, move) ?? address} ← ${causes.shown(value, instruction.op === "storel" ? "l" : "w", move)}`;
+  }
+
+  put({line, set, name, isStale, text}, func) {
+    const {run, causes} = this.app, box = this.rows.get(line)?.lastChild;
+    if (!box || text === "") return;
+    if (text) return box.append(element("span", {class: "value is-store"}, text));
+    const shown = causes.shown(run.value(set), run.program.widths[run.setTemp[set]], run.setPos[set] + 1);
+    return box.append(element("button", {class: classes("value", isStale && "is-stale"), data: {value: name}, tabindex: "-1",
+      title: `${name} since #${run.setPos[set] + 1 + run.base}: click for why`}, line === func.line ? `${name.slice(1)} = ${shown}` : shown));
+  }
+
+  /** What the instruction that comes next reads, and where a jump goes. */
+  operands({instruction}) {
+    const {app} = this, {run, causes} = app, box = this.rows.get(instruction.line)?.lastChild;
+    if (!box) return;
+    box.replaceChildren(...causes.operands(app.state).map(each => element("button",
+      {class: "value is-operand", data: {value: each.name}, tabindex: "-1", title: "click for why"}, `${each.name.slice(1)} = ${each.shown}`)));
+    if (instruction.op !== "jnz") return;
+    const condition = run.operand(instruction.operands[0][0], app.state);
+    if (condition !== null) box.append(element("span", {class: "value is-way"}, `→ ${instruction.labels[condition & 0xffffffffn ? 0 : 1]}`));
+  }
+
+  /** How often each line ran in the moves that are shown. */
+  heat() {
+    const {app} = this, counts = countsOf(app.run, ...app.view);
+    const most = Math.log1p(counts.reduce((one, other) => Math.max(one, other), 1));
+    for (const [line, places] of app.program.placesOf) {
+      const row = this.rows.get(line);
+      if (!row) continue;
+      const count = places.reduce((sum, place) => Math.max(sum, counts[place.id]), 0), share = Math.log1p(count) / most;
+      const [bar, number] = row.firstChild.children;
+      bar.style.width = count ? `${4 + 40 * share}px` : "0";
+      bar.style.opacity = count ? .25 + .75 * share : 0;
+      number.textContent = !count ? "" : count > 99999 ? `${Math.round(count / 1000)}k` : String(count);
+      row.isCold = !count;
+      row.classList.toggle("is-cold", row.isCold);
+    }
+  }
+
+  /** Which lines the open causes are on. */
+  badges() {
+    for (const badge of this.marked ?? []) badge.className = "badge";
+    this.marked = [];
+    for (const {move, isChosen} of this.app.walk.dots().nodes) {
+      const badge = this.rows.get(this.app.run.placeAt(move)?.instruction.line)?.children[1];
+      if (!badge) continue;
+      badge.classList.add("is-cause", ...(isChosen ? ["is-chosen"] : []));
+      this.marked.push(badge);
+    }
+  }
+}

@@ -1,0 +1,55 @@
+// What the keys do. The list of keys is made of the same table.
+import {byId, element} from "./element.js";
+
+/** Each line: the keys, what they do in words, and for each key its act. */
+function table(app) {
+  return [
+    ["← →", "one move back, forward", {ArrowLeft: shift => shift ? app.over(-1) : app.go(app.cursor - 1),
+      ArrowRight: shift => shift ? app.over(1) : app.go(app.cursor + 1)}],
+    ["⇧← ⇧→", "the same over calls", {}],
+    ["[ ]", "the last, the next time that this line runs", {"[": () => app.again(-1), "]": () => app.again(1)}],
+    ["{ }", "to the call of this frame, to its return", {"{": () => app.out(-1), "}": () => app.out(1)}],
+    ["Home End", "the start, the end", {Home: () => app.goTo(0), End: () => app.goTo(app.wholeMoves)}],
+    ["g", "to a position", {g: () => byId("position").select()}],
+    ["u d", "the frame that called, the frame that was called", {u: () => app.select(app.selected + 1), d: () => app.select(app.selected - 1)}],
+    ["w", "why: the end, or the first operand", {w: () => app.ask(app.firstQuestion())}],
+    ["↑ ↓ ⏎ ⌫", "walk the causes, open one, back to its effect", {ArrowUp: () => app.step(-1), ArrowDown: () => app.step(1),
+      Enter: () => app.walk.chosen && app.choose(app.walk.chosen), Backspace: () => app.effect()}],
+    ["e", "open all that this value was made of", {e: () => app.slice()}],
+    ["m", "show in the timeline when this line ran (or click its number)", {m: () => app.markHere()}],
+    ["k", "keep this temporary in the timeline (or click its plot)", {k: () => app.keepHere()}],
+    ["Esc", "take these out of the timeline", {Escape: () => app.clear()}],
+    ["+ − 0", "zoom in, out, the whole run (or the wheel)", {"+": () => app.zoom(.5), "=": () => app.zoom(.5), "-": () => app.zoom(2),
+      0: () => app.show(0, app.run.moves)}],
+    ["p", "set a value by hand", {p: () => app.poke()}],
+    ["s", "what was done here, as a script", {s: () => app.script()}],
+    ["t ?", "dark or light, this list", {t: () => app.theme(), "?": () => byId("help").showModal()}],
+  ];
+}
+
+export class Keys {
+  constructor(app) {
+    this.app = app;
+    this.acts = {};
+    const list = byId("keylist");
+    for (const [keys, told, acts] of table(app)) {
+      Object.assign(this.acts, acts);
+      list.append(element("dt", {}, keys), element("dd", {}, told));
+    }
+    document.addEventListener("keydown", event => this.press(event));
+  }
+
+  press(event) {
+    if (event.ctrlKey || event.metaKey || event.altKey || !this.app.run?.isComplete || document.querySelector("dialog[open]")) return;
+    if (event.target.matches("input, textarea")) {
+      if (event.key === "Escape") event.target.blur();
+      return;
+    }
+    // A button that has the focus takes the key that presses it.
+    if (event.key === "Enter" && event.target.matches("button")) return;
+    const act = this.acts[event.key];
+    if (!act) return;
+    event.preventDefault();
+    act(event.shiftKey);
+  }
+}

@@ -1,0 +1,129 @@
+// Causes as a tree that is walked: each node is a value with the move that set it, its children what that move read.
+import {spaced} from "./program.js";
+import {classes, element} from "./element.js";
+
+const MOST_NODES = 300;
+const DEEP = 9;
+
+/** The tree as it is open, and the node that is chosen. */
+export class Walk {
+  constructor(app) {
+    this.app = app;
+    this.root = this.chosen = null;
+  }
+
+  begin(question, depth = 1) {
+    this.root = this.chosen = {question, parent: null};
+    this.open(this.root, depth);
+  }
+
+  /** Answers the question of a node; to a depth also those of its values. */
+  open(node, depth = 1) {
+    if (!node.cause) {
+      node.cause = this.app.causes.of(node.question);
+      node.kids = node.cause.questions.map(question => ({question, parent: node}));
+    }
+    if (depth > 1) for (const kid of node.kids) if (this.isValue(kid.question)) this.open(kid, depth - 1);
+  }
+
+  /** Whether a question is about what a value was made of, and not about how control came there. */
+  isValue({of, isAside, isWay}) {
+    return of !== "control" && of !== "call" && !isAside && !isWay;
+  }
+
+  /** Opens all that a value was made of, each move once. */
+  slice() {
+    if (!this.root) return;
+    const seen = new Set(), waiting = [this.chosen ?? this.root];
+    for (let count = 0; waiting.length && count < MOST_NODES; count++) {
+      const node = waiting.shift();
+      this.open(node);
+      const {of, name, address} = node.question, key = `${node.cause.move} ${of} ${name ?? address ?? ""}`;
+      if (seen.has(key)) {
+        node.kids = [];
+        node.isSeen = true;
+      } else waiting.push(...node.kids.filter(kid => this.isValue(kid.question)));
+      seen.add(key);
+    }
+  }
+
+  /** The nodes in the order in which they are shown. */
+  rows() {
+    const found = [], waiting = this.root ? [this.root] : [];
+    while (waiting.length) {
+      const node = waiting.pop();
+      found.push(node);
+      waiting.push(...(node.kids ?? []).slice().reverse());
+    }
+    return found;
+  }
+
+  /** The moves of the open causes, and from which to which one is a cause of another. */
+  dots() {
+    const nodes = [], links = [], path = new Set(), {run} = this.app;
+    for (let node = this.chosen; node; node = node.parent) path.add(node);
+    const effect = new Map();
+    for (const node of this.rows()) {
+      const above = node.parent ? effect.get(node.parent) : node.question.of === "end" ? run.moves - 1 : null;
+      const move = node.cause?.move ?? null;
+      effect.set(node, move ?? above);
+      if (move === null) continue;
+      nodes.push({move, isChosen: node === this.chosen});
+      const isControl = node.question.of === "control" || node.question.of === "call";
+      if (above !== null && above !== move) links.push({from: move, to: above, isControl, isChosen: path.has(node)});
+    }
+    links.sort((one, other) => one.isChosen - other.isChosen);
+    return {nodes, links};
+  }
+}
+
+export class Tree {
+  constructor(box, app) {
+    this.box = box;
+    this.app = app;
+    box.addEventListener("click", event => {
+      const row = event.target.closest(".node");
+      if (row) app.choose(this.nodes[row.dataset.node]);
+    });
+  }
+
+  draw() {
+    const {walk} = this.app;
+    if (!walk.root) {
+      this.box.replaceChildren(element("p", {class: "hint"}, "Click a value, a byte of memory or of the output, or press ", element("kbd", {}, "w"), "."));
+      return;
+    }
+    this.nodes = walk.rows();
+    const depths = new Map();
+    for (const node of this.nodes) depths.set(node, node.parent ? depths.get(node.parent) + 1 : 0);
+    const rows = this.nodes.map((node, index) => this.row(node, index, depths.get(node)));
+    this.box.replaceChildren(element("div", {role: "tree", "aria-label": "causes", tabindex: "0",
+      "aria-activedescendant": `node-${this.nodes.indexOf(walk.chosen)}`}, ...rows));
+    this.box.querySelector(".node.is-chosen")?.scrollIntoView({block: "nearest"});
+  }
+
+  row(node, index, depth) {
+    const {app} = this, {cause} = node, isChosen = node === app.walk.chosen;
+    const indent = `${Math.min(depth, DEEP) * 14 + Math.max(0, depth - DEEP) * 3}px`;
+    const at = cause && cause.move !== null && element("span", {class: "at"}, `#${spaced(cause.move + app.run.base)}`,
+      element("small", {}, `line ${cause.place.instruction.line}`));
+    return element("div", {class: classes("node", isChosen && "is-chosen", cause && "is-open"), role: "treeitem", id: `node-${index}`,
+      data: {node: index}, css: {"--indent": indent}, "aria-level": depth + 1, "aria-expanded": String(Boolean(cause)), "aria-selected": String(isChosen)},
+    element("span", {class: "twist", "aria-hidden": "true"}, cause ? node.kids?.length ? "▾" : "·" : "▸"),
+    element("span", {class: "told"}, this.asked(node.question), cause && this.by(node)), at);
+  }
+
+  asked(question) {
+    const isControl = question.of === "control" || question.of === "call";
+    return element("span", {class: classes("ask", isControl && "is-control", question.isAside && "is-aside", question.isStale && "is-changed")},
+      question.isStale ? "now " : "", question.label, question.shown === undefined ? null : element("b", {}, ` ${question.shown}`),
+      question.note ? ` ${question.note}` : "");
+  }
+
+  by({cause, isSeen}) {
+    const {program} = this.app, text = cause.phi?.text ?? cause.place?.instruction.text;
+    const source = cause.place && program.map?.[cause.place.instruction.line - 1];
+    return element("span", {class: "by", title: [text, source].filter(Boolean).join("\n")}, `${cause.verb} `, text ? element("code", {}, text) : null,
+      isSeen ? " (as above)" : "", cause.note ? element("em", {class: classes("note", cause.isAlarm && "is-alarm")}, cause.note) : null);
+  }
+}

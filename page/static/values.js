@@ -1,0 +1,76 @@
+// The temporaries of a frame: each with its value, and a plot of all that it was in the moves that are shown.
+import {classes, element} from "./element.js";
+import {plot} from "./plot.js";
+
+// Of more frames the outermost two and the innermost ones are shown.
+const MOST_FRAMES = 12, OUTERMOST = 2;
+
+export class Values {
+  constructor(box, app) {
+    this.box = box;
+    this.app = app;
+  }
+
+  draw() {
+    const {app} = this, {func} = app.place;
+    this.rows = func.temporaries.map(each => this.row(each));
+    this.box.replaceChildren(this.frames(), element("div", {class: "temps", role: "list", "aria-label": `temporaries of ${func.name}`},
+      ...this.rows.map(({row}) => row)), func.temporaries.length ? "" : element("p", {class: "hint"}, `${func.name} has no temporaries.`));
+    this.sparks();
+  }
+
+  /** The frames of the state, the outermost first: a click looks into one. */
+  frames() {
+    const {app} = this, {run} = app, frames = run.framesOf(app.cursor), count = frames.length;
+    const tab = (frame, index) => {
+      const isKnown = run.innermostState(frame, app.cursor) >= 0, called = run.frames.begin[frame] - 1;
+      return element("button", {class: classes("frame", index === app.selected && "is-on"), "aria-pressed": String(index === app.selected),
+        disabled: !isKnown, onclick: () => app.select(index),
+        title: isKnown && called >= 0 ? `${run.funcOf(frame).name}, called at #${called + run.base}` : run.funcOf(frame).name},
+      element("i", {class: "swatch", css: {background: `var(--f${run.frames.func[frame] % 8})`}}), run.funcOf(frame).name);
+    };
+    const tabs = frames.map((frame, index) => [frame, index]).filter(([, index]) => count <= MOST_FRAMES || index < MOST_FRAMES - OUTERMOST
+      || index >= count - OUTERMOST || index === app.selected).map(([frame, index]) => tab(frame, index)).reverse();
+    const left = count - tabs.length;
+    if (left) tabs.splice(OUTERMOST, 0, element("span", {class: "more"}, `${left} frames more`));
+    return element("div", {class: "frames", role: "group", "aria-label": "frames"}, ...tabs);
+  }
+
+  row([name, width, id]) {
+    const {app} = this, {run} = app, set = run.lastSet(id, app.frame, app.state), question = app.causes.temporary(name, app.state);
+    const isRead = app.selected === 0 && !app.isAtEnd && app.place.instruction.operands.some(([text]) => text === name);
+    const isFresh = set >= 0 && run.setPos[set] >= 0 && run.setPos[set] === app.state - 1;
+    const chart = element("canvas", {class: "spark", "aria-hidden": "true"});
+    const row = element("div", {class: classes("temp", question.value === null && "is-unset", isRead && "is-read", isFresh && "is-fresh",
+      app.pins.includes(id) && "is-pinned"), role: "listitem"},
+    element("button", {class: "ask-temp", "aria-label": `${name} ${question.shown}: why`, onclick: () => app.ask(question)},
+      element("span", {class: "name", title: `${name}, class ${width}`}, name),
+      element("span", {class: "number", title: question.value === null ? "" : this.allOf(question.value, width)}, question.shown)),
+    element("button", {class: "keep", "aria-label": `plot of ${name} in the timeline`, title: "keep this plot in the timeline",
+      onclick: () => app.pin(id)}, chart));
+    return {row, chart, id};
+  }
+
+  /** A value in the ways in which numbers are written. */
+  allOf(value, width) {
+    const bits = width === "l" ? 64 : 32, signed = BigInt.asIntN(bits, value);
+    return [value.toString(), ...(signed < 0n ? [signed.toString()] : []), `0x${value.toString(16)}`].join(" = ");
+  }
+
+  sparks() {
+    for (const {chart, id} of this.rows ?? []) this.spark(chart, id);
+  }
+
+  spark(canvas, id) {
+    const {app} = this, [from, to] = app.view, scale = devicePixelRatio, wide = canvas.clientWidth, tall = canvas.clientHeight;
+    canvas.width = wide * scale;
+    canvas.height = tall * scale;
+    const context = canvas.getContext("2d"), color = name => app.colors[name];
+    context.scale(scale, scale);
+    plot(context, app, id, {left: 0, top: 0, wide, tall}, color);
+    const now = (app.cursor - from) / (to - from) * wide;
+    if (now < 0 || now > wide) return;
+    context.fillStyle = color("now");
+    context.fillRect(Math.round(now) - .5, 0, 1, tall);
+  }
+}

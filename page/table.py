@@ -1,0 +1,95 @@
+"""The places and temporaries of a program by numbers, and which temporaries a move sets.
+
+The page reads a run as arrays of these numbers. Two places that follow each other tell what the move between them set: the
+instruction's result, the phis behind a jump, the parameters behind a call, the caller's temporary behind a `ret`.
+page/static/run.js works out the same from the same numbers, so only the values are sent.
+"""
+from __future__ import annotations
+
+from typing import Any, Iterable
+
+from terminal.screen import SourceMap
+from terminal.text import BUILT_IN, STACK, STACK_BYTES, Block, Function, Instruction, Program
+
+# What the numbers of places and temporaries take in the arrays, as type codes of `array`.
+NARROW, WIDE = "H", "I"
+MOST_NARROW = (1 << 16) - 1
+
+
+class Table:
+    """Numbers for the places and temporaries of a program, in the order of its text."""
+
+    def __init__(self, program: Program):
+        self.program = program
+        self.places: list[tuple[str, str, int, Instruction]] = []
+        self.ids: dict[str, int] = {}
+        self.first: dict[tuple[str, str], int] = {}
+        self.temporaries: dict[tuple[str, str], int] = {}
+        for function in program.functions.values():
+            self.add_places(function)
+            for name in all_temporaries(function):
+                self.temporaries[function.name, name] = len(self.temporaries)
+        self.code = NARROW if len(self.places) < MOST_NARROW else WIDE
+        # The number that stands for a state in which the run is over.
+        self.end = MOST_NARROW if self.code == NARROW else (1 << 32) - 1
+
+    def add_places(self, function: Function) -> None:
+        for block in function.blocks.values():
+            self.first[function.name, block.label] = len(self.places)
+            for index, instruction in enumerate(block.body):
+                self.ids[f"{function.name} {block.label} {index}"] = len(self.places)
+                self.places.append((function.name, block.label, index, instruction))
+
+    def set_by(self, here: int, there: int) -> Iterable[str]:
+        """The temporaries that a move from one place to another sets, in the function to which it leads."""
+        if there == self.end:
+            return ()
+        operation, labels = self.places[here][3].operation, self.places[here][3].labels
+        name, label, index, _ = self.places[there]
+        function = self.program.functions[name]
+        if operation == "ret":
+            result = function.at(label, index - 1).result
+        elif operation == "call" and (label, index) == (function.first, 0):
+            return dict.fromkeys(parameter for _, parameter in function.parameters)
+        elif labels:
+            return dict.fromkeys(phi.result for phi in function.blocks[label].phis if phi.result)
+        else:
+            result = self.places[here][3].result
+        return (result,) if result else ()
+
+    def told(self, file: str, source_map: SourceMap) -> dict[str, Any]:
+        """The program as the page reads it: lines, functions with their blocks, data, addresses."""
+        program = self.program
+        return {
+            "file": file, "lines": program.lines, "end": self.end, "wide": self.code == WIDE,
+            "functions": [self.function_told(function) for function in program.functions.values()],
+            "data": [{"name": data.name, "line": data.line, "address": data.address, "size": data.size}
+                     for data in program.data],
+            "addresses": program.addresses, "calls": [[address, name] for address, name in program.calls.items()],
+            "builtIn": {name: BUILT_IN[name] for name in sorted(program.built_in)},
+            "stack": [STACK, STACK_BYTES], "temporaries": len(self.temporaries),
+            "map": [source_map.place(line) for line in range(1, len(program.lines) + 1)] if source_map.lines else None,
+        }
+
+    def function_told(self, function: Function) -> dict[str, Any]:
+        return {"name": function.name, "line": function.line, "type": function.type,
+                "parameters": [[kind, name] for kind, name in function.parameters],
+                "temporaries": [[name, width, self.temporaries[function.name, name]]
+                                for name, width in all_temporaries(function).items()],
+                "blocks": [block_told(block) for block in function.blocks.values()]}
+
+
+def all_temporaries(function: Function) -> dict[str, str]:
+    """Each temporary that the text of a function sets, with its class."""
+    return function.temporaries
+
+
+def block_told(block: Block) -> dict[str, Any]:
+    return {"label": block.label, "line": block.line, "phis": [instruction_told(phi) for phi in block.phis],
+            "body": [instruction_told(each) for each in block.body]}
+
+
+def instruction_told(instruction: Instruction) -> dict[str, Any]:
+    return {"line": instruction.line, "op": instruction.operation, "result": instruction.result,
+            "type": instruction.type, "operands": [[each.text, each.type] for each in instruction.operands],
+            "labels": list(instruction.labels), "count": instruction.count, "text": instruction.written()}

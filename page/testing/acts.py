@@ -1,0 +1,273 @@
+"""What is done on the page: keys, the pointer, values by hand, the script, the exported file, texts that would be markup."""
+from __future__ import annotations
+
+import json
+import pathlib
+import subprocess
+import sys
+import tempfile
+import time
+from contextlib import contextmanager
+from typing import Iterator
+
+from terminal.answers import read_place
+from terminal.pipe import Pipe
+
+from .browser import Browser
+from .causes import TOP
+from .serving import MAIN, Serving
+
+EXAMPLES = TOP / "examples"
+SQUARES, DIGITS, QUEENS = (str(EXAMPLES / f"{name}.ssa") for name in ("squares", "digits", "queens"))
+STATE = "[app.cursor, app.walk.chosen?.question.label ?? '', document.getElementById('place').textContent]"
+
+
+@contextmanager
+def opened(program: str, *words: str, width: int = 1440, height: int = 900) -> Iterator[Browser]:
+    """The page of a program in a browser; what went wrong in it is raised at the end."""
+    browser = Browser(width, height)
+    try:
+        with Serving(program, *words) as serving:
+            browser.open(serving.address)
+            yield browser
+            if browser.errors():
+                raise AssertionError(f"the page has errors: {browser.errors()}")
+    finally:
+        browser.close()
+
+
+def first_fault(browser: Browser, steps: list[tuple[list[str], str, object]]) -> str | None:
+    """Presses keys, and compares what an expression gives with what is wanted, step by step."""
+    for keys, script, wanted in steps:
+        for key in keys:
+            browser.key(key[2:] if key.startswith("S-") else key, shift=key.startswith("S-"))
+        given = browser.run(script)
+        if given != wanted:
+            return f"{' '.join(keys)}: {script} gives {json.dumps(given)} and not {json.dumps(wanted)}"
+    return None
+
+
+# Where the keys lead in examples/squares.ssa; positions as docs/TERMINAL.md and `step`, `back` have them.
+KEYS: list[tuple[list[str], str, object]] = [
+    (["ArrowDown", "ArrowDown", "ArrowDown", "Enter", "ArrowDown", "Enter"], STATE, [44, "w $bias+0", "$fill @body 4"]),
+    (["Backspace"], STATE, [85, "%bias", "$main @end 0"]),
+    (["g"], "document.activeElement.id", "position"),
+    (["Escape"], "document.activeElement.id", ""),
+    (["Home"], "app.cursor", 0), (["ArrowRight"], STATE, [1, "%bias", "$fill @start 0"]), (["ArrowLeft"], "app.cursor", 0),
+    (["S-ArrowRight"], STATE, [50, "%bias", "$main @start 1"]), (["S-ArrowLeft"], "app.cursor", 0),
+    (["ArrowRight", "ArrowRight", "ArrowRight", "]"], "app.cursor", 12), (["["], "app.cursor", 3),
+    (["["], "document.getElementById('said').textContent", "this line didn't run before"),
+    (["{"], "app.cursor", 0), (["ArrowRight", "}"], "app.cursor", 50), (["ArrowLeft", "u"], "document.getElementById('place').textContent", "$main @start 0"),
+    (["d"], "document.getElementById('place').textContent", "$fill @end 0"),
+    (["m"], "app.line", 22), (["ArrowLeft", "k"], "app.pins.map(id => app.program.names[id])", ["%more"]), (["Escape"], "[app.line, app.pins.length]", [0, 0]),
+    (["w"], "app.walk.root.question.label", "%more"), (["End", "w", "e"], "app.walk.dots().nodes.some(({move}) => move === 44)", True),
+    (["+"], "app.view[1] - app.view[0]", 44), (["-", "0"], "app.view", [0, 88]),
+    (["?"], "document.getElementById('help').open", True), (["Escape"], "document.getElementById('help').open", False),
+    (["s"], "document.getElementById('scripted').open", True), (["Escape"], "document.getElementById('scripted').open", False),
+    (["t"], "document.documentElement.dataset.theme", "dark"), (["t"], "document.documentElement.dataset.theme", "light"),
+    (["p"], "document.getElementById('said').textContent", "the run is over here; go back into it first"),
+    (["ArrowLeft", "p"], "[document.getElementById('poking').open, document.getElementById('line').value]", [True, "set %total "]),
+]
+
+
+def keys(program: str) -> str | None:
+    """Each key of the list of keys; with keys alone from the page as it opens to the wrong store."""
+    with opened(program, SQUARES) as browser:
+        fault = first_fault(browser, KEYS)
+        untried = browser.run("Object.keys(app.keys.acts)")
+        pressed = {key[2:] if key.startswith("S-") else key for step in KEYS for key in step[0]}
+        left = [key for key in untried if key not in pressed | {"ArrowUp", "="}]
+        return fault or (f"no test presses {left}" if left else None)
+
+
+def pointer(program: str) -> str | None:
+    """A press in the timeline, in the overview, on a value, a byte of memory, of the output, a line's number, a plot, a cause."""
+    with opened(program, DIGITS) as browser:
+        box = browser.run("(() => { const box = document.getElementById('timeline').getBoundingClientRect(); return [box.left, box.top]; })()")
+        x = browser.run("app.timeline.x(101)")
+        browser.press(box[0] + x, box[1] + 60)
+        found = {"timeline": browser.run("app.cursor") == 101}
+        browser.click(".byte", 1)
+        found["output"] = browser.run("app.walk.root.question.label") == "byte 1 of the output"
+        browser.click(".temp .ask-temp", 2)
+        found["value"] = browser.run("app.walk.root.question.of") == "temporary"
+        browser.click(".cell[data-address]")
+        found["memory"] = browser.run("app.walk.root.question.of") == "memory"
+        browser.click(".temp .keep")
+        found["plot"] = browser.run("app.pins.length") == 1
+        browser.run("app.go(20)")
+        browser.click(".line.is-now .gutter")
+        found["line"] = browser.run("app.line === Number(document.querySelector('.line.is-now').dataset.line) && app.cursor > 20")
+        browser.run("app.ask(app.causes.root(app.run.moves))")
+        browser.click(".node:not(.is-open)")
+        found["cause"] = browser.run("app.walk.chosen !== app.walk.root && Boolean(app.walk.chosen.cause)")
+        browser.run("app.show(0, 20)")
+        browser.press(box[0] + browser.run("84 + app.timeline.span / 2"), box[1] + 12)
+        found["overview"] = abs(browser.run("(app.view[0] + app.view[1]) / 2") - browser.run("app.run.moves / 2")) < 2
+        wrong = [name for name, is_right in found.items() if not is_right]
+        return f"{', '.join(wrong)}: not what was wanted" if wrong else None
+
+
+def waited(browser: Browser, script: str, wanted: object, seconds: float = 10) -> object:
+    """What an expression gives, once that is what is wanted, or the time is over."""
+    end = time.monotonic() + seconds
+    while (given := browser.run(script)) != wanted and time.monotonic() < end:
+        time.sleep(.03)
+    return given
+
+
+def by_hand(program: str) -> str | None:
+    """README's example set right by hand: it ends with 14, and the script of the page leads the debugger to the same place."""
+    with opened(program, SQUARES) as browser:
+        browser.run("app.go(45)")
+        browser.key("p")
+        browser.run("document.getElementById('line').value = ''")
+        browser.type("poke w $bias 0")
+        browser.key("Enter")
+        steps: list[tuple[str, object]] = [
+            ("document.getElementById('end').textContent", "done 14"), ("document.getElementById('was').textContent", "was done 30"),
+            ("app.cursor", 46), ("agreed.className + agreed.textContent", "is-rightsession #46 $fill @body 5")]
+        for script, wanted in steps:
+            given = waited(browser, script, wanted)
+            if given != wanted:
+                return f"{script} gives {given!r} and not {wanted!r}"
+        browser.run("app.ask(app.causes.bytes(app.program.addresses['$bias'], 4, app.run.moves))")
+        given = browser.run("[app.walk.root.cause.verb, app.walk.root.cause.move]")
+        if given != ["by hand", 45]:
+            return f"why of $bias gives {given}"
+        browser.keys("End", "ArrowLeft", "ArrowLeft", "ArrowLeft")
+        given = waited(browser, "agreed.className + agreed.textContent", "is-rightsession #86 $main @end 0")
+        browser.key("s")
+        waited(browser, "document.getElementById('scripted').open", True)
+        script = browser.run("document.getElementById('lines').textContent")
+        place = played(program, SQUARES, str(script))
+        return None if given == f"is-rightsession {place}" else f"the page shows {given} and its script leads to {place}"
+
+
+def played(program: str, file: str, script: str) -> str:
+    """The place to which a script leads the debugger alone."""
+    run = subprocess.run([program, file], input=script, capture_output=True, text=True, timeout=30)
+    return str(read_place(run.stdout.strip().split("\n")[-1]))
+
+
+def export(program: str) -> str | None:
+    """The exported file, opened from the disk: the same run and causes, and no request."""
+    with tempfile.TemporaryDirectory(prefix="page-") as folder:
+        file = f"{folder}/queens.html"
+        subprocess.run([sys.executable, "-B", str(MAIN), "--debugger", program, "--export", file, "--", QUEENS], check=True, capture_output=True)
+        browser = Browser()
+        try:
+            browser.send("Network.enable")
+            browser.open(f"file://{file}")
+            asked = [each["params"]["request"]["url"] for each in browser.events if each.get("method") == "Network.requestWillBeSent"]
+            foreign = [url for url in asked if not url.startswith(("file:", "data:", "blob:"))]
+            browser.click(".byte", 2)
+            given = browser.run("[app.run.moves, app.run.end, app.walk.root.cause.place.instruction.text, app.walk.root.kids.map(kid => kid.question.label + ' ' + kid.question.shown)]")
+            blocked = browser.run("fetch('http://127.0.0.1:9/').then(() => 'sent', error => 'forbidden')")
+            errors = [error for error in browser.errors() if "Content Security Policy" not in error and "Fetch API" not in error]
+        finally:
+            browser.close()
+    wanted = [37116, "done 4", "call $putchar(w %letter)"]
+    if given[:2] != wanted[:2] or "call $putchar(w %letter)" not in given[2]:
+        return f"the file shows {given}"
+    return f"{foreign} {errors} {blocked}" if foreign or errors or blocked != "forbidden" else None
+
+
+LONG = """data $cells = { z 64 }
+export function w $main() {
+@start
+\tjmp @loop
+@loop
+\t%i =w phi @start 0, @loop %next
+\t%mixed =w mul %i, 2654435761
+\t%slot =w and %mixed, 15
+\t%offset =l extuw %slot
+\t%bytes =l shl %offset, 2
+\t%place =l add $cells, %bytes
+\tstorew %mixed, %place
+\t%next =w add %i, 1
+\t%more =w csltw %next, COUNT
+\tjnz %more, @loop, @end
+@end
+\tret %mixed
+}
+"""
+MOVES_A_ROUND = 9
+
+
+def size(program: str) -> str | None:
+    """100,000 moves that mix numbers are exported as less than a megabyte."""
+    with tempfile.TemporaryDirectory(prefix="page-") as folder:
+        file = pathlib.Path(folder) / "long.ssa"
+        file.write_text(LONG.replace("COUNT", str(100_000 // MOVES_A_ROUND + 1)))
+        subprocess.run([sys.executable, "-B", str(MAIN), "--debugger", program, "--export", f"{folder}/long.html", "--", str(file)],
+                       check=True, capture_output=True)
+        moves = read_place(Pipe([program, str(file)]).ask("step 999999")[0][-1]).position
+        size = pathlib.Path(f"{folder}/long.html").stat().st_size
+    return None if moves >= 100_000 and size < 1_000_000 else f"{moves} moves are {size} bytes"
+
+
+HOSTILE = """# </script><script>window.hacked = 1</script> <img src=x onerror="window.hacked = 2">
+data $text = { b "<script>window.hacked = 3</script><img src=x onerror='window.hacked = 4'>\\000" }
+export function w $main() {
+@script.alert.1
+\t%__proto__ =w copy 1	# <b>bold</b> %constructor @toString
+\t%constructor =w add %__proto__, 1
+\t%hasOwnProperty =w call $puts(l $text)
+\tjmp @__proto__
+@__proto__
+\t%toString =w phi @script.alert.1 %constructor
+\tret %toString
+}
+"""
+
+
+def hostile(program: str) -> str | None:
+    """Names, comments, output and a file's name that would be markup are text, on the page and in the exported file."""
+    with tempfile.TemporaryDirectory(prefix="page-") as folder:
+        file = pathlib.Path(folder) / "<img src=x onerror=alert(1)>.ssa"
+        file.write_text(HOSTILE)
+        export_file = f"{folder}/hostile.html"
+        subprocess.run([sys.executable, "-B", str(MAIN), "--debugger", program, "--export", export_file, "--", str(file)], check=True, capture_output=True)
+        browser = Browser()
+        try:
+            with Serving(program, str(file)) as serving:
+                for address in (serving.address, f"file://{export_file}"):
+                    browser.open(address)
+                    browser.keys("w", "e", "ArrowLeft", "ArrowLeft")
+                    fault = hostile_fault(browser, file.name)
+                    if fault:
+                        return f"{address}: {fault}"
+        finally:
+            browser.close()
+    return None
+
+
+def hostile_fault(browser: Browser, name: str) -> str | None:
+    given = browser.run("""({hacked: window.hacked ?? null, images: document.images.length, file: document.getElementById('file').textContent,
+        bold: document.querySelectorAll('main b:not(.count):not(.ask b)').length, output: document.getElementById('output').textContent,
+        values: [...document.querySelectorAll('.temp .name')].map(each => each.textContent),
+        first: document.querySelector('.line code').textContent})""")
+    wanted = {"hacked": None, "images": 0, "file": name, "first": HOSTILE.split("\n")[0],
+              "values": ["%__proto__", "%constructor", "%hasOwnProperty", "%toString"]}
+    wrong = [f"{key} {given[key]!r}" for key, value in wanted.items() if given[key] != value]
+    if "<script>window.hacked = 3</script><img" not in given["output"]:
+        wrong.append(f"output {given['output']!r}")
+    return ", ".join(wrong + browser.errors()) or None
+
+
+def ended(program: str) -> str | None:
+    """Where the server has ended the page says so, and goes on showing the run."""
+    browser = Browser()
+    try:
+        with Serving(program, SQUARES) as serving:
+            browser.open(serving.address)
+        browser.run("app.go(44)")
+        given = waited(browser, "agreed.textContent", "the server has ended")
+        return None if given == "the server has ended" and browser.run("app.cursor") == 44 else f"{given}"
+    finally:
+        browser.close()
+
+
+CASES = {"keys": keys, "pointer": pointer, "a value by hand and the script": by_hand, "export": export, "export's size": size,
+         "hostile texts": hostile, "the server ends": ended}

@@ -1,0 +1,50 @@
+"""The words of a command line of qrev, and what is said of a program that it refuses."""
+from __future__ import annotations
+
+from typing import Sequence
+
+from .answers import REFUSALS
+
+OPTIONS = ("--entry", "--limit", "--history")
+MOST = {"--limit": (1 << 32) - 1, "--history": 1_000_000}
+
+
+def split_words(words: Sequence[str]) -> tuple[str, list[str], dict[str, int]]:
+    """The program's file, the words that go with it to each process, and the values of --limit and --history."""
+    plain: list[str] = []
+    bounds: dict[str, int] = {}
+    rest = list(words)
+    while rest:
+        word = rest.pop(0)
+        name, has_value, value = word.partition("=")
+        if word == "--replay" and rest and not rest[0].startswith("-"):
+            # Its value may be missing; where it is there it goes into one word, so that it is no argument.
+            plain.append(f"{word}={rest.pop(0)}")
+            continue
+        if name not in OPTIONS:
+            plain.append(word)
+            continue
+        value = value if has_value else rest.pop(0) if rest else ""
+        if name == "--entry" or not value.isdigit() or not 1 <= int(value) <= MOST[name]:
+            # The debugger refuses what is wrong, in its own words.
+            plain += [name, value] if value else [name]
+        else:
+            bounds[name] = int(value)
+    at = next((index for index, word in enumerate(plain) if not word.startswith("-") and
+               (not index or plain[index - 1] not in OPTIONS)), None)
+    file = "" if at is None else plain.pop(at)
+    return file, plain, bounds
+
+
+def refusal(loaded: str, file: str, source: bytes) -> str:
+    """What to say of a program that was refused: its line, with the code and what that means."""
+    words = loaded.split()
+    if len(words) < 2 or words[0] != "refused:":
+        return loaded
+    meaning = REFUSALS.get(words[1], "refused")
+    if len(words) == 4:
+        lines = source.decode("utf-8", "replace").split("\n")
+        number = int(words[3])
+        text = lines[number - 1].strip() if number <= len(lines) else ""
+        return f"{file}:{number}: {words[1]}: {meaning}\n    {text}"
+    return f"{file}: {words[1]}: {meaning}"
