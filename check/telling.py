@@ -1,0 +1,105 @@
+"""What is told of a suspicion: the lines for a reader, and the same for machines (SARIF)."""
+from __future__ import annotations
+
+import json
+from dataclasses import dataclass
+from typing import Any, Callable, Sequence
+
+from terminal.text import Instruction
+
+from .shadow import Object, Origin
+
+SARIF = "https://json.schemastore.org/sarif-2.1.0.json"
+
+
+@dataclass
+class Suspicion:
+    """A kind at a place of the text: its first move, what was done there, and how often it came."""
+
+    kind: str
+    position: int
+    function: str
+    label: str
+    index: int
+    instruction: Instruction
+    text: str
+    count: int = 1
+
+    def lines(self, source: str = "") -> list[str]:
+        times = f"  ({self.count} times)" if self.count > 1 else ""
+        return [f"#{self.position} {self.function} {self.label} {self.index}  line {self.instruction.line}: "
+                f"{self.instruction.written()}" + (f"  ({source})" if source else ""), f"  {self.kind}: {self.text}{times}"]
+
+
+def counted(number: int, what: str) -> str:
+    return f"{number} {what}" if number == 1 else f"{number} {what}s"
+
+
+def object_told(thing: Object) -> str:
+    """An object with its size, and when it was made and ended."""
+    if thing.is_code:
+        return f"{thing.name}, a function"
+    said = [counted(thing.size, "byte")]
+    if thing.kind != "data":
+        said.append(f"made at #{thing.born}")
+    if thing.died is not None:
+        said.append(f"{'freed' if thing.kind == 'block' else 'whose frame returned'} at #{thing.died}")
+    return f"{thing.name} ({', '.join(said)})"
+
+
+def distance_told(thing: Object, address: int, count: int) -> str:
+    """Where an access lies, as seen from an object."""
+    if address < thing.address:
+        return f"{counted(thing.address - address, 'byte')} before"
+    if thing.contains(address, count):
+        return "in"
+    if address < thing.end:
+        return "across the end of"
+    return "at the end of" if address == thing.end else f"{counted(address - thing.end, 'byte')} past the end of"
+
+
+def bits_told(bits: int) -> str:
+    """Which bits are open."""
+    first, last = (bits & -bits).bit_length() - 1, bits.bit_length() - 1
+    if first == last:
+        return f"bit {first} is open"
+    whole = bits == (1 << last + 1) - (1 << first)
+    return f"bits {first} to {last} are open" if whole else f"some of the bits {first} to {last} are open"
+
+
+def origin_told(origin: Origin | None) -> str:
+    return f": {origin.told} at #{origin.position}" if origin else ""
+
+
+def summary(suspicions: Sequence[Suspicion], moves: int, end: str) -> str:
+    """The last line."""
+    number = counted(len(suspicions), "suspicion") if suspicions else "no suspicion"
+    return f"{number} in {counted(moves, 'move')}, {end}"
+
+
+def as_sarif(suspicions: Sequence[Suspicion], file: str, version: str, source: Callable[[int], str]) -> str:
+    """The same as a log that continuous integration shows beside the lines."""
+    results: list[dict[str, Any]] = []
+    for each in suspicions:
+        place = place_of(source(each.instruction.line), file, each.instruction.line)
+        results.append({"ruleId": each.kind, "level": "warning", "message": {"text": f"{each.kind}: {each.text}"},
+                        "occurrenceCount": each.count, "locations": [{"physicalLocation": place, "logicalLocations": [
+                            {"fullyQualifiedName": f"{each.function} {each.label} {each.index}"}]}],
+                        "properties": {"position": each.position}})
+    rules = [{"id": kind} for kind in sorted({each.kind for each in suspicions})]
+    tool = {"driver": {"name": "qrev", "version": version, "rules": rules}}
+    return json.dumps({"$schema": SARIF, "version": "2.1.0", "runs": [{"tool": tool, "results": results}]}, indent=1)
+
+
+def place_of(told: str, file: str, line: int) -> dict[str, Any]:
+    """The place in the compiler's own source if there is a map, else in the text; the last of several counts."""
+    name, number, column = file, line, 0
+    if told:
+        parts = told.split(": ")[-1].rsplit(":", 2)
+        if len(parts) == 3 and parts[1].isdigit() and parts[2].isdigit():
+            name, number, column = parts[0], int(parts[1]), int(parts[2])
+        else:
+            name, _, text = told.split(": ")[-1].rpartition(":")
+            number = int(text) if text.isdigit() else line
+    region = {"startLine": max(number, 1), **({"startColumn": column} if column else {})}
+    return {"artifactLocation": {"uri": name}, "region": region}
