@@ -21,8 +21,8 @@ from .kinds import ALL, WrongKind, chosen
 from .telling import as_sarif, summary
 
 TOP = pathlib.Path(__file__).resolve().parent.parent
-# How many moves are looked at if nothing is said: half a minute or so.
-LIMIT = 5_000_000
+# How many moves are looked at if nothing is said: some 20 seconds.
+LIMIT = 2_000_000
 MOST_LIMIT = (1 << 32) - 1
 WITH_VALUE = ("--limit", "--kinds", "--heap", "--except", "--format")
 NONE, REFUSED, UNREAD, SOME, FAULT, TOO_LONG = 0, 1, 2, 3, 4, 5

@@ -64,11 +64,12 @@ class Excepted:
 class Follower:
     """The shadow of a run in the state where it stands, and the suspicions up to there."""
 
-    def __init__(self, table: Table, data: bytes, kinds: frozenset[str], heap: dict[str, str], excepted: Excepted):
-        self.table, self.program = table, table.program
+    def __init__(self, table: Table, data: bytes, kinds: frozenset[str], heap: dict[str, str],
+                 excepted: Excepted | None = None, pokes: dict[int, str] | None = None):
+        self.table, self.program, self.pokes = table, table.program, pokes or {}
         self.objects = Objects(self.program)
         self.memory = Memory(self.program, self.objects, data)
-        self.kinds, self.heap, self.excepted = kinds, heap, excepted
+        self.kinds, self.heap, self.excepted = kinds, heap, excepted or Excepted()
         self.looks_at_operations = bool(kinds & {"shift", "order", "diff", "sum"})
         self.frames: list[Frame] = []
         self.found: dict[tuple[int, str], Suspicion] = {}
@@ -88,6 +89,9 @@ class Follower:
         self.frames.append(frame)
         for position in range(len(places) - 1):
             self.position, self.here = position, places[position]
+            if position in self.pokes:
+                self.poke(self.pokes[position].split(), values)
+                continue
             self.move(self.table.places[self.here][3], places[position + 1], values)
         self.position = len(places) - 1
         self.look_at_end()
@@ -123,6 +127,19 @@ class Follower:
             self.jump(there, values)
         elif operation != "hlt":
             self.set(instruction, self.result(instruction, reads), values)
+
+    def poke(self, words: list[str], values: Iterator[int]) -> None:
+        """A value that was put there by hand: it is set, and nothing says what it is made of."""
+        frame = self.frames[-1]
+        if words[0] == "set":
+            width = frame.function.temporaries[words[1]]
+            frame.values[words[1]], frame.shadows[words[1]] = next(values), Shadow(MIXED if width == "l" else CUT)
+            return
+        count = {"b": 1, "h": 2, "w": 4, "l": 8}[words[1]]
+        address = self.program.addresses[words[2]] if words[2].startswith("$") else int(words[2])
+        for place in range(count):
+            if self.memory.is_live(address + place, 1):
+                self.memory.store(address + place, 1, int(words[3]) >> 8 * place, Shadow(MIXED))
 
     def read(self, operand: Operand) -> Read | None:
         """An operand as the instruction wants it; None if it is unset."""

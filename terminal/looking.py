@@ -348,7 +348,7 @@ TOPICS = {
     "move": "step next until advance finish continue run start back reverse-next reverse-finish reverse goto checkpoint restart",
     "look": "print x display undisplay bt up down frame temps list disas mem out info",
     "stop": "break tbreak watch ignore condition commands disable enable stops delete",
-    "ask": "why path readers writers when compare",
+    "ask": "suspects made why path readers writers when compare",
     "change": "set poke",
     "session": "save source help quit",
 }

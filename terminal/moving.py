@@ -115,20 +115,31 @@ def run(shell: Shell, rest: str) -> None:
     shell.outcome(shell.runs.run(True))
 
 
-@command("goto", "goto N | goto why", "expression", is_repeated=False)
+@command("goto", "goto N | goto why | goto suspect N", "expression", is_repeated=False)
 def goto(shell: Shell, rest: str) -> None:
-    """Goes to the position N, back or forward; `goto why` to that of the cause that was shown last. Pokes behind it are
-    taken back, and a line says so."""
+    """Goes to the position N, back or forward; `goto why` to that of the cause that was shown last, `goto suspect N` to that of the
+    N-th suspicion. Pokes behind it are taken back, and a line says so."""
     if rest == "why":
         if not shell.chain:
             raise Refused("nothing was asked by `why` yet")
         there = shell.chain[-1].at
+    elif rest.split()[:1] == ["suspect"]:
+        there = suspect_numbered(shell, rest.partition(" ")[2].strip() or "1")
     else:
         position = shell.evaluate(rest.lstrip("#") if rest.startswith("#") else rest).number if rest else -1
         if position < 0:
             raise Wrong(f"{rest or 'goto'}: a position, 0 and up, was expected")
         there = shell.session.timeline.at(position)
     go(shell, there)
+
+
+def suspect_numbered(shell: Shell, text: str) -> Timeline:
+    """Where the N-th of the suspicions stands that were listed last."""
+    if not shell.suspects:
+        raise Refused("no suspicion was listed yet; `suspects` lists them")
+    if not text.isdigit() or not 1 <= int(text) <= len(shell.suspects):
+        raise Wrong(f"{text}: a number from 1 to {len(shell.suspects)} was expected")
+    return shell.suspects[int(text) - 1]
 
 
 def go(shell: Shell, there: Timeline) -> None:

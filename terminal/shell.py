@@ -103,6 +103,7 @@ class Shell:
         self.displays: dict[int, tuple[str, str]] = {}
         self.checkpoints: dict[str, Timeline] = {}
         self.chain: list[Cause] = []
+        self.suspects: list[Timeline] = []
         self.line_shown = 0
         self.examined, self.unit, self.format = 0, "w", "x"
         self.list_size = 11

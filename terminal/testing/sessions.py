@@ -66,7 +66,12 @@ GDB: Lines = [
     ("up", ["frame 1 $main @start 1"]), ("disas", ["> 27 ", "  45  }"]), ("list", ["  22 ", "> 27 ", "  32 "]),
     ("set listsize 3", []), ("list 20", ["  19 ", "  20 ", "  21 "]), ("list", ["  22 ", "  24 "]),
     ("info locals", ["10 unset"]), ("goto 88", ["#88 done 30"]), ("path $fill", ["  #47  @loop @end"]),
-    ("stps", ["no such command; `stops` is one"]), ("source /nowhere/at-all", ["/nowhere/at-all: No such file"]),
+    ("stps", ["no such command; `stops` is one"]), ("goto suspect 1", ["no suspicion was listed yet"]),
+    ("suspects", ["[1] #44 $fill @body 4  line 18: storew %square, %place", "bounds: storew at the end of $squares (16 bytes), into $bias+0",
+                  "1 suspicion in 88 moves, done 30"]),
+    ("goto suspect 1", ["#44 $fill @body 4"]), ("made %place", ["%place is made of the address of $squares (16 bytes)"]),
+    ("made %i", ["%i is made of numbers"]), ("goto suspect 2", ["a number from 1 to 1 was expected"]),
+    ("suspects bonds", ["bonds: no kind of suspicion"]), ("goto 88", ["#88 done 30"]), ("source /nowhere/at-all", ["/nowhere/at-all: No such file"]),
 ]
 
 # On the stack of examples/digits.ssa after 101 moves: docs/LANGUAGE.md has the picture.

@@ -1,0 +1,159 @@
+"""The command: its statuses and options, the form for machines, hostile names, and texts that were lowered."""
+from __future__ import annotations
+
+import json
+import pathlib
+import re
+import subprocess
+import tempfile
+from typing import Callable, Iterator
+
+from .texts import TEXTS, run
+
+TOP = pathlib.Path(__file__).resolve().parent.parent.parent
+EXAMPLES = TOP / "examples"
+SQUARES = str(EXAMPLES / "squares.ssa")
+FIRST = ("#44 $fill @body 4  line 18: storew %square, %place\n"
+         "  bounds: storew at the end of $squares (16 bytes), into $bias+0\n1 suspicion in 88 moves, done 30\n")
+ENDLESS = "export function w $main() {\n@start\n@loop\n\tjmp @loop\n}\n"
+FAULT = "export function w $main() {\n@start\n\thlt\n}\n"
+# A store past the end, in every round of ten.
+ROUNDS = """data $a = align 4 { z 4 }
+data $b = align 4 { z 4 }
+export function w $main() {
+@start
+@loop
+	%i =w phi @start 0, @loop %j
+	%q =l add $a, 4
+	storew %i, %q
+	%j =w add %i, 1
+	%c =w csltw %j, 10
+	jnz %c, @loop, @end
+@end
+	ret 0
+}
+"""
+TAKES = ROUNDS.replace("$main()", "$main(w %n, l %p)")
+# Words, the status, and what is written to standard output and error.
+COMMANDS: list[tuple[str, list[str], int, str, str]] = [
+    ("first session", [SQUARES], 3, FIRST, ""),
+    ("none", [str(EXAMPLES / "sum.ssa")], 0, "no suspicion in 2 moves, done 5\n", ""),
+    ("limit", [SQUARES, "--limit", "44"], 5, "no suspicion in 44 moves, limit at $fill\n", ""),
+    ("limit behind it", [SQUARES, "--limit=45"], 3, FIRST.replace("88 moves, done 30", "45 moves, limit at $fill"), ""),
+    ("other kinds", [SQUARES, "--kinds", "undef,stale"], 0, "no suspicion in 88 moves, done 30\n", ""),
+    ("except an object", [SQUARES, "--except", "bounds:$squares"], 0, "no suspicion in 88 moves, done 30\n", ""),
+    ("except a function", [SQUARES, "--except=bounds:$fill"], 0, "no suspicion in 88 moves, done 30\n", ""),
+    ("except another", [SQUARES, "--except", "bounds:$bias"], 3, FIRST, ""),
+    ("refused", [str(TOP / "rows/byte-of-no-token/program.ssa")], 1, None, ""),
+    ("no file", ["/nowhere/at-all.ssa"], 2, "", "qrev: /nowhere/at-all.ssa: No such file or directory\n"),
+    ("no words", [], 64, "", "qrev: a program was expected: ./qrev --check FILE [ARGS..]\n"),
+    ("unknown kind", [SQUARES, "--kinds", "bonds"], 64, "", "qrev: bonds: no kind of suspicion; the kinds are "),
+    ("unknown form", [SQUARES, "--format", "xml"], 64, "", "qrev: --format xml: text or json was expected\n"),
+    ("no limit", [SQUARES, "--limit", "0"], 64, "", "qrev: --limit 0: a number from 1 to "),
+    ("heap of no function", [SQUARES, "--heap", "take=nothing"], 64, "", "qrev: take=nothing: the program has no function nothing\n"),
+    ("heap of another shape", [SQUARES, "--heap", "take=fill"], 64, "", "qrev: take=fill: a function (l) that gives l was expected\n"),
+    ("heap in no role", [SQUARES, "--heap", "lend=fill"], 64, "", "qrev: lend=fill: ROLE=FUNCTION was expected"),
+    ("heap and none", [SQUARES, "--heap", "take=fill", "--no-heap"], 64, "", "qrev: --heap and --no-heap exclude each other\n"),
+    ("bad exception", [SQUARES, "--except", "bounds"], 64, "", "qrev: --except bounds: KIND:$NAME was expected"),
+    ("no heap", [str(TEXTS / "heap-off-by-one.ssa"), "--no-heap"], 0, "no suspicion in 24 moves, done 0\n", ""),
+    ("named heap", [str(TEXTS / "heap-off-by-one.ssa"), "--heap", "take=malloc"], 3, None, ""),
+    ("strict", [str(TEXTS / "heap-blocks-overlap.ssa"), "--kinds", "strict"], 3, None, ""),
+]
+# Texts of their own: status, and the last line.
+WRITTEN: list[tuple[str, str, list[str], int, str]] = [
+    ("endless", ENDLESS, ["--limit", "1000"], 5, "no suspicion in 1000 moves, limit at $main"),
+    ("fault", FAULT, [], 4, "no suspicion in 1 move, fault halted"),
+    ("often", ROUNDS, [], 3, "1 suspicion in 52 moves, done 0"),
+    ("arguments", TAKES, ["3", "65536"], 3, "1 suspicion in 52 moves, done 0"),
+    ("another entry", ROUNDS.replace("$main", "$other"), ["--entry", "other"], 3, "1 suspicion in 52 moves, done 0"),
+]
+Case = tuple[str, Callable[[], str | None]]
+
+
+def command_fault(program: str, words: list[str], status: int, out: str | None, errors: str) -> str | None:
+    told = run(program, *words)
+    same = told.returncode == status and (out is None or told.stdout == out) and told.stderr.startswith(errors)
+    return None if same and bool(told.stderr) == bool(errors) else f"{told.returncode}, {told.stdout!r} and {told.stderr!r}"
+
+
+def written_fault(program: str, text: str, words: list[str], status: int, last: str) -> str | None:
+    with tempfile.TemporaryDirectory(prefix="check-") as place:
+        file = pathlib.Path(place) / "text.ssa"
+        file.write_text(text)
+        told = run(program, str(file), *words)
+    lines = told.stdout.splitlines()
+    return None if (told.returncode, lines[-1:]) == (status, [last]) else f"{told.returncode}, {told.stdout!r} and {told.stderr!r}"
+
+
+def count_fault(program: str) -> str | None:
+    """One line for each place and kind, with how often it came."""
+    with tempfile.TemporaryDirectory(prefix="check-") as place:
+        file = pathlib.Path(place) / "text.ssa"
+        file.write_text(ROUNDS)
+        told = run(program, str(file)).stdout
+    wanted = "  bounds: storew at the end of $a (4 bytes), into $b+0  (10 times)"
+    return None if told.splitlines()[1] == wanted else f"{told!r}"
+
+
+def json_fault(program: str) -> str | None:
+    """The form for machines says the same of each suspicion, and where the line is."""
+    for file in (SQUARES, str(TEXTS / "heap-off-by-one.ssa"), str(EXAMPLES / "sum.ssa")):
+        told = run(program, file, "--format", "json")
+        log = json.loads(told.stdout)
+        results = log["runs"][0]["results"]
+        lines = run(program, file).stdout.splitlines()
+        wanted = [line.strip() for line in lines[1:-1:2]]
+        places = [line.partition("line ")[2].partition(":")[0] for line in lines[:-1:2]]
+        given = [result["locations"][0]["physicalLocation"]["region"]["startLine"] for result in results]
+        if log["version"] != "2.1.0" or [result["message"]["text"] for result in results] != wanted or \
+                list(map(str, given)) != places or told.returncode != (3 if wanted else 0):
+            return f"{file}: {told.returncode}, {told.stdout[:400]}"
+    return None
+
+
+def lowered_fault(program: str) -> str | None:
+    """Of a text that was lowered the place in the compiler's own text is told, and its runtime is not suspected."""
+    text = ('data $small = align 4 { z 4 }\ndata $next = align 4 { z 4 }\ndata $f = { b "%d\\n", b 0 }\n'
+            "export function w $main() {\n@start\n\t%q =l add $small, 4\n\tstorew 7, %q\n"
+            "\t%r =w call $printf(l $f, ..., w 12)\n\tret 0\n}\n")
+    with tempfile.TemporaryDirectory(prefix="check-") as place:
+        folder = pathlib.Path(place)
+        (folder / "a.ssa").write_text(text)
+        subprocess.run([str(TOP / "lower" / "qrev-lower"), "--link", "--output", "out.ssa", "a.ssa"], cwd=folder, check=True)
+        told = run(program, str(folder / "out.ssa"))
+    lines = told.stdout.splitlines()
+    well = len(lines) == 3 and lines[0].endswith("  (a.ssa:7)") and lines[1].startswith("  bounds: storew at the end of $small")
+    return None if well else f"{told.stdout!r} and {told.stderr!r}"
+
+
+def wide_fault(program: str) -> str | None:
+    """A large object whose every byte is written and read doesn't cost the square of its size."""
+    text = ("data $a = { z 65536 }\nexport function w $main() {\n@start\n@loop\n\t%i =l phi @start 0, @loop %j\n"
+            "\t%q =l add $a, %i\n\tstorel %q, %q\n\t%v =l loadl %q\n\t%j =l add %i, 8\n\t%c =w csltl %j, 65536\n"
+            "\tjnz %c, @loop, @end\n@end\n\tret 0\n}\n")
+    return written_fault(program, text, [], 0, "no suspicion in 49154 moves, done 0")
+
+
+def page_faults(program: str, page: pathlib.Path) -> Iterator[Case]:
+    """What a page shows of the command: a block that begins with it."""
+    blocks = re.findall(r"(?m)^    \$ \./qrev --check (.*)\n((?:    (?!\$).*\n)*)", page.read_text())
+    for number, (words, block) in enumerate(blocks, 1):
+        shown = "".join(line[4:] + "\n" for line in block.splitlines())
+        words_ = [str(TOP / word) if word.startswith("examples/") else word for word in words.split()]
+        yield f"page {page.name} {number}", lambda words_=words_, shown=shown: shown_fault(program, words_, shown)
+
+
+def shown_fault(program: str, words: list[str], shown: str) -> str | None:
+    told = run(program, *words).stdout
+    return None if told == shown else f"{told!r} in place of {shown!r}"
+
+
+def cases(program: str) -> Iterator[Case]:
+    for name, *command in COMMANDS:
+        yield f"command {name}", lambda command=command: command_fault(program, *command)
+    for name, *written in WRITTEN:
+        yield f"command {name}", lambda written=written: written_fault(program, *written)
+    for name, call in (("count", count_fault), ("json", json_fault), ("lowered", lowered_fault), ("wide", wide_fault)):
+        yield f"command {name}", lambda call=call: call(program)
+    for page in (TOP / "README.md", TOP / "docs" / "CHECKING.md"):
+        yield from page_faults(program, page)

@@ -1,0 +1,74 @@
+"""What the run does that no right compiler's output does, and what values are made of: docs/CHECKING.md."""
+from __future__ import annotations
+
+from check.following import Follower
+from check.heap import roles_of
+from check.kinds import WrongKind, chosen
+from check.shadow import Object, Part
+from check.telling import bits_told, object_told, origin_told, summary
+from page.gathering import Gathering
+from page.table import Table
+
+from .expressions import Wrong
+from .scratch import Refused
+from .shell import Shell, command
+from .timeline import Timeline
+
+# How many moves are looked at.
+MOST = 1_000_000
+
+
+def followed(shell: Shell, at: Timeline, most: int, kinds: frozenset[str]) -> tuple[Follower, Gathering, int]:
+    """The shadow of the session's run after so many moves, or at its end."""
+    program = shell.session.program
+    table = Table(program)
+    gathered = Gathering(shell.launch, table, most, pokes=at.pokes)
+    gathered.gather()
+    failed = [part[5:].decode() for part in gathered.parts if part[:1] == b"X"]
+    if failed:
+        raise Refused(failed[0])
+    data = next(part[5:] for part in gathered.parts if part[:1] == b"D")
+    follower = Follower(table, data, kinds, roles_of(program, None), pokes={poke.position: poke.line for poke in at.pokes})
+    return follower, gathered, follower.follow(list(gathered.places), iter(gathered.values))
+
+
+@command("suspects suspicions", "suspects [strict | KIND,..]", is_repeated=False)
+def suspects(shell: Shell, rest: str) -> None:
+    """Lists what the whole run does that no right compiler's output does: up to here, and on to its end. `goto suspect N` goes to
+    the N-th. docs/CHECKING.md says what each kind means."""
+    try:
+        kinds = chosen(rest or None)
+    except WrongKind as error:
+        raise Wrong(str(error)) from None
+    at = shell.session.timeline
+    follower, gathered, moves = followed(shell, at, MOST, kinds)
+    found = follower.suspicions()
+    shell.suspects = [at.at(each.position) for each in found]
+    for number, each in enumerate(found, 1):
+        first, second = each.lines(shell.screen.map.place(each.instruction.line))
+        shell.say(f"[{number}] {first}", f"    {second}")
+    shell.say(summary(found, moves, gathered.end or "and the run goes on"))
+
+
+@command("made", "made %x", "expression", is_repeated=False)
+def made(shell: Shell, rest: str) -> None:
+    """Says what a temporary of the selected frame is made of: numbers, an object's address, a part of one. And which of its bits
+    nothing has set."""
+    shell.temporary(rest)
+    session = shell.session
+    if session.timeline.position > MOST:
+        raise Refused(f"this is told of the first {MOST} moves alone")
+    follower, _, _ = followed(shell, session.timeline, session.timeline.position, frozenset())
+    shadow = follower.frames[-1 - session.selected].shadows.get(rest)
+    if shadow is None:
+        shell.say(f"{rest} unset")
+        return
+    thing = shadow.made
+    if isinstance(thing, Object):
+        said = f"the address of {object_told(thing)}"
+    elif isinstance(thing, Part):
+        said = f"a part of the address of {object_told(thing.object)}"
+    else:
+        said = {"number": "numbers", "cut": "an address of which 32 bits were taken",
+                "mixed": "more than one address"}[str(thing)]
+    shell.say(f"{rest} is made of {said}" + (f"; {bits_told(shadow.open)}{origin_told(shadow.origin)}" if shadow.open else ""))
