@@ -78,6 +78,8 @@ class Lowering:
         writer = ProgramWriter(self.program, self.report, self.entry, first)
         self.chunks = writer.write()
         self.program.note_outside()
+        self.program.note_calls_of_system()
+        self.program.note_state_left()
         self.text, self.map = text_of(self.chunks), map_of(self.chunks)
         self.overflows = writer.overflows(len(self.text))
 

@@ -5,6 +5,8 @@ what the runtime has, else built in, else a function from outside, which halts.
 """
 from collections.abc import Iterable
 
+from .calls_of_system import ANSWERED, CALLERS, told
+from .families import HEAP_NAMES, Families, calls_of, constant, stored_data
 from .names import Names
 from .refusals import Refused
 from .report import Report, Weight
@@ -30,9 +32,11 @@ class Program:
         self.built_in = {raw: Symbol(raw, None, None, signature, True, raw) for raw, signature in BUILT_IN.items()}
         self.units = [self.unit_of(text) for text in texts]
         self.replaced: dict[Symbol, Symbol] = {}
+        # The data of a text that is stored to by its name.
+        self.stored: dict[Unit, set[str]] = {}
         # What can be reached from the entry; without an entry all.
         self.reached: dict[Symbol, None] = {}
-        self.replace_those_that_halt()
+        self.replace_families()
 
     def unit_of(self, text: Text) -> Unit:
         unit = Unit(text, False)
@@ -55,7 +59,8 @@ class Program:
     def resolve(self, unit: Unit, raw: str) -> Symbol:
         symbol = unit.scope.get(raw)
         if symbol is None:
-            symbol = unit.own.get(raw) or self.resolve_beyond(unit, raw)
+            symbol = self.exported.get(raw) if unit.is_runtime and raw in HEAP_NAMES else None
+            symbol = symbol or unit.own.get(raw) or self.resolve_beyond(unit, raw)
             symbol = self.replaced.get(symbol, symbol)
             unit.scope[raw] = symbol
         return symbol
@@ -160,19 +165,46 @@ class Program:
 
     # What would halt.
 
-    def replace_those_that_halt(self) -> None:
-        """A function of a text that needs the system is replaced by the runtime's of its name, where there is one."""
-        candidates = [symbol for symbol in self.exported.values() if symbol.raw in self.runtime.places]
-        halting = [symbol for symbol in candidates
-                   if any(other.is_outside() for other in self.reached_from([symbol], set(candidates)))]
-        for symbol in halting:
-            self.replaced[symbol] = self.runtime.symbol(symbol.raw)
-            self.report.count("functions that need the system, replaced by the runtime's")
-            self.report.note(symbol.unit.text.path, symbol.definition.line,
-                             f"{symbol.raw} needs functions from outside: the runtime's is taken", Weight.OTHER)
-        for unit in self.units:
+    def replace_families(self) -> None:
+        """Of functions that share state all are replaced by the runtime's where one can't be the text's own."""
+        families = Families(self)
+        found = families.replaced()
+        self.left_state = {symbol for replaced in found for symbol in families.state[replaced.symbol]}
+        self.replaced = {replaced.symbol: self.runtime.symbol(replaced.symbol.raw) for replaced in found}
+        for unit in [*self.units, *self.runtime.units.values()]:
             unit.scope.clear()
         self.outside.clear()
+        self.report.count("functions that need the system, replaced by the runtime's", len(found))
+        for symbol, why in found:
+            self.report.note(symbol.unit.text.path, symbol.definition.line, f"{symbol.raw} {why}: the runtime's is taken",
+                             Weight.OTHER)
+
+    def note_state_left(self) -> None:
+        """A note for each function that is kept and looks at what a replaced one changed."""
+        for user in self.kept:
+            if user.is_data() or user.unit is None or user.is_of_runtime() or not self.left_state:
+                continue
+            shared = next((symbol for symbol in self.references_of(user) if symbol in self.left_state), None)
+            if shared is not None:
+                self.report.note(user.unit.text.path, user.definition.line,
+                                 f"{user.raw} uses {shared.raw}, which functions that were replaced don't change",
+                                 Weight.OTHER)
+
+    def stored_in(self, unit: Unit) -> set[str]:
+        if unit not in self.stored:
+            self.stored[unit] = stored_data(unit.text.definitions)
+        return self.stored[unit]
+
+    def note_calls_of_system(self) -> None:
+        """A note for each call of the system that can be reached, by a number that isn't answered."""
+        for user in self.reached:
+            if not isinstance(user.definition, Function) or user.is_of_runtime():
+                continue
+            for call in calls_of(user.definition):
+                if call.target in CALLERS and call.arguments and self.resolve(user.unit, call.target).is_of_runtime():
+                    number = constant(user.definition, call.arguments[0][1])
+                    if number is not None and number not in ANSWERED:
+                        self.report.note(user.unit.text.path, call.line, told(number), Weight.OTHER)
 
     def weight_in(self, symbol: Symbol) -> Weight:
         """What it means that something halts in what a symbol stands for."""

@@ -15,7 +15,9 @@ MOST_BYTES = MOST_DATA = 1 << 20
 MOST_FUNCTIONS = 1000
 FIRST_FUNCTION, FUNCTION_STEP, FIRST_DATA = 4096, 16, 65536
 # The data of the runtime from which memory is given: as much as the other data leaves, up to what it has.
-HEAP, HEAP_END = "$heap", "$heap.end"
+HEAP, HEAP_ENDS = "$heap", ("$heap.end", "$heap.top")
+# The data of the runtime's mappings, which is there where a program has them.
+MAPPED = "$pages.free"
 PAGE = 4096
 
 
@@ -107,15 +109,17 @@ class ProgramWriter:
         return Chunk(symbol, [text], [(definition.line, None)], unit.text.path)
 
     def fit_heap(self) -> None:
-        """Makes the heap smaller where the data wouldn't fit otherwise."""
+        """Makes the heap as large as the other data leaves room for: up to what it has, or with mappings of the system all."""
         heap = next((symbol for symbol in self.data if symbol.raw == HEAP and symbol.is_of_runtime()), None)
         if heap is None:
             return
         others = self.data_end([symbol for symbol in self.data if symbol is not heap]) - FIRST_DATA
-        size = min(size_of_data(heap.definition), (MOST_DATA - others - PAGE) // PAGE * PAGE)
-        heap.definition = with_items(heap.definition, [Item(heap.definition.line, "z", max(size, 0))])
-        end = heap.unit.own[HEAP_END]
-        end.definition = with_items(end.definition, [Item(end.definition.line, "l", HEAP, True, max(size, 0))])
+        most = MOST_DATA if any(symbol.raw == MAPPED for symbol in self.data) else size_of_data(heap.definition)
+        size = max(min(most, (MOST_DATA - others - PAGE) // PAGE * PAGE), 0)
+        heap.definition = with_items(heap.definition, [Item(heap.definition.line, "z", size)])
+        for raw in HEAP_ENDS:
+            end = heap.unit.own[raw]
+            end.definition = with_items(end.definition, [Item(end.definition.line, "l", HEAP, True, size)])
         # The heap is the last, so that it may be cut.
         self.data.remove(heap)
         self.data.append(heap)

@@ -69,11 +69,11 @@ export function $never() {
 }
 """
 GET = "export function w $main() {\n@start\n\t%x =w call $get()\n\tret %x\n}\n"
-# A function of the text in the place of the runtime's, which needs the system.
+# Functions of the text in the place of the runtime's, of which one needs the system.
 SYSTEM = """
 export function l $malloc(l %size) {
 @start
-	%r =l call $mmap(l 0, l %size)
+	%r =l call $mmap(l 0, l %size, w 3, w 34, w -1, l 0)
 	ret %r
 }
 export function w $strlen(l %text) {
@@ -108,11 +108,11 @@ export function w $main() {
 OUTSIDE = """
 export function w $main() {
 @start
-	%a =w call $getpid(l 1)
+	%a =w call $getpriority(l 1)
 	ret %a
 }
 """
-UNREACHED = "export function w $main() {\n@start\n\tret 3\n}\nfunction $f() {\n@start\n\tcall $getpid()\n\tret\n}\n"
+UNREACHED = "export function w $main() {\n@start\n\tret 3\n}\nfunction $f() {\n@start\n\tcall $getpriority()\n\tret\n}\n"
 
 
 def linked_fault(running: Running) -> str | None:
@@ -144,9 +144,9 @@ def outside_fault(running: Running) -> str | None:
     """A function from outside halts under its own name, and the report tells the place of its first use."""
     lowered = running.lower({"a.ssa": OUTSIDE}, "--link", "--report")
     run = running.run(lowered.text, "continue\nwhere\ntemps\n")
-    note = "a.ssa:4: $getpid is defined nowhere: a function that halts (would halt)\n"
+    note = "a.ssa:4: $getpriority is defined nowhere: a function that halts (would halt)\n"
     return differ("status", 1, lowered.status) or differ("end", "fault halted", run.end) or \
-        differ("where", ["$getpid @start 0", "$main @start 1", "%a1 = 1"], run.lines[-3:]) or \
+        differ("where", ["$getpriority @start 0", "$main @start 1", "%a1 = 1"], run.lines[-3:]) or \
         differ("report", True, lowered.errors.endswith(note)) or \
         differ("without a report", "", running.lower({"a.ssa": OUTSIDE}, "--link").errors)
 
@@ -155,7 +155,7 @@ def unreached_fault(running: Running) -> str | None:
     """What would halt and isn't reachable makes no status."""
     lowered = running.lower({"a.ssa": UNREACHED}, "--report")
     return differ("status", 0, lowered.status) or differ("end", "done 3", running.run(lowered.text).end) or \
-        differ("report", True, "a.ssa:7: $getpid is defined nowhere" in lowered.errors)
+        differ("report", True, "a.ssa:7: $getpriority is defined nowhere" in lowered.errors)
 
 
 def entry_fault(running: Running) -> str | None:
