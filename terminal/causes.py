@@ -12,6 +12,7 @@ from .accesses import MOST_STOPS, Accesses, Site, size_of
 from .answers import Place, read_output
 from .frames import Frames, steps_begun
 from .levels import own_hits
+from .lowered import Lowered
 from .scratch import Scratch
 from .text import ALLOCATIONS, BUILT_IN, LOADED, STORED, Instruction, Program
 from .timeline import Timeline
@@ -72,8 +73,10 @@ def distance(number: int, begin: int, size: int) -> int:
 
 
 class Causes:
-    def __init__(self, program: Program, names: Names, frames: Frames, scratch: Scratch, source=lambda line: ""):
+    def __init__(self, program: Program, names: Names, frames: Frames, scratch: Scratch, source=lambda line: "",
+                 lowered: Lowered | None = None):
         self.program, self.names, self.frames, self.scratch = program, names, frames, scratch
+        self.lowered = lowered or Lowered()
         self.accesses = Accesses(program, scratch)
         self.source = source
 
@@ -341,12 +344,22 @@ class Causes:
     def of_end(self, at: Timeline) -> Cause:
         end = self.scratch.go(at).place.end
         there = self.frames.before_end(at)
+        halted = self.lowered.halted_in(self.frames.where(there)[0].function) if end == "fault halted" else None
+        if halted:
+            return self.executed(self.own_call(there), f"{halted}, at #{at.position}, comes of")
         cause = self.executed(there, f"{end}, at #{at.position}, comes of")
         if end == "fault stack full":
             cause.lines[2:2] = self.stack_told(there)
         elif end.startswith("fault dead address"):
             cause.lines[2:2] = [self.dead_told(int(end.split(" ")[3]), there)]
         return cause
+
+    def own_call(self, at: Timeline) -> Timeline:
+        """The state in which the innermost frame of the program's own functions calls what it does, or the state itself
+        where all frames are of others."""
+        frames = self.frames.where(at)
+        index = next((index for index, frame in enumerate(frames) if self.lowered.is_own(frame.function)), 0)
+        return self.frames.frame(at, index)
 
     def dead_told(self, address: int, at: Timeline) -> str:
         """What lies near an address without bytes."""

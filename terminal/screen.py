@@ -10,6 +10,7 @@ from typing import Iterator
 
 from .answers import Place
 from .frames import Frames, allocations_of
+from .lowered import lowered_of
 from .session import Session
 from .text import Instruction
 from .values import brief, is_stack
@@ -20,6 +21,7 @@ WIDTH = 100
 GAP = "    "
 # Beyond so many moves the frames of callers aren't looked for at each stop: that goes back along all of them.
 MOST_MOVES = 1_000_000
+HALTED = "fault halted"
 ESCAPE = re.compile(r"\\([\\tn])")
 
 
@@ -50,6 +52,7 @@ class Screen:
     def __init__(self, session: Session, frames: Frames, file: str):
         self.session, self.frames = session, frames
         self.map = SourceMap(pathlib.Path(file + ".map"))
+        self.lowered = lowered_of(file)
 
     @property
     def width(self) -> int | None:
@@ -132,6 +135,26 @@ class Screen:
             return self.session.value(text)
         return self.session.program.addresses[text] if text.startswith("$") else int(text) % (1 << 64)
 
+    # Ends.
+
+    def halted(self) -> str | None:
+        """How the run ended, where it was halted in a function that isn't the program's own."""
+        if self.session.place.end != HALTED:
+            return None
+        frames = self.session.frames()
+        return self.lowered.halted_in(frames[0].function) if frames else None
+
+    def place_line(self) -> str:
+        """The place line, with how the run ended in words where that is no fault of the program."""
+        halted = self.halted()
+        return f"#{self.session.place.position} {halted}" if halted else str(self.session.place)
+
+    def own_place(self) -> Place | None:
+        """Where the innermost frame of the program's own functions made its call, if another one halted."""
+        own = (frame for frame in self.session.frames() if self.lowered.is_own(frame.function))
+        frame = next(own, None)
+        return Place(frame.position, frame.function, frame.label, frame.index - 1) if frame and frame.index else None
+
     # Lines of the text.
 
     def text_lines(self, first: int, last: int, marked: int, beside: list[str]) -> Iterator[str]:
@@ -158,13 +181,14 @@ class Screen:
     def place_lines(self, place: Place | None = None) -> list[str]:
         """The text around a place; without one around that where the session stands, with the values of operands."""
         is_here = place is None
-        place = place or self.session.place
+        place = place or (self.own_place() if self.halted() else None) or self.session.place
         if not place.function:
             frames = self.session.frames()
             if not frames:
                 return []
             place = frames[0]
         instruction = self.session.program.functions[place.function].at(place.label, place.index)
+        is_here = is_here and not self.halted()
         beside = self.operands(place.function, instruction) + self.jump_said(place, instruction) if is_here else []
         source = self.map.place(instruction.line)
         lines = [f"  source: {source}"] if source else []

@@ -95,7 +95,7 @@ class Shell:
         self.runs = Runs(self.session, self.frames, budget)
         self.screen = Screen(self.session, self.frames, file)
         self.causes = Causes(self.session.program, self.session.names, self.frames, self.session.scratch,
-                             self.screen.map.place)
+                             self.screen.map.place, self.screen.lowered)
         self.memory_told = memory_told * MEGABYTE
         self.displays: dict[int, tuple[str, str]] = {}
         self.checkpoints: dict[str, Timeline] = {}
@@ -145,7 +145,7 @@ class Shell:
         """A stop: why, the place line, the text around it, and what is displayed."""
         if reason:
             self.say(f"stop: {reason}")
-        self.say(str(self.session.place), *self.screen.place_lines())
+        self.say(self.screen.place_line(), *self.screen.place_lines())
         self.line_shown = 0
         for number, (letters, text) in self.displays.items():
             self.show_display(number, letters, text)

@@ -8,6 +8,7 @@ import sys
 
 from .arguments import give_arguments
 from .linking import Program
+from .meanings import meanings_of
 from .reader import TextReader
 from .refusals import Refused
 from .report import Report
@@ -80,7 +81,7 @@ class Lowering:
         self.program.note_outside()
         self.program.note_calls_of_system()
         self.program.note_state_left()
-        self.text, self.map = text_of(self.chunks), map_of(self.chunks)
+        self.text, self.map, self.meanings = text_of(self.chunks), map_of(self.chunks), meanings_of(self.chunks)
         self.overflows = writer.overflows(len(self.text))
 
     def entry_symbol(self, raw: str) -> Symbol | None:
@@ -109,14 +110,18 @@ class Lowering:
 
 
 def write_all(lowering: Lowering, output: str | None, map_path: str | None) -> None:
+    """Writes the text, its map, and beside the text what its names stand for."""
     text = lowering.text.encode(ENCODING)
+    beside = map_beside(output)
     if output is None:
         sys.stdout.buffer.write(text)
         sys.stdout.buffer.flush()
     else:
         pathlib.Path(output).write_bytes(text)
-    if map_path is not None:
-        pathlib.Path(map_path).write_bytes(lowering.map.encode(ENCODING))
+    if map_path or beside:
+        pathlib.Path(map_path or beside).write_bytes(lowering.map.encode(ENCODING))
+    if beside:
+        pathlib.Path(beside.removesuffix(".map") + ".names").write_bytes(lowering.meanings.encode(ENCODING))
 
 
 def main(words: list[str]) -> int:
@@ -125,7 +130,7 @@ def main(words: list[str]) -> int:
     given = options().parse_args(words)
     try:
         lowering = Lowering([read_text(path) for path in given.files], given.entry, given.link, given.arguments)
-        write_all(lowering, given.output, given.map or map_beside(given.output))
+        write_all(lowering, given.output, given.map)
     except Refused as refused:
         print(refused, file=sys.stderr)
         return LEFT_OVER
@@ -134,7 +139,6 @@ def main(words: list[str]) -> int:
         return NOT_READ
     for line in lowering.overflows:
         print(f"qrev-lower: {line}", file=sys.stderr)
-    if given.report:
-        for line in lowering.report.lines():
-            print(line, file=sys.stderr)
+    for line in lowering.report.lines() if given.report else lowering.report.halting():
+        print(line, file=sys.stderr)
     return LEFT_OVER if lowering.overflows or lowering.report.would_halt() else 0

@@ -211,14 +211,15 @@ class Program:
         return Weight.HALTS if symbol in self.reached else Weight.OTHER
 
     def note_outside(self) -> None:
-        """A note for each function from outside, at its first use in the texts."""
+        """A note for each function from outside, at its first use in the texts: one that can be reached, if there is one."""
         told: set[Symbol] = set()
-        for user in self.kept:
-            if user.unit is None or user.is_of_runtime():
-                continue
+        order = {unit: number for number, unit in enumerate(self.units)}
+        users = [user for user in self.kept if user.unit in order]
+        users.sort(key=lambda user: (user not in self.reached, order[user.unit], user.definition.line))
+        for user in users:
             fresh = [symbol for symbol in self.references_of(user) if symbol.is_outside() and symbol not in told]
             lines = lines_of_use(user.definition) if fresh else {}
-            for symbol in fresh:
+            for symbol in sorted(fresh, key=lambda symbol: lines[symbol.raw]):
                 self.report.note(user.unit.text.path, lines[symbol.raw],
                                  f"{symbol.raw} is defined nowhere: a function that halts", self.weight_in(symbol))
             told.update(fresh)

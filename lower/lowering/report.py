@@ -28,6 +28,10 @@ class Report:
     def would_halt(self) -> bool:
         return Weight.HALTS in self.notes.values()
 
+    def halting(self) -> list[str]:
+        """The notes of what would halt: these are told without being asked for."""
+        return [f"{note} (would halt)" for note, weight in self.notes.items() if weight is Weight.HALTS]
+
     def lines(self) -> list[str]:
         """The counts by name, then the notes: first those of what runs as it did, last what would halt."""
         told = [f"{number} {what}" for what, number in sorted(self.counts.items())]

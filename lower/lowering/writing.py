@@ -1,6 +1,6 @@
 """Writes a program: the text that qrev runs, and beside it the map that says where each of its lines comes from."""
 import os
-from dataclasses import dataclass
+from dataclasses import dataclass, field
 
 from .adapters import Adapters
 from .data import DEFAULT_ALIGNMENT, size_of_data, written_data
@@ -29,6 +29,8 @@ class Chunk:
     texts: list[str]
     origins: list[tuple[int, Place | None]]
     path: str
+    # The temporaries and labels that are written by other names.
+    renamed: dict[str, str] = field(default_factory=dict)
 
 
 class ProgramWriter:
@@ -97,7 +99,7 @@ class ProgramWriter:
         parameters += ["l %environment"] if signature.has_environment else []
         parameters += [f"{carried_class(kind)} %a{number}" for number, kind in enumerate(signature.parameters, 1)]
         gives = signature.carried_result()
-        texts = [f"function {gives + ' ' if gives else ''}{symbol.name}({', '.join(parameters)}) {{", "@start", "\thlt", "}"]
+        texts = [f"function {gives + ' ' if gives else ''}{symbol.name}({', '.join(parameters)}) {{", "@is.not.there", "\thlt", "}"]
         self.chunks.append(Chunk(symbol, texts, [(0, None)] * len(texts), ""))
 
     # Data.

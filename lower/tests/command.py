@@ -99,7 +99,8 @@ def wrapper_faults(running: Running) -> Results:
 
 
 def map_fault(running: Running) -> str | None:
-    """The map has a line for each line of the text, also where --map and --output say its place, and a pipe has none."""
+    """The map has a line for each line of the text, also where --map and --output say its place, and a pipe has none. What
+    the names stand for is beside the text."""
     with tempfile.TemporaryDirectory(prefix="lower-") as place:
         folder = pathlib.Path(place)
         (folder / "a.ssa").write_text(TEXT)
@@ -109,7 +110,8 @@ def map_fault(running: Running) -> str | None:
                                timeout=running.seconds).stdout
         files = sorted(path.name for path in folder.iterdir())
         text, found = (folder / "one.ssa").read_bytes(), (folder / "one.ssa.map").read_text()
-    return differ("files", ["a.ssa", "one.ssa", "one.ssa.map", "two.map", "two.ssa"], files) or \
+    return differ("files", ["a.ssa", "one.ssa", "one.ssa.map", "one.ssa.names", "two.map", "two.ssa",
+                             "two.ssa.names"], files) or \
         differ("pipe", text, piped) or differ("lines", text.count(b"\n"), found.count("\n")) or \
         differ("first", "a.ssa\t2", found.split("\n")[0])
 

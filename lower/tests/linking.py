@@ -112,6 +112,22 @@ export function w $main() {
 	ret %a
 }
 """
+# The first of a name's uses is in what can't be reached, and in the second text.
+TWICE = """
+function w $idle() {
+@start
+	%a =w call $sprintf(l 0, l 0, ..., w 1)
+	%b =w call $fopen(l 0, l 0)
+	ret %a
+}
+export function w $main() {
+@start
+	%a =w call $step()
+	%b =w call $missing(l 0, l 0)
+	ret %b
+}
+"""
+STEP = "export function w $step() {\n@start\n\t%a =w call $absent(l 1)\n\tret %a\n}\n"
 UNREACHED = "export function w $main() {\n@start\n\tret 3\n}\nfunction $f() {\n@start\n\tcall $getpriority()\n\tret\n}\n"
 
 
@@ -146,9 +162,16 @@ def outside_fault(running: Running) -> str | None:
     run = running.run(lowered.text, "continue\nwhere\ntemps\n")
     note = "a.ssa:4: $getpriority is defined nowhere: a function that halts (would halt)\n"
     return differ("status", 1, lowered.status) or differ("end", "fault halted", run.end) or \
-        differ("where", ["$getpriority @start 0", "$main @start 1", "%a1 = 1"], run.lines[-3:]) or \
+        differ("where", ["$getpriority @is.not.there 0", "$main @start 1", "%a1 = 1"], run.lines[-3:]) or \
         differ("report", True, lowered.errors.endswith(note)) or \
-        differ("without a report", "", running.lower({"a.ssa": OUTSIDE}, "--link").errors)
+        differ("without a report", note, running.lower({"a.ssa": OUTSIDE}, "--link").errors)
+
+
+def told_fault(running: Running) -> str | None:
+    """Each function from outside that can be reached is told without a report, once, at its first use that can be reached."""
+    lowered = running.lower({"a.ssa": TWICE.replace("$sprintf", "$absent"), "b.ssa": STEP})
+    return differ("errors", "a.ssa:11: $missing is defined nowhere: a function that halts (would halt)\n"
+                  "b.ssa:3: $absent is defined nowhere: a function that halts (would halt)\n", lowered.errors)
 
 
 def unreached_fault(running: Running) -> str | None:
@@ -211,6 +234,7 @@ def results(running: Running) -> Results:
     yield "linking/putchar of the text", end_fault(running, {"a.ssa": PUTCHAR}, "done 101", "a5")
     yield "linking/another entry", end_fault(running, {"a.ssa": OTHER.replace("$idle", "$main")}, "done 0")
     yield "linking/a function from outside", outside_fault(running)
+    yield "linking/told without being asked", told_fault(running)
     yield "linking/not reached", unreached_fault(running)
     yield "linking/no entry", entry_fault(running)
     yield "linking/counts", counts_fault(running)

@@ -20,7 +20,9 @@ from terminal.shell import FAULT
 FOLDER = pathlib.Path(__file__).resolve().parent.parent
 TOP = FOLDER.parent
 PROMPT = "(qrev) "
-PLACE = re.compile(r"#\d+ (?:[$]\S+ @\S+ \d+|done.*|exit.*|fault.*)")
+PLACE = re.compile(r"#\d+ (?:[$]\S+ @\S+ \d+|done.*|exit.*|fault.*|halted in .*)")
+# How the front end tells an end that the debugger calls a fault.
+HALTED = re.compile(r" halted in .*")
 # What a line showed before it was erased: how far a long search has come is shown, and then taken away again.
 ERASED = re.compile(r"[^\n]*\r\x1b\[K")
 
@@ -122,7 +124,7 @@ class Held(Terminal):
                              text=True, timeout=self.seconds, cwd=self.folder)
         told = run.stdout.split("\n")
         place = [line for line in told if PLACE.fullmatch(line)][-1]
-        if place != self.place:
+        if place != HALTED.sub(" fault halted", self.place):
             return f"the saved script leads to {place}, and the session stands at {self.place}"
         values = {line.split(" ")[0]: line.split(" ")[-1] for line in told[last_index(told, place):] if line[:1] == "%"}
         shown = {line.split(" ")[0]: re.sub(r" \(.*", "", line).split(" ")[-1]

@@ -1,0 +1,73 @@
+"""What the names of a lowered text stand for: a file beside the text, for those who show it.
+
+Each line is a kind and words, with tabulators between:
+
+    outside $f                a function from outside, which halts
+    runtime $f                a function of the runtime
+    instruction $f NAME C C*  the runtime's function for an instruction on floats: the classes of its result and its operands
+    result $f C               a function that gives a float: s or d
+    float $f %x C             a temporary that holds a float
+    data $x OFFSET C COUNT    floats in data, from an offset on
+    name $f NEW OLD           a temporary or a label of a function that is written by a shorter name
+"""
+from collections.abc import Iterator
+from typing import TYPE_CHECKING
+
+from .data import size_of
+from .functions import FLOAT_CALLS
+from .instructions import FLOATS, WITH_RESULT
+from .symbols import Symbol
+from .tree import Data, Function
+
+if TYPE_CHECKING:
+    from .writing import Chunk
+
+# The instruction that each function of the runtime stands for, and the class of its result.
+INSTRUCTIONS = {function: (name, cls) for (name, cls), (function, _) in reversed(FLOAT_CALLS.items())}
+
+
+def line(*words: str | int) -> str:
+    return "\t".join(map(str, words)) + "\n"
+
+
+def told_function(symbol: Symbol, function: Function) -> Iterator[str]:
+    if symbol.is_of_runtime():
+        yield line("runtime", symbol.name)
+        if symbol.raw in INSTRUCTIONS:
+            name, cls = INSTRUCTIONS[symbol.raw]
+            yield line("instruction", symbol.name, name, cls, *WITH_RESULT[name, cls])
+        return
+    if function.returns in FLOATS:
+        yield line("result", symbol.name, function.returns)
+    for name, cls in function.classes.items():
+        if cls in FLOATS:
+            yield line("float", symbol.name, name, cls)
+
+
+def told_data(symbol: Symbol, data: Data) -> Iterator[str]:
+    """The floats of an object, those of one class on end together."""
+    at, runs = 0, []
+    for item in data.items:
+        if item.is_float:
+            cls = "s" if item.letter == "w" else "d"
+            if runs and runs[-1][1] == cls and runs[-1][0] + runs[-1][2] * size_of(item) == at:
+                runs[-1][2] += 1
+            else:
+                runs.append([at, cls, 1])
+        at += size_of(item)
+    yield from (line("data", symbol.name, *run) for run in runs)
+
+
+def meanings_of(chunks: list["Chunk"]) -> str:
+    """The lines of all definitions that are written."""
+    told: list[str] = []
+    for chunk in chunks:
+        definition = chunk.symbol.definition
+        if definition is None:
+            told.append(line("outside", chunk.symbol.name))
+        elif isinstance(definition, Function):
+            told += told_function(chunk.symbol, definition)
+        else:
+            told += told_data(chunk.symbol, definition)
+        told += [line("name", chunk.symbol.name, new, old) for new, old in chunk.renamed.items()]
+    return "".join(told)
