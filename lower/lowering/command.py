@@ -71,12 +71,15 @@ class Lowering:
             raise Refused(texts[0].path, 1, f"no text exports a function ${entry}")
         if words is not None and self.entry is not None:
             give_arguments(self.entry, [pathlib.Path(texts[0].path).stem, *words])
-        first = self.program.keep_from(self.entry) if is_linked else self.keep_all()
+        if is_linked:
+            self.program.keep_from(self.entry)
+        else:
+            self.keep_all()
         self.program.give_names()
-        self.report.count("functions that are called before the entry", len(first))
+        self.report.count("functions that are called before the entry", len(self.program.ends.first))
         self.count_dropped(texts)
         self.program.reached = self.reached()
-        writer = ProgramWriter(self.program, self.report, self.entry, first)
+        writer = ProgramWriter(self.program, self.report, self.entry)
         self.chunks = writer.write()
         self.program.note_outside()
         self.program.note_calls_of_system()
@@ -90,15 +93,18 @@ class Lowering:
         symbol = self.program.exported.get(raw) or (units[0].own.get(raw) if len(units) == 1 else None)
         return symbol if symbol is not None and symbol.is_function() else None
 
-    def keep_all(self) -> list[Symbol]:
+    def keep_all(self) -> None:
         program = self.program
         program.keep(program.resolve(unit, definition.name) for unit in program.units
                      for definition in unit.text.definitions)
-        return program.called_first() if self.entry is not None else []
+        if self.entry is not None:
+            program.ends.keep()
 
     def reached(self) -> dict[Symbol, None]:
         """What can be reached from the entry; without one all."""
-        return self.program.kept if self.entry is None else self.program.reached_from([self.entry])
+        ends = self.program.ends
+        return self.program.kept if self.entry is None else \
+            self.program.reached_from([self.entry, *ends.first, *([ends.finalizers] if ends.finalizers else [])])
 
     def count_dropped(self, texts: list[Text]) -> None:
         for text in texts:

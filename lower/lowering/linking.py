@@ -6,6 +6,7 @@ what the runtime has, else built in, else a function from outside, which halts.
 from collections.abc import Iterable
 
 from .calls_of_system import ANSWERED, CALLERS, told
+from .ends import EXIT, FINALIZED, Ends, uses_finalizers
 from .families import HEAP_NAMES, Families, calls_of, constant, stored_data
 from .names import Names
 from .refusals import Refused
@@ -16,7 +17,6 @@ from .tree import Block, Call, Data, Definition, Function, Text, Value
 
 # The runtime's own function in the place of the built-in one, where its result or its address is used.
 COUNTED_PUTS = "$puts.counted"
-BEFORE_THE_ENTRY = ".init_array"
 
 
 class Program:
@@ -36,6 +36,8 @@ class Program:
         self.stored: dict[Unit, set[str]] = {}
         # What can be reached from the entry; without an entry all.
         self.reached: dict[Symbol, None] = {}
+        self.uses_finalizers = uses_finalizers(self)
+        self.ends = Ends(self)
         self.replace_families()
 
     def unit_of(self, text: Text) -> Unit:
@@ -69,6 +71,8 @@ class Program:
         if unit.is_runtime:
             return self.built_in.get(raw) or self.runtime.symbol(raw)
         found = self.exported.get(raw) or self.runtime.symbol(raw) or self.built_in.get(raw)
+        if raw == EXIT and found is self.built_in[EXIT] and self.uses_finalizers:
+            found = self.runtime.symbol(FINALIZED)
         if found is None:
             found = self.outside.setdefault(raw, Symbol(raw, None, None, None))
         return found
@@ -131,24 +135,10 @@ class Program:
         for symbol in self.reached_from(symbol for symbol in symbols if symbol not in self.kept):
             self.kept[symbol] = None
 
-    def keep_from(self, entry: Symbol) -> list[Symbol]:
-        """Keeps what is reachable from the entry, and what the texts that it is in have to be called before it; these."""
+    def keep_from(self, entry: Symbol) -> None:
+        """Keeps what is reachable from the entry, and what runs before it and behind it."""
         self.keep([entry])
-        first: list[Symbol] = []
-        while True:
-            more = [symbol for symbol in self.called_first() if symbol not in first]
-            if not more:
-                return first
-            first += more
-            self.keep(more)
-
-    def called_first(self) -> list[Symbol]:
-        """The functions whose addresses lie in the section of those that are called before the entry."""
-        units = {symbol.unit for symbol in self.kept}
-        return [self.resolve(unit, item.value) for unit in self.units if unit in units
-                for definition in unit.text.definitions
-                if isinstance(definition, Data) and (definition.section or "").startswith(BEFORE_THE_ENTRY)
-                for item in definition.items if item.is_global]
+        self.ends.keep()
 
     def give_names(self) -> None:
         """Names for all that is kept and has none: first those that can't be had otherwise."""

@@ -4,6 +4,7 @@ from dataclasses import dataclass, field
 
 from .adapters import Adapters
 from .data import DEFAULT_ALIGNMENT, size_of_data, written_data
+from .ends import SECTIONS, array_names
 from .functions import FunctionWriter
 from .linking import Program
 from .report import Report
@@ -34,10 +35,10 @@ class Chunk:
 
 
 class ProgramWriter:
-    """Writes what a program keeps; `begin_with` are called at the beginning of the entry."""
+    """Writes what a program keeps; in the entry stand the calls of what runs before and behind it."""
 
-    def __init__(self, program: Program, report: Report, entry: Symbol | None, begin_with: list[Symbol]):
-        self.program, self.report, self.entry, self.begin_with = program, report, entry, begin_with
+    def __init__(self, program: Program, report: Report, entry: Symbol | None):
+        self.program, self.report, self.entry = program, report, entry
         addressed = [symbol for symbol in self.addressed() if symbol.is_function() and not symbol.is_outside()]
         program.keep(addressed)
         program.give_names()
@@ -67,6 +68,7 @@ class ProgramWriter:
             for symbol in more:
                 self.write_symbol(symbol)
             done.update(more)
+        self.join_arrays()
         self.fit_heap()
         self.lay_out()
         self.chunks[:0] = [self.data_chunk(symbol) for symbol in self.data]
@@ -89,7 +91,7 @@ class ProgramWriter:
 
     def write_function(self, symbol: Symbol, report: Report) -> None:
         writer = FunctionWriter(self.program, self.adapters, symbol, report)
-        writer.write(self.begin_with if symbol is self.entry else [])
+        writer.write(self.program.ends if symbol is self.entry else None)
         self.chunks.append(Chunk(symbol, writer.texts, writer.origins, symbol.unit.text.path))
 
     def write_outside(self, symbol: Symbol) -> None:
@@ -109,6 +111,14 @@ class ProgramWriter:
         text = written_data(definition, symbol.name, lambda raw: self.program.address_name(unit, raw),
                             lambda raw: self.addresses[self.program.refer(unit, raw, True)])
         return Chunk(symbol, [text], [(definition.line, None)], unit.text.path)
+
+    def join_arrays(self) -> None:
+        """Puts the end of an array of functions right behind it."""
+        symbols = {symbol.raw: symbol for symbol in self.data if symbol.is_of_runtime()}
+        for start, end in map(array_names, SECTIONS):
+            if start in symbols and end in symbols:
+                self.data.remove(symbols[end])
+                self.data.insert(self.data.index(symbols[start]) + 1, symbols[end])
 
     def fit_heap(self) -> None:
         """Makes the heap as large as the other data leaves room for: up to what it has, or with mappings of the system all."""
