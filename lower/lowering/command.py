@@ -6,7 +6,7 @@ import pathlib
 import stat
 import sys
 
-from .arguments import give_arguments
+from .arguments import give_arguments, give_input
 from .linking import Program
 from .meanings import meanings_of
 from .reader import TextReader
@@ -34,6 +34,7 @@ def options() -> Parser:
     parser.add_argument("--report", action="store_true", help="say on standard error what was rewritten")
     parser.add_argument("--output", "-o", metavar="FILE", help="write the text there, and the map beside it")
     parser.add_argument("--map", metavar="FILE", help="write the map there")
+    parser.add_argument("--input", metavar="FILE", help="what the program reads")
     parser.add_argument("--arguments", metavar="WORD", nargs=argparse.REMAINDER,
                         help="all that follows are words for the argc and argv of the entry")
     parser.add_argument("files", metavar="FILE", nargs="+", help="a text of QBE")
@@ -62,10 +63,12 @@ def map_beside(output: str | None) -> str | None:
 class Lowering:
     """One run: the texts in, the text and its map out."""
 
-    def __init__(self, texts: list[Text], entry: str, is_linked: bool, words: list[str] | None = None):
+    def __init__(self, texts: list[Text], entry: str, is_linked: bool, words: list[str] | None = None,
+                 input_bytes: bytes = b""):
         """`words` are the arguments of the entry as texts, without the name of the program."""
         self.report = Report()
         self.program = Program(texts, self.report)
+        give_input(self.program.runtime, input_bytes)
         self.entry = self.entry_symbol("$" + entry)
         if is_linked and self.entry is None:
             raise Refused(texts[0].path, 1, f"no text exports a function ${entry}")
@@ -135,7 +138,8 @@ def main(words: list[str]) -> int:
     gc.disable()
     given = options().parse_args(words)
     try:
-        lowering = Lowering([read_text(path) for path in given.files], given.entry, given.link, given.arguments)
+        input_bytes = pathlib.Path(given.input).read_bytes() if given.input is not None else b""
+        lowering = Lowering([read_text(path) for path in given.files], given.entry, given.link, given.arguments, input_bytes)
         write_all(lowering, given.output, given.map)
     except Refused as refused:
         print(refused, file=sys.stderr)

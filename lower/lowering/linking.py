@@ -15,6 +15,10 @@ from .runtime import Runtime
 from .symbols import BUILT_IN, Symbol, Unit, references, signature_at, signature_of
 from .tree import Block, Call, Data, Definition, Function, Text, Value
 
+# What the mathematical library of C has beyond what is exact.
+INEXACT = frozenset(f"${name}{end}" for end in ("", "f") for name in (
+    "sin cos tan asin acos atan atan2 sinh cosh tanh asinh acosh atanh exp exp2 expm1 log log2 log10 log1p pow cbrt hypot "
+    "erf erfc tgamma lgamma fma").split())
 # The runtime's own function in the place of the built-in one, where its result or its address is used.
 COUNTED_PUTS = "$puts.counted"
 
@@ -210,8 +214,9 @@ class Program:
             fresh = [symbol for symbol in self.references_of(user) if symbol.is_outside() and symbol not in told]
             lines = lines_of_use(user.definition) if fresh else {}
             for symbol in sorted(fresh, key=lambda symbol: lines[symbol.raw]):
-                self.report.note(user.unit.text.path, lines[symbol.raw],
-                                 f"{symbol.raw} is defined nowhere: a function that halts", self.weight_in(symbol))
+                why = "isn't exact, so that the runtime doesn't have it" if symbol.raw in INEXACT else "is defined nowhere"
+                self.report.note(user.unit.text.path, lines[symbol.raw], f"{symbol.raw} {why}: a function that halts",
+                                 self.weight_in(symbol))
             told.update(fresh)
         self.report.count("functions from outside, which halt", len(told))
 

@@ -6,12 +6,30 @@ import pathlib
 import re
 
 from .reader import TextReader
-from .symbols import Symbol, Unit, signature_of
+from .symbols import Signature, Symbol, Unit, signature_of
 from .tree import Function
 
 FOLDER = pathlib.Path(__file__).resolve().parent.parent / "runtime"
 EXPORTED = re.compile(r"^export (?:function (?:[a-z]+ )?|data )(\$[A-Za-z0-9._$]+)", re.MULTILINE)
 ENCODING = "latin-1"
+# What functions take and give that are about floats: in the runtime these are their bits. Each name has a sister for
+# singles, which ends in `f`.
+FLOATING = {
+    "d(d)": "fabs floor ceil trunc round rint nearbyint sqrt", "d(dd)": "fmod copysign fmin fmax", "d(dw)": "ldexp scalbn",
+    "d(dl)": "frexp modf",
+}
+
+
+def floating_signatures() -> dict[str, Signature]:
+    found = {"$lround": Signature("l", ("d",)), "$lrint": Signature("l", ("d",))}
+    for shape, names in FLOATING.items():
+        for name in names.split():
+            found["$" + name] = Signature(shape[0], tuple(shape[2:-1]))
+            found[f"${name}f"] = Signature("s", tuple(shape[2:-1].replace("d", "s")))
+    return found
+
+
+SIGNATURES = floating_signatures()
 
 
 class Runtime:
@@ -35,7 +53,9 @@ class Runtime:
             text = TextReader(self.texts[path], f"lower/runtime/{path.name}").read()
             unit = Unit(text, True)
             for definition in text.definitions:
-                signature = signature_of(definition, True) if isinstance(definition, Function) else None
+                signature = None
+                if isinstance(definition, Function):
+                    signature = SIGNATURES.get(definition.name) or signature_of(definition, True)
                 unit.own[definition.name] = Symbol(definition.name, unit, definition, signature)
             self.units[path] = unit
         return self.units[path]

@@ -42,6 +42,18 @@ export function w $main(w %argc, l %argv) {
 }
 data $f = { b "%s|\\0" }
 """
+READ = """
+export function w $main() {
+@start
+	%a =w call $getchar()
+	%p =w call $putchar(w %a)
+	%b =w call $getchar()
+	%p =w call $putchar(w %b)
+	%c =w call $getchar()
+	%p =w call $putchar(w %c)
+	ret %c
+}
+"""
 SECONDS_OF_A_MEBIBYTE = 2.0
 
 
@@ -87,6 +99,11 @@ def wrapper_faults(running: Running) -> Results:
                                                             run.stdout.split("\n")[-2])
         run = wrapper.run("--lower", "echo.ssa", "--")
         yield "command/--lower without texts for main", differ("output", 'out 6 "echo|\\012"', run.stdout.split("\n")[-2])
+        (wrapper.top / "read.ssa").write_text(READ)
+        (wrapper.top / "given").write_bytes(b"Q\xff")
+        for words in (["--input", "given", "read.ssa"], ["read.ssa", "--input=given", "--report"]):
+            run = wrapper.run("--lower", *words)
+            yield f"command/--lower with an input {words[0]}", differ("output", 'out 3 "Q\\377\\377"', run.stdout.split("\n")[-2])
         run = wrapper.run("--lower", "wrong.ssa", "1")
         told = "wrong.ssa:8: %y is used in `ret`, and nothing defines it\n"
         yield "command/--lower refuses", differ("run", (1, "", told), (run.returncode, run.stdout, run.stderr))
