@@ -158,7 +158,8 @@ def backtrace(shell: Shell, rest: str) -> None:
         line = shell.session.program.line_of(place.function, place.label, at)
         mark = ">" if index == shell.session.selected else " "
         source = shell.screen.map.place(line)
-        text = shell.session.program.functions[place.function].at(place.label, at).written()
+        instruction = shell.session.program.functions[place.function].at(place.label, at)
+        text = shell.lowered.written(shell.session.program.functions[place.function], instruction)
         shell.say(f"{mark} {index}  {place.function} {place.label} {place.index}  line {line}: {text}"
                   + (f"  ({source})" if source else ""))
 

@@ -3,7 +3,14 @@ are floats, and which names were made shorter. It stands in FILE.names beside th
 from __future__ import annotations
 
 import pathlib
-from dataclasses import dataclass, field
+from dataclasses import dataclass, field, replace
+
+from .text import Data, Function, Instruction, Operand, Program
+from .values import FLOAT_BYTES, FLOATS, as_float
+
+# Instructions on floats that are others on their bits.
+OF_FLOATS = {"loadl": "load", "loaduw": "load", "copy": "copy", "phi": "phi", "call": "call"}
+STORES = {"storel": "stored", "storew": "stores"}
 
 
 @dataclass
@@ -18,6 +25,8 @@ class Lowered:
     # The floats of an object: where they begin, their class and their number.
     data: dict[str, list[tuple[int, str, int]]] = field(default_factory=dict)
     renamed: dict[tuple[str, str], str] = field(default_factory=dict)
+    # The classes of each function's parameters.
+    parameters: dict[str, list[str]] = field(default_factory=dict)
 
     def take(self, kind: str, words: list[str]) -> None:
         """Takes what a line says; kinds that aren't known say nothing."""
@@ -40,9 +49,72 @@ class Lowered:
             return f"halted in {function}, which isn't there"
         return f"halted in {function}" if function in self.runtime else None
 
+    def tell_classes(self, program: Program) -> None:
+        """Makes the classes of a program's temporaries those of floats where they hold one."""
+        for function in program.functions.values():
+            self.parameters[function.name] = [self.floats.get((function.name, name), cls) for cls, name in function.parameters]
+        for (function, name), cls in self.floats.items():
+            if function in program.functions and name in program.functions[function].temporaries:
+                program.functions[function].temporaries[name] = cls
+
+    def written(self, function: Function, instruction: Instruction) -> str:
+        """An instruction as it was before floats became their bits: `%x =d mul %a, d_0.5`."""
+        classes = function.temporaries
+        operation, operands = instruction.operation, instruction.operands
+        called = self.instructions.get(operands[0].text) if operation == "call" else None
+        if called:
+            name, gives, takes = called
+            values = (constant(operand.text, cls) for operand, cls in zip(operands[1:], takes))
+            return f"{instruction.result} ={gives} {name} {', '.join(values)}"
+        cls = classes.get(instruction.result or "", "")
+        if cls in FLOATS and operation in OF_FLOATS:
+            return self.of_float(instruction, cls, classes)
+        if operation in STORES and classes.get(operands[0].text) in FLOATS:
+            return f"{STORES[operation]} {operands[0].text}, {operands[1].text}"
+        return self.with_classes(instruction, classes).written() if operation == "call" else instruction.written()
+
+    def of_float(self, instruction: Instruction, cls: str, classes: dict[str, str]) -> str:
+        """An instruction that sets a float."""
+        if instruction.operation == "call":
+            return self.with_classes(instruction, classes, cls).written()
+        if instruction.operation.startswith("load"):
+            return f"{instruction.result} ={cls} load{cls} {instruction.operands[0].text}"
+        shown = instruction.written(lambda operand: constant(operand.text, cls))
+        return shown.replace(f" ={instruction.type} ", f" ={cls} ", 1)
+
+    def with_classes(self, instruction: Instruction, classes: dict[str, str], cls: str = "") -> Instruction:
+        """A call with the classes of floats at its arguments and its result."""
+        called, *arguments = instruction.operands
+        wanted = self.parameters.get(called.text, [operand.type for operand in arguments])
+        told = [operand_of(operand, classes.get(operand.text, ""), want) for operand, want in zip(arguments, wanted)]
+        return replace(instruction, operands=(called, *told, *arguments[len(told):]), type=cls or instruction.type)
+
+    def float_at(self, data: Data | None, address: int, count: int) -> str:
+        """The class of the float that so many bytes of an object are, or nothing."""
+        for begin, cls, number in self.data.get(data.name, ()) if data else ():
+            size = FLOAT_BYTES[cls]
+            offset = address - data.address - begin
+            if count == size and 0 <= offset < number * size and offset % size == 0:
+                return cls
+        return ""
+
     def is_own(self, function: str) -> bool:
         """Whether a function is the program's own."""
         return function not in self.runtime and function not in self.outside
+
+
+def constant(text: str, cls: str) -> str:
+    """An operand of a class: bits of a float as QBE writes one."""
+    if cls in FLOATS and text.lstrip("-").isdigit():
+        return f"{cls}_{as_float(int(text), cls)}"
+    return text
+
+
+def operand_of(operand: Operand, has: str, wanted: str) -> Operand:
+    """An argument, as a float if it is one or if it is a number where one is wanted."""
+    if operand.is_temporary:
+        return Operand(operand.text, has) if has in FLOATS else operand
+    return Operand(constant(operand.text, wanted), wanted) if wanted in FLOATS else operand
 
 
 def lowered_of(file: str) -> Lowered:

@@ -10,7 +10,7 @@ from typing import Iterator
 
 from .answers import Place
 from .frames import Frames, allocations_of
-from .lowered import lowered_of
+from .lowered import Lowered
 from .session import Session
 from .text import Instruction
 from .values import brief, is_stack
@@ -49,10 +49,10 @@ class SourceMap:
 
 
 class Screen:
-    def __init__(self, session: Session, frames: Frames, file: str):
+    def __init__(self, session: Session, frames: Frames, file: str, lowered: Lowered):
         self.session, self.frames = session, frames
         self.map = SourceMap(pathlib.Path(file + ".map"))
-        self.lowered = lowered_of(file)
+        self.lowered = lowered
 
     @property
     def width(self) -> int | None:
@@ -124,7 +124,7 @@ class Screen:
         for phi in function.blocks[label].phis:
             operand = phi.operands[phi.labels.index(place.label)]
             value = self.known(operand.text)
-            width = "l" if phi.type == "l" else "w"
+            width = function.temporaries[phi.result or ""]
             shown = "unset" if value is None else brief(value, width, self.name(value, width))
             found.append(f"{phi.result}={shown}")
         return found

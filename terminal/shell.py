@@ -8,15 +8,16 @@ from typing import Callable, Sequence
 
 from .answers import Place
 from .causes import Cause, Causes
-from .expressions import Node, Unset, Value, Wrong, evaluate, parse, parts_of
+from .expressions import Node, Unset, Value, Wrong, evaluate, parse, parts_of, whole
 from .frames import Frames
+from .lowered import lowered_of
 from .pipe import Ended
 from .runs import STOPPED, Outcome, Runs
 from .scratch import SLICE, Launch, Refused
 from .screen import Screen
 from .session import Session
 from .timeline import Timeline
-from .values import FORMATS, formatted, remarks, unsigned
+from .values import FLOATS, FORMATS, as_float, bits_of, formatted, remarks, unsigned
 from .waiting import Interrupted, Waiting
 
 MEGABYTE = 1 << 20
@@ -91,11 +92,13 @@ class Shell:
         self.session = Session(launch, source, waiting)
         if self.session.pipe.refused:
             return
+        self.lowered = lowered_of(file)
+        self.lowered.tell_classes(self.session.program)
         self.frames = Frames(self.session.program, self.session.names, self.session.scratch)
         self.runs = Runs(self.session, self.frames, budget)
-        self.screen = Screen(self.session, self.frames, file)
+        self.screen = Screen(self.session, self.frames, file, self.lowered)
         self.causes = Causes(self.session.program, self.session.names, self.frames, self.session.scratch,
-                             self.screen.map.place, self.screen.lowered)
+                             self.screen.map.place, self.lowered)
         self.memory_told = memory_told * MEGABYTE
         self.displays: dict[int, tuple[str, str]] = {}
         self.checkpoints: dict[str, Timeline] = {}
@@ -211,14 +214,18 @@ class Shell:
 
     def number(self, text: str) -> int:
         """The value of an expression as 64 bits."""
-        value = self.evaluate(text).number
+        value = self.whole(text)
         if not -(1 << 63) <= value < 1 << 64:
             raise Wrong(f"{text}: {value} doesn't fit into 64 bits")
         return value % (1 << 64)
 
+    def whole(self, text: str) -> int:
+        """The value of an expression as a whole number."""
+        return whole(self.evaluate(text))
+
     def count(self, text: str, most: int, default: int = 1) -> int:
         """A number of times, as a command takes it."""
-        value = self.evaluate(text).number if text.strip() else default
+        value = self.whole(text) if text.strip() else default
         if not 1 <= value <= most:
             raise Wrong(f"{text.strip()}: a number from 1 to {most} was expected")
         return value
@@ -229,6 +236,10 @@ class Shell:
         width = value.width or "l"
         if letters and letters not in FORMATS:
             raise Wrong(f"/{letters}: one of {', '.join('/' + letter for letter in FORMATS)} was expected")
+        if isinstance(value.number, float):
+            width = width if width in FLOATS else "d"
+            bits = bits_of(value.number, width)
+            return f"{text} = {formatted(bits, FLOATS[width], letters) if letters else as_float(bits, width)}"
         number = unsigned(value.number, width)
         if letters and letters != "a":
             return f"{text} = {formatted(number, width, letters)}"

@@ -129,6 +129,9 @@ class Held(Terminal):
         values = {line.split(" ")[0]: line.split(" ")[-1] for line in told[last_index(told, place):] if line[:1] == "%"}
         shown = {line.split(" ")[0]: re.sub(r" \(.*", "", line).split(" ")[-1]
                  for line in self.do("temps").split("\n") if line[:1] == "%"} if values else {}
+        # Of a float its bits are compared.
+        shown = {name: value if value.isdigit() or value == "unset" else self.do(f"p/u {name}").split(" = ")[1].strip()
+                 for name, value in shown.items()}
         return None if shown == values else f"the saved script gives {values}, and the session has {shown}"
 
 

@@ -3,6 +3,7 @@ places of the source."""
 from __future__ import annotations
 
 import pathlib
+import struct
 import subprocess
 import sys
 import tempfile
@@ -50,6 +51,88 @@ FREED_LINES: Lines = [
 ]
 
 
+FLOATS = """
+data $table = { d d_0.5 d_0.25, s s_1.5, w 7 }
+data $text = { b "abc", b 0 }
+data $to = { z 16 }
+data $f = { b "%g %s", b 0 }
+function d $area(d %r, s %k) {
+@start
+	%sq =d mul %r, %r
+	%kd =d exts %k
+	%x =d mul %sq, %kd
+	%y =d add %x, d_1.25
+	%c =w cltd %y, d_100
+	jnz %c, @yes, @no
+@yes
+	ret %y
+@no
+	%n =d neg %y
+	ret %n
+}
+export function w $main() {
+@start
+	%p =l alloc8 8
+	%a =d loadd $table
+	%q =l add $table, 8
+	%b =d loadd %q
+	%sum =d add %a, %b
+	stored %sum, %p
+	%v =d loadd %p
+	%r =d call $area(d %v, s s_0.1)
+	stored %r, $table
+	%m =l call $memcpy(l $to, l $text, l 4)
+	%pr =w call $printf(l $f, ..., d %r, l $to)
+	%z =w dtosi %r
+	ret %z
+}
+"""
+# 0.75 squared is 0.5625, and times the single that is nearest to 0.1, and 1.25: this is what a processor gives.
+SINGLE = struct.unpack("<f", struct.pack("<f", 0.1))[0]
+SUM = 0.5625 * SINGLE + 1.25
+BITS = struct.unpack("<Q", struct.pack("<d", SUM))[0]
+FLOATS_LINES: Lines = [
+    ("b $area @yes", []), ("c", [f"%y={SUM!r}"]), ("temps", ["%r = 0.75\n%k = 0.1\n%sq = 0.5625\n", "%n unset"]),
+    ("p %y", [f"%y = {SUM!r}\n"]), ("p/x %y", [f"%y = 0x{BITS:x}\n"]), ("p/d %k", ["= 1036831949\n"]),
+    ("p %y > 1.3 && %y < 1.31", ["= 1"]), ("p %k == 0.1", ["= 1"]), ("p %kd == 0.1", ["= 0"]), ("p %r / 2", ["= 0.375\n"]),
+    ("p -%r * 1e2", ["= -75.0\n"]), ("p %r & 1", ["isn't an operation of floats"]), ("p u(%r)", ["= 4604930618986332160\n"]),
+    ("display %kd + 1", ["1: %kd + 1 = "]), ("x/2f %r", ["a whole number was expected"]),
+    ("why", ["jnz %c, @yes, @no"]),
+    ("why %y", ["%y =d add %x, d_1.25", "[1] %x = "]), ("why 1", ["%x =d mul %sq, %kd", "[1] %sq = 0.5625\n  [2] %kd = "]),
+    ("why 2", ["%kd =d exts %k", "[1] %k = 0.1\n"]), ("why 1", ["%k = 0.1 is argument 2 of 2 of the call\n",
+                                                             "%r =d call $area(d %v, s s_0.1)"]),
+    ("why 1", ["%v =d loadd %p", "d frame 0 $main alloc %p+0 = 0.75\n"]),
+    ("why 2", ["stored %sum, %p", "[1] %sum = 0.75\n"]), ("why 1", ["%sum =d add %a, %b", "[2] %b = 0.25\n"]),
+    ("why 2", ["%b =d loadd %q", "d $table+8 = 0.25\n"]), ("why 2", ["so since the start"]),
+    ("why %y", []), ("why --inside %y", ["was given back by", "$float."]), ("why %c", ["%c =w cltd %y, d_100.0"]),
+    ("delete", []), ("undisplay", []), ("watch d $table", ["watch 2: d $table+0"]),
+    ("c", [f"stop: watch 2, d $table+0: 0.5 -> {SUM!r}"]), ("when %v > 0.5", ["1 time"]), ("set %r 3", []), ("p %r", ["%r = 3.0"]),
+    ("back", []), ("poke s $table+16 2.5", []), ("p s[$table+16]", ["= 2.5"]), ("back", []), ("c", ["done 1"]),
+    ("why w $to", ["stored by $memcpy, called at\n", "[1] w $text+0 = "]), ("why 1", ["so since the start: line 2, $text"]),
+    ("why --inside w $to", ["$copy.up"]),
+    ("why out 2", ["was written by $printf, called at\n", "[2] l frame 0 $main alloc %.cells.1+0"]),
+    ("why 2", ["stored %r, %.cells.1"]), ("goto why", []), ("bt", ["stored %r, %.cells.1"]), ("when %r > 1.3", ["1 time"]),
+    ("writers l $table", [f"%r={SUM!r}"]),
+]
+
+
+def chain(operations: list[str]) -> str:
+    """A float program of operations on what the one before gave."""
+    lines = [f"\t%x{index + 1} =d {name} %x{index}, d_{index + 2}.5" for index, name in enumerate(operations)]
+    return "\n".join(["export function d $main() {", "@start", "\t%x0 =d copy d_1.5", *lines,
+                      f"\tret %x{len(operations)}", "}"]) + "\n"
+
+
+OPERATIONS = ["add", "mul", "sub", "div", "mul", "add", "div", "sub", "sub", "mul", "add", "div"]
+# One question for each operation of the source, from the last to the first, and one for the copy.
+CHAIN_LINES: Lines = [
+    ("c", []), ("back", []), (f"why %x{len(OPERATIONS)}", [f"%x{len(OPERATIONS)} =d {OPERATIONS[-1]} "]),
+    *[("why 1", [f"%x{index + 1} =d {OPERATIONS[index]} %x{index}, d_{index + 2}.5"])
+      for index in range(len(OPERATIONS) - 2, -1, -1)],
+    ("why 1", ["%x0 =d copy d_1.5"]),
+]
+
+
 def session_fault(program: str, text: str, lines: Lines) -> str | None:
     """What a session over a text shows otherwise than it must, or where its saved script leads otherwise."""
     with tempfile.TemporaryDirectory(prefix="lowered-") as folder:
@@ -71,7 +154,8 @@ def session_fault(program: str, text: str, lines: Lines) -> str | None:
             session.close()
 
 
-SESSIONS = {"absent": (ABSENT, ABSENT_LINES), "freed": (FREED, FREED_LINES)}
+SESSIONS = {"absent": (ABSENT, ABSENT_LINES), "freed": (FREED, FREED_LINES), "floats": (FLOATS, FLOATS_LINES),
+            "chain of floats": (chain(OPERATIONS), CHAIN_LINES)}
 
 
 def cases(program: str) -> list[tuple[str, Callable[[], str | None]]]:
