@@ -218,6 +218,34 @@ export function l $main() {
         differ("end", f"done {(1 << 64) - 5}", running.run(lowered.text).end)
 
 
+# `f` takes a float before an integer.
+ORDER = """
+function w $f(w %n, ...) {
+@start
+	%list =l alloc8 24
+	vastart %list
+	%d =d vaarg %list
+	%i =w vaarg %list
+	ret %i
+}
+export function w $main() {
+@start
+	%a =w call $f(w 1, ..., d d_2, w 7)
+	%b =w call $f(w 1, ..., w 7, d d_2)
+	ret %a
+}
+"""
+
+
+def order_fault(running: Running) -> str | None:
+    """A call whose arguments behind dots stand in another order than that in which they are taken is told."""
+    lowered = running.lower({"a.ssa": ORDER}, "--link", "--report")
+    told = [line for line in lowered.errors.split("\n") if "behind the dots of $f" in line]
+    return differ("told", ["a.ssa:13: argument 1 behind the dots of $f is a w, and its `vaarg` there takes a d: native code "
+                           "takes floats and integers from registers of their own (native code may differ)"], told) or \
+        differ("end", "done 7", running.run(lowered.text).end)
+
+
 def large_fault(running: Running) -> str | None:
     """What qrev will refuse for its size is told, and the status says so."""
     text = "".join(f"export function $f{number}() {{\n@start\n\tret\n}}\n" for number in range(1001))
@@ -242,4 +270,5 @@ def results(running: Running) -> Results:
     yield "linking/not reached", unreached_fault(running)
     yield "linking/no entry", entry_fault(running)
     yield "linking/counts", counts_fault(running)
+    yield "linking/order behind dots", order_fault(running)
     yield "linking/too large", large_fault(running)

@@ -221,6 +221,10 @@ def refused(program: str) -> str | None:
         words = [os.path.join(TOP, "terminal", "main"), "--debugger", program, "--"]
         for file, wanted, status in ((written(folder, "a.ssa", text), "a.ssa:14: C6: ", 1),
                                      (os.path.join(folder, "none.ssa"), "cannot read program", 2),
+                                     (written(folder, "c.ssa", text.replace("mul %i, %j", "copy d_-3.0")),
+                                      "c.ssa:14: L1: a constant of a float, which is left out here; `./qrev --lower`", 1),
+                                     (written(folder, "d.ssa", text.replace("mul %i, %j", "call $printf(l 0)")),
+                                      "d.ssa:14: C9: a global that is nowhere defined; `./qrev --lower` has much", 1),
                                      (written(folder, "b.ssa", ""), "S1", 1)):
             terminal = Terminal([*words, file])
             try:
