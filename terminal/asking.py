@@ -267,10 +267,11 @@ def told_line(lines: list[str], index: int) -> str:
 
 def played(shell: Shell, recorded: list[str]) -> tuple[Timeline, list[str], list[str]]:
     """Where a script leads, those of its lines that changed the session, and all that was answered."""
-    pipe = Pipe(shell.launch.command(shell.launch.history), shell.waiting.check)
+    renaming = shell.launch.renaming
+    pipe = Pipe(shell.launch.command(shell.launch.history), shell.waiting.check, renaming)
     timeline, lines, answers = Timeline(), [], list(pipe.loaded)
     try:
-        for line in recorded:
+        for line in map(renaming.line_told, recorded) if renaming else recorded:
             word = line.split()[0] if line.split() else ""
             if word == "quit":
                 break

@@ -296,10 +296,16 @@ def save(shell: Shell, rest: str) -> None:
     if not rest:
         raise Wrong("save FILE was expected")
     try:
-        pathlib.Path(rest).write_text("".join(line + "\n" for line in shell.session.lines))
+        pathlib.Path(rest).write_text("".join(script_line(shell, line) + "\n" for line in shell.session.lines))
     except OSError as error:
         raise Refused(f"{rest}: {error.strerror}") from None
     shell.say(f"{len(shell.session.lines)} lines; to play them: {shell.replayed(rest)}")
+
+
+def script_line(shell: Shell, line: str) -> str:
+    """A line of the session as the debugger reads it."""
+    renaming = shell.launch.renaming
+    return renaming.shortened(line) if renaming else line
 
 
 @command("help h", "help [COMMAND]", "command", is_repeated=False)

@@ -24,7 +24,8 @@ class Lowered:
     floats: dict[tuple[str, str], str] = field(default_factory=dict)
     # The floats of an object: where they begin, their class and their number.
     data: dict[str, list[tuple[int, str, int]]] = field(default_factory=dict)
-    renamed: dict[tuple[str, str], str] = field(default_factory=dict)
+    # The old names of temporaries and labels that have new ones.
+    renamed: dict[str, str] = field(default_factory=dict)
     # The classes of each function's parameters.
     parameters: dict[str, list[str]] = field(default_factory=dict)
 
@@ -41,7 +42,7 @@ class Lowered:
         elif kind == "data":
             self.data.setdefault(words[0], []).append((int(words[1]), words[2], int(words[3])))
         elif kind == "name":
-            self.renamed[words[0], words[1]] = words[2]
+            self.renamed[words[0]] = words[1]
 
     def halted_in(self, function: str) -> str | None:
         """How a run ended that was halted in a function which isn't the program's own."""

@@ -13,9 +13,11 @@ from .reader import TextReader
 from .refusals import Refused
 from .report import Report
 from .runtime import ENCODING
+from .sizes import LARGE, told_bytes
+from .squeezing import squeeze_names, squeeze_spaces
 from .symbols import Symbol
 from .tree import Text
-from .writing import ProgramWriter, map_of, text_of
+from .writing import MOST_BYTES, ProgramWriter, map_of, size_of_text, text_of
 
 BAD_COMMAND_LINE, NOT_READ, LEFT_OVER = 64, 2, 1
 
@@ -87,8 +89,25 @@ class Lowering:
         self.program.note_outside()
         self.program.note_calls_of_system()
         self.program.note_state_left()
-        self.text, self.map, self.meanings = text_of(self.chunks), map_of(self.chunks), meanings_of(self.chunks)
+        bytes_told = told_bytes(self.chunks)
+        self.renamed = self.fit()
+        self.text, self.map = text_of(self.chunks), map_of(self.chunks)
+        self.meanings = meanings_of(self.chunks, self.renamed)
         self.overflows = writer.overflows(len(self.text))
+        if self.overflows or bytes_told.total > LARGE:
+            self.report.note_size(bytes_told.lines())
+
+    def fit(self) -> dict[str, str]:
+        """Makes a text that is too large smaller, and gives the old names of what has new ones for that."""
+        if size_of_text(self.chunks) <= MOST_BYTES:
+            return {}
+        squeeze_spaces(self.chunks)
+        self.report.count("texts that are written without spaces, to fit")
+        if size_of_text(self.chunks) <= MOST_BYTES:
+            return {}
+        renamed = squeeze_names(self.chunks)
+        self.report.count("temporaries and labels with short names, to fit", len(renamed))
+        return renamed
 
     def entry_symbol(self, raw: str) -> Symbol | None:
         """The entry; of one text also a function that isn't exported."""

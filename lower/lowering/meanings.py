@@ -8,7 +8,7 @@ Each line is a kind and words, with tabulators between:
     result $f C               a function that gives a float: s or d
     float $f %x C             a temporary that holds a float
     data $x OFFSET C COUNT    floats in data, from an offset on
-    name $f NEW OLD           a temporary or a label of a function that is written by a shorter name
+    name NEW OLD              a temporary or a label that is written by a shorter name, in all functions
 """
 from collections.abc import Iterator
 from typing import TYPE_CHECKING
@@ -58,9 +58,9 @@ def told_data(symbol: Symbol, data: Data) -> Iterator[str]:
     yield from (line("data", symbol.name, *run) for run in runs)
 
 
-def meanings_of(chunks: list["Chunk"]) -> str:
-    """The lines of all definitions that are written."""
-    told: list[str] = []
+def meanings_of(chunks: list["Chunk"], renamed: dict[str, str]) -> str:
+    """The lines of all definitions that are written, and the old names of what has new ones."""
+    told = [line("name", new, old) for new, old in renamed.items()]
     for chunk in chunks:
         definition = chunk.symbol.definition
         if definition is None:
@@ -69,5 +69,4 @@ def meanings_of(chunks: list["Chunk"]) -> str:
             told += told_function(chunk.symbol, definition)
         else:
             told += told_data(chunk.symbol, definition)
-        told += [line("name", chunk.symbol.name, new, old) for new, old in chunk.renamed.items()]
     return "".join(told)

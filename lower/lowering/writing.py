@@ -1,6 +1,6 @@
 """Writes a program: the text that qrev runs, and beside it the map that says where each of its lines comes from."""
 import os
-from dataclasses import dataclass, field
+from dataclasses import dataclass
 
 from .adapters import Adapters
 from .data import DEFAULT_ALIGNMENT, size_of_data, written_data
@@ -30,8 +30,6 @@ class Chunk:
     texts: list[str]
     origins: list[tuple[int, Place | None]]
     path: str
-    # The temporaries and labels that are written by other names.
-    renamed: dict[str, str] = field(default_factory=dict)
 
 
 class ProgramWriter:
@@ -166,6 +164,10 @@ class ProgramWriter:
 def with_items(data: Data, items: list[Item]) -> Data:
     return Data(data.line, data.name, data.is_exported, data.section, data.alignment, items,
                 {item.value for item in items if item.is_global})
+
+
+def size_of_text(chunks: list[Chunk]) -> int:
+    return sum(len(line) + 1 for chunk in chunks for line in chunk.texts)
 
 
 def text_of(chunks: list[Chunk]) -> str:

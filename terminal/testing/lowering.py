@@ -133,6 +133,34 @@ CHAIN_LINES: Lines = [
 ]
 
 
+LONG = "%a.name.that.is.as.long.as.those.of.some.compilers"
+
+
+def large() -> str:
+    """A text that fits with short names alone: a hundred functions of a hundred steps."""
+    parts = []
+    for number in range(150):
+        name = f"{LONG}.{number}"
+        steps = [f"\t{name}.{step} =l add {name}.{step - 1}, 1" for step in range(1, 100)]
+        call = f"call $f{number + 1}(l {name}.99)" if number < 149 else f"copy {name}.99"
+        parts.append("\n".join([f"function l $f{number}(l {name}.0) {{", f"@start.{number}", *steps,
+                                f"\t{name}.last =l {call}", f"\tjmp @end.{number}", f"@end.{number}", f"\tret {name}.last", "}"]))
+    return "\n".join([*parts, "export function l $main() {", "@start", "\t%x =l call $f0(l 5)", "\tret %x", "}"]) + "\n"
+
+
+NAME = f"{LONG}.3"
+LARGE_LINES: Lines = [
+    ("info functions", [f"$f3(l {NAME}.0)"]), ("b $f3 @end.3", ["break 1: $f3 @end.3 0"]),
+    ("b $f3 @start.3 2", ["break 2: $f3 @start.3 2"]),
+    ("c", ["stop: break 2", "$f3 @start.3 2", "source: a.ssa:", f"{NAME}.3=l add {NAME}.2,1    {NAME}.2=304"]),
+    (f"p {NAME}.1 + 1", ["= 304"]), ("temps", [f"{NAME}.2 = 304\n{NAME}.3 unset"]), (f"watch {NAME}.5", [f"{NAME}.5 of this call"]),
+    ("c", ["unset -> 307"]), ("delete 2 3", []), (f"why {NAME}.5", [f"{NAME}.5 =l add {NAME}.4, 1", f"[1] {NAME}.4 = 306"]),
+    ("bt 2", [f"call $f3(l {LONG}.2.99)"]), ("c", ["stop: break 1", "$f3 @end.3 0"]), (f"set {NAME}.last 7", []),
+    ("bt", ["$main @start 1"]), ("c", ["done 7"]), ("back", ["%x=7"]), (f"b $f2 if {LONG}.2.0 > 3", []), ("rc", ["stop: break 1"]),
+    ("d 1", []), ("rc", ["stop: break 4", "$f2 @start.2 0"]),
+]
+
+
 def session_fault(program: str, text: str, lines: Lines) -> str | None:
     """What a session over a text shows otherwise than it must, or where its saved script leads otherwise."""
     with tempfile.TemporaryDirectory(prefix="lowered-") as folder:
@@ -155,7 +183,7 @@ def session_fault(program: str, text: str, lines: Lines) -> str | None:
 
 
 SESSIONS = {"absent": (ABSENT, ABSENT_LINES), "freed": (FREED, FREED_LINES), "floats": (FLOATS, FLOATS_LINES),
-            "chain of floats": (chain(OPERATIONS), CHAIN_LINES)}
+            "chain of floats": (chain(OPERATIONS), CHAIN_LINES), "short names": (large(), LARGE_LINES)}
 
 
 def cases(program: str) -> list[tuple[str, Callable[[], str | None]]]:
