@@ -14,6 +14,7 @@ import sys
 import tempfile
 import termios
 import time
+from typing import Callable
 
 from terminal.shell import FAULT
 
@@ -102,6 +103,8 @@ class Held(Terminal):
         super().__init__([*own, *(f"--lowered={file}" for file in lowered), "--", *words], columns, folder=folder,
                          **environment)
         self.program, self.words, self.folder = program, words, folder
+        # How the debugger's own answers are read, where names of the text were made short.
+        self.read: Callable[[str], str] = str
         self.told = self.wait_for(PROMPT)
         self.place = last_place(self.told)
 
@@ -122,7 +125,7 @@ class Held(Terminal):
         asked = "where\ntemps\nout\n"
         run = subprocess.run([self.program, *self.words], input=script.read_text() + asked, capture_output=True,
                              text=True, timeout=self.seconds, cwd=self.folder)
-        told = run.stdout.split("\n")
+        told = self.read(run.stdout).split("\n")
         place = [line for line in told if PLACE.fullmatch(line)][-1]
         if place != HALTED.sub(" fault halted", self.place):
             return f"the saved script leads to {place}, and the session stands at {self.place}"

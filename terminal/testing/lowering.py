@@ -9,6 +9,9 @@ import sys
 import tempfile
 from typing import Callable
 
+from terminal.lowered import lowered_of
+from terminal.renaming import Renaming
+
 from .harness import TOP, Held, Silent
 from .sessions import Lines
 
@@ -169,6 +172,7 @@ def session_fault(program: str, text: str, lines: Lines) -> str | None:
         subprocess.run([sys.executable, str(LOWER), "--link", "--output", "out.ssa", "a.ssa"], cwd=folder, timeout=60,
                        stderr=subprocess.DEVNULL)
         session = Held(program, "out.ssa", folder=folder, lowered=("a.ssa",))
+        session.read = Renaming(lowered_of(f"{folder}/out.ssa").renamed).told
         try:
             for line, wanted in lines:
                 answer = session.do(line)
