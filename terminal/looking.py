@@ -8,6 +8,7 @@ from .answers import read_output
 from .expressions import Unset, Wrong
 from .scratch import Refused
 from .shell import COMMANDS, Shell, command
+from .sources import list_source, source_told
 from .values import BYTES, FORMATS, formatted, shown_bytes
 
 MOST_UNITS = 4096
@@ -215,9 +216,15 @@ def temps(shell: Shell, rest: str) -> None:
         shell.say(f"{name} unset" if value is None else shell.shown(name, ""))
 
 
-@command("list l", "list [LINE | $f | @b]", "place")
+@command("list l", "list [-ssa] [LINE | FILE:LINE | $f | @b]", "place")
 def list_(shell: Shell, rest: str) -> None:
-    """Shows the text around where the run stands, then on from there; or around a line, a function or a label."""
+    """Shows the source around where the run stands, if there is one, and else the text, then on from there; or around a
+    line. With -ssa, or around a function or a label, it is the text."""
+    is_text, rest = rest.split(" ")[0] == "-ssa", rest.removeprefix("-ssa").strip()
+    if not is_text and list_source(shell, rest):
+        # An empty line goes on.
+        shell.last = "list" if rest else shell.last
+        return
     program, place = shell.session.program, shell.session.place
     here = 0
     frames = shell.session.frames()
@@ -246,10 +253,11 @@ def out(shell: Shell, rest: str) -> None:
     shell.say(f"{len(written)} bytes", *(shown_bytes(line) for line in written.splitlines(keepends=True)))
 
 
-@command("info i", "info stops|locals|frame|display|checkpoints|functions|data|symbol ADDRESS|session", "info")
+@command("info i", "info stops|locals|frame|display|checkpoints|functions|data|source|symbol ADDRESS|session",
+         "info")
 def info(shell: Shell, rest: str) -> None:
-    """Shows the stops, the temporaries, the frame, what is displayed, the checkpoints, the functions, the data, whose an
-    address is, or how large the session is."""
+    """Shows the stops, the temporaries, the frame, what is displayed, the checkpoints, the functions, the data, the sources,
+    whose an address is, or how large the session is."""
     word, _, more = rest.partition(" ")
     known = {"stops": "stops", "breakpoints": "stops", "b": "stops", "watchpoints": "stops", "locals": "temps",
              "temps": "temps", "display": "display", "frame": "frame", "f": "frame", "out": "out"}
@@ -287,7 +295,7 @@ def session_told(shell: Shell, _rest: str) -> list[str]:
 
 
 OTHERS = {"functions": functions_told, "data": data_told, "symbol": symbol_told, "checkpoints": checkpoints_told,
-          "session": session_told}
+          "session": session_told, "source": source_told}
 
 
 @command("save", "save FILE", "file", is_repeated=False)
@@ -330,6 +338,7 @@ def short(name: str) -> str:
 HELP = "An empty line repeats. `help COMMAND` tells more; Ctrl-C stops a run; docs/TERMINAL.md has it all."
 TOPICS = {
     "move": "step next finish continue run back reverse-next reverse-finish reverse goto checkpoint restart",
+    "move by lines of a source": "step-line next-line reverse-step-line reverse-next-line",
     "look": "print x display undisplay bt up down frame temps list mem out info",
     "stop": "break tbreak watch ignore condition stops delete",
     "ask": "why readers writers when compare",

@@ -1,8 +1,6 @@
 """What a stop shows: the place, the lines of the text around it, the values of operands, and the place in the source."""
 from __future__ import annotations
 
-import pathlib
-import re
 import shutil
 import sys
 import textwrap
@@ -12,6 +10,7 @@ from .answers import Place
 from .frames import Frames, allocations_of
 from .lowered import Lowered
 from .session import Session
+from .sourcemap import SourceMap
 from .text import Instruction
 from .values import brief, is_stack
 
@@ -22,36 +21,12 @@ GAP = "    "
 # Beyond so many moves the frames of callers aren't looked for at each stop: that goes back along all of them.
 MOST_MOVES = 1_000_000
 HALTED = "fault halted"
-ESCAPE = re.compile(r"\\([\\tn])")
-
-
-def unescaped(match: re.Match) -> str:
-    """A character that would part the fields or the lines of a map."""
-    return {"t": "\t", "n": "\n"}.get(match.group(1), "\\")
-
-
-class SourceMap:
-    """The map that lower/qrev-lower writes of a text: the n-th line is about the text's n-th (docs/REAL_COMPILERS.md)."""
-
-    def __init__(self, file: pathlib.Path):
-        try:
-            self.lines = file.read_text(errors="replace").split("\n")
-        except OSError:
-            self.lines = []
-
-    def place(self, line: int) -> str:
-        """`FILE:LINE`, and `: FILE:LINE:COLUMN` of the source if the map has that; nothing for a line without a place."""
-        fields = self.lines[line - 1].split("\t") if 1 <= line <= len(self.lines) else []
-        places = [f"{ESCAPE.sub(unescaped, fields[at])}:{fields[at + 1]}" for at in range(0, len(fields) - 1, 2)]
-        if len(fields) == 5 and fields[4] != "0":
-            places[1] += f":{fields[4]}"
-        return ": ".join(places)
 
 
 class Screen:
     def __init__(self, session: Session, frames: Frames, file: str, lowered: Lowered):
         self.session, self.frames = session, frames
-        self.map = SourceMap(pathlib.Path(file + ".map"))
+        self.map = SourceMap.beside(file)
         self.lowered = lowered
 
     @property

@@ -104,6 +104,8 @@ class Shell:
         self.checkpoints: dict[str, Timeline] = {}
         self.chain: list[Cause] = []
         self.line_shown = 0
+        # The source that was listed last, and up to which line.
+        self.line_listed: tuple[str, int] | None = None
         self.examined, self.unit, self.format = 0, "w", "x"
         self.last = ""
         self.has_said_end = False
@@ -149,7 +151,7 @@ class Shell:
         if reason:
             self.say(f"stop: {reason}")
         self.say(self.screen.place_line(), *self.screen.place_lines())
-        self.line_shown = 0
+        self.line_shown, self.line_listed = 0, None
         for number, (letters, text) in self.displays.items():
             self.show_display(number, letters, text)
         self.tell_memory()
@@ -304,8 +306,10 @@ class Shell:
         if word in COMMANDS:
             return COMMANDS[word]
         begun = {found.names[0]: found for name, found in COMMANDS.items() if name.startswith(word) and word}
-        if len(begun) == 1:
-            return next(iter(begun.values()))
+        shortest = min(begun, key=len, default="")
+        # Of two names one of which begins with the other the shorter one is meant.
+        if begun and all(name.startswith(shortest) for name in begun):
+            return begun[shortest]
         if begun:
             raise Wrong(f"{word}: could be {', '.join(sorted(begun))}")
         raise Wrong(f"{word}: no such command; `help` lists them")

@@ -5,6 +5,7 @@ from .expressions import Node, Wrong, temporaries_of
 from .moving import address_word
 from .scratch import Refused
 from .shell import Shell, command
+from .sources import place_in_source
 from .stops import FrameWatch, MemoryWatch, Stop
 from .values import BITS, FLOATS
 
@@ -33,6 +34,9 @@ def place_of(shell: Shell, text: str) -> tuple[str, str, int]:
         if not found:
             raise Wrong(f"{text}: no code at that line or behind it; the text has {len(session.program.lines)} lines")
         return found
+    in_source = place_in_source(shell, text)
+    if in_source:
+        return in_source
     if words[0].startswith("@"):
         if not frames:
             raise Refused(f"{text}: the run is over; write the function before the label")
@@ -71,9 +75,9 @@ def add_breakpoint(shell: Shell, rest: str, is_once: bool) -> None:
     shell.say(f"break {shell.runs.add(stop)}")
 
 
-@command("break b br", "break [LINE | $f | @b | $f @b [K]] [if CONDITION]", "place", is_repeated=False)
+@command("break b br", "break [LINE | FILE:LINE | $f | @b | $f @b [K]] [if CONDITION]", "place", is_repeated=False)
 def break_(shell: Shell, rest: str) -> None:
-    """A breakpoint at a line, a function, a label, or the K-th instruction behind a label. With a condition it stops only
+    """A breakpoint at a line of the text or of a source, a function, a label, or the K-th instruction behind a label. With a condition it stops only
     where that holds: `b @loop if %i > 3`, also `if depth == 2` for one depth of frames."""
     add_breakpoint(shell, rest, False)
 

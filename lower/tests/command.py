@@ -115,6 +115,40 @@ def wrapper_faults(running: Running) -> Results:
         yield "command/--lower leaves nothing", differ("files", [], list((wrapper.top / "tmp").iterdir()))
 
 
+def compared_faults(running: Running) -> Results:
+    """Two texts that are lowered and compared: the sum of 1 to 4, and one where an addition is a subtraction."""
+    built = TOP / "crates" / "qrev_compare" / "out" / "qrev_compare"
+    program = built if built.exists() else TOP / "release" / "qrev-compare-x86_64-linux"
+    with tempfile.TemporaryDirectory(prefix="lower-") as place:
+        wrapper = Wrapper(place, running)
+        shutil.copy(TOP / "qrev-compare", wrapper.top / "qrev-compare")
+        (wrapper.top / "release" / "qrev-compare-x86_64-linux").symlink_to(program)
+        good = (DATA / "real" / "sum.ssa").read_text()
+        (wrapper.top / "good.ssa").write_text(good)
+        (wrapper.top / "bad.ssa").write_text(good.replace("%.47 =w add %.47, %.48", "%.47 =w sub %.47, %.48"))
+
+        def run(*words: str, script: str = "") -> subprocess.CompletedProcess:
+            return subprocess.run([str(wrapper.top / "qrev-compare"), "--lower", *words], input=script, capture_output=True,
+                                  text=True, cwd=wrapper.top, timeout=running.seconds,
+                                  env=os.environ | {"TMPDIR": str(wrapper.top / "tmp")})
+
+        told = run("good.ssa", "bad.ssa")
+        lines = told.stdout.split("\n")
+        places = [line.partition("    ")[2] for line in lines if line.startswith("#")]
+        yield "command/compare --lower", differ("status", 1, told.returncode) or \
+            differ("first", ["part at event 1", "good: return $sum 10"], lines[:2]) or \
+            differ("bad", True, "bad: return $sum 4294967286" in lines) or \
+            differ("places", [f"{name}.ssa:51: ha/s/sum.ha:2:69: storew %.10, %binding.9" for name in ("good", "bad")], places)
+        told = run("good.ssa", "bad.ssa", "--session", "bad", script="back 3\n")
+        yield "command/compare --lower with a session", differ(
+            "place", True, "    bad.ssa:96: ha/s/sum.ha:1:54: " in told.stdout.split("\n")[-2])
+        told = run("good.ssa", "good.ssa", "--events=calls,end")
+        yield "command/compare --lower of the same", differ("told", (0, "same 3 events\n"), (told.returncode, told.stdout))
+        told = run("good.ssa", "none.ssa")
+        yield "command/compare --lower without a text", differ("told", (2, ""), (told.returncode, told.stdout))
+        yield "command/compare --lower leaves nothing", differ("files", [], list((wrapper.top / "tmp").iterdir()))
+
+
 def map_fault(running: Running) -> str | None:
     """The map has a line for each line of the text, also where --map and --output say its place, and a pipe has none. What
     the names stand for is beside the text."""
@@ -172,5 +206,6 @@ def timed(folder: pathlib.Path) -> float:
 
 def results(running: Running) -> Results:
     yield from wrapper_faults(running)
+    yield from compared_faults(running)
     yield "command/the map", map_fault(running)
     yield "command/the time of a mebibyte", time_fault()

@@ -164,11 +164,63 @@ LARGE_LINES: Lines = [
 ]
 
 
+SOURCE = """int twice(int x) {
+    int y = x * 2;
+    return y;
+}
+int main(void) {
+    int a = twice(3);
+    int b = abs(twice(a));
+    a = b + 1;
+    return a;
+}
+"""
+PLACES = """
+dbgfile "p.c"
+function w $twice(w %x) {
+@start
+	dbgloc 2
+	%y =w mul %x, 2
+	%z =w copy %y
+	dbgloc 3
+	ret %z
+}
+export function w $main() {
+@start
+	dbgloc 6
+	%t =w copy 3
+	%a =w call $twice(w %t)
+	dbgloc 7, 5
+	%b =w call $twice(w %a)
+	%q =w call $abs(w %b)
+	dbgloc 8
+	%c =w add %b, 1
+	%a =w copy %c
+	dbgloc 9
+	ret %a
+}
+"""
+PLACES_LINES: Lines = [
+    ("info source", ["here: p.c:6\np.c: 6 lines in the text\n"]), ("list", ["p.c\n", ">  6      int a = twice(3);\n"]),
+    ("list -ssa", ["%t =w copy 3"]), ("list p.c:2", ["  1  int twice(int x) {\n", "> 6"]), ("list 9", ["  9      return a;"]),
+    ("list $twice", ["function w $twice(w %x) {"]), ("list other.c:1", ["isn't found"]),
+    ("b p.c:7", ["break 1: $main @start 2"]), ("tbreak a.ssa:9", ["break 2: $twice @start 2"]), ("b none.c:1", ["the sources are: p.c"]),
+    ("c", ["stop: break 2", "#4 $twice @start 2", "a.ssa:9: p.c:3\n"]), ("c", ["stop: break 1", "#5 $main @start 2"]), ("d", []),
+    ("next-line", ["#13 $main @start 4", "p.c:8\n"]), ("nl", ["#15 $main @start 6", "p.c:9\n"]),
+    ("reverse-next-line", ["#13 $main @start 4"]), ("rnl", ["#5 $main @start 2", "p.c:7:5\n"]), ("rnl", ["#0 $main @start 0"]),
+    ("step-line", ["#2 $twice @start 0", "p.c:2\n"]), ("sl", ["#4 $twice @start 2"]), ("sl", ["#5 $main @start 2"]),
+    ("nl", ["#13 $main"]), ("reverse-step-line", ["#8 $twice @start 2", "p.c:3\n"]), ("rsl", ["#6 $twice @start 0"]),
+    ("rsl", ["#5 $main @start 2"]), ("rsl", ["#4 $twice @start 2"]), ("nl 9", ["done 13"]), ("rnl", ["#15 $main @start 6"]),
+    ("goto 12", ["$abs @"]), ("rnl", ["#5 $main @start 2"]), ("nl 2", ["#15"]), ("reverse-n", ["#14 $main @start 5"]),
+]
+
+
 def session_fault(program: str, text: str, lines: Lines) -> str | None:
     """What a session over a text shows otherwise than it must, or where its saved script leads otherwise."""
     with tempfile.TemporaryDirectory(prefix="lowered-") as folder:
         file = pathlib.Path(folder) / "a.ssa"
         file.write_text(text)
+        (pathlib.Path(folder) / "p.c").write_text(SOURCE)
         subprocess.run([sys.executable, str(LOWER), "--link", "--output", "out.ssa", "a.ssa"], cwd=folder, timeout=60,
                        stderr=subprocess.DEVNULL)
         session = Held(program, "out.ssa", folder=folder, lowered=("a.ssa",))
@@ -187,7 +239,8 @@ def session_fault(program: str, text: str, lines: Lines) -> str | None:
 
 
 SESSIONS = {"absent": (ABSENT, ABSENT_LINES), "freed": (FREED, FREED_LINES), "floats": (FLOATS, FLOATS_LINES),
-            "chain of floats": (chain(OPERATIONS), CHAIN_LINES), "short names": (large(), LARGE_LINES)}
+            "chain of floats": (chain(OPERATIONS), CHAIN_LINES), "short names": (large(), LARGE_LINES),
+            "places": (PLACES, PLACES_LINES)}
 
 
 def cases(program: str) -> list[tuple[str, Callable[[], str | None]]]:
