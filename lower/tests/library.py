@@ -12,7 +12,7 @@ from collections.abc import Callable, Iterator
 from typing import NamedTuple
 
 from .floats import string_of
-from .running import LOWER, Results, Running, differ
+from .running import LOWER, Results, Running, Skipped, differ
 
 LONG = (1 << 64) - 1
 BUFFER = 160
@@ -447,10 +447,8 @@ def results(running: Running, most: int = 320) -> Results:
     for seed in range(12):
         yield f"library/sorting {seed}", sorting_fault(running, seed)
     yield "library/streams", streams_fault(running)
-    if not is_there():
-        print("library: no C library that ctypes finds, so its tests wait")
-        return
-    yield "library/rand", random_fault(running)
+    waits = None if is_there() else Skipped("a C library that ctypes finds")
+    yield "library/rand", waits or random_fault(running)
     for shape in shapes():
         count = most if shape.gives in "ds" else 384 if shape.name.startswith(("is", "to")) else most
-        yield f"library/{shape.name} ({count} calls)", batch_fault(running, shape, count, 1)
+        yield f"library/{shape.name} ({count} calls)", waits or batch_fault(running, shape, count, 1)
