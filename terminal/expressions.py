@@ -226,7 +226,7 @@ def is_equal(a: Value, b: Value) -> bool:
     """Whether two values have the same bits in the narrower of their classes."""
     width = "w" if "w" in (a.width, b.width) else "l" if "l" in (a.width, b.width) else ""
     if width:
-        return unsigned(a.number, width) == unsigned(b.number, width)
+        return unsigned(whole(a), width) == unsigned(whole(b), width)
     return a.number == b.number
 
 
@@ -249,13 +249,21 @@ def evaluate(node: Node, state: State) -> Value:
     first = evaluate(node.parts[0], state)
     if node.kind in ("u", "s"):
         cut = unsigned if node.kind == "u" else signed
-        bits = bits_of(first.number, first.width or "d") if is_float(first) else first.number
+        bits = bits_of(first.number, first.width or "d") if is_float(first) else whole(first)
         return Value(cut(bits, first.width or "l"))
     if node.kind == "unary":
-        if is_float(first) and node.text == "~":
-            raise Wrong("~ isn't an operation of floats; u(..) is the bits of one")
-        return Value(UNARY[node.text](first.number), first.width if node.text in "-~" or is_float(first) and node.text == "+" else "")
+        return of_float(node.text, first) if is_float(first) else \
+            Value(UNARY[node.text](whole(first)), first.width if node.text in "-~" else "")
     return combined(node, first, state)
+
+
+def of_float(text: str, value: Value) -> Value:
+    """An operation of one float."""
+    if text == "~":
+        raise Wrong("~ isn't an operation of floats; u(..) is the bits of one")
+    if text == "!":
+        return Value(int(value.number == 0))
+    return Value(-value.number if text == "-" else value.number, value.width)
 
 
 def whole(value: Value) -> int:
@@ -276,7 +284,7 @@ def combined(node: Node, first: Value, state: State) -> Value:
         return combined_floats(node.text, first, second)
     if node.text in ("==", "!="):
         return Value(int(is_equal(first, second) == (node.text == "==")))
-    result = int(BINARY[node.text](first.number, second.number))
+    result = int(BINARY[node.text](whole(first), whole(second)))
     if abs(result) >> MOST_BITS:
         raise Unset(f"a value of more than {MOST_BITS} bits")
     return Value(result, max(first.width, second.width, key=len) if node.text in "+-*/%&|^" else "")

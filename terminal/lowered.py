@@ -54,9 +54,9 @@ class Lowered:
         """Makes the classes of a program's temporaries those of floats where they hold one."""
         for function in program.functions.values():
             self.parameters[function.name] = [self.floats.get((function.name, name), cls) for cls, name in function.parameters]
-        for (function, name), cls in self.floats.items():
-            if function in program.functions and name in program.functions[function].temporaries:
-                program.functions[function].temporaries[name] = cls
+        for (owner, name), cls in self.floats.items():
+            if owner in program.functions and name in program.functions[owner].temporaries:
+                program.functions[owner].temporaries[name] = cls
 
     def written(self, function: Function, instruction: Instruction) -> str:
         """An instruction as it was before floats became their bits: `%x =d mul %a, d_0.5`."""

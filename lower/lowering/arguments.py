@@ -55,4 +55,5 @@ def give_input(runtime: Runtime, given: bytes) -> None:
     for raw, items in ((INPUT, [Item(0, "b", given.decode("latin-1"))]),
                        (INPUT_END, [Item(0, "l", INPUT, True, len(given))])):
         definition = unit.own[raw].definition
-        definition.items = items
+        if isinstance(definition, Data):
+            definition.items = items

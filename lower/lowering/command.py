@@ -7,6 +7,7 @@ import stat
 import sys
 
 from .arguments import give_arguments, give_input
+from .ends import is_called, wrapped
 from .linking import Program
 from .meanings import meanings_of
 from .reader import TextReader
@@ -80,6 +81,9 @@ class Lowering:
             self.program.keep_from(self.entry)
         else:
             self.keep_all()
+        ends = self.program.ends
+        if self.entry is not None and (ends.first or ends.finalizers) and is_called(self.program, self.entry):
+            self.entry = wrapped(self.program, self.entry)
         self.program.give_names()
         self.report.count("functions that are called before the entry", len(self.program.ends.first))
         self.count_dropped(texts)

@@ -4,8 +4,8 @@ from __future__ import annotations
 
 from typing import TYPE_CHECKING, NamedTuple
 
-from .symbols import Symbol, carried_class
-from .tree import Call, Data, Function, Item
+from .symbols import Symbol, Unit, carried_class
+from .tree import Block, Call, Data, Function, Item, Jump, Text, Value
 
 if TYPE_CHECKING:
     from .linking import Program
@@ -14,6 +14,8 @@ SECTIONS = (".preinit_array", ".init_array", ".fini_array")
 # A section without a number comes behind those that have one.
 LAST = 1 << 16
 HANDLERS = ("$atexit",)
+# The name by which the function in the place of an entry calls it.
+INNER = "$entry.itself"
 EXIT, FINALIZED, FINALIZERS, ARRAY = "$exit", "$exit.finalized", "$run.finalizers", "$run.array"
 
 
@@ -68,10 +70,9 @@ class Ends:
         for unit in program.units:
             for definition in unit.text.definitions if unit in kept else []:
                 placed = section_of(definition) if isinstance(definition, Data) else None
-                if placed and placed[0] == section:
-                    found += [Placed(placed[1], program.resolve(unit, item.value))
-                              for item in definition.items if item.is_global]
-                    found = [placed for placed in found if placed.symbol.is_function()]
+                if isinstance(definition, Data) and placed and placed[0] == section:
+                    symbols = [program.resolve(unit, str(item.value)) for item in definition.items if item.is_global]
+                    found += [Placed(placed[1], symbol) for symbol in symbols if symbol.is_function()]
         return [placed.symbol for placed in sorted(found, key=lambda placed: placed.number)]
 
     def keep(self) -> None:
@@ -99,8 +100,10 @@ class Ends:
             if start not in program.kept and end not in program.kept:
                 continue
             names = self.given_names(start, section)
-            start.definition.items = [Item(start.definition.line, "l", name, True) for name in names]
-            start.definition.addresses = set(names)
+            array = start.definition
+            if isinstance(array, Data):
+                array.items = [Item(array.line, "l", name, True) for name in names]
+                array.addresses = set(names)
             program.keep([start, end])
 
     def given_names(self, user: Symbol, section: str) -> list[str]:
@@ -116,11 +119,36 @@ class Ends:
         array = self.program.runtime.symbol(ARRAY)
         names = self.given_names(array, SECTIONS[2])[::-1]
         function = array.definition
+        if not isinstance(function, Function):
+            return
         function.callees = set(names)
         function.blocks[0].instructions = [
             Call(function.line, None, None, None, name, zeros(array.unit.scope[name]), None, None) for name in names]
 
 
-def zeros(symbol: Symbol) -> list[tuple[str, int]]:
+def is_called(program: Program, symbol: Symbol) -> bool:
+    """Whether something that is kept names a function."""
+    return any(symbol in program.references_of(user) for user in program.kept)
+
+
+def wrapped(program: Program, entry: Symbol) -> Symbol:
+    """A function in the place of an entry that is called again, so that what runs before and behind it does so once."""
+    function = entry.definition
+    assert isinstance(function, Function)
+    unit = Unit(Text(entry.unit.text.path, [], {}, []), False)
+    unit.scope[INNER] = entry
+    result = "%given" if function.returns else None
+    arguments: list[tuple[str, Value]] = [(kind, name) for kind, name in function.parameters]
+    call = Call(function.line, None, result, function.returns, INNER, arguments, None, None)
+    block = Block(function.line, "@start", [], [call], Jump(function.line, None, "ret", result, ()))
+    outer = Function(function.line, entry.raw, True, function.returns, list(function.parameters), None, False, [block],
+                     function.aggregates, {INNER}, set(), [block])
+    symbol = Symbol(entry.raw, unit, outer, entry.signature)
+    unit.own[entry.raw] = program.exported[entry.raw] = symbol
+    program.keep([symbol])
+    return symbol
+
+
+def zeros(symbol: Symbol) -> list[tuple[str, Value]]:
     """Arguments for a function that is called without any."""
     return [(carried_class(kind), 0) for kind in symbol.signature.parameters] if symbol.signature else []

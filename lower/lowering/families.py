@@ -73,9 +73,9 @@ class Families:
 
     def is_state(self, symbol: Symbol) -> bool:
         """Whether data of a text changes: it is zero when the program begins, or stored to by its name."""
-        if not symbol.is_data() or symbol.is_of_runtime():
-            return False
         definition = symbol.definition
+        if not isinstance(definition, Data) or symbol.is_of_runtime():
+            return False
         return all(item.letter == "z" or item.value == 0 for item in definition.items) or \
             symbol.raw in self.program.stored_in(symbol.unit)
 
@@ -95,8 +95,8 @@ class Families:
             return
         numbers = constants_of(symbol.definition)
         for call in calls_of(symbol.definition):
-            sizes = [numbers.get(value, 0) if type(value) is str else value for _, value in call.arguments]
-            sizes = [size for size in sizes if LARGEST_MAPPING < size < MOST_SIZE]
+            given = [value if isinstance(value, int) else numbers.get(value, 0) for _, value in call.arguments]
+            sizes = [size for size in given if LARGEST_MAPPING < size < MOST_SIZE]
             if sizes and type(call.target) is str and call.target[0] == "$" and self.leads_to_memory(symbol, call.target):
                 yield max(sizes)
 
@@ -115,8 +115,10 @@ def constants_of(function: Function) -> dict[str, int]:
     found: dict[str, int] = {}
     for block in function.blocks:
         for each in block.instructions:
-            if isinstance(each, Instruction) and each.name == "copy" and each.result and type(each.operands[0]) is int:
-                found[each.result] = max(each.operands[0], found.get(each.result, 0))
+            if isinstance(each, Instruction) and each.name == "copy" and each.result:
+                value = each.operands[0]
+                if isinstance(value, int):
+                    found[each.result] = max(value, found.get(each.result, 0))
     return found
 
 

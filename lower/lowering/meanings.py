@@ -46,14 +46,16 @@ def told_function(symbol: Symbol, function: Function) -> Iterator[str]:
 
 def told_data(symbol: Symbol, data: Data) -> Iterator[str]:
     """The floats of an object, those of one class on end together."""
-    at, runs = 0, []
+    at = 0
+    runs: list[tuple[int, str, int]] = []
     for item in data.items:
         if item.is_float:
             cls = "s" if item.letter == "w" else "d"
-            if runs and runs[-1][1] == cls and runs[-1][0] + runs[-1][2] * size_of(item) == at:
-                runs[-1][2] += 1
+            begin, known, count = runs[-1] if runs else (0, "", 0)
+            if known == cls and begin + count * size_of(item) == at:
+                runs[-1] = (begin, cls, count + 1)
             else:
-                runs.append([at, cls, 1])
+                runs.append((at, cls, 1))
         at += size_of(item)
     yield from (line("data", symbol.name, *run) for run in runs)
 

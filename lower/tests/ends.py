@@ -112,6 +112,24 @@ export function w $main() {
 """
 
 
+# A main that calls itself: what runs behind it runs once.
+AGAIN = """
+export function w $main(w %n) {
+@start
+	call $tell(l $m)
+	jnz %n, @again, @end
+@again
+	%less =w sub %n, 1
+	%r =w call $main(w %less)
+	%s =w add %r, 1
+	ret %s
+@end
+	%q =w call $atexit(l $handler.a)
+	ret 40
+}
+"""
+
+
 def fault(running: Running, texts: dict[str, str], end: str, output: str, *options: str, words: tuple[str, ...] = ()) \
         -> str | None:
     lowered = running.lower(texts, *options)
@@ -130,4 +148,6 @@ def results(running: Running) -> Results:
     # A linker puts what has a number first; this text runs through both arrays forward.
     yield "ends/a start of the text's own", fault(running, own, "exit 7", "2 1 main 3 4 ", "--link", "--entry", "begin",
                                                   words=("0",))
+    yield "ends/main calls itself", fault(running, {"a.ssa": TELL + AGAIN}, "done 42", "2 1 main main main A 4 3 ", "--link",
+                                          words=("2",))
     yield "ends/empty arrays", fault(running, {"a.ssa": EMPTY}, "done 0", "", "--link")

@@ -439,13 +439,23 @@ COUNT = """export function w $main(w %count, l %texts) {
 """
 
 
+READ = """export function w $main() {
+@start
+	%byte =w call $getchar()
+	ret %byte
+}
+"""
+
+
 def lowered(program: str) -> str | None:
     """Texts of whole QBE: the places of their own lines, and saved scripts that say how to play them."""
     struct = "lower/test-data/real/structval.ssa"
     with tempfile.TemporaryDirectory(prefix="lowered-") as folder:
         count = written(folder, "count.ssa", COUNT)
         # The function `add` begins on line 76 of its text. The name of the program is a text of `main` too.
+        read, given = written(folder, "read.ssa", READ), written(folder, "given", "Q")
         return played(folder, [struct], "b $add\nc\n", f"  source: {struct}:76\n", "#14 $add @start.") or \
+            played(folder, ["--input", given, read], "c\n", "done 81\n", " done 81\n") or \
             played(folder, [count, "--", "a", "b c"], "c\n", "done 3\n", " done 3\n")
 
 
