@@ -119,6 +119,11 @@ class Screen:
         frames = self.session.frames()
         return self.lowered.halted_in(frames[0].function) if frames else None
 
+    def is_elsewhere(self) -> bool:
+        """Whether the run ended by a fault in a function that isn't the program's own."""
+        frames = self.session.frames() if self.session.place.is_fault else []
+        return bool(frames) and not self.lowered.is_own(frames[0].function)
+
     def place_line(self) -> str:
         """The place line, with how the run ended in words where that is no fault of the program."""
         halted = self.halted()
@@ -156,15 +161,16 @@ class Screen:
     def place_lines(self, place: Place | None = None) -> list[str]:
         """The text around a place; without one around that where the session stands, with the values of operands."""
         is_here = place is None
-        place = place or (self.own_place() if self.halted() else None) or self.session.place
+        is_elsewhere = is_here and self.is_elsewhere()
+        place = place or (self.own_place() if is_elsewhere else None) or self.session.place
         if not place.function:
             frames = self.session.frames()
             if not frames:
                 return []
             place = frames[0]
         instruction = self.session.program.functions[place.function].at(place.label, place.index)
-        is_here = is_here and not self.halted()
-        beside = self.operands(place.function, instruction) + self.jump_said(place, instruction) if is_here else []
+        is_read = is_here and not is_elsewhere
+        beside = self.operands(place.function, instruction) + self.jump_said(place, instruction) if is_read else []
         source = self.map.place(instruction.line)
         lines = [f"  source: {source}"] if source else []
         return lines + list(self.text_lines(instruction.line - AROUND, instruction.line + AROUND, instruction.line, beside))

@@ -17,7 +17,7 @@ if TYPE_CHECKING:
     from .linking import Program
 
 HEAP = ("$malloc $calloc $realloc $free $reallocarray $aligned_alloc $posix_memalign $memalign $malloc_usable_size".split(),
-        "$rt.malloc $rt.calloc $rt.realloc $rt.free $rt.ensure $rt.unensure".split())
+        "$rt.malloc $rt.calloc $rt.realloc $rt.free".split())
 HEAP_NAMES = frozenset(HEAP[0] + HEAP[1])
 # What gives memory of the system.
 MAPPING = frozenset(("$mmap", "$brk", "$sbrk", "$syscall", "$rt.syscall1", "$rt.syscall6"))

@@ -54,6 +54,25 @@ FREED_LINES: Lines = [
 ]
 
 
+NOWHERE = """
+function w $count(l %text) {
+@start
+	%n =l call $strlen(l %text)
+	ret %n
+}
+export function w $main() {
+@start
+	%a =l copy 0
+	%x =w call $count(l %a)
+	ret %x
+}
+"""
+NOWHERE_LINES: Lines = [
+    ("c", ["fault dead address 0\n  source: a.ssa:4\n", "call $strlen(l %text)"]),
+    ("why", ["fault dead address 0 in $strlen, at #", "[1] %text = 0"]), ("why 1", ["argument 1 of 1", "[1] %a = 0"]),
+    ("why --inside", ["loadub %at"]), ("bt", ["> 0  $strlen @loop 0"]),
+]
+
 FLOATS = """
 data $table = { d d_0.5 d_0.25, s s_1.5, w 7 }
 data $text = { b "abc", b 0 }
@@ -238,7 +257,7 @@ def session_fault(program: str, text: str, lines: Lines) -> str | None:
             session.close()
 
 
-SESSIONS = {"absent": (ABSENT, ABSENT_LINES), "freed": (FREED, FREED_LINES), "floats": (FLOATS, FLOATS_LINES),
+SESSIONS = {"absent": (ABSENT, ABSENT_LINES), "freed": (FREED, FREED_LINES), "nowhere": (NOWHERE, NOWHERE_LINES), "floats": (FLOATS, FLOATS_LINES),
             "chain of floats": (chain(OPERATIONS), CHAIN_LINES), "short names": (large(), LARGE_LINES),
             "places": (PLACES, PLACES_LINES)}
 
