@@ -53,7 +53,8 @@ class Lowered:
     def tell_classes(self, program: Program) -> None:
         """Makes the classes of a program's temporaries those of floats where they hold one."""
         for function in program.functions.values():
-            self.parameters[function.name] = [self.floats.get((function.name, name), cls) for cls, name in function.parameters]
+            self.parameters[function.name] = [self.floats.get((function.name, name), cls)
+                                              for cls, name in function.parameters]
         for (owner, name), cls in self.floats.items():
             if owner in program.functions and name in program.functions[owner].temporaries:
                 program.functions[owner].temporaries[name] = cls

@@ -45,8 +45,9 @@ def source_lines(shell: Shell, file: str, first: int, last: int, marked: int) ->
     """Lines of a source with their numbers; nothing where it isn't found."""
     lines = shell.screen.map.read(file)
     last = min(last, len(lines))
-    return [shell.screen.cut(f"{'>' if number == marked else ' '} {number:{len(str(last))}}  {lines[number - 1].expandtabs(4)}")
-            for number in range(max(first, 1), last + 1)]
+    digits = len(str(last))
+    return [shell.screen.cut(f"{'>' if at == marked else ' '} {at:{digits}}  {lines[at - 1].expandtabs(4)}")
+            for at in range(max(first, 1), last + 1)]
 
 
 def list_source(shell: Shell, rest: str) -> bool:

@@ -77,8 +77,8 @@ def add_breakpoint(shell: Shell, rest: str, is_once: bool) -> None:
 
 @command("break b br", "break [LINE | FILE:LINE | $f | @b | $f @b [K]] [if CONDITION]", "place", is_repeated=False)
 def break_(shell: Shell, rest: str) -> None:
-    """A breakpoint at a line of the text or of a source, a function, a label, or the K-th instruction behind a label. With a condition it stops only
-    where that holds: `b @loop if %i > 3`, also `if depth == 2` for one depth of frames."""
+    """A breakpoint at a line of the text or of a source, a function, a label, or the K-th instruction behind a label.
+    With a condition it stops only where that holds: `b @loop if %i > 3`, also `if depth == 2` for one depth of frames."""
     add_breakpoint(shell, rest, False)
 
 
@@ -91,7 +91,8 @@ def tbreak(shell: Shell, rest: str) -> None:
 @command("watch w", "watch %x | $f %x | WIDTH ADDRESS | N ADDRESS [if CONDITION]", "watch", is_repeated=False)
 def watch(shell: Shell, rest: str) -> None:
     """Stops where a value changes: %x of this frame alone, %x of any frame of $f, memory of a WIDTH b h w l, or s d of
-    floats, or a range of N bytes. A write of the same value is no change; on the stack bytes that are dead in between aren't either."""
+    floats, or a range of N bytes. A write of the same value is no change; on the stack bytes that are dead in between
+    aren't either."""
     what, condition, text = with_condition(shell, rest)
     words = what.split()
     if not words:
@@ -103,7 +104,8 @@ def watch(shell: Shell, rest: str) -> None:
     elif words[0] in BITS or words[0].isdigit():
         stop = memory_watch(shell, words[0], what.partition(" ")[2])
     else:
-        raise Wrong(f"{words[0]}: %TEMPORARY, $FUNCTION %TEMPORARY, a width (b, h, w, l, s, d) or a number of bytes was expected")
+        expected = "%TEMPORARY, $FUNCTION %TEMPORARY, a width (b, h, w, l, s, d) or a number of bytes was expected"
+        raise Wrong(f"{words[0]}: {expected}")
     stop.condition, stop.condition_text = condition, text
     shell.say(f"watch {shell.runs.add(stop)}")
 

@@ -1,4 +1,4 @@
-"""Functions that share state, as an allocator's, of which the runtime has some too: all are the text's own, or all the runtime's.
+"""Functions that share state, as an allocator's, and that the runtime has too: all are the text's own, or all the runtime's.
 
 A definition of the text goes before the runtime's. But where one of a family comes to a function from outside, or asks the
 system for more memory at once than there is, the runtime's are taken for all of the family: a block of one heap that is

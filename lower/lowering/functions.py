@@ -66,7 +66,7 @@ class FunctionWriter(CallWriter):
         self.ends: Ends | None = None
 
     def write(self, ends: Ends | None) -> None:
-        """The lines of the function; of the entry with the calls of what runs before it, in front of all else, and behind it."""
+        """The lines of the function; of the entry also the calls of what runs before it and behind it."""
         self.ends = ends
         function = self.function
         blocks = function.kept

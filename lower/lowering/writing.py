@@ -99,7 +99,8 @@ class ProgramWriter:
         parameters += ["l %environment"] if signature.has_environment else []
         parameters += [f"{carried_class(kind)} %a{number}" for number, kind in enumerate(signature.parameters, 1)]
         gives = signature.carried_result()
-        texts = [f"function {gives + ' ' if gives else ''}{symbol.name}({', '.join(parameters)}) {{", "@is.not.there", "\thlt", "}"]
+        head = f"function {gives + ' ' if gives else ''}{symbol.name}({', '.join(parameters)}) {{"
+        texts = [head, "@is.not.there", "\thlt", "}"]
         self.chunks.append(Chunk(symbol, texts, [(0, None)] * len(texts), ""))
 
     # Data.
@@ -119,7 +120,7 @@ class ProgramWriter:
                 self.data.insert(self.data.index(symbols[start]) + 1, symbols[end])
 
     def fit_heap(self) -> None:
-        """Makes the heap as large as the other data leaves room for: up to what it has, or with mappings of the system all."""
+        """Makes the heap as large as the other data leaves room for; without mappings of the system no larger than it is."""
         heap = next((symbol for symbol in self.data if symbol.raw == HEAP and symbol.is_of_runtime()), None)
         if heap is None:
             return

@@ -96,7 +96,8 @@ def single(choice: random.Random) -> float:
 
 
 def power(choice: random.Random) -> int:
-    return choice.choice((0, 1, -1, 52, -52, 1000, -1000, 1074, -1074, 1100, 2 ** 31 - 1, -2 ** 31, choice.randrange(-2200, 2200)))
+    return choice.choice((0, 1, -1, 52, -52, 1000, -1000, 1074, -1074, 1100, 2 ** 31 - 1, -2 ** 31,
+                          choice.randrange(-2200, 2200)))
 
 
 def base(choice: random.Random) -> int:
@@ -128,7 +129,8 @@ def shapes() -> list[Shape]:
               texts("strcspn", "l", "pp", text, lambda choice: text(choice, 4)),
               texts("strpbrk", "p", "pp", text, lambda choice: text(choice, 4))]
     found += [texts(name, "w", "w", lambda choice: choice.randrange(-128, 256)) for name in (
-        "isalpha isdigit isalnum isspace isupper islower isxdigit iscntrl isprint isgraph ispunct isblank tolower toupper").split()]
+        "isalpha isdigit isalnum isspace isupper islower isxdigit iscntrl isprint isgraph ispunct isblank tolower "
+        "toupper").split()]
     for end, kind, make in (("", "d", double), ("f", "s", single)):
         found += [texts(name + end, kind, kind, make) for name in "fabs floor ceil trunc round rint nearbyint sqrt".split()]
         found += [texts(name + end, kind, kind * 2, make, make) for name in "fmod copysign fmin fmax".split()]

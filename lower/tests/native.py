@@ -156,7 +156,8 @@ class Translator:
         if jump.name in ("jmp", "on"):
             return self.go(block, jump.labels[0])
         if jump.name == "jnz":
-            return f"if ({self.value(jump.value, 'w')}) {self.go(block, jump.labels[0])} else {self.go(block, jump.labels[1])}"
+            yes, no = (self.go(block, label) for label in jump.labels)
+            return f"if ({self.value(jump.value, 'w')}) {yes} else {no}"
         if jump.name == "hlt":
             return "__builtin_trap();"
         returns = self.in_function.returns
@@ -167,7 +168,8 @@ class Translator:
         if each.result is None:
             address = self.value(each.operands[1], "l")
             if name == "blit":
-                return f"__builtin_memmove((char *)({address}), (char *)({self.value(each.operands[0], 'l')}), {each.operands[2]})"
+                source = self.value(each.operands[0], "l")
+                return f"__builtin_memmove((char *)({address}), (char *)({source}), {each.operands[2]})"
             kind = {"stores": "s", "stored": "d", "storel": "l"}.get(name, "w")
             return f"*({STORED[name]} *)({address}) = {self.value(each.operands[0], kind)}"
         return f"{self.name(each.result)} = {self.result(each, name, cls)}"
@@ -229,7 +231,8 @@ def native(texts: list[str], words: list[str]) -> Ended:
         sources = [source_of(folder, number, text) for number, text in enumerate(texts)]
         (folder / "helpers.c").write_text(HELPERS)
         built = subprocess.run(["gcc", "-w", "-O1", "-fno-builtin", "-fno-strict-aliasing", "-fwrapv", "-no-pie", "-o",
-                                "program", *sources, "helpers.c", "-lm"], cwd=folder, capture_output=True, text=True, timeout=60)
+                                "program", *sources, "helpers.c", "-lm"], cwd=folder, capture_output=True, text=True,
+                               timeout=60)
         if built.returncode:
             return Ended(built.stderr, 1000)
         run = subprocess.run(["./program", *words], cwd=folder, stdout=subprocess.PIPE, stderr=subprocess.STDOUT,

@@ -39,4 +39,5 @@ def results(running: Running) -> Results:
     text = text_of(800, "x")
     lowered = running.lower({"a.ssa": text}, "--link", "--report")
     yield "sizes/too large all the same", differ("status", 1, lowered.status) or \
-        (None if "bytes, and qrev takes at most 1048576" in lowered.errors and " of a.ssa" in lowered.errors else lowered.errors)
+        differ("told", (True, True), ("bytes, and qrev takes at most 1048576" in lowered.errors,
+                                      " of a.ssa" in lowered.errors))

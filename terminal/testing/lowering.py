@@ -223,7 +223,8 @@ PLACES_LINES: Lines = [
     ("info source", ["here: p.c:6\np.c: 6 lines in the text\n"]), ("list", ["p.c\n", ">  6      int a = twice(3);\n"]),
     ("list -ssa", ["%t =w copy 3"]), ("list p.c:2", ["  1  int twice(int x) {\n", "> 6"]), ("list 9", ["  9      return a;"]),
     ("list $twice", ["function w $twice(w %x) {"]), ("list other.c:1", ["isn't found"]),
-    ("b p.c:7", ["break 1: $main @start 2"]), ("tbreak a.ssa:9", ["break 2: $twice @start 2"]), ("b none.c:1", ["the sources are: p.c"]),
+    ("b p.c:7", ["break 1: $main @start 2"]), ("tbreak a.ssa:9", ["break 2: $twice @start 2"]),
+    ("b none.c:1", ["the sources are: p.c"]),
     ("c", ["stop: break 2", "#4 $twice @start 2", "a.ssa:9: p.c:3\n"]), ("c", ["stop: break 1", "#5 $main @start 2"]), ("d", []),
     ("next-line", ["#13 $main @start 4", "p.c:8\n"]), ("nl", ["#15 $main @start 6", "p.c:9\n"]),
     ("reverse-next-line", ["#13 $main @start 4"]), ("rnl", ["#5 $main @start 2", "p.c:7:5\n"]), ("rnl", ["#0 $main @start 0"]),
@@ -257,7 +258,8 @@ def session_fault(program: str, text: str, lines: Lines) -> str | None:
             session.close()
 
 
-SESSIONS = {"absent": (ABSENT, ABSENT_LINES), "freed": (FREED, FREED_LINES), "nowhere": (NOWHERE, NOWHERE_LINES), "floats": (FLOATS, FLOATS_LINES),
+SESSIONS = {"absent": (ABSENT, ABSENT_LINES), "freed": (FREED, FREED_LINES), "nowhere": (NOWHERE, NOWHERE_LINES),
+            "floats": (FLOATS, FLOATS_LINES),
             "chain of floats": (chain(OPERATIONS), CHAIN_LINES), "short names": (large(), LARGE_LINES),
             "places": (PLACES, PLACES_LINES)}
 
