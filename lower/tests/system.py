@@ -1,4 +1,6 @@
 """The border at the operating system: an allocator, a formatter and an abort of the text's own, over calls of the system."""
+import random
+
 from .running import DATA, Results, Running, differ
 
 LIBRARY = DATA / "library"
@@ -131,6 +133,58 @@ export function w $main() {
 """
 
 
+def mappings_text(seed: int) -> str:
+    """Random mappings and ranges that are given back, some in parts: each is zero when it is given, and is filled."""
+    choice = random.Random(seed)
+    body: list[str] = []
+    held: list[tuple[int, int]] = []
+    made = 0
+    for _ in range(150):
+        pages = sum(count for _, count in held)
+        if held and (pages > 90 or choice.random() < 0.45):
+            index, count = held.pop(choice.randrange(len(held)))
+            part = choice.randrange(1, count + 1)
+            body += [f"%e{made}.{len(body)} =l add %p{index}, {4096 * (count - part)}",
+                     f"%u =l call $munmap(l %e{made}.{len(body)}, l {4096 * part - choice.randrange(4096)})"]
+            if part < count:
+                held.append((index, count - part))
+        else:
+            count = choice.randrange(1, 25)
+            body += [f"%p{made} =l call $mmap(l 0, l {4096 * count}, w 3, w 34, w -1, l 0)",
+                     f"%s =l call $sum(l %p{made}, l {4096 * count})", "%bad =l or %bad, %s",
+                     f"%f =l call $memset(l %p{made}, w 255, l {4096 * count})"]
+            held.append((made, count))
+            made += 1
+    lines = "\n".join("\t" + line for line in body)
+    return SUM + f"export function l $main() {{\n@start\n\t%bad =l copy 0\n{lines}\n\tret %bad\n}}\n"
+
+
+# The sum of the words of a range.
+SUM = """
+function l $sum(l %at, l %bytes) {
+@start
+	%end =l add %at, %bytes
+@loop
+	%place =l phi @start %at, @word %next
+	%sum =l phi @start 0, @word %more
+	%is =w cnel %place, %end
+	jnz %is, @word, @end
+@word
+	%word =l loadl %place
+	%more =l or %sum, %word
+	%next =l add %place, 8
+	jmp @loop
+@end
+	ret %sum
+}
+"""
+
+
+def mappings_fault(running: Running, seed: int) -> str | None:
+    lowered = running.lower_here(mappings_text(seed))
+    return lowered if isinstance(lowered, str) else differ("end", "done 0", running.run(lowered.text).end)
+
+
 def text_of(name: str) -> str:
     return (LIBRARY / name).read_text()
 
@@ -177,5 +231,7 @@ def results(running: Running) -> Results:
     yield "system/calls", fault(running, {"a.ssa": CALLS}, "exit 7", CALLS_OUTPUT,
                                 note="call 257 (openat) of the system isn't there: it answers -38 (ENOSYS)")
     yield "system/calls of C", fault(running, {"a.ssa": CALLS}, "exit 7", CALLS_OUTPUT, note="call 318 (getrandom)")
+    for seed in range(6):
+        yield f"system/mappings {seed}", mappings_fault(running, seed)
     yield "system/a large arena", fault(running, {"a.ssa": ARENA}, "done 33", "", ("0",))
     yield "system/two large arenas", fault(running, {"a.ssa": ARENA}, "fault halted", "", ("1",))
