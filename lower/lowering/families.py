@@ -10,6 +10,7 @@ from collections.abc import Iterator
 from typing import TYPE_CHECKING, NamedTuple
 
 from .instructions import STORES
+from .runtime import is_offered
 from .symbols import Symbol
 from .tree import Call, Data, Function, Instruction, Value
 
@@ -38,7 +39,7 @@ class Families:
     def __init__(self, program: Program):
         self.program = program
         self.candidates = [symbol for symbol in program.exported.values()
-                           if symbol.raw in program.runtime.places and symbol.is_function()]
+                           if symbol.raw in program.runtime.places and is_offered(symbol.raw) and symbol.is_function()]
         self.beside = set(self.candidates)
         self.reached = {symbol: program.reached_from([symbol], self.beside) for symbol in self.candidates}
         self.state = {symbol: {other for other in self.reached[symbol] if self.is_state(other)}

@@ -74,7 +74,7 @@ class Program:
     def resolve_beyond(self, unit: Unit, raw: str) -> Symbol:
         if unit.is_runtime:
             return self.built_in.get(raw) or self.runtime.symbol(raw)
-        found = self.exported.get(raw) or self.runtime.symbol(raw) or self.built_in.get(raw)
+        found = self.exported.get(raw) or self.runtime.offered(raw) or self.built_in.get(raw)
         if raw == EXIT and found is self.built_in[EXIT] and self.uses_finalizers:
             found = self.runtime.symbol(FINALIZED)
         if found is None:

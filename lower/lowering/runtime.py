@@ -32,6 +32,10 @@ def floating_signatures() -> dict[str, Signature]:
 SIGNATURES = floating_signatures()
 
 
+def is_offered(name: str) -> bool:
+    return "." not in name or name.startswith("$rt.")
+
+
 class Runtime:
     """Which text has which function, and the texts that were read."""
 
@@ -47,6 +51,11 @@ class Runtime:
     def symbol(self, name: str) -> Symbol | None:
         path = self.places.get(name)
         return None if path is None else self.unit(path).own[name]
+
+    def offered(self, name: str) -> Symbol | None:
+        """What texts are offered by a name: functions and data of C and of Hare's runtime. Other names with a dot are the
+        runtime's own."""
+        return self.symbol(name) if is_offered(name) else None
 
     def unit(self, path: pathlib.Path) -> Unit:
         if path not in self.units:

@@ -246,6 +246,31 @@ def order_fault(running: Running) -> str | None:
         differ("end", "done 7", running.run(lowered.text).end)
 
 
+# Names that are the runtime's own: the text's are others, and one that it lacks is one from outside.
+OWN = """
+export function w $put.bytes(w %x) {
+@start
+	%y =w call $float.of.nothing(w %x)
+	ret %y
+}
+export function w $main() {
+@start
+	%n =w call $printf(l $f, ..., w 5)
+	%s =w call $sign.byte(w 0, w 2)
+	ret %s
+}
+data $f = { b "%d,\\0" }
+"""
+
+
+def own_fault(running: Running) -> str | None:
+    lowered = running.lower({"a.ssa": OWN}, "--link")
+    run = running.run(lowered.text, "continue\nout\nwhere\n")
+    return differ("end", "fault halted", run.end) or differ("output", "5,", run.output) or \
+        differ("where", "$sign.byte @is.not.there 0", run.lines[5]) or \
+        differ("told", "a.ssa:10: $sign.byte is defined nowhere: a function that halts (would halt)\n", lowered.errors)
+
+
 def large_fault(running: Running) -> str | None:
     """What qrev will refuse for its size is told, and the status says so."""
     text = "".join(f"export function $f{number}() {{\n@start\n\tret\n}}\n" for number in range(1001))
@@ -271,4 +296,5 @@ def results(running: Running) -> Results:
     yield "linking/no entry", entry_fault(running)
     yield "linking/counts", counts_fault(running)
     yield "linking/order behind dots", order_fault(running)
+    yield "linking/names of the runtime's own", own_fault(running)
     yield "linking/too large", large_fault(running)
