@@ -11,6 +11,8 @@ from .values import FLOAT_BYTES, FLOATS, as_float
 # Instructions on floats that are others on their bits.
 OF_FLOATS = {"loadl": "load", "loaduw": "load", "copy": "copy", "phi": "phi", "call": "call"}
 STORES = {"storel": "stored", "storew": "stores"}
+# By what the sign of a float is turned.
+SIGN_BITS = {"s": str(1 << 31), "d": str(1 << 63)}
 
 
 @dataclass
@@ -71,6 +73,8 @@ class Lowered:
         cls = classes.get(instruction.result or "", "")
         if cls in FLOATS and operation in OF_FLOATS:
             return self.of_float(instruction, cls, classes)
+        if cls in FLOATS and operation == "xor" and operands[1].text == SIGN_BITS[cls]:
+            return f"{instruction.result} ={cls} neg {constant(operands[0].text, cls)}"
         if operation in STORES and classes.get(operands[0].text) in FLOATS:
             return f"{STORES[operation]} {operands[0].text}, {operands[1].text}"
         return self.with_classes(instruction, classes).written() if operation == "call" else instruction.written()

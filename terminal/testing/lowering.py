@@ -145,6 +145,42 @@ def chain(operations: list[str]) -> str:
                       f"\tret %x{len(operations)}", "}"]) + "\n"
 
 
+# Singles: a phi, a negation, a store to the stack, a call that gives one, and a comparison. 0.5 - 1.5 is -1.
+SINGLES = """
+function s $less(s %a) {
+@start
+	%b =s sub %a, s_1.5
+	ret %b
+}
+export function w $main(w %n) {
+@start
+	%slot =l alloc4 4
+	jnz %n, @one, @two
+@one
+	%x =s copy s_0.5
+	jmp @both
+@two
+	%y =s copy s_7
+@both
+	%z =s phi @one %x, @two %y
+	%r =s call $less(s %z)
+	%m =s neg %r
+	stores %m, %slot
+	%v =s loads %slot
+	%c =w cges %v, s_1
+	%i =w stosi %v
+	%j =w add %c, %i
+	ret %j
+}
+"""
+SINGLES_LINES: Lines = [
+    ("c", ["done 2"]), ("back", ["%j=2"]), ("temps", ["%x = 0.5\n%y unset\n%z = 0.5\n%r = -1.0\n%m = 1.0\n%v = 1.0\n"]),
+    ("why %i", ["%i =w stosi %v", "[1] %v = 1.0"]), ("why 1", ["%v =s loads %slot", "s frame 0 $main alloc %slot+0 = 1.0"]),
+    ("why 2", ["stores %m, %slot", "[1] %m = 1.0"]), ("why 1", ["%m =s neg %r"]), ("why 1", ["ret %b", "[1] %b = -1.0"]),
+    ("why 1", ["%b =s sub %a, s_1.5", "[1] %a = 0.5"]), ("why 1", ["%r =s call $less(s %z)", "[1] %z = 0.5"]),
+    ("why 1", ["%z =s phi @one %x, @two %y", "[1] %x = 0.5"]), ("why 1", ["%x =s copy s_0.5"]), ("why %c", ["%c =w cges %v, s_1.0"]),
+]
+
 OPERATIONS = ["add", "mul", "sub", "div", "mul", "add", "div", "sub", "sub", "mul", "add", "div"]
 # One question for each operation of the source, from the last to the first, and one for the copy.
 CHAIN_LINES: Lines = [
@@ -243,7 +279,9 @@ def session_fault(program: str, text: str, lines: Lines) -> str | None:
         (pathlib.Path(folder) / "p.c").write_text(SOURCE)
         subprocess.run([sys.executable, str(LOWER), "--link", "--output", "out.ssa", "a.ssa"], cwd=folder, timeout=60,
                        stderr=subprocess.DEVNULL)
-        session = Held(program, "out.ssa", folder=folder, lowered=("a.ssa",))
+        # An entry that takes a number is given 1.
+        words = ["1"] if "$main(w %n)" in text else []
+        session = Held(program, "out.ssa", *words, folder=folder, lowered=("a.ssa",))
         session.read = Renaming(lowered_of(f"{folder}/out.ssa").renamed).told
         try:
             for line, wanted in lines:
@@ -259,7 +297,7 @@ def session_fault(program: str, text: str, lines: Lines) -> str | None:
 
 
 SESSIONS = {"absent": (ABSENT, ABSENT_LINES), "freed": (FREED, FREED_LINES), "nowhere": (NOWHERE, NOWHERE_LINES),
-            "floats": (FLOATS, FLOATS_LINES),
+            "floats": (FLOATS, FLOATS_LINES), "singles": (SINGLES, SINGLES_LINES),
             "chain of floats": (chain(OPERATIONS), CHAIN_LINES), "short names": (large(), LARGE_LINES),
             "places": (PLACES, PLACES_LINES)}
 
