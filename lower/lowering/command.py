@@ -7,7 +7,7 @@ import stat
 import sys
 
 from .arguments import give_arguments, give_input
-from .ends import is_called, wrapped
+from .ends import has_ends, is_named, wrapped
 from .linking import Program
 from .meanings import meanings_of
 from .reader import TextReader
@@ -75,15 +75,14 @@ class Lowering:
         self.entry = self.entry_symbol("$" + entry)
         if is_linked and self.entry is None:
             raise Refused(texts[0].path, 1, f"no text exports a function ${entry}")
+        if self.entry is not None and (words is not None or has_ends(self.program)) and is_named(self.program, self.entry):
+            self.entry = wrapped(self.program, self.entry)
         if words is not None and self.entry is not None:
             give_arguments(self.entry, [pathlib.Path(texts[0].path).stem, *words])
         if is_linked:
             self.program.keep_from(self.entry)
         else:
             self.keep_all()
-        ends = self.program.ends
-        if self.entry is not None and (ends.first or ends.finalizers) and is_called(self.program, self.entry):
-            self.entry = wrapped(self.program, self.entry)
         self.program.give_names()
         self.report.count("functions that are called before the entry", len(self.program.ends.first))
         self.count_dropped(texts)

@@ -4,7 +4,7 @@ from __future__ import annotations
 
 from typing import TYPE_CHECKING, NamedTuple
 
-from .symbols import Symbol, Unit, carried_class
+from .symbols import Symbol, Unit, carried_class, references
 from .tree import Block, Call, Data, Function, Item, Jump, Text, Value
 
 if TYPE_CHECKING:
@@ -126,13 +126,21 @@ class Ends:
             Call(function.line, None, None, None, name, zeros(array.unit.scope[name]), None, None) for name in names]
 
 
-def is_called(program: Program, symbol: Symbol) -> bool:
-    """Whether something that is kept names a function."""
-    return any(symbol in program.references_of(user) for user in program.kept)
+def is_named(program: Program, symbol: Symbol) -> bool:
+    """Whether a definition of the texts names a function, which so may run again."""
+    return any(symbol.raw in references(definition) and program.resolve(unit, symbol.raw) is symbol
+               for unit in program.units for definition in unit.text.definitions)
+
+
+def has_ends(program: Program) -> bool:
+    """Whether a text has something to run before the entry or behind it."""
+    return program.uses_finalizers or any(isinstance(definition, Data) and section_of(definition)
+                                          for unit in program.units for definition in unit.text.definitions)
 
 
 def wrapped(program: Program, entry: Symbol) -> Symbol:
-    """A function in the place of an entry that is called again, so that what runs before and behind it does so once."""
+    """A function in the place of an entry that may be called again, so that its arguments are set once, and that what runs
+    before and behind it does so once."""
     function = entry.definition
     assert isinstance(function, Function)
     unit = Unit(Text(entry.unit.text.path, [], {}, []), False)

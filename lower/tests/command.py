@@ -42,6 +42,23 @@ export function w $main(w %argc, l %argv) {
 }
 data $f = { b "%s|\\0" }
 """
+# A main that calls itself with the words behind the first.
+AGAIN = """
+data $f = { b "%s ", b 0 }
+export function w $main(w %argc, l %argv) {
+@start
+	%word =l loadl %argv
+	%p =w call $printf(l $f, ..., l %word)
+	%less =w sub %argc, 1
+	jnz %less, @more, @end
+@more
+	%next =l add %argv, 8
+	%r =w call $main(w %less, l %next)
+	ret %r
+@end
+	ret 0
+}
+"""
 READ = """
 export function w $main() {
 @start
@@ -97,6 +114,10 @@ def wrapper_faults(running: Running) -> Results:
         run = wrapper.run("--lower", "echo.ssa", "--", "a", "1", "--b c", "")
         yield "command/--lower with texts for main", differ("output", 'out 17 "echo|a|1|--b c||\\012"',
                                                             run.stdout.split("\n")[-2])
+        (wrapper.top / "again.ssa").write_text(AGAIN)
+        run = wrapper.run("--lower", "again.ssa", "--", "a", "bc")
+        yield "command/--lower with texts for a main that calls itself", differ(
+            "output", 'out 11 "again a bc "', run.stdout.split("\n")[-2])
         run = wrapper.run("--lower", "echo.ssa", "--")
         yield "command/--lower without texts for main", differ("output", 'out 6 "echo|\\012"', run.stdout.split("\n")[-2])
         (wrapper.top / "read.ssa").write_text(READ)

@@ -2,6 +2,7 @@
 import random
 
 from .running import DATA, Results, Running, differ
+from .runtime import HeapText
 
 LIBRARY = DATA / "library"
 ABORTED = "Abort: oob.ha:2:37: slice or array access out of bounds\n"
@@ -207,6 +208,13 @@ def where_fault(running: Running) -> str | None:
                   [run.lines[4], *run.lines[-2:]])
 
 
+def own_heap_fault(running: Running, seed: int) -> str | None:
+    """Random use of a heap of the text's own, whose calloc is the runtime's over its malloc."""
+    heap = HeapText(seed)
+    texts = {"a.ssa": heap.text(), "pool.ssa": text_of("pool.ssa"), "writer.ssa": text_of("writer.ssa")}
+    return fault(running, texts, "done 0", str(heap.total), kept="function l $pool.class(")
+
+
 def families(running: Running) -> Results:
     own = {"oob.ssa": text_of("oob.ssa"), "rt.ssa": text_of("rt.ssa")}
     large = own["rt.ssa"].replace("l 65536)", "l 2097152)").replace("storel 65536", "storel 2097152")
@@ -231,6 +239,8 @@ def results(running: Running) -> Results:
     yield "system/calls", fault(running, {"a.ssa": CALLS}, "exit 7", CALLS_OUTPUT,
                                 note="call 257 (openat) of the system isn't there: it answers -38 (ENOSYS)")
     yield "system/calls of C", fault(running, {"a.ssa": CALLS}, "exit 7", CALLS_OUTPUT, note="call 318 (getrandom)")
+    for seed in range(4):
+        yield f"system/a heap of its own {seed}", own_heap_fault(running, seed)
     for seed in range(6):
         yield f"system/mappings {seed}", mappings_fault(running, seed)
     yield "system/a large arena", fault(running, {"a.ssa": ARENA}, "done 33", "", ("0",))
