@@ -6,7 +6,7 @@ given back to another would be a fault that the program doesn't have.
 """
 from __future__ import annotations
 
-from collections.abc import Iterator
+from collections.abc import Callable, Iterator
 from typing import TYPE_CHECKING, NamedTuple
 
 from .instructions import STORES
@@ -94,12 +94,21 @@ class Families:
         """The numbers that a function of a text gives to calls that lead to memory of the system."""
         if not isinstance(symbol.definition, Function) or symbol.is_of_runtime():
             return
-        numbers = constants_of(symbol.definition)
+        numbers = constants_of(symbol.definition, lambda raw: self.constant_data(symbol, raw))
         for call in calls_of(symbol.definition):
             given = [value if isinstance(value, int) else numbers.get(value, 0) for _, value in call.arguments]
             sizes = [size for size in given if LARGEST_MAPPING < size < MOST_SIZE]
             if sizes and type(call.target) is str and call.target[0] == "$" and self.leads_to_memory(symbol, call.target):
                 yield max(sizes)
+
+    def constant_data(self, symbol: Symbol, raw: str) -> int:
+        """The number that data of a text begins with and keeps, else 0."""
+        found = self.program.resolve(symbol.unit, raw)
+        definition = found.definition
+        if not isinstance(definition, Data) or not definition.items or self.is_state(found) or found.is_of_runtime():
+            return 0
+        value = definition.items[0].value
+        return value if isinstance(value, int) and definition.items[0].letter == "l" else 0
 
     def leads_to_memory(self, symbol: Symbol, raw: str) -> bool:
         target = self.program.resolve(symbol.unit, raw)
@@ -111,15 +120,18 @@ def calls_of(function: Function) -> Iterator[Call]:
         yield from (each for each in block.instructions if isinstance(each, Call))
 
 
-def constants_of(function: Function) -> dict[str, int]:
-    """The temporaries that are copies of a number."""
+def constants_of(function: Function, loaded: Callable[[str], int]) -> dict[str, int]:
+    """The temporaries that are copies of a number, or loads of one that data keeps."""
     found: dict[str, int] = {}
     for block in function.blocks:
         for each in block.instructions:
-            if isinstance(each, Instruction) and each.name == "copy" and each.result:
-                value = each.operands[0]
-                if isinstance(value, int):
-                    found[each.result] = max(value, found.get(each.result, 0))
+            if not isinstance(each, Instruction) or not each.result or each.name not in ("copy", "loadl", "load"):
+                continue
+            value, is_load = each.operands[0], each.name != "copy"
+            if is_load:
+                value = loaded(value) if isinstance(value, str) and value[0] == "$" else 0
+            if isinstance(value, int):
+                found[each.result] = max(value, found.get(each.result, 0))
     return found
 
 

@@ -224,6 +224,9 @@ def families(running: Running) -> Results:
     yield "system/an abort", fault(running, own, "fault halted", ABORTED, ("101",))
     yield "system/who aborted", where_fault(running)
     yield "system/chunks of two mebibytes", fault(running, replaced, "done 4950", "", ("100",), "", told)
+    kept = own["rt.ssa"].replace("call $rt.map(l 65536)", "call $rt.map(l %kept)").replace(
+        "\t%chunk.23 =", "\t%kept =l loadl $rt.chunk.size\n\t%chunk.23 =") + "data $rt.chunk.size = { l 2097152 }\n"
+    yield "system/chunks of a size in data", fault(running, own | {"rt.ssa": kept}, "done 4950", "", ("100",), "", told)
     yield "system/their abort", fault(running, replaced, "fault halted", ABORTED, ("101",))
     yield "system/an abort of the runtime", fault(running, {"oob.ssa": own["oob.ssa"]}, "fault halted", ABORTED, ("101",))
     yield "system/a heap with marks", fault(running, {"a.ssa": text_of("checked-heap.ssa")}, "done 42", "")
