@@ -1,6 +1,7 @@
 """What the debugger answers, taken apart: places, stops and values (docs/DEBUGGER.md)."""
 from __future__ import annotations
 
+import re
 from dataclasses import dataclass
 
 COMMANDS = ("step", "back", "continue", "reverse", "break", "watch", "delete", "stops", "set", "poke", "print", "temps",
@@ -88,8 +89,20 @@ REFUSALS = {
     "C3": "a label that the function lacks", "C4": "a jump to the function's first block",
     "C5": "a temporary with definitions of two classes", "C6": "a temporary that is nowhere defined",
     "C7": "a w temporary where an l is wanted", "C8": "a phi whose labels aren't its block's predecessors",
-    "C9": "a global that is nowhere defined", "C10": "a value for ret in a function without a type",
+    "C9": "a global that is nowhere defined; `./qrev --lower` has much of the C library, and links several texts",
+    "C10": "a value for ret in a function without a type",
     "C11": "a w for what gives an l", "C12": "too many functions, temporaries or blocks",
     "Y1": "more data than 2^20 bytes", "Y2": "an alignment that is no power of two up to 4096",
     "S1": "no function has the name of the entry", "S2": "the entry takes another number of arguments",
 }
+
+# A constant of a float, or what looks like one, as `d_-3.0`.
+FLOAT_CONSTANT = re.compile(r"-?\b[sd]_ ?[+-]?[0-9.]")
+OF_FLOATS = "a constant of a float, which is left out here; `./qrev --lower` takes it, written as in `d_-3.0`"
+
+
+def meaning_of(code: str, line: str) -> str:
+    """What a refusal means, for the line at which it is."""
+    if code in ("L1", "P2") and FLOAT_CONSTANT.search(line.partition("#")[0]):
+        return OF_FLOATS
+    return REFUSALS.get(code, "refused")

@@ -7,28 +7,31 @@ from itertools import zip_longest
 from .accesses import Access
 from .answers import COMMANDS as LANGUAGE, Place, read_place
 from .causes import MOST_BYTES_ASKED, Cause, Question
-from .expressions import Unset, Wrong, evaluate, parts_of, temporaries_of
+from .expressions import Unset, Wrong, evaluate, parts_of, temporaries_of, whole
 from .pipe import Pipe
 from .scratch import Refused, frames_of
 from .session import MOVES
 from .shell import Shell, command
 from .stops import Answered, FixedState, questions_of
 from .timeline import Timeline, common
-from .values import BYTES, brief
+from .values import BITS, FLOATS, brief
 from .ways import why_not
 
 MOST_SHOWN = 1000
+INSIDE = "--inside"
 CHANGES = (*MOVES, "break", "watch", "delete")
 
 
-@command("why", "why [%x | WIDTH ADDRESS | N ADDRESS | out N | jump | call | not @b | N | back]", "watch")
+@command("why", "why [--inside] [%x | WIDTH ADDRESS | N ADDRESS | out N | jump | call | not @b | N | back]", "watch")
 def why(shell: Shell, rest: str) -> None:
     """Says where a value comes from: the instruction that set it, with its operands; `why N` asks on about the N-th of
     them, `why back` comes back. Alone it is about the end of the run or, before that, about how the run came here.
     `why out N` is about a byte of the output (the first is 0), `why jump` and `why call` about how control came here,
-    `why not @b` about why it didn't come to a block.
-    `goto why` takes the session there."""
-    words = rest.split()
+    `why not @b` about why it didn't come to a block. `goto why` takes the session there. A function of the runtime counts as one
+    instruction; `--inside` looks into it."""
+    words = [word for word in rest.split() if word != INSIDE]
+    shell.causes.is_inside = INSIDE in rest.split()
+    rest = " ".join(words)
     if words == ["back"]:
         if len(shell.chain) < 2:
             raise Refused("there is no cause before this one")
@@ -69,17 +72,18 @@ def asked(shell: Shell, words: list[str], rest: str) -> Cause:
     if len(words) == 1 and words[0].startswith("%"):
         shell.temporary(words[0])
         return causes.of(causes.temporary(words[0], shell.frames.frame(at, session.selected)))
-    if len(words) > 1 and (words[0] in BYTES or words[0].isdigit()):
-        count = BYTES.get(words[0]) or int(words[0])
+    if len(words) > 1 and (words[0] in BITS or words[0].isdigit()):
+        count = BITS.get(words[0], 0) // 8 or int(words[0])
         if not 1 <= count <= MOST_BYTES_ASKED:
             raise Wrong(f"{words[0]}: from 1 to {MOST_BYTES_ASKED} bytes were expected")
-        return causes.of(causes.memory(shell.number(rest.partition(words[0])[2]), count, at))
+        width = words[0] if words[0] in FLOATS else ""
+        return causes.of(causes.memory(shell.number(rest.partition(words[0])[2]), count, at, width))
     raise Wrong(f"{rest}: %TEMPORARY, WIDTH ADDRESS, N ADDRESS, out N, jump, call, not @b, back or a number was expected")
 
 
 def of_output(shell: Shell, text: str) -> Cause:
     size = int(shell.session.ask("out")[0].split(" ")[1])
-    number = shell.evaluate(text).number if text.strip() else size - 1
+    number = shell.whole(text) if text.strip() else size - 1
     if not 0 <= number < size:
         expected = f"a byte from 0 to {size - 1} was expected" if size else "nothing was written yet"
         raise Wrong(f"{text.strip() or 'out'}: {expected}")
@@ -106,9 +110,9 @@ def counted(number: int, what: str) -> str:
 
 def accesses(shell: Shell, rest: str, is_write: bool) -> None:
     words = rest.split()
-    width = words[0] if len(words) > 1 and (words[0] in BYTES or words[0].isdigit()) else ""
+    width = words[0] if len(words) > 1 and (words[0] in BITS or words[0].isdigit()) else ""
     address = shell.number(rest.partition(width)[2] if width else rest)
-    count = BYTES.get(width) or int(width or 1)
+    count = BITS.get(width, 0) // 8 or int(width or 1)
     run = whole_run(shell)
     found = sorted(shell.causes.accesses.touching(is_write, run, 0, address, count), key=lambda access: access.position)
     lines = {access.position: access_told(shell, access, run) for access in found[:MOST_SHOWN]}
@@ -165,7 +169,8 @@ def when(shell: Shell, rest: str) -> None:
     for name in names:
         shell.temporary(name)
     stops = [f"watch {function} {name}" for name in names]
-    stops += [f"watch {part.text} {fixed_address(part, program)}" for part in parts_of(node) if part.kind == "memory"]
+    stops += [f"watch {FLOATS.get(part.text, part.text)} {fixed_address(part, program)}" for part in parts_of(node)
+              if part.kind == "memory"]
     if not stops:
         raise Wrong(f"{rest}: a condition of temporaries or memory was expected")
     run = whole_run(shell)
@@ -176,7 +181,7 @@ def when(shell: Shell, rest: str) -> None:
 
 
 def fixed_address(part, program) -> int:
-    return evaluate(part.parts[0], FixedState(program)).number % (1 << 64)
+    return whole(evaluate(part.parts[0], FixedState(program))) % (1 << 64)
 
 
 def held_spans(shell: Shell, run: Timeline, stops: list[str], questions: list[str], node,
@@ -266,10 +271,11 @@ def told_line(lines: list[str], index: int) -> str:
 
 def played(shell: Shell, recorded: list[str]) -> tuple[Timeline, list[str], list[str]]:
     """Where a script leads, those of its lines that changed the session, and all that was answered."""
-    pipe = Pipe(shell.launch.command(shell.launch.history), shell.waiting.check)
+    renaming = shell.launch.renaming
+    pipe = Pipe(shell.launch.command(shell.launch.history), shell.waiting.check, renaming)
     timeline, lines, answers = Timeline(), [], list(pipe.loaded)
     try:
-        for line in recorded:
+        for line in map(renaming.line_told, recorded) if renaming else recorded:
             word = line.split()[0] if line.split() else ""
             if word == "quit":
                 break

@@ -10,16 +10,21 @@ from dataclasses import dataclass, field
 
 from .accesses import MOST_STOPS, Accesses, Site, size_of
 from .answers import Place, read_output
-from .frames import Frames, steps_begun
+from .frames import Frames, allocations_of, steps_begun
 from .levels import own_hits
+from .lowered import Lowered
 from .scratch import Scratch
 from .text import ALLOCATIONS, BUILT_IN, LOADED, STORED, Instruction, Program
 from .timeline import Timeline
-from .values import Names, is_stack, remarks, shown_bytes, signed
+from .values import FLOATS, Names, as_float, is_stack, remarks, shown_bytes, signed
 
 MOST_BYTES_ASKED = 48
 # How many stores of the same value are looked for before `why` is content with the last change.
 MOST_STORES, MOST_SITES = 4_000, 240
+# What copies bytes from its second argument to its first.
+COPYING = frozenset(("memcpy", "memmove", "strcpy", "strncpy", "stpcpy"))
+# The temporaries that qrev-lower makes of cells, and how many of them are shown.
+CELLS, MOST_CELLS = "%.cells.", 16
 WIDTHS = {1: "b", 2: "h", 4: "w", 8: "l"}
 
 
@@ -72,8 +77,12 @@ def distance(number: int, begin: int, size: int) -> int:
 
 
 class Causes:
-    def __init__(self, program: Program, names: Names, frames: Frames, scratch: Scratch, source=lambda line: ""):
+    def __init__(self, program: Program, names: Names, frames: Frames, scratch: Scratch, source=lambda line: "",
+                 lowered: Lowered | None = None):
         self.program, self.names, self.frames, self.scratch = program, names, frames, scratch
+        self.lowered = lowered or Lowered()
+        # Whether functions of the runtime are looked into; else each is one instruction of the program.
+        self.is_inside = False
         self.accesses = Accesses(program, scratch)
         self.source = source
 
@@ -91,13 +100,16 @@ class Causes:
 
     def line_told(self, at: Timeline, place: Place, instruction: Instruction) -> str:
         source = self.source(instruction.line)
-        return (f"  #{at.position} {place.function} {place.label} {place.index}  line {instruction.line}: "
-                f"{instruction.written()}" + (f"  ({source})" if source else ""))
+        written = self.lowered.written(self.program.functions[place.function], instruction)
+        return (f"  #{at.position} {place.function} {place.label} {place.index}  line {instruction.line}: {written}"
+                + (f"  ({source})" if source else ""))
 
     def valued(self, text: str, value: int | None, width: str, at: Timeline) -> str:
         """A name with its value, and with what the value also is."""
         if value is None:
             return f"{text} unset"
+        if width in FLOATS:
+            return f"{text} = {as_float(value, width)}"
         found = remarks(value, width, self.frames.name(value, width, at))
         return f"{text} = {value}" + (f" ({', '.join(found)})" if found else "")
 
@@ -109,19 +121,21 @@ class Causes:
         value = self.scratch.go(at).values(name)[0]
         return Question("temporary", at, self.valued(name, value, self.class_of(function, name), at), note, name)
 
-    def memory(self, address: int, count: int, at: Timeline) -> Question:
-        return Question("memory", at, self.bytes_told(address, count, at), address=address, count=count)
+    def memory(self, address: int, count: int, at: Timeline, width: str = "") -> Question:
+        return Question("memory", at, self.bytes_told(address, count, at, width), address=address, count=count)
 
-    def bytes_told(self, address: int, count: int, at: Timeline) -> str:
-        """Bytes of memory in words, as `w $to+20 = 5`."""
+    def bytes_told(self, address: int, count: int, at: Timeline, width: str = "") -> str:
+        """Bytes of memory in words, as `w $to+20 = 5`; a float where the width says so, or the map of the data."""
         found = self.scratch.go(at).memory(address, count)
-        width = WIDTHS.get(count, "")
+        width = width or self.lowered.float_at(self.program.object_at(address), address, count) or WIDTHS.get(count, "")
         head = f"{width or f'{count} bytes at'} {self.frames.name(address, 'l', at) or address}"
         if None in found:
             return f"{head}, which aren't live"
         if not width:
             return f"{head} = {shown_bytes(bytes(found))}"
         value = int.from_bytes(bytes(found), "little")
+        if width in FLOATS:
+            return f"{head} = {as_float(value, width)}"
         said = remarks(value, width, self.frames.name(value, width, at))
         if width == "b" and 32 <= value < 127:
             said = [shown_bytes(bytes(found))]
@@ -131,9 +145,10 @@ class Causes:
         """The instruction that comes next in a state, with its operands; of a blit the bytes that are asked about."""
         place, instruction = self.innermost(at)
         questions = self.operands_asked(at, instruction)
-        read = self.bytes_read(at, instruction, wanted)
+        read = self.bytes_read(at, instruction, wanted) + self.bytes_copied(at, instruction, wanted)
         # What a load took comes before where it took it.
         questions = read + questions if instruction.operation in LOADED else questions + read
+        questions += self.cells_given(at, place, instruction)
         questions.append(self.control(at, place))
         return Cause(at, [head, self.line_told(at, place, instruction)] + [ASKED] * len(questions), questions)
 
@@ -146,6 +161,8 @@ class Causes:
     def parameter_told(self, instruction: Instruction, index: int) -> str:
         """Which parameter an argument becomes."""
         callee = self.program.functions.get(instruction.operands[0].text) if instruction.operation == "call" else None
+        if callee and callee.name in self.lowered.instructions and not self.is_inside:
+            return ""
         if not callee or not 1 <= index <= len(callee.parameters):
             return ""
         return f"-> {callee.parameters[index - 1][1]} of {callee.name}"
@@ -162,7 +179,40 @@ class Causes:
             address += begin - values[1]
         if address is None or not count or None in self.scratch.go(at).memory(address, min(count, MOST_BYTES_ASKED)):
             return []
-        return [self.memory(address, min(count, MOST_BYTES_ASKED), at)]
+        width = self.program.functions[self.frames.where(at)[0].function].temporaries.get(instruction.result or "", "")
+        return [self.memory(address, min(count, MOST_BYTES_ASKED), at, width if width in FLOATS else "")]
+
+    def bytes_copied(self, at: Timeline, instruction: Instruction, wanted: tuple[int, int] | None) -> list[Question]:
+        """What a call of memcpy or one of its kin copied to bytes that are asked about, where that is live."""
+        operands = instruction.operands
+        if instruction.operation != "call" or not wanted or operands[0].text.split(".")[-1].lstrip("$") not in COPYING or \
+                self.lowered.is_own(operands[0].text):
+            return []
+        to, source = (self.operand_value(operand.text, at) for operand in operands[1:3])
+        if to is None or source is None or wanted[0] < to:
+            return []
+        address, count = source + wanted[0] - to, min(wanted[1], MOST_BYTES_ASKED)
+        return [] if None in self.scratch.go(at).memory(address, count) else [self.memory(address, count, at)]
+
+    def cells_given(self, at: Timeline, place: Place, instruction: Instruction) -> list[Question]:
+        """The arguments behind the dots of a call, which are in cells of memory."""
+        name = next((operand.text for operand in instruction.operands if operand.text.startswith(CELLS)), "")
+        if instruction.operation != "call" or not name:
+            return []
+        begin = self.operand_value(name, at)
+        count = min(allocations_of(self.program, place.function).get(name, 0) // 8, MOST_CELLS)
+        return [] if begin is None else [self.memory(begin + 8 * index, 8, at) for index in range(count)]
+
+    # Functions of the runtime, which count as instructions.
+
+    def call_in_own(self, at: Timeline) -> tuple[Timeline, str]:
+        """Where the innermost frame belongs to the runtime: the state in which the program calls it, and the function that
+        it calls; else the state itself."""
+        frames = self.frames.where(at)
+        if self.is_inside or self.lowered.is_own(frames[0].function):
+            return at, ""
+        index = next((index for index, frame in enumerate(frames) if self.lowered.is_own(frame.function)), 0)
+        return (self.frames.frame(at, index), frames[index - 1].function) if index else (at, "")
 
     def operand_value(self, text: str, at: Timeline) -> int | None:
         return self.scratch.go(at).values(text)[0] if text.startswith("%") else self.accesses.constant(text)
@@ -274,7 +324,8 @@ class Causes:
         questions = [self.temporary(operand.text, at)] if operand.is_temporary else []
         questions += [self.temporary(each.text, at) for each in jump.operands if each.is_temporary]
         questions.append(self.control(at, place))
-        return Cause(at, [f"{question.text} was taken for {place.label} by", f"  line {phi.line}: {phi.written()}",
+        written = self.lowered.written(self.program.functions[place.function], phi)
+        return Cause(at, [f"{question.text} was taken for {place.label} by", f"  line {phi.line}: {written}",
                           self.line_told(at, place, jump)] + [ASKED] * len(questions), questions)
 
     def of_parameter(self, question: Question, at: Timeline, function: str) -> Cause:
@@ -289,6 +340,9 @@ class Causes:
         _, instruction = self.innermost(at)
         if instruction.operation != "ret":
             return self.executed(at, f"{question.text} was given back by the built-in of")
+        there, callee = self.call_in_own(at)
+        if callee:
+            return self.executed(there, f"{question.text} was set by")
         cause = self.executed(at, f"{question.text} was given back by")
         # A wrong argument is as likely as a wrong body.
         entry = self.frames.entry(at)
@@ -355,6 +409,12 @@ class Causes:
     def of_end(self, at: Timeline) -> Cause:
         end = self.scratch.go(at).place.end
         there = self.frames.before_end(at)
+        halted = self.lowered.halted_in(self.frames.where(there)[0].function) if end == "fault halted" else None
+        if halted and not self.is_inside:
+            return self.executed(self.call_in_own(there)[0], f"{halted}, at #{at.position}, comes of")
+        call, callee = self.call_in_own(there)
+        if callee:
+            return self.executed(call, f"{end} in {callee}, at #{at.position}, comes of")
         cause = self.executed(there, f"{end}, at #{at.position}, comes of")
         if end == "fault stack full":
             cause.lines[2:2] = self.stack_told(there)
@@ -391,6 +451,10 @@ class Causes:
         there = at.at(low)
         before = int(self.scratch.go(there).ask("out")[0][0].split(" ")[1])
         shown = shown_bytes(written[number:number + 1])
+        call, callee = self.call_in_own(there)
+        if callee:
+            return self.executed(call, f"byte {number} of the output, {written[number]} ({shown}), was written by {callee}, "
+                                 "called at")
         cause = self.executed(there, f"byte {number} of the output, {written[number]} ({shown}), was written by")
         _, instruction = self.innermost(there)
         if self.operand_value(instruction.operands[0].text, there) == BUILT_IN["$puts"]:
@@ -484,12 +548,15 @@ class Causes:
         return {offset for offset in left if before[offset] != after[offset]}
 
     def told_writers(self, question: Question, writers: list[tuple[int, set[int]]], left: set[int]) -> Cause:
-        merged: dict[int, set[int]] = {}
+        merged: dict[tuple[int, str], set[int]] = {}
         for position, span in writers:
-            merged.setdefault(position, set()).update(span)
+            # Stores of one call of a function of the runtime are one.
+            call, callee = (question.at.at(position), "") if question.at.poke_at(position) else \
+                self.call_in_own(question.at.at(position))
+            merged.setdefault((call.position, callee), set()).update(span)
         made: Cause | None = None
-        for position in sorted(merged, reverse=True):
-            cause = self.writer_told(question, position, merged[position])
+        for position, callee in sorted(merged, reverse=True):
+            cause = self.writer_told(question, position, merged[position, callee], callee)
             if made is None:
                 made = cause
             else:
@@ -512,13 +579,16 @@ class Causes:
         data = self.program.object_at(address)
         return f"line {data.line}, {data.name}" if data else "no write made it live"
 
-    def writer_told(self, question: Question, position: int, span: set[int]) -> Cause:
+    def writer_told(self, question: Question, position: int, span: set[int], callee: str) -> Cause:
         at = question.at.at(position)
         poke = question.at.poke_at(position)
         head = f"{self.which(question, span)}{question.text}"
         if poke:
             return Cause(at, [f"{head} by hand: #{position} {poke.line}"])
         _, instruction = self.innermost(at)
+        if callee:
+            return self.executed(at, f"{head}: stored by {callee}, called at",
+                                 (question.address + min(span), max(span) - min(span) + 1))
         if instruction.operation in ALLOCATIONS:
             return self.executed(at, f"{head}: made, as zeros, by")
         if instruction.operation == "ret":

@@ -2,22 +2,26 @@
 
 Values are whole numbers without a bound. A temporary or a piece of memory counts as the signed number of its class;
 `u(..)` is the number without a sign. Equality looks at the bits of the narrower class, so that `%x == 4294967295` holds
-for -1.
+for -1. A temporary that holds a float counts as that, and memory as `d[$x]` and `s[$x]`; a number beside a single is made
+one before they are compared, so that `%x == 0.1` holds where `%x` is shown as 0.1.
 """
 from __future__ import annotations
 
+import math
 import operator
+import re
 from dataclasses import dataclass
 from typing import Callable, Iterator, Protocol
 
 from .text import NAME
-from .values import BYTES, signed, unsigned
+from .values import BYTES, FLOAT_BYTES, FLOATS, bits_of, float_of, signed, unsigned
 
 SYMBOLS = ("<<", ">>", "<=", ">=", "==", "!=", "&&", "||", *"+-*/%&|^~!<>()[],")
 WORDS = ("depth", "position")
 LEVELS = (("||",), ("&&",), ("|",), ("^",), ("&",), ("==", "!="), ("<", "<=", ">", ">="), ("<<", ">>"), ("+", "-"),
           ("*", "/", "%"))
 MOST_SHIFT, MOST_BITS = 64, 128
+FLOAT = re.compile(r"[0-9]+\.[0-9]*(?:[eE][+-]?[0-9]+)?|[0-9]+[eE][+-]?[0-9]+")
 
 
 class Wrong(Exception):
@@ -38,8 +42,8 @@ class State(Protocol):
 
 @dataclass(frozen=True)
 class Value:
-    """A number, and the class whose bits it has, or none for a whole number."""
-    number: int
+    """A number, and the class whose bits it has, or none for a number that was written or worked out."""
+    number: int | float
     width: str = ""
 
 
@@ -63,14 +67,26 @@ def lexed(text: str) -> Iterator[str]:
         if text[at] == "'" and len(text) > at + 2 and text[at + 2] == "'":
             behind = at + 3
         elif is_name or text[at] in NAME:
-            while behind < len(text) and text[behind] in NAME:
-                behind += 1
+            behind = word_end(text, at, is_name)
         else:
             behind = at + max((len(symbol) for symbol in SYMBOLS if text.startswith(symbol, at)), default=0)
             if behind == at:
                 raise Wrong(f"{text[at:]!r}: an operator, a number, %temporary or $name was expected")
         yield text[at:behind]
         at = behind
+
+
+def word_end(text: str, at: int, is_name: bool) -> int:
+    """Where a word ends; the sign of a power of ten is a part of its number, as in 1e-5."""
+    behind = at + 1
+    while behind < len(text) and text[behind] in NAME:
+        behind += 1
+    is_power = not is_name and text[at].isdigit() and text[behind - 1] in "eE" and text[at + 1:at + 2] not in ("x", "X")
+    if is_power and text[behind:behind + 1] in ("+", "-") and text[behind + 1:behind + 2].isdigit():
+        behind += 1
+        while behind < len(text) and text[behind].isdigit():
+            behind += 1
+    return behind
 
 
 class Parser:
@@ -112,7 +128,7 @@ class Parser:
             node = Node(word, parts=(self.binary(),))
             self.expect(")")
             return node
-        if word in BYTES and self.take("["):
+        if word in {**BYTES, **FLOAT_BYTES} and self.take("["):
             node = Node("memory", word, (self.binary(),))
             self.expect("]")
             return node
@@ -120,14 +136,18 @@ class Parser:
             return Node("global" if word[0] == "$" else "temporary", word)
         if word in WORDS:
             return Node("word", word)
-        return Node("number", str(number(word)))
+        value = number(word)
+        return Node("float" if isinstance(value, float) else "number", repr(value))
 
 
-def number(word: str) -> int:
-    """The value of a number: decimal, hexadecimal, octal (0o), binary (0b), or a character between single quotes."""
+def number(word: str) -> int | float:
+    """The value of a number: decimal, hexadecimal, octal (0o), binary (0b), a character between single quotes, or a float as
+    0.5, 1e-5, inf and nan."""
     if len(word) == 3 and word[0] == word[2] == "'":
         return ord(word[1])
     try:
+        if word in ("inf", "nan") or FLOAT.fullmatch(word):
+            return float(word)
         return int(word) if word.isdigit() else int(word, 0)
     except ValueError:
         expected = "a number, %temporary, $name or w[ADDRESS] was expected"
@@ -166,35 +186,91 @@ UNARY: dict[str, Callable[[int], int]] = {"-": operator.neg, "~": operator.inver
                                           "!": lambda a: int(a == 0)}
 
 
+def is_float(value: Value) -> bool:
+    return isinstance(value.number, float)
+
+
+def beside(value: Value, other: Value) -> float:
+    """A number as a float, and as a single where it was written beside one."""
+    if other.width == "s" and value.width not in FLOATS:
+        return float_of(bits_of(value.number, "s"), "s")
+    return float(value.number)
+
+
+def quotient(a: float, b: float) -> float:
+    """A division as processors make it."""
+    if b:
+        return a / b
+    return math.nan if a == 0 or a != a else math.copysign(math.inf, a) * math.copysign(1, b)
+
+
+FLOAT_BINARY: dict[str, Callable[[float, float], float]] = {
+    "+": operator.add, "-": operator.sub, "*": operator.mul, "/": quotient,
+    "%": lambda a, b: math.fmod(a, b) if b and math.isfinite(a) else math.nan,
+    "<": operator.lt, "<=": operator.le, ">": operator.gt, ">=": operator.ge, "==": operator.eq, "!=": operator.ne,
+}
+
+
+def combined_floats(text: str, first: Value, second: Value) -> Value:
+    """The value of an operation of which an operand is a float."""
+    if text not in FLOAT_BINARY:
+        raise Wrong(f"{text} isn't an operation of floats; u(..) is the bits of one")
+    result = FLOAT_BINARY[text](beside(first, second), beside(second, first))
+    if isinstance(result, bool):
+        return Value(int(result))
+    width = "s" if {first.width, second.width} <= {"s", ""} and "s" in (first.width, second.width) else "d"
+    return Value(float_of(bits_of(result, width), width), width)
+
+
 def is_equal(a: Value, b: Value) -> bool:
     """Whether two values have the same bits in the narrower of their classes."""
     width = "w" if "w" in (a.width, b.width) else "l" if "l" in (a.width, b.width) else ""
     if width:
-        return unsigned(a.number, width) == unsigned(b.number, width)
+        return unsigned(whole(a), width) == unsigned(whole(b), width)
     return a.number == b.number
 
 
 def evaluate(node: Node, state: State) -> Value:
-    if node.kind == "number":
-        return Value(int(node.text))
+    if node.kind in ("number", "float"):
+        return Value(int(node.text) if node.kind == "number" else float(node.text))
     if node.kind == "temporary":
         value, width = state.temporary(node.text)
-        return Value(signed(value, width), width)
+        return Value(float_of(value, width) if width in FLOATS else signed(value, width), width)
     if node.kind == "global":
         return Value(state.address(node.text), "l")
     if node.kind == "word":
         return Value(state.word(node.text))
     if node.kind == "memory":
-        address = unsigned(evaluate(node.parts[0], state).number, "l")
+        address = unsigned(whole(evaluate(node.parts[0], state)), "l")
+        if node.text in FLOATS:
+            return Value(float_of(state.bytes(address, FLOAT_BYTES[node.text]), node.text), node.text)
         width = "l" if node.text == "l" else "w"
         return Value(signed(state.bytes(address, BYTES[node.text]), node.text), width)
     first = evaluate(node.parts[0], state)
     if node.kind in ("u", "s"):
         cut = unsigned if node.kind == "u" else signed
-        return Value(cut(first.number, first.width or "l"))
+        bits = bits_of(first.number, first.width or "d") if is_float(first) else whole(first)
+        return Value(cut(bits, first.width or "l"))
     if node.kind == "unary":
-        return Value(UNARY[node.text](first.number), first.width if node.text in "-~" else "")
+        return of_float(node.text, first) if is_float(first) else \
+            Value(UNARY[node.text](whole(first)), first.width if node.text in "-~" else "")
     return combined(node, first, state)
+
+
+def of_float(text: str, value: Value) -> Value:
+    """An operation of one float."""
+    if text == "~":
+        raise Wrong("~ isn't an operation of floats; u(..) is the bits of one")
+    if text == "!":
+        return Value(int(value.number == 0))
+    return Value(-value.number if text == "-" else value.number, value.width)
+
+
+def whole(value: Value) -> int:
+    """A whole number, as addresses and counts are."""
+    if isinstance(value.number, float):
+        raise Wrong(f"{value.number!r} is a float, and a whole number was expected")
+    return value.number
 
 
 def combined(node: Node, first: Value, state: State) -> Value:
@@ -204,9 +280,11 @@ def combined(node: Node, first: Value, state: State) -> Value:
             return Value(int(node.text == "||"))
         return Value(int(bool(evaluate(node.parts[1], state).number)))
     second = evaluate(node.parts[1], state)
+    if is_float(first) or is_float(second):
+        return combined_floats(node.text, first, second)
     if node.text in ("==", "!="):
         return Value(int(is_equal(first, second) == (node.text == "==")))
-    result = int(BINARY[node.text](first.number, second.number))
+    result = int(BINARY[node.text](whole(first), whole(second)))
     if abs(result) >> MOST_BITS:
         raise Unset(f"a value of more than {MOST_BITS} bits")
     return Value(result, max(first.width, second.width, key=len) if node.text in "+-*/%&|^" else "")
@@ -224,4 +302,4 @@ def temporaries_of(node: Node) -> list[str]:
 
 def is_fixed(node: Node) -> bool:
     """Whether an expression has the same value in each state."""
-    return all(part.kind in ("number", "global", "binary", "unary", "u", "s") for part in parts_of(node))
+    return all(part.kind in ("number", "float", "global", "binary", "unary", "u", "s") for part in parts_of(node))

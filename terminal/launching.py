@@ -3,7 +3,7 @@ from __future__ import annotations
 
 from typing import Sequence
 
-from .answers import REFUSALS
+from .answers import meaning_of
 
 OPTIONS = ("--entry", "--limit", "--history")
 MOST = {"--limit": (1 << 32) - 1, "--history": 1_000_000}
@@ -41,10 +41,9 @@ def refusal(loaded: str, file: str, source: bytes) -> str:
     words = loaded.split()
     if len(words) < 2 or words[0] != "refused:":
         return loaded
-    meaning = REFUSALS.get(words[1], "refused")
     if len(words) == 4:
         lines = source.decode("utf-8", "replace").split("\n")
         number = int(words[3])
         text = lines[number - 1].strip() if number <= len(lines) else ""
-        return f"{file}:{number}: {words[1]}: {meaning}\n    {text}"
-    return f"{file}: {words[1]}: {meaning}"
+        return f"{file}:{number}: {words[1]}: {meaning_of(words[1], text)}\n    {text}"
+    return f"{file}: {words[1]}: {meaning_of(words[1], '')}"

@@ -9,6 +9,7 @@ from .expressions import Unset, Wrong
 from .habits import save_stops
 from .scratch import Refused
 from .shell import COMMANDS, Shell, command
+from .sources import list_source, source_told
 from .values import BYTES, FORMATS, formatted, shown_bytes
 
 MOST_UNITS = 4096
@@ -158,7 +159,8 @@ def backtrace(shell: Shell, rest: str) -> None:
         line = shell.session.program.line_of(place.function, place.label, at)
         mark = ">" if index == shell.session.selected else " "
         source = shell.screen.map.place(line)
-        text = shell.session.program.functions[place.function].at(place.label, at).written()
+        instruction = shell.session.program.functions[place.function].at(place.label, at)
+        text = shell.lowered.written(shell.session.program.functions[place.function], instruction)
         shell.say(f"{mark} {index}  {place.function} {place.label} {place.index}  line {line}: {text}"
                   + (f"  ({source})" if source else ""))
 
@@ -217,9 +219,15 @@ def temps(shell: Shell, rest: str) -> None:
         shell.say(f"{name} unset" if value is None else shell.shown(name, ""))
 
 
-@command("list l", "list [LINE | $f | @b]", "place")
+@command("list l", "list [-ssa] [LINE | FILE:LINE | $f | @b]", "place")
 def list_(shell: Shell, rest: str) -> None:
-    """Shows the text around where the run stands, then on from there; or around a line, a function or a label."""
+    """Shows the source around where the run stands, if there is one, and else the text, then on from there; or around a
+    line. With -ssa, or around a function or a label, it is the text."""
+    is_text, rest = rest.split(" ")[0] == "-ssa", rest.removeprefix("-ssa").strip()
+    if not is_text and list_source(shell, rest):
+        # An empty line goes on.
+        shell.last = "list" if rest else shell.last
+        return
     program, place = shell.session.program, shell.session.place
     here, around = 0, shell.list_size // 2
     frames, selected = shell.session.frames(), shell.session.selected
@@ -255,10 +263,11 @@ def out(shell: Shell, rest: str) -> None:
         begin += len(line)
 
 
-@command("info i", "info stops|locals|frame|display|checkpoints|functions|data|symbol ADDRESS|session", "info")
+@command("info i", "info stops|locals|frame|display|checkpoints|functions|data|source|symbol ADDRESS|session",
+         "info")
 def info(shell: Shell, rest: str) -> None:
-    """Shows the stops, the temporaries, the frame, what is displayed, the checkpoints, the functions, the data, whose an
-    address is, or how large the session is."""
+    """Shows the stops, the temporaries, the frame, what is displayed, the checkpoints, the functions, the data, the sources,
+    whose an address is, or how large the session is."""
     word, _, more = rest.partition(" ")
     known = {"stops": "stops", "breakpoints": "stops", "break": "stops", "b": "stops", "watchpoints": "stops",
              "temps": "temps", "display": "display", "frame": "frame", "f": "frame", "out": "out"}
@@ -303,8 +312,8 @@ def locals_told(shell: Shell, _rest: str) -> list[str]:
     return shown + ([f"{left} unset"] if left else []) or ["none"]
 
 
-OTHERS = {"functions": functions_told, "locals": locals_told, "data": data_told, "symbol": symbol_told, "checkpoints": checkpoints_told,
-          "session": session_told}
+OTHERS = {"functions": functions_told, "locals": locals_told, "data": data_told, "symbol": symbol_told,
+          "checkpoints": checkpoints_told, "session": session_told, "source": source_told}
 
 
 @command("save", "save FILE | save breakpoints FILE", "file", is_repeated=False)
@@ -318,10 +327,16 @@ def save(shell: Shell, rest: str) -> None:
         save_stops(shell, file.strip())
         return
     try:
-        pathlib.Path(rest).write_text("".join(line + "\n" for line in shell.session.lines))
+        pathlib.Path(rest).write_text("".join(script_line(shell, line) + "\n" for line in shell.session.lines))
     except OSError as error:
         raise Refused(f"{rest}: {error.strerror}") from None
     shell.say(f"{len(shell.session.lines)} lines; to play them: {shell.replayed(rest)}")
+
+
+def script_line(shell: Shell, line: str) -> str:
+    """A line of the session as the debugger reads it."""
+    renaming = shell.launch.renaming
+    return renaming.shortened(line) if renaming else line
 
 
 @command("help h", "help [COMMAND]", "command", is_repeated=False)
@@ -346,6 +361,7 @@ def short(name: str) -> str:
 HELP = "An empty line repeats. `help COMMAND` tells more; Ctrl-C stops a run; docs/TERMINAL.md has it all."
 TOPICS = {
     "move": "step next until advance finish continue run start back reverse-next reverse-finish reverse goto checkpoint restart",
+    "move by lines of a source": "step-line next-line reverse-step-line reverse-next-line",
     "look": "print x display undisplay bt up down frame temps list disas mem out info",
     "stop": "break tbreak watch ignore condition commands disable enable stops delete",
     "ask": "suspects made why path readers writers when compare",

@@ -6,6 +6,7 @@ from .runs import Outcome
 from .scratch import Refused
 from .shell import Leave, Shell, command
 from .timeline import Timeline
+from .values import BITS, FLOATS, bits_of
 
 MOST_MOVES = (1 << 32) - 1
 MOST_LISTED = 1000
@@ -126,7 +127,7 @@ def goto(shell: Shell, rest: str) -> None:
     elif rest.split()[:1] == ["suspect"]:
         there = suspect_numbered(shell, rest.partition(" ")[2].strip() or "1")
     else:
-        position = shell.evaluate(rest.lstrip("#") if rest.startswith("#") else rest).number if rest else -1
+        position = shell.whole(rest.lstrip("#") if rest.startswith("#") else rest) if rest else -1
         if position < 0:
             raise Wrong(f"{rest or 'goto'}: a position, 0 and up, was expected")
         there = shell.session.timeline.at(position)
@@ -184,19 +185,19 @@ def set_(shell: Shell, rest: str) -> None:
         raise Wrong(f"{rest or 'set'}: set %TEMPORARY EXPRESSION was expected")
     if shell.session.selected:
         raise Refused("a temporary can be set in the innermost frame alone; `frame 0` selects it")
-    shell.temporary(name)
-    changed(shell, f"set {name} {signed_word(shell, value)}")
+    _, width = shell.temporary(name)
+    changed(shell, f"set {name} {signed_word(shell, value, width)}")
 
 
 @command("poke", "poke WIDTH ADDRESS EXPRESSION", "expression", is_repeated=False)
 def poke(shell: Shell, rest: str) -> None:
-    """Writes to memory, WIDTH b, h, w or l. That is a move, which `back` takes back. An ADDRESS of several words stands in
-    parentheses."""
+    """Writes to memory, WIDTH b, h, w or l, or s or d for a float. That is a move, which `back` takes back. An ADDRESS of
+    several words stands in parentheses."""
     width, _, rest = rest.partition(" ")
     address, value = split_address(rest)
-    if width not in ("b", "h", "w", "l") or not address or not value:
-        raise Wrong("poke WIDTH ADDRESS EXPRESSION was expected, WIDTH one of b, h, w, l")
-    changed(shell, f"poke {width} {address_word(shell, address)} {signed_word(shell, value)}")
+    if width not in BITS or not address or not value:
+        raise Wrong("poke WIDTH ADDRESS EXPRESSION was expected, WIDTH one of b, h, w, l, s, d")
+    changed(shell, f"poke {FLOATS.get(width, width)} {address_word(shell, address)} {signed_word(shell, value, width)}")
 
 
 def split_address(text: str) -> tuple[str, str]:
@@ -221,8 +222,11 @@ def address_word(shell: Shell, text: str) -> str:
     return str(shell.number(text))
 
 
-def signed_word(shell: Shell, text: str) -> str:
-    value = shell.evaluate(text).number
+def signed_word(shell: Shell, text: str, width: str) -> str:
+    """A value as the command language has it; where a float is set, a whole number is one too."""
+    if width in FLOATS:
+        return str(bits_of(shell.evaluate(text).number, width))
+    value = shell.whole(text)
     if not -(1 << 63) <= value < 1 << 64:
         raise Wrong(f"{text}: {value} doesn't fit into 64 bits")
     return str(value)

@@ -12,6 +12,8 @@ import subprocess
 import time
 from typing import Callable
 
+from .renaming import Renaming
+
 MARK = b"?\n"
 MARKED_LINE = "no: unknown command"
 MARKED = MARKED_LINE.encode() + b"\n"
@@ -36,14 +38,14 @@ class Ended(Exception):
 class Pipe:
     """A process of the debugger, in a process group of its own, so that Ctrl-C at the terminal doesn't reach it."""
 
-    def __init__(self, words: list[str], pulse: Callable[[], None] = lambda: None):
+    def __init__(self, words: list[str], pulse: Callable[[], None] = lambda: None, renaming: Renaming | None = None):
         self.process = subprocess.Popen(["qrev", *words[1:]], executable=words[0], stdin=subprocess.PIPE,
                                         stdout=subprocess.PIPE, start_new_session=True)
         os.set_blocking(self.process.stdin.fileno(), False)
         self.widen()
-        self.pulse, self.sent = pulse, 0
+        self.pulse, self.sent, self.renaming = pulse, 0, renaming
         try:
-            self.loaded = self.exchange(MARK, 1)[:-len(MARKED)].decode("latin-1").splitlines()
+            self.loaded = self.told(self.exchange(MARK, 1)[:-len(MARKED)]).splitlines()
         except Ended as end:
             self.loaded = self.rest.decode("latin-1").splitlines()
             self.refused = end
@@ -91,9 +93,9 @@ class Pipe:
         """
         if not lines:
             return []
-        sent = "".join(line + ("\n?\n" if line in UNBOUNDED else "\n") for line in lines).encode("latin-1", "replace")
+        sent = self.written("".join(line + ("\n?\n" if line in UNBOUNDED else "\n") for line in lines))
         marks = 1 + sum(line in UNBOUNDED for line in lines)
-        told = self.exchange(sent + MARK, marks).decode("latin-1").split("\n")
+        told = self.told(self.exchange(sent + MARK, marks)).split("\n")
         answers, at = [], 0
         for line in lines:
             if line in UNBOUNDED:
@@ -108,7 +110,16 @@ class Pipe:
 
     def ask_text(self, text: str) -> str:
         """All that is answered to some lines, for answers that tell themselves where they end."""
-        return self.exchange(text.encode("latin-1") + MARK, 1)[:-len(MARKED)].decode("latin-1")
+        return self.told(self.exchange(self.written(text) + MARK, 1)[:-len(MARKED)])
+
+    def written(self, text: str) -> bytes:
+        """Lines as the debugger reads them."""
+        return (self.renaming.shortened(text) if self.renaming else text).encode("latin-1", "replace")
+
+    def told(self, answer: bytes) -> str:
+        """An answer as people read it."""
+        text = answer.decode("latin-1")
+        return self.renaming.told(text) if self.renaming else text
 
     def has_room(self, size: int) -> bool:
         """Whether so many bytes more may be sent."""

@@ -139,7 +139,8 @@ class Runs:
         said = ""
         if stop.memory:
             now = self.session.memory(stop.memory.address, stop.memory.count)
-            said = ": " + Filter([], self.session.program, is_forward).memory_change(stop.memory.value, now)
+            told = Filter([], self.session.program, is_forward)
+            said = ": " + told.memory_change(stop.memory.value, now, stop.memory.width)
         return Outcome(f"{kind} {stop.number}, {stop.what}{said}", stop)
 
     def run_filtered(self, is_forward: bool, target: Target | Places | None) -> Outcome:

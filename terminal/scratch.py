@@ -12,6 +12,7 @@ from typing import Callable, Iterator, NamedTuple, TypeVar
 
 from .answers import Place, read_bytes, read_moved, read_place, read_value
 from .pipe import Ended, Pipe
+from .renaming import Renaming
 from .timeline import Timeline, lines_between
 from .waiting import Interrupted, Waiting
 
@@ -42,6 +43,7 @@ class Launch:
     words: tuple[str, ...]
     limit: int = SLICE
     history: int | None = None
+    renaming: Renaming | None = None
 
     def command(self, history: int | None) -> list[str]:
         bound = ["--history", str(history)] if history else []
@@ -81,7 +83,7 @@ class Scratch:
 
     def start(self) -> None:
         self.drop()
-        self.pipe = Pipe(self.launch.command(self.history), self.waiting.check)
+        self.pipe = Pipe(self.launch.command(self.history), self.waiting.check, self.launch.renaming)
         if self.pipe.refused:
             raise self.pipe.refused
         self.place = read_place(self.pipe.loaded[1])

@@ -1,8 +1,6 @@
 """What a stop shows: the place, the lines of the text around it, the values of operands, and the place in the source."""
 from __future__ import annotations
 
-import pathlib
-import re
 import shutil
 import sys
 import textwrap
@@ -10,7 +8,9 @@ from typing import Iterator
 
 from .answers import Place
 from .frames import Frames, allocations_of
+from .lowered import Lowered
 from .session import Session
+from .sourcemap import SourceMap
 from .text import Instruction
 from .values import brief, is_stack
 
@@ -20,36 +20,14 @@ WIDTH = 100
 GAP = "    "
 # Beyond so many moves the frames of callers aren't looked for at each stop: that goes back along all of them.
 MOST_MOVES = 1_000_000
-ESCAPE = re.compile(r"\\([\\tn])")
-
-
-def unescaped(match: re.Match) -> str:
-    """A character that would part the fields or the lines of a map."""
-    return {"t": "\t", "n": "\n"}.get(match.group(1), "\\")
-
-
-class SourceMap:
-    """The map that lower/qrev-lower writes of a text: the n-th line is about the text's n-th (docs/REAL_COMPILERS.md)."""
-
-    def __init__(self, file: pathlib.Path):
-        try:
-            self.lines = file.read_text(errors="replace").split("\n")
-        except OSError:
-            self.lines = []
-
-    def place(self, line: int) -> str:
-        """`FILE:LINE`, and `: FILE:LINE:COLUMN` of the source if the map has that; nothing for a line without a place."""
-        fields = self.lines[line - 1].split("\t") if 1 <= line <= len(self.lines) else []
-        places = [f"{ESCAPE.sub(unescaped, fields[at])}:{fields[at + 1]}" for at in range(0, len(fields) - 1, 2)]
-        if len(fields) == 5 and fields[4] != "0":
-            places[1] += f":{fields[4]}"
-        return ": ".join(places)
+HALTED = "fault halted"
 
 
 class Screen:
-    def __init__(self, session: Session, frames: Frames, file: str):
+    def __init__(self, session: Session, frames: Frames, file: str, lowered: Lowered):
         self.session, self.frames = session, frames
-        self.map = SourceMap(pathlib.Path(file + ".map"))
+        self.map = SourceMap.beside(file)
+        self.lowered = lowered
 
     @property
     def width(self) -> int | None:
@@ -121,7 +99,7 @@ class Screen:
         for phi in function.blocks[label].phis:
             operand = phi.operands[phi.labels.index(place.label)]
             value = self.known(operand.text)
-            width = "l" if phi.type == "l" else "w"
+            width = function.temporaries[phi.result or ""]
             shown = "unset" if value is None else brief(value, width, self.name(value, width))
             found.append(f"{phi.result}={shown}")
         return found
@@ -131,6 +109,31 @@ class Screen:
         if text.startswith("%"):
             return self.session.value(text)
         return self.session.program.addresses[text] if text.startswith("$") else int(text) % (1 << 64)
+
+    # Ends.
+
+    def halted(self) -> str | None:
+        """How the run ended, where it was halted in a function that isn't the program's own."""
+        if self.session.place.end != HALTED:
+            return None
+        frames = self.session.frames()
+        return self.lowered.halted_in(frames[0].function) if frames else None
+
+    def is_elsewhere(self) -> bool:
+        """Whether the run ended by a fault in a function that isn't the program's own."""
+        frames = self.session.frames() if self.session.place.is_fault else []
+        return bool(frames) and not self.lowered.is_own(frames[0].function)
+
+    def place_line(self) -> str:
+        """The place line, with how the run ended in words where that is no fault of the program."""
+        halted = self.halted()
+        return f"#{self.session.place.position} {halted}" if halted else str(self.session.place)
+
+    def own_place(self) -> Place | None:
+        """Where the innermost frame of the program's own functions made its call, if another one halted."""
+        own = (frame for frame in self.session.frames() if self.lowered.is_own(frame.function))
+        frame = next(own, None)
+        return Place(frame.position, frame.function, frame.label, frame.index - 1) if frame and frame.index else None
 
     # Lines of the text.
 
@@ -158,14 +161,16 @@ class Screen:
     def place_lines(self, place: Place | None = None) -> list[str]:
         """The text around a place; without one around that where the session stands, with the values of operands."""
         is_here = place is None
-        place = place or self.session.place
+        is_elsewhere = is_here and self.is_elsewhere()
+        place = place or (self.own_place() if is_elsewhere else None) or self.session.place
         if not place.function:
             frames = self.session.frames()
             if not frames:
                 return []
             place = frames[0]
         instruction = self.session.program.functions[place.function].at(place.label, place.index)
-        beside = self.operands(place.function, instruction) + self.jump_said(place, instruction) if is_here else []
+        is_read = is_here and not is_elsewhere
+        beside = self.operands(place.function, instruction) + self.jump_said(place, instruction) if is_read else []
         source = self.map.place(instruction.line)
         lines = [f"  source: {source}"] if source else []
         return lines + list(self.text_lines(instruction.line - AROUND, instruction.line + AROUND, instruction.line, beside))

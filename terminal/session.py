@@ -17,7 +17,7 @@ class Session:
 
     def __init__(self, launch: Launch, source: bytes, waiting: Waiting):
         self.launch, self.waiting = launch, waiting
-        self.pipe = Pipe(launch.command(launch.history))
+        self.pipe = Pipe(launch.command(launch.history), renaming=launch.renaming)
         self.scratch = Scratch(launch, waiting)
         self.lines: list[str] = []
         self.news: list[str] = []
@@ -26,7 +26,7 @@ class Session:
         self.selected = 0
         if not self.pipe.refused:
             self.place = read_place(self.pipe.loaded[1])
-            self.program = Program(source)
+            self.program = Program(source, launch.renaming)
             self.names = Names(self.program)
 
     # Lines that change the session.
@@ -76,7 +76,7 @@ class Session:
     def begin_anew(self) -> None:
         """Another process, which the kept lines lead to the same state: where one broke, or can't be sent more."""
         self.pipe.close()
-        self.pipe = Pipe(self.launch.command(self.launch.history))
+        self.pipe = Pipe(self.launch.command(self.launch.history), renaming=self.launch.renaming)
         if self.pipe.refused:
             raise self.pipe.refused
         self.pipe.ask(*self.lines)

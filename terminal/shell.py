@@ -9,15 +9,16 @@ from typing import Callable, Sequence
 
 from .answers import Place
 from .causes import Cause, Causes
-from .expressions import Node, Unset, Value, Wrong, evaluate, parse, parts_of
+from .expressions import Node, Unset, Value, Wrong, evaluate, parse, parts_of, whole
 from .frames import Frames
+from .lowered import lowered_of
 from .pipe import Ended
 from .runs import STOPPED, Outcome, Runs
 from .scratch import SLICE, Launch, Refused
 from .screen import Screen
 from .session import Session
 from .timeline import Timeline
-from .values import FORMATS, formatted, remarks, unsigned
+from .values import FLOATS, FORMATS, as_float, bits_of, formatted, remarks, unsigned
 from .waiting import Interrupted, Waiting
 
 MEGABYTE = 1 << 20
@@ -94,17 +95,21 @@ class Shell:
         self.session = Session(launch, source, waiting)
         if self.session.pipe.refused:
             return
+        self.lowered = lowered_of(file)
+        self.lowered.tell_classes(self.session.program)
         self.frames = Frames(self.session.program, self.session.names, self.session.scratch)
         self.runs = Runs(self.session, self.frames, budget)
-        self.screen = Screen(self.session, self.frames, file)
+        self.screen = Screen(self.session, self.frames, file, self.lowered)
         self.causes = Causes(self.session.program, self.session.names, self.frames, self.session.scratch,
-                             self.screen.map.place)
+                             self.screen.map.place, self.lowered)
         self.memory_told = memory_told * MEGABYTE
         self.displays: dict[int, tuple[str, str]] = {}
         self.checkpoints: dict[str, Timeline] = {}
         self.chain: list[Cause] = []
         self.suspects: list[Timeline] = []
         self.line_shown = 0
+        # The source that was listed last, and up to which line.
+        self.line_listed: tuple[str, int] | None = None
         self.examined, self.unit, self.format = 0, "w", "x"
         self.list_size = 11
         self.last = ""
@@ -153,8 +158,8 @@ class Shell:
         """A stop: why, the place line, the text around it, and what is displayed."""
         if reason:
             self.say(f"stop: {reason}")
-        self.say(str(self.session.place), *self.screen.place_lines())
-        self.line_shown = 0
+        self.say(self.screen.place_line(), *self.screen.place_lines())
+        self.line_shown, self.line_listed = 0, None
         for number, (letters, text) in self.displays.items():
             self.show_display(number, letters, text)
         self.tell_memory()
@@ -233,14 +238,18 @@ class Shell:
 
     def number(self, text: str) -> int:
         """The value of an expression as 64 bits."""
-        value = self.evaluate(text).number
+        value = self.whole(text)
         if not -(1 << 63) <= value < 1 << 64:
             raise Wrong(f"{text}: {value} doesn't fit into 64 bits")
         return value % (1 << 64)
 
+    def whole(self, text: str) -> int:
+        """The value of an expression as a whole number."""
+        return whole(self.evaluate(text))
+
     def count(self, text: str, most: int, default: int = 1) -> int:
         """A number of times, as a command takes it."""
-        value = self.evaluate(text).number if text.strip() else default
+        value = self.whole(text) if text.strip() else default
         if not 1 <= value <= most:
             raise Wrong(f"{text.strip()}: a number from 1 to {most} was expected")
         return value
@@ -251,6 +260,10 @@ class Shell:
         width = value.width or "l"
         if letters and letters not in FORMATS:
             raise Wrong(f"/{letters}: one of {', '.join('/' + letter for letter in FORMATS)} was expected")
+        if isinstance(value.number, float):
+            width = width if width in FLOATS else "d"
+            bits = bits_of(value.number, width)
+            return f"{text} = {formatted(bits, FLOATS[width], letters) if letters else as_float(bits, width)}"
         number = unsigned(value.number, width)
         if letters and letters != "a":
             return f"{text} = {formatted(number, width, letters)}"
@@ -321,8 +334,10 @@ class Shell:
         if word in COMMANDS:
             return COMMANDS[word]
         begun = {found.names[0]: found for name, found in COMMANDS.items() if name.startswith(word) and word}
-        if len(begun) == 1:
-            return next(iter(begun.values()))
+        shortest = min(begun, key=len, default="")
+        # Of two names one of which begins with the other the shorter one is meant.
+        if begun and all(name.startswith(shortest) for name in begun):
+            return begun[shortest]
         if begun:
             raise Wrong(f"{word}: could be {', '.join(sorted(begun))}")
         nearest = difflib.get_close_matches(word, COMMANDS, 1)

@@ -5,8 +5,9 @@ from .expressions import Node, Wrong, temporaries_of
 from .moving import address_word
 from .scratch import Refused
 from .shell import Shell, command
+from .sources import place_in_source
 from .stops import FrameWatch, MemoryWatch, Stop
-from .values import BYTES
+from .values import BITS, FLOATS
 
 PIECES = (("l", 8), ("w", 4), ("h", 2), ("b", 1))
 MOST_RANGE = 512
@@ -33,6 +34,9 @@ def place_of(shell: Shell, text: str) -> tuple[str, str, int]:
         if not found:
             raise Wrong(f"{text}: no code at that line or behind it; the text has {len(session.program.lines)} lines")
         return found
+    in_source = place_in_source(shell, text)
+    if in_source:
+        return in_source
     if words[0].startswith("@"):
         if not frames:
             raise Refused(f"{text}: the run is over; write the function before the label")
@@ -72,10 +76,10 @@ def add_breakpoint(shell: Shell, rest: str, is_once: bool) -> None:
     shell.say(f"break {shell.runs.add(stop)}")
 
 
-@command("break b br", "break [LINE | $f | @b | $f @b [K]] [if CONDITION]", "place", is_repeated=False)
+@command("break b br", "break [LINE | FILE:LINE | $f | @b | $f @b [K]] [if CONDITION]", "place", is_repeated=False)
 def break_(shell: Shell, rest: str) -> None:
-    """A breakpoint at a line, a function, a label, or the K-th instruction behind a label. With a condition it stops only
-    where that holds: `b @loop if %i > 3`, also `if depth == 2` for one depth of frames."""
+    """A breakpoint at a line of the text or of a source, a function, a label, or the K-th instruction behind a label.
+    With a condition it stops only where that holds: `b @loop if %i > 3`, also `if depth == 2` for one depth of frames."""
     add_breakpoint(shell, rest, False)
 
 
@@ -87,8 +91,9 @@ def tbreak(shell: Shell, rest: str) -> None:
 
 @command("watch w", "watch %x | $f %x | WIDTH ADDRESS | N ADDRESS [if CONDITION]", "watch", is_repeated=False)
 def watch(shell: Shell, rest: str) -> None:
-    """Stops where a value changes: %x of this frame alone, %x of any frame of $f, memory of a WIDTH b h w l, or a range of
-    N bytes. A write of the same value is no change; on the stack bytes that are dead in between aren't either."""
+    """Stops where a value changes: %x of this frame alone, %x of any frame of $f, memory of a WIDTH b h w l, or s d of
+    floats, or a range of N bytes. A write of the same value is no change; on the stack bytes that are dead in between
+    aren't either."""
     what, condition, text = with_condition(shell, rest)
     words = what.split()
     if not words:
@@ -97,10 +102,11 @@ def watch(shell: Shell, rest: str) -> None:
         stop = Stop(what, [f"watch {what}"], [])
     elif len(words) == 1 and words[0].startswith("%"):
         stop = frame_watch(shell, words[0])
-    elif words[0] in BYTES or words[0].isdigit():
+    elif words[0] in BITS or words[0].isdigit():
         stop = memory_watch(shell, words[0], what.partition(" ")[2])
     else:
-        raise Wrong(f"{words[0]}: %TEMPORARY, $FUNCTION %TEMPORARY, a width (b, h, w, l) or a number of bytes was expected")
+        expected = "%TEMPORARY, $FUNCTION %TEMPORARY, a width (b, h, w, l, s, d) or a number of bytes was expected"
+        raise Wrong(f"{words[0]}: {expected}")
     stop.condition, stop.condition_text = condition, text
     if not stop.frame:
         stop.typed = f"watch {rest}"
@@ -109,14 +115,14 @@ def watch(shell: Shell, rest: str) -> None:
 
 def frame_watch(shell: Shell, name: str) -> Stop:
     """A watch of a temporary of the selected frame."""
-    value, _ = shell.temporary(name)
+    value, width = shell.temporary(name)
     frames = shell.session.frames()[shell.session.selected:]
     function = frames[0].function
     back = frames[1] if len(frames) > 1 else None
     first = shell.session.program.functions[function].first
     stop = Stop(f"{name} of this call of {function}", [f"watch {function} {name}"], [])
     entry = shell.frames.entry(shell.frames.frame(shell.session.timeline, shell.session.selected)).position
-    stop.frame = FrameWatch(name, function, len(frames), back, first, entry, value)
+    stop.frame = FrameWatch(name, function, len(frames), back, first, entry, value, width=width)
     return stop
 
 
@@ -124,20 +130,20 @@ def memory_watch(shell: Shell, width: str, text: str) -> Stop:
     """A watch of memory, by as many of the debugger's as it takes."""
     if not text.strip():
         raise Wrong(f"watch {width}: an address was expected")
-    address, count = shell.number(text), BYTES.get(width) or int(width)
+    address, count = shell.number(text), BITS.get(width, 0) // 8 or int(width)
     if not 1 <= count <= MOST_RANGE:
         raise Wrong(f"{width}: from 1 to {MOST_RANGE} bytes were expected")
     name = shell.frames.name(address, "l", shell.session.timeline) or str(address)
-    if width in BYTES:
-        lines = [f"watch {width} {address_word(shell, text.strip())}"]
+    if width in BITS:
+        lines = [f"watch {FLOATS.get(width, width)} {address_word(shell, text.strip())}"]
     else:
         lines, at = [], 0
         while at < count:
             letter, size = next(piece for piece in PIECES if piece[1] <= count - at)
             lines.append(f"watch {letter} {address + at}")
             at += size
-    return Stop(f"{width} {name}" if width in BYTES else f"{count} bytes from {name}", lines, [],
-                memory=MemoryWatch(address, count))
+    return Stop(f"{width} {name}" if width in BITS else f"{count} bytes from {name}", lines, [],
+                memory=MemoryWatch(address, count, width=width))
 
 
 def stop_named(shell: Shell, text: str) -> Stop:
@@ -169,7 +175,7 @@ def ignore(shell: Shell, rest: str) -> None:
     """Passes a stop over the next COUNT times that it would stop."""
     number, _, count = rest.partition(" ")
     stop = stop_named(shell, number)
-    value = shell.evaluate(count).number
+    value = shell.whole(count)
     if not 0 <= value < 1 << 32:
         raise Wrong(f"{count}: a number from 0 was expected")
     stop.ignored = value

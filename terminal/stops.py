@@ -5,10 +5,10 @@ from dataclasses import dataclass, field
 from typing import Callable
 
 from .answers import Place, read_bytes, read_value
-from .expressions import Node, Unset, evaluate, is_fixed, parts_of, temporaries_of
+from .expressions import Node, Unset, evaluate, is_fixed, parts_of, temporaries_of, whole
 from .scratch import frames_of
 from .text import STACK, Program
-from .values import BYTES
+from .values import BYTES, FLOAT_BYTES, FLOATS, as_float
 
 FRAME_OVER = "its frame is over"
 # Bytes that are shown as one number.
@@ -74,6 +74,8 @@ class FrameWatch:
     entry: int
     value: int | None = None
     is_over: bool = False
+    # Its class.
+    width: str = ""
 
 
 @dataclass
@@ -82,6 +84,7 @@ class MemoryWatch:
     address: int
     count: int
     value: list[int | None] = field(default_factory=list)
+    width: str = ""
 
     @property
     def is_on_stack(self) -> bool:
@@ -147,8 +150,8 @@ def questions_of(node: Node, program: Program) -> list[str] | None:
         if part.kind == "memory":
             if not is_fixed(part.parts[0]):
                 return None
-            address = evaluate(part.parts[0], FixedState(program)).number % (1 << 64)
-            asked.append(f"mem {address} {BYTES[part.text]}")
+            address = whole(evaluate(part.parts[0], FixedState(program))) % (1 << 64)
+            asked.append(f"mem {address} {(BYTES | FLOAT_BYTES)[part.text]}")
     return asked
 
 
@@ -217,7 +220,7 @@ class Filter:
         answer = state.answers[f"print {frame.temporary}"][0]
         value = None if answer.startswith("no: ") else read_value(answer)
         if value != frame.value:
-            said = self.change(shown(frame.value), shown(value))
+            said = self.change(shown(frame.value, frame.width), shown(value, frame.width))
             frame.value = value
             return said
         return "its frame begins here" if state.place.position == frame.entry and not self.is_forward else None
@@ -228,11 +231,11 @@ class Filter:
         if None in found or found == watch.value:
             return None
         before, watch.value = watch.value, found
-        return self.memory_change(before, found)
+        return self.memory_change(before, found, watch.width)
 
-    def memory_change(self, before: list[int | None], after: list[int | None]) -> str:
+    def memory_change(self, before: list[int | None], after: list[int | None], width: str = "") -> str:
         if len(after) <= MOST_NUMBER:
-            return self.change(as_number(before), as_number(after))
+            return self.change(as_number(before, width), as_number(after, width))
         if None in before or None in after or len(before) != len(after):
             return self.change(as_number(before), as_number(after))
         at = next(at for at, (one, other) in enumerate(zip(before, after)) if one != other)
@@ -254,11 +257,15 @@ class Filter:
         return is_held
 
 
-def shown(value: int | None) -> str:
-    return "unset" if value is None else str(value)
+def shown(value: int | None, width: str = "") -> str:
+    if value is None:
+        return "unset"
+    return as_float(value, width) if width in FLOATS else str(value)
 
 
-def as_number(found: list[int | None]) -> str:
+def as_number(found: list[int | None], width: str = "") -> str:
     if not found or None in found:
         return "dead"
+    if width in FLOATS:
+        return as_float(int.from_bytes(bytes(found), "little"), width)
     return str(int.from_bytes(bytes(found), "little")) if len(found) <= MOST_NUMBER else "live"

@@ -9,6 +9,8 @@ from dataclasses import dataclass, field
 from functools import cached_property
 from typing import Iterator
 
+from .renaming import Renaming
+
 NAME = frozenset(string.ascii_letters + string.digits + "._$")
 SPACING = frozenset(" \t\r")
 SIGILS = {"$": "global", "%": "temporary", "@": "label", ":": "aggregate"}
@@ -327,7 +329,9 @@ def operand_type(operation: str, type: str | None, index: int, function: Functio
 class Program:
     """A program's text, by lines and as its definitions."""
 
-    def __init__(self, source: bytes):
+    def __init__(self, source: bytes, renaming: Renaming | None = None):
+        if renaming:
+            source = renaming.told(source.decode("latin-1")).encode("latin-1")
         reader = Reader(source.decode("latin-1"))
         reader.read()
         self.lines = [line.rstrip("\r") for line in source.decode("utf-8", "replace").split("\n")]

@@ -1,12 +1,16 @@
 """Numbers and addresses as people read them."""
 from __future__ import annotations
 
+import math
 import struct
 
 from .text import DATA, STACK, STACK_BYTES, Program
 
-BITS = {"b": 8, "h": 16, "w": 32, "l": 64}
+BITS = {"b": 8, "h": 16, "w": 32, "l": 64, "s": 32, "d": 64}
 BYTES = {"b": 1, "h": 2, "w": 4, "l": 8}
+# The classes of floats, which are carried in words and long words.
+FLOATS = {"s": "w", "d": "l"}
+FLOAT_BYTES = {"s": 4, "d": 8}
 FORMATS = "duxotcfas"
 NEAR_ZERO = 1 << 16
 ESCAPES = {10: "\\n", 9: "\\t", 13: "\\r", 34: '\\"', 92: "\\\\"}
@@ -40,9 +44,28 @@ def as_text(value: int) -> str | None:
     return shown_bytes(text) if is_text else None
 
 
+def float_of(value: int, width: str) -> float:
+    """The float that bits are: of a word a single, of a long word a double."""
+    code, number = ("<d", "<Q") if BITS[width] == 64 else ("<f", "<I")
+    return struct.unpack(code, struct.pack(number, unsigned(value, width if BITS[width] >= 32 else "w")))[0]
+
+
+def bits_of(value: float, width: str) -> int:
+    """The bits of a number as a single or a double; one that is too large is infinite."""
+    code, number = ("<d", "<Q") if BITS[width] == 64 else ("<f", "<I")
+    try:
+        return struct.unpack(number, struct.pack(code, value))[0]
+    except OverflowError:
+        return bits_of(math.copysign(math.inf, value), width)
+
+
 def as_float(value: int, width: str) -> str:
-    code, number = ("<d", "<Q") if width == "l" else ("<f", "<I")
-    return repr(struct.unpack(code, struct.pack(number, unsigned(value, "l" if width == "l" else "w")))[0])
+    """The shortest decimal that is read as these bits."""
+    number = float_of(value, width)
+    if BITS[width] == 64 or not math.isfinite(number):
+        return repr(number)
+    texts = (f"{number:.{digits}g}" for digits in range(1, 10))
+    return repr(float(next(text for text in texts if bits_of(float(text), width) == bits_of(number, width))))
 
 
 def formatted(value: int, width: str, letter: str) -> str:
@@ -96,6 +119,8 @@ def brief(value: int | None, width: str, address: str | None) -> str:
     """A value in one word: a name before a small negative number before a text."""
     if value is None:
         return "unset"
+    if width in FLOATS:
+        return as_float(value, width)
     if address:
         return address
     return str(signed(value, width)) if is_near_zero(value, width) else as_text(value) or str(value)

@@ -1,4 +1,5 @@
-"""The command line of a program as texts: what native code finds in the `argc` and `argv` of its `main`.
+"""What a program is given: its command line as texts, which native code finds in the `argc` and `argv` of its `main`, and its
+input.
 
 The debugger gives the entry numbers. So the entry is written without parameters, and sets them at its beginning: the count,
 and the address of a table of texts, of which the first is the program's name and the last is followed by 0.
@@ -6,10 +7,13 @@ and the address of a table of texts, of which the first is the program's name an
 import os
 
 from .refusals import Refused
+from .runtime import Runtime
 from .symbols import Signature, Symbol, Unit
 from .tree import Data, Function, Instruction, Item, Text
 
 TABLE = "$arguments"
+# The runtime's function that gives the input, and its data.
+TAKE_INPUT, INPUT, INPUT_END = "$take.input", "$input", "$input.end"
 
 
 def table_of(words: list[str]) -> Unit:
@@ -41,3 +45,15 @@ def give_arguments(entry: Symbol, words: list[str]) -> None:
         function.addresses.add(TABLE)
     function.parameters = []
     entry.signature = Signature(function.returns, ())
+
+
+def give_input(runtime: Runtime, given: bytes) -> None:
+    """Puts the bytes that the program reads into the runtime's data."""
+    if not given:
+        return
+    unit = runtime.symbol(TAKE_INPUT).unit
+    for raw, items in ((INPUT, [Item(0, "b", given.decode("latin-1"))]),
+                       (INPUT_END, [Item(0, "l", INPUT, True, len(given))])):
+        definition = unit.own[raw].definition
+        if isinstance(definition, Data):
+            definition.items = items

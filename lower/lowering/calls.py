@@ -5,7 +5,7 @@ from .instructions import CARRIED, class_of
 from .linking import Program
 from .report import Report, Weight
 from .symbols import Signature, Symbol, carried_class
-from .tree import Call, Place, Value
+from .tree import Call, Instruction, Place, Value
 
 LOW = (1 << 32) - 1
 
@@ -157,12 +157,22 @@ class CallWriter:
                 written.append(f"{CARRIED[class_of(kind)]} 0")
                 self.note(f"{name} wants {count} arguments, and the call gives {len(call.arguments)}: 0", Weight.OTHER)
         others = call.arguments[count:]
+        if signature.has_dots and not target.is_of_runtime():
+            self.note_other_order(target, others)
         if signature.has_dots:
             written.append(f"l {self.cells_for(others)}" if others else "l 0")
         elif others and not target.is_outside():
             self.note(f"{name} takes {count} arguments, and the call gives {len(call.arguments)}: the last are dropped")
             self.report.count("calls with arguments that the function doesn't take")
         return written
+
+    def note_other_order(self, target: Symbol, arguments: list[tuple[str, Value]]) -> None:
+        """A note where the function takes what is behind the dots in another order than that of the arguments."""
+        for index, (cls, (kind, _)) in enumerate(zip(taken_by(target), arguments)):
+            if is_float(cls) != is_float(kind):
+                self.note(f"argument {index + 1} behind the dots of {target.name} is a {kind}, and its `vaarg` there takes a "
+                          f"{cls}: native code takes floats and integers from registers of their own", Weight.OTHER)
+                return
 
     def fitted(self, kind: str, value: Value, wanted: str, number: int, target: Symbol) -> str:
         """An argument in the class of its parameter."""
@@ -235,6 +245,12 @@ class CallWriter:
             self.note("a call by an address goes by a function that tells shapes apart")
             self.report.count("calls by an address, by the shape of the function")
         self.finish_call(call, signature, slot, f"call {target}({', '.join(arguments)})", target)
+
+
+def taken_by(target: Symbol) -> list[str]:
+    """The classes that a function takes of what is behind its dots, as far as its first block tells."""
+    block = target.definition.blocks[0]
+    return [each.cls for each in block.instructions if isinstance(each, Instruction) and each.name == "vaarg"]
 
 
 def is_float(kind: str) -> bool:

@@ -6,15 +6,19 @@ import pathlib
 import stat
 import sys
 
-from .arguments import give_arguments
+from .arguments import give_arguments, give_input
+from .ends import has_ends, is_named, wrapped
 from .linking import Program
+from .meanings import meanings_of
 from .reader import TextReader
 from .refusals import Refused
 from .report import Report
 from .runtime import ENCODING
+from .sizes import LARGE, told_bytes
+from .squeezing import squeeze_names, squeeze_spaces
 from .symbols import Symbol
 from .tree import Text
-from .writing import ProgramWriter, map_of, text_of
+from .writing import MOST_BYTES, ProgramWriter, map_of, size_of_text, text_of
 
 BAD_COMMAND_LINE, NOT_READ, LEFT_OVER = 64, 2, 1
 
@@ -33,6 +37,7 @@ def options() -> Parser:
     parser.add_argument("--report", action="store_true", help="say on standard error what was rewritten")
     parser.add_argument("--output", "-o", metavar="FILE", help="write the text there, and the map beside it")
     parser.add_argument("--map", metavar="FILE", help="write the map there")
+    parser.add_argument("--input", metavar="FILE", help="what the program reads")
     parser.add_argument("--arguments", metavar="WORD", nargs=argparse.REMAINDER,
                         help="all that follows are words for the argc and argv of the entry")
     parser.add_argument("files", metavar="FILE", nargs="+", help="a text of QBE")
@@ -61,25 +66,51 @@ def map_beside(output: str | None) -> str | None:
 class Lowering:
     """One run: the texts in, the text and its map out."""
 
-    def __init__(self, texts: list[Text], entry: str, is_linked: bool, words: list[str] | None = None):
+    def __init__(self, texts: list[Text], entry: str, is_linked: bool, words: list[str] | None = None,
+                 input_bytes: bytes = b""):
         """`words` are the arguments of the entry as texts, without the name of the program."""
         self.report = Report()
         self.program = Program(texts, self.report)
+        give_input(self.program.runtime, input_bytes)
         self.entry = self.entry_symbol("$" + entry)
         if is_linked and self.entry is None:
             raise Refused(texts[0].path, 1, f"no text exports a function ${entry}")
+        if self.entry is not None and (words is not None or has_ends(self.program)) and is_named(self.program, self.entry):
+            self.entry = wrapped(self.program, self.entry)
         if words is not None and self.entry is not None:
             give_arguments(self.entry, [pathlib.Path(texts[0].path).stem, *words])
-        first = self.program.keep_from(self.entry) if is_linked else self.keep_all()
+        if is_linked:
+            self.program.keep_from(self.entry)
+        else:
+            self.keep_all()
         self.program.give_names()
-        self.report.count("functions that are called before the entry", len(first))
+        self.report.count("functions that are called before the entry", len(self.program.ends.first))
         self.count_dropped(texts)
         self.program.reached = self.reached()
-        writer = ProgramWriter(self.program, self.report, self.entry, first)
+        writer = ProgramWriter(self.program, self.report, self.entry)
         self.chunks = writer.write()
         self.program.note_outside()
+        self.program.note_calls_of_system()
+        self.program.note_state_left()
+        bytes_told = told_bytes(self.chunks)
+        self.renamed = self.fit()
         self.text, self.map = text_of(self.chunks), map_of(self.chunks)
+        self.meanings = meanings_of(self.chunks, self.renamed)
         self.overflows = writer.overflows(len(self.text))
+        if self.overflows or bytes_told.total > LARGE:
+            self.report.note_size(bytes_told.lines())
+
+    def fit(self) -> dict[str, str]:
+        """Makes a text that is too large smaller, and gives the old names of what has new ones for that."""
+        if size_of_text(self.chunks) <= MOST_BYTES:
+            return {}
+        squeeze_spaces(self.chunks)
+        self.report.count("texts that are written without spaces, to fit")
+        if size_of_text(self.chunks) <= MOST_BYTES:
+            return {}
+        renamed = squeeze_names(self.chunks)
+        self.report.count("temporaries and labels with short names, to fit", len(renamed))
+        return renamed
 
     def entry_symbol(self, raw: str) -> Symbol | None:
         """The entry; of one text also a function that isn't exported."""
@@ -87,15 +118,18 @@ class Lowering:
         symbol = self.program.exported.get(raw) or (units[0].own.get(raw) if len(units) == 1 else None)
         return symbol if symbol is not None and symbol.is_function() else None
 
-    def keep_all(self) -> list[Symbol]:
+    def keep_all(self) -> None:
         program = self.program
         program.keep(program.resolve(unit, definition.name) for unit in program.units
                      for definition in unit.text.definitions)
-        return program.called_first() if self.entry is not None else []
+        if self.entry is not None:
+            program.ends.keep()
 
     def reached(self) -> dict[Symbol, None]:
         """What can be reached from the entry; without one all."""
-        return self.program.kept if self.entry is None else self.program.reached_from([self.entry])
+        ends = self.program.ends
+        return self.program.kept if self.entry is None else \
+            self.program.reached_from([self.entry, *ends.first, *([ends.finalizers] if ends.finalizers else [])])
 
     def count_dropped(self, texts: list[Text]) -> None:
         for text in texts:
@@ -107,14 +141,18 @@ class Lowering:
 
 
 def write_all(lowering: Lowering, output: str | None, map_path: str | None) -> None:
+    """Writes the text, its map, and beside the text what its names stand for."""
     text = lowering.text.encode(ENCODING)
+    beside = map_beside(output)
     if output is None:
         sys.stdout.buffer.write(text)
         sys.stdout.buffer.flush()
     else:
         pathlib.Path(output).write_bytes(text)
-    if map_path is not None:
-        pathlib.Path(map_path).write_bytes(lowering.map.encode(ENCODING))
+    if map_path or beside:
+        pathlib.Path(map_path or beside).write_bytes(lowering.map.encode(ENCODING))
+    if beside:
+        pathlib.Path(beside.removesuffix(".map") + ".names").write_bytes(lowering.meanings.encode(ENCODING))
 
 
 def main(words: list[str]) -> int:
@@ -122,8 +160,9 @@ def main(words: list[str]) -> int:
     gc.disable()
     given = options().parse_args(words)
     try:
-        lowering = Lowering([read_text(path) for path in given.files], given.entry, given.link, given.arguments)
-        write_all(lowering, given.output, given.map or map_beside(given.output))
+        input_bytes = pathlib.Path(given.input).read_bytes() if given.input is not None else b""
+        lowering = Lowering([read_text(path) for path in given.files], given.entry, given.link, given.arguments, input_bytes)
+        write_all(lowering, given.output, given.map)
     except Refused as refused:
         print(refused, file=sys.stderr)
         return LEFT_OVER
@@ -132,7 +171,6 @@ def main(words: list[str]) -> int:
         return NOT_READ
     for line in lowering.overflows:
         print(f"qrev-lower: {line}", file=sys.stderr)
-    if given.report:
-        for line in lowering.report.lines():
-            print(line, file=sys.stderr)
+    for line in lowering.report.lines() if given.report else lowering.report.halting():
+        print(line, file=sys.stderr)
     return LEFT_OVER if lowering.overflows or lowering.report.would_halt() else 0

@@ -4,6 +4,7 @@ What a line needs in front of all others, such as memory for a result, stands at
 """
 from .adapters import Adapters
 from .calls import CallWriter
+from .ends import Ends
 from .instructions import CARRIED, FLOAT_COMPARISONS, FLOATS, INTEGERS, LOADS_BY_CLASS, SUBWORDS, WITH_RESULT
 from .linking import Program
 from .report import Report
@@ -62,9 +63,11 @@ class FunctionWriter(CallWriter):
         self.labels: set[str] = set()
         self.hidden: str | None = None
         self.cells: str | None = None
+        self.ends: Ends | None = None
 
-    def write(self, begin_with: list[Symbol]) -> None:
-        """The lines of the function; those that are called first stand in front of all else."""
+    def write(self, ends: Ends | None) -> None:
+        """The lines of the function; of the entry also the calls of what runs before it and behind it."""
+        self.ends = ends
         function = self.function
         blocks = function.kept
         self.labels = {block.name for block in blocks}
@@ -79,8 +82,9 @@ class FunctionWriter(CallWriter):
             self.copy_of_parameter(name, kind, source)
         for name, alloc, size in self.slots:
             self.emit(f"\t{name} =l {alloc} {size}")
-        for first in begin_with:
-            self.emit(f"\tcall {first.name}()")
+        for first in ends.first if ends else []:
+            kinds = first.signature.carried() if first.signature else ()
+            self.emit(f"\tcall {first.name}({', '.join(f'{kind} 0' for kind in kinds)})")
         # Behind the header and the first label.
         self.texts, self.origins = (body[0][:2] + self.texts + body[0][2:], body[1][:2] + self.origins + body[1][2:])
         self.emit("}")
@@ -147,6 +151,8 @@ class FunctionWriter(CallWriter):
             self.emit(f"\tblit {self.operand(jump.value)}, {self.hidden}, {size}")
             self.emit("\tret")
             return
+        if jump.name == "ret" and self.ends and self.ends.finalizers:
+            self.emit(f"\tcall {self.ends.finalizers.name}()")
         words = ([] if jump.value is None else [self.operand(jump.value)]) + list(jump.labels)
         self.emit("\t" + " ".join([jump.name, ", ".join(words)]).rstrip())
 

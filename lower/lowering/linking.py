@@ -5,6 +5,9 @@ what the runtime has, else built in, else a function from outside, which halts.
 """
 from collections.abc import Iterable
 
+from .calls_of_system import ANSWERED, CALLERS, told
+from .ends import EXIT, FINALIZED, Ends, uses_finalizers
+from .families import HEAP_NAMES, Families, calls_of, constant, stored_data
 from .names import Names
 from .refusals import Refused
 from .report import Report, Weight
@@ -12,9 +15,12 @@ from .runtime import Runtime
 from .symbols import BUILT_IN, Symbol, Unit, references, signature_at, signature_of
 from .tree import Block, Call, Data, Definition, Function, Text, Value
 
+# What the mathematical library of C has beyond what is exact.
+INEXACT = frozenset(f"${name}{end}" for end in ("", "f") for name in (
+    "sin cos tan asin acos atan atan2 sinh cosh tanh asinh acosh atanh exp exp2 expm1 log log2 log10 log1p pow cbrt hypot "
+    "erf erfc tgamma lgamma fma").split())
 # The runtime's own function in the place of the built-in one, where its result or its address is used.
 COUNTED_PUTS = "$puts.counted"
-BEFORE_THE_ENTRY = ".init_array"
 
 
 class Program:
@@ -30,9 +36,13 @@ class Program:
         self.built_in = {raw: Symbol(raw, None, None, signature, True, raw) for raw, signature in BUILT_IN.items()}
         self.units = [self.unit_of(text) for text in texts]
         self.replaced: dict[Symbol, Symbol] = {}
+        # The data of a text that is stored to by its name.
+        self.stored: dict[Unit, set[str]] = {}
         # What can be reached from the entry; without an entry all.
         self.reached: dict[Symbol, None] = {}
-        self.replace_those_that_halt()
+        self.uses_finalizers = uses_finalizers(self)
+        self.ends = Ends(self)
+        self.replace_families()
 
     def unit_of(self, text: Text) -> Unit:
         unit = Unit(text, False)
@@ -55,7 +65,8 @@ class Program:
     def resolve(self, unit: Unit, raw: str) -> Symbol:
         symbol = unit.scope.get(raw)
         if symbol is None:
-            symbol = unit.own.get(raw) or self.resolve_beyond(unit, raw)
+            symbol = self.exported.get(raw) if unit.is_runtime and raw in HEAP_NAMES else None
+            symbol = symbol or unit.own.get(raw) or self.resolve_beyond(unit, raw)
             symbol = self.replaced.get(symbol, symbol)
             unit.scope[raw] = symbol
         return symbol
@@ -63,7 +74,9 @@ class Program:
     def resolve_beyond(self, unit: Unit, raw: str) -> Symbol:
         if unit.is_runtime:
             return self.built_in.get(raw) or self.runtime.symbol(raw)
-        found = self.exported.get(raw) or self.runtime.symbol(raw) or self.built_in.get(raw)
+        found = self.exported.get(raw) or self.runtime.offered(raw) or self.built_in.get(raw)
+        if raw == EXIT and found is self.built_in[EXIT] and self.uses_finalizers:
+            found = self.runtime.symbol(FINALIZED)
         if found is None:
             found = self.outside.setdefault(raw, Symbol(raw, None, None, None))
         return found
@@ -126,24 +139,10 @@ class Program:
         for symbol in self.reached_from(symbol for symbol in symbols if symbol not in self.kept):
             self.kept[symbol] = None
 
-    def keep_from(self, entry: Symbol) -> list[Symbol]:
-        """Keeps what is reachable from the entry, and what the texts that it is in have to be called before it; these."""
+    def keep_from(self, entry: Symbol) -> None:
+        """Keeps what is reachable from the entry, and what runs before it and behind it."""
         self.keep([entry])
-        first: list[Symbol] = []
-        while True:
-            more = [symbol for symbol in self.called_first() if symbol not in first]
-            if not more:
-                return first
-            first += more
-            self.keep(more)
-
-    def called_first(self) -> list[Symbol]:
-        """The functions whose addresses lie in the section of those that are called before the entry."""
-        units = {symbol.unit for symbol in self.kept}
-        return [self.resolve(unit, item.value) for unit in self.units if unit in units
-                for definition in unit.text.definitions
-                if isinstance(definition, Data) and (definition.section or "").startswith(BEFORE_THE_ENTRY)
-                for item in definition.items if item.is_global]
+        self.ends.keep()
 
     def give_names(self) -> None:
         """Names for all that is kept and has none: first those that can't be had otherwise."""
@@ -160,35 +159,64 @@ class Program:
 
     # What would halt.
 
-    def replace_those_that_halt(self) -> None:
-        """A function of a text that needs the system is replaced by the runtime's of its name, where there is one."""
-        candidates = [symbol for symbol in self.exported.values() if symbol.raw in self.runtime.places]
-        halting = [symbol for symbol in candidates
-                   if any(other.is_outside() for other in self.reached_from([symbol], set(candidates)))]
-        for symbol in halting:
-            self.replaced[symbol] = self.runtime.symbol(symbol.raw)
-            self.report.count("functions that need the system, replaced by the runtime's")
-            self.report.note(symbol.unit.text.path, symbol.definition.line,
-                             f"{symbol.raw} needs functions from outside: the runtime's is taken", Weight.OTHER)
-        for unit in self.units:
+    def replace_families(self) -> None:
+        """Of functions that share state all are replaced by the runtime's where one can't be the text's own."""
+        families = Families(self)
+        found = families.replaced()
+        self.left_state = {symbol for replaced in found for symbol in families.state[replaced.symbol]}
+        self.replaced = {replaced.symbol: self.runtime.symbol(replaced.symbol.raw) for replaced in found}
+        for unit in [*self.units, *self.runtime.units.values()]:
             unit.scope.clear()
         self.outside.clear()
+        self.report.count("functions that need the system, replaced by the runtime's", len(found))
+        for symbol, why in found:
+            self.report.note(symbol.unit.text.path, symbol.definition.line, f"{symbol.raw} {why}: the runtime's is taken",
+                             Weight.OTHER)
+
+    def note_state_left(self) -> None:
+        """A note for each function that is kept and looks at what a replaced one changed."""
+        for user in self.kept:
+            if user.is_data() or user.unit is None or user.is_of_runtime() or not self.left_state:
+                continue
+            shared = next((symbol for symbol in self.references_of(user) if symbol in self.left_state), None)
+            if shared is not None:
+                self.report.note(user.unit.text.path, user.definition.line,
+                                 f"{user.raw} uses {shared.raw}, which functions that were replaced don't change",
+                                 Weight.OTHER)
+
+    def stored_in(self, unit: Unit) -> set[str]:
+        if unit not in self.stored:
+            self.stored[unit] = stored_data(unit.text.definitions)
+        return self.stored[unit]
+
+    def note_calls_of_system(self) -> None:
+        """A note for each call of the system that can be reached, by a number that isn't answered."""
+        for user in self.reached:
+            if not isinstance(user.definition, Function) or user.is_of_runtime():
+                continue
+            for call in calls_of(user.definition):
+                if call.target in CALLERS and call.arguments and self.resolve(user.unit, call.target).is_of_runtime():
+                    number = constant(user.definition, call.arguments[0][1])
+                    if number is not None and number not in ANSWERED:
+                        self.report.note(user.unit.text.path, call.line, told(number), Weight.OTHER)
 
     def weight_in(self, symbol: Symbol) -> Weight:
         """What it means that something halts in what a symbol stands for."""
         return Weight.HALTS if symbol in self.reached else Weight.OTHER
 
     def note_outside(self) -> None:
-        """A note for each function from outside, at its first use in the texts."""
+        """A note for each function from outside, at its first use in the texts: one that can be reached, if there is one."""
         told: set[Symbol] = set()
-        for user in self.kept:
-            if user.unit is None or user.is_of_runtime():
-                continue
+        order = {unit: number for number, unit in enumerate(self.units)}
+        users = [user for user in self.kept if user.unit in order]
+        users.sort(key=lambda user: (user not in self.reached, order[user.unit], user.definition.line))
+        for user in users:
             fresh = [symbol for symbol in self.references_of(user) if symbol.is_outside() and symbol not in told]
             lines = lines_of_use(user.definition) if fresh else {}
-            for symbol in fresh:
-                self.report.note(user.unit.text.path, lines[symbol.raw],
-                                 f"{symbol.raw} is defined nowhere: a function that halts", self.weight_in(symbol))
+            for symbol in sorted(fresh, key=lambda symbol: lines[symbol.raw]):
+                why = "isn't exact, so that the runtime doesn't have it" if symbol.raw in INEXACT else "is defined nowhere"
+                self.report.note(user.unit.text.path, lines[symbol.raw], f"{symbol.raw} {why}: a function that halts",
+                                 self.weight_in(symbol))
             told.update(fresh)
         self.report.count("functions from outside, which halt", len(told))
 

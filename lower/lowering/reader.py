@@ -205,13 +205,18 @@ class TextReader(BodyReader):
             self.skip_newlines()
             if self.kind() == "}":
                 break
-            letter = LETTERS.get(self.values[self.at]) if self.kind() == "word" else None
+            word = self.values[self.at]
+            letter = LETTERS.get(word) if self.kind() == "word" else None
             if letter is None:
                 self.refuse("the size of a part of the data expected")
             self.at += 1
             self.skip_newlines()
+            first = len(items)
             items.append(self.read_item(letter))
             self.read_more(items, letter)
+            if letter != word:
+                for item in items[first:]:
+                    item.is_float = not item.is_global
             if self.kind() == "}":
                 break
             self.expect(",", "`,` or `}`")

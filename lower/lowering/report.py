@@ -17,6 +17,7 @@ class Report:
     def __init__(self) -> None:
         self.counts: Counter[str] = Counter()
         self.notes: dict[str, Weight] = {}
+        self.sizes: list[str] = []
 
     def count(self, what: str, number: int = 1) -> None:
         if number:
@@ -25,12 +26,20 @@ class Report:
     def note(self, path: str, line: int, what: str, weight: Weight = Weight.SAME) -> None:
         self.notes.setdefault(f"{path}:{line}: {what}", weight)
 
+    def note_size(self, lines: list[str]) -> None:
+        """Where the bytes of a large text are."""
+        self.sizes = lines
+
     def would_halt(self) -> bool:
         return Weight.HALTS in self.notes.values()
 
+    def halting(self) -> list[str]:
+        """The notes of what would halt: these are told without being asked for."""
+        return [f"{note} (would halt)" for note, weight in self.notes.items() if weight is Weight.HALTS]
+
     def lines(self) -> list[str]:
         """The counts by name, then the notes: first those of what runs as it did, last what would halt."""
-        told = [f"{number} {what}" for what, number in sorted(self.counts.items())]
+        told = [f"{number} {what}" for what, number in sorted(self.counts.items())] + self.sizes
         for weight, behind in ((Weight.SAME, ""), (Weight.OTHER, " (native code may differ)"),
                                (Weight.HALTS, " (would halt)")):
             told += [note + behind for note, has in self.notes.items() if has is weight]

@@ -6,12 +6,34 @@ import pathlib
 import re
 
 from .reader import TextReader
-from .symbols import Symbol, Unit, signature_of
+from .symbols import Signature, Symbol, Unit, signature_of
 from .tree import Function
 
 FOLDER = pathlib.Path(__file__).resolve().parent.parent / "runtime"
 EXPORTED = re.compile(r"^export (?:function (?:[a-z]+ )?|data )(\$[A-Za-z0-9._$]+)", re.MULTILINE)
 ENCODING = "latin-1"
+# What functions take and give that are about floats: in the runtime these are their bits. Each name has a sister for
+# singles, which ends in `f`.
+FLOATING = {
+    "d(d)": "fabs floor ceil trunc round rint nearbyint sqrt", "d(dd)": "fmod copysign fmin fmax", "d(dw)": "ldexp scalbn",
+    "d(dl)": "frexp modf",
+}
+
+
+def floating_signatures() -> dict[str, Signature]:
+    found = {"$lround": Signature("l", ("d",)), "$lrint": Signature("l", ("d",))}
+    for shape, names in FLOATING.items():
+        for name in names.split():
+            found["$" + name] = Signature(shape[0], tuple(shape[2:-1]))
+            found[f"${name}f"] = Signature("s", tuple(shape[2:-1].replace("d", "s")))
+    return found
+
+
+SIGNATURES = floating_signatures()
+
+
+def is_offered(name: str) -> bool:
+    return "." not in name or name.startswith("$rt.")
 
 
 class Runtime:
@@ -30,12 +52,19 @@ class Runtime:
         path = self.places.get(name)
         return None if path is None else self.unit(path).own[name]
 
+    def offered(self, name: str) -> Symbol | None:
+        """What texts are offered by a name: functions and data of C and of Hare's runtime. Other names with a dot are the
+        runtime's own."""
+        return self.symbol(name) if is_offered(name) else None
+
     def unit(self, path: pathlib.Path) -> Unit:
         if path not in self.units:
             text = TextReader(self.texts[path], f"lower/runtime/{path.name}").read()
             unit = Unit(text, True)
             for definition in text.definitions:
-                signature = signature_of(definition, True) if isinstance(definition, Function) else None
+                signature = None
+                if isinstance(definition, Function):
+                    signature = SIGNATURES.get(definition.name) or signature_of(definition, True)
                 unit.own[definition.name] = Symbol(definition.name, unit, definition, signature)
             self.units[path] = unit
         return self.units[path]

@@ -95,6 +95,12 @@ def classified(token: str) -> tuple[str, str | int | None, int]:
 
 def bad_token(token: str, text: str, path: str, line: int) -> Refused:
     first = token[0]
+    if token in ("s_", "d_"):
+        return Refused(path, line, f"`{token}` is no word of the language: a float is written as in `{token}-3.5`, without "
+                       "a space")
+    if first == "-":
+        return Refused(path, line, "`-` begins no token without a digit; the sign of a float stands behind its letter, as "
+                       "in `d_-3.5`")
     if first == '"' or token == "$" and '$"' in text:
         return Refused(path, line, "the string has no end")
     if first in "%@$:":

@@ -108,6 +108,8 @@ class Item:
     value: int | str
     is_global: bool = False
     offset: int = 0
+    # Whether its letter is `s` or `d`, which are written as `w` and `l`.
+    is_float: bool = False
 
 
 @dataclass(slots=True)

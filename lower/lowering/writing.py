@@ -4,6 +4,7 @@ from dataclasses import dataclass
 
 from .adapters import Adapters
 from .data import DEFAULT_ALIGNMENT, size_of_data, written_data
+from .ends import SECTIONS, array_names
 from .functions import FunctionWriter
 from .linking import Program
 from .report import Report
@@ -15,7 +16,9 @@ MOST_BYTES = MOST_DATA = 1 << 20
 MOST_FUNCTIONS = 1000
 FIRST_FUNCTION, FUNCTION_STEP, FIRST_DATA = 4096, 16, 65536
 # The data of the runtime from which memory is given: as much as the other data leaves, up to what it has.
-HEAP, HEAP_END = "$heap", "$heap.end"
+HEAP, HEAP_ENDS = "$heap", ("$heap.end", "$heap.top")
+# The data of the runtime's mappings, which is there where a program has them.
+MAPPED = "$pages.free"
 PAGE = 4096
 
 
@@ -30,10 +33,10 @@ class Chunk:
 
 
 class ProgramWriter:
-    """Writes what a program keeps; `begin_with` are called at the beginning of the entry."""
+    """Writes what a program keeps; in the entry stand the calls of what runs before and behind it."""
 
-    def __init__(self, program: Program, report: Report, entry: Symbol | None, begin_with: list[Symbol]):
-        self.program, self.report, self.entry, self.begin_with = program, report, entry, begin_with
+    def __init__(self, program: Program, report: Report, entry: Symbol | None):
+        self.program, self.report, self.entry = program, report, entry
         addressed = [symbol for symbol in self.addressed() if symbol.is_function() and not symbol.is_outside()]
         program.keep(addressed)
         program.give_names()
@@ -63,6 +66,7 @@ class ProgramWriter:
             for symbol in more:
                 self.write_symbol(symbol)
             done.update(more)
+        self.join_arrays()
         self.fit_heap()
         self.lay_out()
         self.chunks[:0] = [self.data_chunk(symbol) for symbol in self.data]
@@ -85,7 +89,7 @@ class ProgramWriter:
 
     def write_function(self, symbol: Symbol, report: Report) -> None:
         writer = FunctionWriter(self.program, self.adapters, symbol, report)
-        writer.write(self.begin_with if symbol is self.entry else [])
+        writer.write(self.program.ends if symbol is self.entry else None)
         self.chunks.append(Chunk(symbol, writer.texts, writer.origins, symbol.unit.text.path))
 
     def write_outside(self, symbol: Symbol) -> None:
@@ -95,7 +99,8 @@ class ProgramWriter:
         parameters += ["l %environment"] if signature.has_environment else []
         parameters += [f"{carried_class(kind)} %a{number}" for number, kind in enumerate(signature.parameters, 1)]
         gives = signature.carried_result()
-        texts = [f"function {gives + ' ' if gives else ''}{symbol.name}({', '.join(parameters)}) {{", "@start", "\thlt", "}"]
+        head = f"function {gives + ' ' if gives else ''}{symbol.name}({', '.join(parameters)}) {{"
+        texts = [head, "@is.not.there", "\thlt", "}"]
         self.chunks.append(Chunk(symbol, texts, [(0, None)] * len(texts), ""))
 
     # Data.
@@ -106,16 +111,26 @@ class ProgramWriter:
                             lambda raw: self.addresses[self.program.refer(unit, raw, True)])
         return Chunk(symbol, [text], [(definition.line, None)], unit.text.path)
 
+    def join_arrays(self) -> None:
+        """Puts the end of an array of functions right behind it."""
+        symbols = {symbol.raw: symbol for symbol in self.data if symbol.is_of_runtime()}
+        for start, end in map(array_names, SECTIONS):
+            if start in symbols and end in symbols:
+                self.data.remove(symbols[end])
+                self.data.insert(self.data.index(symbols[start]) + 1, symbols[end])
+
     def fit_heap(self) -> None:
-        """Makes the heap smaller where the data wouldn't fit otherwise."""
+        """Makes the heap as large as the other data leaves room for; without mappings of the system no larger than it is."""
         heap = next((symbol for symbol in self.data if symbol.raw == HEAP and symbol.is_of_runtime()), None)
         if heap is None:
             return
         others = self.data_end([symbol for symbol in self.data if symbol is not heap]) - FIRST_DATA
-        size = min(size_of_data(heap.definition), (MOST_DATA - others - PAGE) // PAGE * PAGE)
-        heap.definition = with_items(heap.definition, [Item(heap.definition.line, "z", max(size, 0))])
-        end = heap.unit.own[HEAP_END]
-        end.definition = with_items(end.definition, [Item(end.definition.line, "l", HEAP, True, max(size, 0))])
+        most = MOST_DATA if any(symbol.raw == MAPPED for symbol in self.data) else size_of_data(heap.definition)
+        size = max(min(most, (MOST_DATA - others - PAGE) // PAGE * PAGE), 0)
+        heap.definition = with_items(heap.definition, [Item(heap.definition.line, "z", size)])
+        for raw in HEAP_ENDS:
+            end = heap.unit.own[raw]
+            end.definition = with_items(end.definition, [Item(end.definition.line, "l", HEAP, True, size)])
         # The heap is the last, so that it may be cut.
         self.data.remove(heap)
         self.data.append(heap)
@@ -150,6 +165,10 @@ class ProgramWriter:
 def with_items(data: Data, items: list[Item]) -> Data:
     return Data(data.line, data.name, data.is_exported, data.section, data.alignment, items,
                 {item.value for item in items if item.is_global})
+
+
+def size_of_text(chunks: list[Chunk]) -> int:
+    return sum(len(line) + 1 for chunk in chunks for line in chunk.texts)
 
 
 def text_of(chunks: list[Chunk]) -> str:

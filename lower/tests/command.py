@@ -42,6 +42,35 @@ export function w $main(w %argc, l %argv) {
 }
 data $f = { b "%s|\\0" }
 """
+# A main that calls itself with the words behind the first.
+AGAIN = """
+data $f = { b "%s ", b 0 }
+export function w $main(w %argc, l %argv) {
+@start
+	%word =l loadl %argv
+	%p =w call $printf(l $f, ..., l %word)
+	%less =w sub %argc, 1
+	jnz %less, @more, @end
+@more
+	%next =l add %argv, 8
+	%r =w call $main(w %less, l %next)
+	ret %r
+@end
+	ret 0
+}
+"""
+READ = """
+export function w $main() {
+@start
+	%a =w call $getchar()
+	%p =w call $putchar(w %a)
+	%b =w call $getchar()
+	%p =w call $putchar(w %b)
+	%c =w call $getchar()
+	%p =w call $putchar(w %c)
+	ret %c
+}
+"""
 SECONDS_OF_A_MEBIBYTE = 2.0
 
 
@@ -86,8 +115,17 @@ def wrapper_faults(running: Running) -> Results:
         run = wrapper.run("--lower", "echo.ssa", "--", "a", "1", "--b c", "")
         yield "command/--lower with texts for main", differ("output", 'out 17 "echo|a|1|--b c||\\012"',
                                                             run.stdout.split("\n")[-2])
+        (wrapper.top / "again.ssa").write_text(AGAIN)
+        run = wrapper.run("--lower", "again.ssa", "--", "a", "bc")
+        yield "command/--lower with texts for a main that calls itself", differ(
+            "output", 'out 11 "again a bc "', run.stdout.split("\n")[-2])
         run = wrapper.run("--lower", "echo.ssa", "--")
         yield "command/--lower without texts for main", differ("output", 'out 6 "echo|\\012"', run.stdout.split("\n")[-2])
+        (wrapper.top / "read.ssa").write_text(READ)
+        (wrapper.top / "given").write_bytes(b"Q\xff")
+        for words in (["--input", "given", "read.ssa"], ["read.ssa", "--input=given", "--report"]):
+            run = wrapper.run("--lower", *words)
+            yield f"command/--lower with an input {words[0]}", differ("output", 'out 3 "Q\\377\\377"', run.stdout.split("\n")[-2])
         run = wrapper.run("--lower", "wrong.ssa", "1")
         told = "wrong.ssa:8: %y is used in `ret`, and nothing defines it\n"
         yield "command/--lower refuses", differ("run", (1, "", told), (run.returncode, run.stdout, run.stderr))
@@ -99,8 +137,43 @@ def wrapper_faults(running: Running) -> Results:
         yield "command/--lower leaves nothing", differ("files", [], list((wrapper.top / "tmp").iterdir()))
 
 
+def compared_faults(running: Running) -> Results:
+    """Two texts that are lowered and compared: the sum of 1 to 4, and one where an addition is a subtraction."""
+    built = TOP / "crates" / "qrev_compare" / "out" / "qrev_compare"
+    program = built if built.exists() else TOP / "release" / "qrev-compare-x86_64-linux"
+    with tempfile.TemporaryDirectory(prefix="lower-") as place:
+        wrapper = Wrapper(place, running)
+        shutil.copy(TOP / "qrev-compare", wrapper.top / "qrev-compare")
+        (wrapper.top / "release" / "qrev-compare-x86_64-linux").symlink_to(program)
+        good = (DATA / "real" / "sum.ssa").read_text()
+        (wrapper.top / "good.ssa").write_text(good)
+        (wrapper.top / "bad.ssa").write_text(good.replace("%.47 =w add %.47, %.48", "%.47 =w sub %.47, %.48"))
+
+        def run(*words: str, script: str = "") -> subprocess.CompletedProcess:
+            return subprocess.run([str(wrapper.top / "qrev-compare"), "--lower", *words], input=script, capture_output=True,
+                                  text=True, cwd=wrapper.top, timeout=running.seconds,
+                                  env=os.environ | {"TMPDIR": str(wrapper.top / "tmp")})
+
+        told = run("good.ssa", "bad.ssa")
+        lines = told.stdout.split("\n")
+        places = [line.partition("    ")[2] for line in lines if line.startswith("#")]
+        yield "command/compare --lower", differ("status", 1, told.returncode) or \
+            differ("first", ["part at event 1", "good: return $sum 10"], lines[:2]) or \
+            differ("bad", True, "bad: return $sum 4294967286" in lines) or \
+            differ("places", [f"{name}.ssa:51: ha/s/sum.ha:2:69: storew %.10, %binding.9" for name in ("good", "bad")], places)
+        told = run("good.ssa", "bad.ssa", "--session", "bad", script="back 3\n")
+        yield "command/compare --lower with a session", differ(
+            "place", True, "    bad.ssa:96: ha/s/sum.ha:1:54: " in told.stdout.split("\n")[-2])
+        told = run("good.ssa", "good.ssa", "--events=calls,end")
+        yield "command/compare --lower of the same", differ("told", (0, "same 3 events\n"), (told.returncode, told.stdout))
+        told = run("good.ssa", "none.ssa")
+        yield "command/compare --lower without a text", differ("told", (2, ""), (told.returncode, told.stdout))
+        yield "command/compare --lower leaves nothing", differ("files", [], list((wrapper.top / "tmp").iterdir()))
+
+
 def map_fault(running: Running) -> str | None:
-    """The map has a line for each line of the text, also where --map and --output say its place, and a pipe has none."""
+    """The map has a line for each line of the text, also where --map and --output say its place, and a pipe has none. What
+    the names stand for is beside the text."""
     with tempfile.TemporaryDirectory(prefix="lower-") as place:
         folder = pathlib.Path(place)
         (folder / "a.ssa").write_text(TEXT)
@@ -110,7 +183,8 @@ def map_fault(running: Running) -> str | None:
                                timeout=running.seconds).stdout
         files = sorted(path.name for path in folder.iterdir())
         text, found = (folder / "one.ssa").read_bytes(), (folder / "one.ssa.map").read_text()
-    return differ("files", ["a.ssa", "one.ssa", "one.ssa.map", "two.map", "two.ssa"], files) or \
+    return differ("files", ["a.ssa", "one.ssa", "one.ssa.map", "one.ssa.names", "two.map", "two.ssa",
+                             "two.ssa.names"], files) or \
         differ("pipe", text, piped) or differ("lines", text.count(b"\n"), found.count("\n")) or \
         differ("first", "a.ssa\t2", found.split("\n")[0])
 
@@ -154,5 +228,6 @@ def timed(folder: pathlib.Path) -> float:
 
 def results(running: Running) -> Results:
     yield from wrapper_faults(running)
+    yield from compared_faults(running)
     yield "command/the map", map_fault(running)
     yield "command/the time of a mebibyte", time_fault()

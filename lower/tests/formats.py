@@ -62,11 +62,11 @@ def made(choice: random.Random) -> Format:
     part, behind = number(choice, 24)
     precision = f".{part}" if part or choice.random() < 0.1 else ""
     arguments = before + (behind if precision else [])
-    letter = choice.choice("diuxXocspfFeEgGfeg%")
+    letter = choice.choice("diuxXocspfFeEgGfegaA%")
     if letter == "%":
         return Format("%%", [])
     front = "%" + flags(choice) + width + precision
-    if letter in "fFeEgG":
+    if letter in "fFeEgGaA":
         bits = struct.unpack("<Q", struct.pack("<d", floating(choice)))[0]
         return Format(front + choice.choice(("", "l")) + letter, arguments + [("d", bits)])
     if letter == "c":
@@ -125,6 +125,38 @@ def program(forms: list[Format]) -> str:
     return "\n".join(lines + [f"\tret %sum{len(forms)}", "}"] + data) + "\n"
 
 
+def memory_program(forms: list[Format], sizes: list[int]) -> str:
+    """Prints each format to memory of a size, where an `x` stands in each byte, then the memory and the count."""
+    lines = ["export function w $main() {", "@start"]
+    data = [f"data $text{number} = {{ b {string_of(text.encode())} 0 }}" for number, text in enumerate(STRINGS)]
+    data += ["data $to = { z 400 }", 'data $count = { b "|%d|\\n\\0" }']
+    for index, (form, size) in enumerate(zip(forms, sizes)):
+        arguments = "".join(f", l {f'$text{bits}' if bits < len(STRINGS) else 0}" if kind == "text" else f", {kind} {bits}"
+                            for kind, bits in form.arguments)
+        lines.append(f"\t%m{index} =l call $memset(l $to, w 120, l 64)")
+        lines.append(f"\t%r{index} =w call $snprintf(l $to, l {size}, l $f{index}, ...{arguments})")
+        lines.append(f"\t%w{index} =l call $write(w 1, l $to, l 64)")
+        lines.append(f"\t%p{index} =w call $printf(l $count, ..., w %r{index})")
+        data.append(f"data $f{index} = {{ b {string_of(form.text.encode())} 0 }}")
+    return "\n".join(lines + ["\tret 0", "}"] + data) + "\n"
+
+
+def memory_fault(running: Running, forms: list[Format], choice: random.Random) -> str | None:
+    """snprintf cuts what it writes to the size, and gives the whole length."""
+    sizes = [choice.choice((0, 1, 2, 10, 30, 64)) for _ in forms]
+    lowered = running.lower_here(memory_program(forms, sizes))
+    if isinstance(lowered, str):
+        return lowered
+    given = running.run(lowered.text).output.split("|\n")
+    for form, size, have in zip(forms, sizes, given):
+        whole = by_the_library(form)
+        kept = whole[:size - 1] + b"\0" if size else b""
+        want = f"{(kept + b'x' * (64 - len(kept))).decode('latin-1')}|{len(whole)}"
+        if want != have:
+            return f"{form} in {size} bytes: {have!r} in place of {want!r}"
+    return None if len(given) == len(forms) + 1 else f"{len(given)} lines"
+
+
 def batch_fault(running: Running, forms: list[Format]) -> str | None:
     wanted = [f"|{by_the_library(form).decode('latin-1')}|" for form in forms]
     lowered = running.lower_here(program(forms))
@@ -145,3 +177,6 @@ def results(running: Running) -> Results:
     for begin in range(0, COUNT, AT_ONCE):
         batch = forms[begin:begin + AT_ONCE]
         yield f"formats/{begin // AT_ONCE + 1} ({len(batch)} formats)", batch_fault(running, batch)
+    for begin in range(0, 1000, 500):
+        batch = [form for form in forms[begin:begin + 500] if not form.text.endswith("%%")]
+        yield f"formats/to memory {begin // 500 + 1} ({len(batch)} formats)", memory_fault(running, batch, choice)

@@ -69,11 +69,11 @@ export function $never() {
 }
 """
 GET = "export function w $main() {\n@start\n\t%x =w call $get()\n\tret %x\n}\n"
-# A function of the text in the place of the runtime's, which needs the system.
+# Functions of the text in the place of the runtime's, of which one needs the system.
 SYSTEM = """
 export function l $malloc(l %size) {
 @start
-	%r =l call $mmap(l 0, l %size)
+	%r =l call $mmap(l 0, l %size, w 3, w 34, w -1, l 0)
 	ret %r
 }
 export function w $strlen(l %text) {
@@ -108,11 +108,27 @@ export function w $main() {
 OUTSIDE = """
 export function w $main() {
 @start
-	%a =w call $getpid(l 1)
+	%a =w call $getpriority(l 1)
 	ret %a
 }
 """
-UNREACHED = "export function w $main() {\n@start\n\tret 3\n}\nfunction $f() {\n@start\n\tcall $getpid()\n\tret\n}\n"
+# The first of a name's uses is in what can't be reached, and in the second text.
+TWICE = """
+function w $idle() {
+@start
+	%a =w call $sprintf(l 0, l 0, ..., w 1)
+	%b =w call $fopen(l 0, l 0)
+	ret %a
+}
+export function w $main() {
+@start
+	%a =w call $step()
+	%b =w call $missing(l 0, l 0)
+	ret %b
+}
+"""
+STEP = "export function w $step() {\n@start\n\t%a =w call $absent(l 1)\n\tret %a\n}\n"
+UNREACHED = "export function w $main() {\n@start\n\tret 3\n}\nfunction $f() {\n@start\n\tcall $getpriority()\n\tret\n}\n"
 
 
 def linked_fault(running: Running) -> str | None:
@@ -144,18 +160,25 @@ def outside_fault(running: Running) -> str | None:
     """A function from outside halts under its own name, and the report tells the place of its first use."""
     lowered = running.lower({"a.ssa": OUTSIDE}, "--link", "--report")
     run = running.run(lowered.text, "continue\nwhere\ntemps\n")
-    note = "a.ssa:4: $getpid is defined nowhere: a function that halts (would halt)\n"
+    note = "a.ssa:4: $getpriority is defined nowhere: a function that halts (would halt)\n"
     return differ("status", 1, lowered.status) or differ("end", "fault halted", run.end) or \
-        differ("where", ["$getpid @start 0", "$main @start 1", "%a1 = 1"], run.lines[-3:]) or \
+        differ("where", ["$getpriority @is.not.there 0", "$main @start 1", "%a1 = 1"], run.lines[-3:]) or \
         differ("report", True, lowered.errors.endswith(note)) or \
-        differ("without a report", "", running.lower({"a.ssa": OUTSIDE}, "--link").errors)
+        differ("without a report", note, running.lower({"a.ssa": OUTSIDE}, "--link").errors)
+
+
+def told_fault(running: Running) -> str | None:
+    """Each function from outside that can be reached is told without a report, once, at its first use that can be reached."""
+    lowered = running.lower({"a.ssa": TWICE.replace("$sprintf", "$absent"), "b.ssa": STEP})
+    return differ("errors", "a.ssa:11: $missing is defined nowhere: a function that halts (would halt)\n"
+                  "b.ssa:3: $absent is defined nowhere: a function that halts (would halt)\n", lowered.errors)
 
 
 def unreached_fault(running: Running) -> str | None:
     """What would halt and isn't reachable makes no status."""
     lowered = running.lower({"a.ssa": UNREACHED}, "--report")
     return differ("status", 0, lowered.status) or differ("end", "done 3", running.run(lowered.text).end) or \
-        differ("report", True, "a.ssa:7: $getpid is defined nowhere" in lowered.errors)
+        differ("report", True, "a.ssa:7: $getpriority is defined nowhere" in lowered.errors)
 
 
 def entry_fault(running: Running) -> str | None:
@@ -195,6 +218,59 @@ export function l $main() {
         differ("end", f"done {(1 << 64) - 5}", running.run(lowered.text).end)
 
 
+# `f` takes a float before an integer.
+ORDER = """
+function w $f(w %n, ...) {
+@start
+	%list =l alloc8 24
+	vastart %list
+	%d =d vaarg %list
+	%i =w vaarg %list
+	ret %i
+}
+export function w $main() {
+@start
+	%a =w call $f(w 1, ..., d d_2, w 7)
+	%b =w call $f(w 1, ..., w 7, d d_2)
+	ret %a
+}
+"""
+
+
+def order_fault(running: Running) -> str | None:
+    """A call whose arguments behind dots stand in another order than that in which they are taken is told."""
+    lowered = running.lower({"a.ssa": ORDER}, "--link", "--report")
+    told = [line for line in lowered.errors.split("\n") if "behind the dots of $f" in line]
+    return differ("told", ["a.ssa:13: argument 1 behind the dots of $f is a w, and its `vaarg` there takes a d: native code "
+                           "takes floats and integers from registers of their own (native code may differ)"], told) or \
+        differ("end", "done 7", running.run(lowered.text).end)
+
+
+# Names that are the runtime's own: the text's are others, and one that it lacks is one from outside.
+OWN = """
+export function w $put.bytes(w %x) {
+@start
+	%y =w call $float.of.nothing(w %x)
+	ret %y
+}
+export function w $main() {
+@start
+	%n =w call $printf(l $f, ..., w 5)
+	%s =w call $sign.byte(w 0, w 2)
+	ret %s
+}
+data $f = { b "%d,\\0" }
+"""
+
+
+def own_fault(running: Running) -> str | None:
+    lowered = running.lower({"a.ssa": OWN}, "--link")
+    run = running.run(lowered.text, "continue\nout\nwhere\n")
+    return differ("end", "fault halted", run.end) or differ("output", "5,", run.output) or \
+        differ("where", "$sign.byte @is.not.there 0", run.lines[5]) or \
+        differ("told", "a.ssa:10: $sign.byte is defined nowhere: a function that halts (would halt)\n", lowered.errors)
+
+
 def large_fault(running: Running) -> str | None:
     """What qrev will refuse for its size is told, and the status says so."""
     text = "".join(f"export function $f{number}() {{\n@start\n\tret\n}}\n" for number in range(1001))
@@ -211,7 +287,14 @@ def results(running: Running) -> Results:
     yield "linking/putchar of the text", end_fault(running, {"a.ssa": PUTCHAR}, "done 101", "a5")
     yield "linking/another entry", end_fault(running, {"a.ssa": OTHER.replace("$idle", "$main")}, "done 0")
     yield "linking/a function from outside", outside_fault(running)
+    yield "linking/told without being asked", told_fault(running)
+    sine = running.lower({"a.ssa": TWICE.replace("$missing", "$sin").replace("call $step()", "copy 0")}, "--link")
+    yield "linking/what isn't exact", differ(
+        "errors", "a.ssa:11: $sin isn't exact, so that the runtime doesn't have it: a function that halts (would halt)\n",
+        sine.errors)
     yield "linking/not reached", unreached_fault(running)
     yield "linking/no entry", entry_fault(running)
     yield "linking/counts", counts_fault(running)
+    yield "linking/order behind dots", order_fault(running)
+    yield "linking/names of the runtime's own", own_fault(running)
     yield "linking/too large", large_fault(running)

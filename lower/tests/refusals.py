@@ -28,6 +28,8 @@ TEXTS = [
     ('data $a = { b "abc }\n', 1, "has no end"),
     ('data $a = { w 1,\n  l $"ab }\n', 2, "has no end"),
     (in_main("%x =w copy s_"), 3, "no word"),
+    (in_main("%x =d copy d_ -3"), 3, "as in `d_-3.5`, without a space"),
+    (in_main("%x =d copy -d_3.0"), 3, "the sign of a float stands behind its letter"),
     # Definitions.
     ("export", 1, "expected"),
     ("export type :t = { w }", 1, "linkage"),

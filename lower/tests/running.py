@@ -23,6 +23,10 @@ MOST_MOVES = 4_294_967_295
 Result = tuple[str, str | None]
 
 
+class Skipped(str):
+    """In place of what is wrong: the tool that a test waits for."""
+
+
 class Lowered(NamedTuple):
     """What qrev-lower did."""
 

@@ -126,16 +126,16 @@ def in_main(body: str) -> str:
 
 # What can't be done, and the function that halts.
 FAULTS = [
-    ("%w =l call $write(w 3, l 0, l 0)", "$write.to.another.descriptor @start 0"),
     ("%p =l call $malloc(l 600000)", "$malloc.heap.is.full @start 0"),
+    ("%r =l call $raise(w 6)", "$ended.by.signal @start 0"),
     ("%p =l call $malloc(l 8)\ncall $free(l %p)\ncall $free(l %p)", "$free.of.no.block.in.use @start 0"),
     ("%p =l alloc16 32\n%q =l add %p, 16\ncall $free(l %q)", "$free.of.no.block.in.use @start 0"),
     ("call $abort()", "$abort @start 0"),
     ("%r =w call $printf(l $n, ..., l 0)", "$printf.has.no.such.conversion @start 0"),
     ("%r =w call $printf(l $long, ..., l 0)", "$printf.has.no.long.double @start 0"),
-    ("call $rt.abort_fixed(l 0, l 1, l 2, l 3)", "$rt.abort_fixed @start 0"),
+    ("call $rt.abort_fixed(l $path, l 1, l 2, l 3)", "$rt.abort_fixed @start 3"),
 ]
-FAULT_DATA = 'data $n = { b "%n\\0" }\ndata $long = { b "%Lf\\0" }\n'
+FAULT_DATA = 'data $n = { b "%n\\0" }\ndata $long = { b "%Lf\\0" }\ndata $path = { l $n 2 2 }\n'
 
 
 def fault_fault(running: Running, body: str, place: str) -> str | None:
@@ -303,9 +303,9 @@ def small_heap_fault(running: Running) -> str | None:
     lowered = running.lower_here(text)
     if isinstance(lowered, str):
         return lowered
-    heap = int(lowered.text.split("data $heap = align 16 { z ")[1].split(" ")[0])
+    heap = int(lowered.text.split("data $heap = align 4096 { z ")[1].split(" ")[0])
     return differ("end", "done 0", running.run(lowered.text).end) or \
-        (None if 0 <= (1 << 20) - 900000 - heap < 2 * 4096 + 1024 else f"the heap has {heap} bytes")
+        (None if 0 <= (1 << 20) - 900000 - heap < 3 * 4096 else f"the heap has {heap} bytes")
 
 
 def texts_fault(running: Running) -> str | None:

@@ -221,6 +221,10 @@ def refused(program: str) -> str | None:
         words = [os.path.join(TOP, "terminal", "main"), "--debugger", program, "--"]
         for file, wanted, status in ((written(folder, "a.ssa", text), "a.ssa:14: C6: ", 1),
                                      (os.path.join(folder, "none.ssa"), "cannot read program", 2),
+                                     (written(folder, "c.ssa", text.replace("mul %i, %j", "copy d_-3.0")),
+                                      "c.ssa:14: L1: a constant of a float, which is left out here; `./qrev --lower`", 1),
+                                     (written(folder, "d.ssa", text.replace("mul %i, %j", "call $printf(l 0)")),
+                                      "d.ssa:14: C9: a global that is nowhere defined; `./qrev --lower` has much", 1),
                                      (written(folder, "b.ssa", ""), "S1", 1)):
             terminal = Terminal([*words, file])
             try:
@@ -435,13 +439,23 @@ COUNT = """export function w $main(w %count, l %texts) {
 """
 
 
+READ = """export function w $main() {
+@start
+	%byte =w call $getchar()
+	ret %byte
+}
+"""
+
+
 def lowered(program: str) -> str | None:
     """Texts of whole QBE: the places of their own lines, and saved scripts that say how to play them."""
     struct = "lower/test-data/real/structval.ssa"
     with tempfile.TemporaryDirectory(prefix="lowered-") as folder:
         count = written(folder, "count.ssa", COUNT)
         # The function `add` begins on line 76 of its text. The name of the program is a text of `main` too.
+        read, given = written(folder, "read.ssa", READ), written(folder, "given", "Q")
         return played(folder, [struct], "b $add\nc\n", f"  source: {struct}:76\n", "#14 $add @start.") or \
+            played(folder, ["--input", given, read], "c\n", "done 81\n", " done 81\n") or \
             played(folder, [count, "--", "a", "b c"], "c\n", "done 3\n", " done 3\n")
 
 

@@ -14,13 +14,16 @@ import sys
 import tempfile
 import termios
 import time
+from typing import Callable
 
 from terminal.shell import FAULT
 
 FOLDER = pathlib.Path(__file__).resolve().parent.parent
 TOP = FOLDER.parent
 PROMPT = "(qrev) "
-PLACE = re.compile(r"#\d+ (?:[$]\S+ @\S+ \d+|done.*|exit.*|fault.*)")
+PLACE = re.compile(r"#\d+ (?:[$]\S+ @\S+ \d+|done.*|exit.*|fault.*|halted in .*)")
+# How the front end tells an end that the debugger calls a fault.
+HALTED = re.compile(r" halted in .*")
 # What a line showed before it was erased: how far a long search has come is shown, and then taken away again.
 ERASED = re.compile(r"[^\n]*\r\x1b\[K")
 
@@ -107,6 +110,8 @@ class Held(Terminal):
         super().__init__([*own, *(f"--lowered={file}" for file in lowered), "--", *words], columns, folder=folder,
                          **environment)
         self.program, self.words, self.folder = program, words, folder
+        # How the debugger's own answers are read, where names of the text were made short.
+        self.read: Callable[[str], str] = str
         self.told = self.wait_for(PROMPT)
         self.place = last_place(self.told)
 
@@ -127,13 +132,16 @@ class Held(Terminal):
         asked = "where\ntemps\nout\n"
         run = subprocess.run([self.program, *self.words], input=script.read_text() + asked, capture_output=True,
                              text=True, timeout=self.seconds, cwd=self.folder)
-        told = run.stdout.split("\n")
+        told = self.read(run.stdout).split("\n")
         place = [line for line in told if PLACE.fullmatch(line)][-1]
-        if place != self.place:
+        if place != HALTED.sub(" fault halted", self.place):
             return f"the saved script leads to {place}, and the session stands at {self.place}"
         values = {line.split(" ")[0]: line.split(" ")[-1] for line in told[last_index(told, place):] if line[:1] == "%"}
         shown = {line.split(" ")[0]: re.sub(r" \(.*", "", line).split(" ")[-1]
                  for line in self.do("temps").split("\n") if line[:1] == "%"} if values else {}
+        # Of a float its bits are compared.
+        shown = {name: value if value.isdigit() or value == "unset" else self.do(f"p/u {name}").split(" = ")[1].strip()
+                 for name, value in shown.items()}
         return None if shown == values else f"the saved script gives {values}, and the session has {shown}"
 
 

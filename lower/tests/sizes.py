@@ -1,0 +1,43 @@
+"""Texts that are too large as they are: without spaces, with short names, and what the report says of their bytes."""
+from .running import Results, Running, differ
+
+STEPS = 120
+
+
+def text_of(functions: int, word: str) -> str:
+    """Functions that call one another, each of many steps with long names; they give the sum of the numbers of all."""
+    parts = []
+    for number in range(functions):
+        name = f"%{word}.{number}"
+        lines = [f"\t{name}.{step} =l add {name}.{step - 1}, {step}" for step in range(1, STEPS)]
+        call = f"\t{name}.last =l call $f{number + 1}(l {name}.{STEPS - 1})\n" if number + 1 < functions else \
+            f"\t{name}.last =l copy {name}.{STEPS - 1}\n"
+        parts.append(f"function l $f{number}(l {name}.0) {{\n@start.of.{word}.{number}\n" + "\n".join(lines)
+                     + f"\n{call}\tret {name}.last\n}}\n")
+    text = "data $text = { b \"%not.a.name @nor.this , = \\\"quoted\\\"\\n\\0\" }\n"
+    return text + "".join(parts) + "export function l $main() {\n@start\n\t%n =l call $write(w 1, l $text, l 35)\n" \
+        "\t%x =l call $f0(l 5)\n\tret %x\n}\n"
+
+
+def fault_of(running: Running, text: str, functions: int, told: str, output: str) -> str | None:
+    lowered = running.lower({"a.ssa": text}, "--link", "--report")
+    run = running.run(lowered.text)
+    total = 5 + functions * STEPS * (STEPS - 1) // 2
+    return differ("status", 0, lowered.status) or differ("size", True, len(lowered.text) <= 1 << 20) or \
+        differ("end", f"done {total}", run.end) or differ("output", output, run.output) or \
+        differ("lines of the map", lowered.text.count("\n"), lowered.map.count("\n")) or \
+        (None if told in lowered.errors else f"{lowered.errors!r}") or \
+        (None if " bytes of text: " in lowered.errors and " of a.ssa" in lowered.errors else f"{lowered.errors!r}")
+
+
+def results(running: Running) -> Results:
+    output = "%not.a.name @nor.this , = \"quoted\"\n"
+    for functions, word, told in ((90, "a.long.name.of.temporaries", ""),
+                                  (240, "name", "texts that are written without spaces"),
+                                  (250, "a.long.name.of.temporaries", "temporaries and labels with short names")):
+        yield f"sizes/{functions} functions", fault_of(running, text_of(functions, word), functions, told, output)
+    text = text_of(800, "x")
+    lowered = running.lower({"a.ssa": text}, "--link", "--report")
+    yield "sizes/too large all the same", differ("status", 1, lowered.status) or \
+        differ("told", (True, True), ("bytes, and qrev takes at most 1048576" in lowered.errors,
+                                      " of a.ssa" in lowered.errors))

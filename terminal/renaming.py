@@ -1,0 +1,27 @@
+"""Names that were made short in a text, so that it fits: people read and write the old ones, the debugger the new ones."""
+from __future__ import annotations
+
+import re
+
+LOCAL = re.compile(r"[%@][A-Za-z0-9._$]+")
+# Lines with texts of the program in them: of data, and of what it wrote.
+TEXTS = ("data ", "out ")
+
+
+class Renaming:
+    """The old names of the new ones, the same in all functions."""
+
+    def __init__(self, old: dict[str, str]):
+        self.old = old
+        self.new = {name: short for short, name in old.items()}
+
+    def shortened(self, line: str) -> str:
+        """A line for the debugger."""
+        return LOCAL.sub(lambda match: self.new.get(match.group(), match.group()), line)
+
+    def told(self, text: str) -> str:
+        """What the debugger answers, or its text, as people read it."""
+        return "\n".join(line if line.startswith(TEXTS) else self.line_told(line) for line in text.split("\n"))
+
+    def line_told(self, line: str) -> str:
+        return LOCAL.sub(lambda match: self.old.get(match.group(), match.group()), line)

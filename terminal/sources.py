@@ -1,0 +1,190 @@
+"""Lines of a source: breakpoints at them, what is around them, and moves from one to the next."""
+from __future__ import annotations
+
+import re
+from typing import Callable
+
+from .answers import Place
+from .expressions import Wrong
+from .moving import repeated
+from .runs import Outcome
+from .scratch import Refused
+from .shell import Shell, command
+from .sourcemap import Line
+
+# A place of a source as it is typed: FILE:LINE.
+TYPED = re.compile(r"([^\s$@%][^\s]*):(\d+)")
+AROUND = 5
+MOST_OF_A_LINE = 1_000_000
+
+
+def place_in_source(shell: Shell, text: str) -> tuple[str, str, int] | None:
+    """The first place of a line of a source that is typed as FILE:LINE, or None where it isn't typed so."""
+    typed = TYPED.fullmatch(text)
+    if not typed:
+        return None
+    found = shell.screen.map.lines_from(typed.group(1), int(typed.group(2)))
+    if not found:
+        files = ", ".join(shell.screen.map.files()) or "none, since the text has no map with debug lines"
+        raise Wrong(f"{text}: no code at that line or behind it; the sources are: {files}"[:240])
+    program = shell.session.program
+    own = [program.place_at(line) for line in found[1] if program.place_at(line)]
+    exact = [place for place, line in zip(own, found[1]) if place and program.line_of(*place) == line]
+    return next(iter(exact or own), None)
+
+
+def source_here(shell: Shell, place: Place | None = None) -> Line | None:
+    """The line of the source at which the innermost frame stands, or that of a place."""
+    frames = shell.session.frames() if place is None else [place]
+    if not frames or not frames[0].function:
+        return None
+    return shell.screen.map.source(shell.session.program.line_of(frames[0].function, frames[0].label, frames[0].index))
+
+
+def source_lines(shell: Shell, file: str, first: int, last: int, marked: int) -> list[str]:
+    """Lines of a source with their numbers; nothing where it isn't found."""
+    lines = shell.screen.map.read(file)
+    last = min(last, len(lines))
+    digits = len(str(last))
+    return [shell.screen.cut(f"{'>' if at == marked else ' '} {at:{digits}}  {lines[at - 1].expandtabs(4)}")
+            for at in range(max(first, 1), last + 1)]
+
+
+def list_source(shell: Shell, rest: str) -> bool:
+    """Shows lines of the source, where there is one; whether it did."""
+    here, typed = source_here(shell), TYPED.fullmatch(rest)
+    if typed:
+        found = shell.screen.map.lines_from(typed.group(1), 1)
+        file = found[0].file if found else typed.group(1)
+        middle = int(typed.group(2))
+    elif here and (not rest or rest.isdigit()):
+        file, middle = here.file, int(rest) if rest else here.number
+        if not rest and shell.line_listed and shell.line_listed[0] == file:
+            middle = shell.line_listed[1] + AROUND + 1
+    else:
+        return False
+    marked = here.number if here and here.file == file else 0
+    lines = source_lines(shell, file, middle - AROUND, middle + AROUND, marked)
+    if not lines and typed:
+        raise Refused(f"{file}: the source isn't found, or has no such line")
+    if lines:
+        shell.say(file, *lines)
+        shell.line_listed = (file, middle + AROUND)
+    return bool(lines)
+
+
+def source_told(shell: Shell, _rest: str) -> list[str]:
+    here, files = source_here(shell), shell.screen.map.files()
+    told = [f"here: {here.file}:{here.number}" if here else "here: no line of a source"]
+    found = {file: "" if shell.screen.map.read(file) else ", which isn't found" for file in files}
+    return told + [f"{file}: {count} lines in the text{found[file]}" for file, count in files.items()]
+
+
+# Moves by lines of the source.
+
+def goes_in(shell: Shell, index: int) -> bool:
+    """Whether the instruction at an index of the block calls a function that has lines of a source."""
+    place, program = shell.session.place, shell.session.program
+    instruction = program.functions[place.function].at(place.label, index)
+    called = program.called(instruction) if instruction.operation == "call" else None
+    function = program.functions.get(called or "")
+    return function is not None and shell.lowered.is_own(function.name) and \
+        any(shell.screen.map.source(each.line) for _, _, each in function.places())
+
+
+def is_over(shell: Shell, outcome: Outcome) -> bool:
+    """Whether moves end for another reason than a line."""
+    return bool(outcome.stop or outcome.refusal or outcome.reason or shell.session.place.end or shell.waiting.is_pressed)
+
+
+def to_other_line(shell: Shell, move: Callable[[], Outcome]) -> Outcome:
+    """Moves until the line of the source is another one, or the frame is."""
+    begun, depth = source_here(shell), len(shell.session.frames())
+    if not begun and not shell.screen.map.files():
+        raise Refused("the text has no map with debug lines: `step` and `next` go by its own lines")
+    for _ in range(MOST_OF_A_LINE):
+        outcome = move()
+        here = source_here(shell)
+        if is_over(shell, outcome) or here and (here != begun or len(shell.session.frames()) != depth):
+            return outcome
+    return Outcome("a line of more than a million moves")
+
+
+def to_beginning(shell: Shell, is_in: bool) -> tuple[Outcome, bool]:
+    """Goes back to the first place of the line of the source, in the frame that is there, or in that of a call on the way if
+    calls are gone into; whether that is another place."""
+    line, depth, begun = source_here(shell), len(shell.session.frames()), shell.session.timeline
+    while True:
+        before = shell.session.timeline
+        if is_in and is_behind_call(shell) and line_before(shell) == line:
+            shell.session.move("back")
+            return to_beginning(shell, is_in)[0], True
+        outcome = shell.runs.back_over()
+        if outcome.stop or outcome.reason:
+            return outcome, True
+        if outcome.refusal or source_here(shell) not in (line, None) or len(shell.session.frames()) != depth:
+            shell.session.go(before)
+            return Outcome(), before != begun
+
+
+def back_by_line(shell: Shell, is_in: bool) -> Outcome:
+    """Goes back to the beginning of the line, and from there to that of the line before."""
+    if source_here(shell) and not shell.session.place.end:
+        outcome, has_moved = to_beginning(shell, is_in)
+        if has_moved:
+            return outcome
+    outcome = to_other_line(shell, (lambda: back_in(shell)) if is_in else shell.runs.back_over)
+    return outcome if is_over(shell, outcome) else to_beginning(shell, is_in)[0]
+
+
+def step_in(shell: Shell) -> Outcome:
+    """A move into a function that has lines of a source, or over any other."""
+    place = shell.session.place
+    if not place.function or not goes_in(shell, place.index):
+        return shell.runs.next()
+    return Outcome(refusal=shell.session.move("step").refusal)
+
+
+def is_behind_call(shell: Shell) -> bool:
+    """Whether the move before ended a call of such a function."""
+    place = shell.session.place
+    return bool(place.function and place.index and goes_in(shell, place.index - 1))
+
+
+def line_before(shell: Shell) -> Line | None:
+    """The line of the source of the instruction before, in the same block."""
+    place = shell.session.place
+    return shell.screen.map.source(shell.session.program.line_of(place.function, place.label, place.index - 1))
+
+
+def back_in(shell: Shell) -> Outcome:
+    """The same back: into the end of such a function from behind its call."""
+    if not is_behind_call(shell):
+        return shell.runs.back_over()
+    return Outcome(refusal=shell.session.move("back").refusal)
+
+
+@command("next-line nl", "next-line [N]", "expression")
+def next_line(shell: Shell, rest: str) -> None:
+    """Moves forward to the next line of the source, or N, and over calls. A stop inside a call ends it."""
+    repeated(shell, rest, lambda: to_other_line(shell, shell.runs.next))
+
+
+@command("step-line sl", "step-line [N]", "expression")
+def step_line(shell: Shell, rest: str) -> None:
+    """Moves forward to the next line of the source, or N, also into calls of functions that have lines of a source."""
+    repeated(shell, rest, lambda: to_other_line(shell, lambda: step_in(shell)))
+
+
+@command("reverse-next-line rnl", "reverse-next-line [N]", "expression")
+def reverse_next_line(shell: Shell, rest: str) -> None:
+    """Moves back to the beginning of the line of the source, and from there to that of the line before, or of N, over
+    calls."""
+    repeated(shell, rest, lambda: back_by_line(shell, False))
+
+
+@command("reverse-step-line rsl", "reverse-step-line [N]", "expression")
+def reverse_step_line(shell: Shell, rest: str) -> None:
+    """Moves back to the beginning of the line of the source, and from there to that of the line before, or of N, also into
+    calls from behind."""
+    repeated(shell, rest, lambda: back_by_line(shell, True))
