@@ -216,8 +216,8 @@ class Gathering:
                 lines = list(map(asked.__getitem__, zip(places, places[1:])))
                 for poke in (at for at in self.pokes if begin <= at < end):
                     lines[poke - begin] = poke_asked(self.pokes[poke])
-                # Moves that set nothing are made by one line with the next one.
-                text = ("\n".join(lines) + "\n").replace("step\nstep\nprint", "step 2\nprint")
+                # A move that sets nothing is made by one line with the next one. (A name may end with `step`.)
+                text = ("\n".join(lines) + "\n").replace("\nstep\nstep\nprint", "\nstep 2\nprint")
                 pipe = self.with_room(pipe, len(text), begin)
                 self.add_values(pipe.ask_text(text))
         except (Ended, OSError) as error:

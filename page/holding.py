@@ -14,14 +14,13 @@ from typing import Any, Sequence
 
 from terminal.answers import read_value
 from terminal.scratch import Launch, Refused
-from terminal.screen import SourceMap
 from terminal.session import Session
 from terminal.text import Program
 from terminal.timeline import Poke, Timeline
 from terminal.waiting import Waiting
 
 from .gathering import Gathering, length_of
-from .table import Table
+from .table import Origins, Table
 from .windows import Long
 
 # A run of at most so many moves is shown whole; of a longer one an overview, and windows.
@@ -42,6 +41,8 @@ class Held:
         # What stands for the program on a command line of ./qrev, and what comes last there.
         self.named, self.texts = list(named), [] if texts is None else ["--", *texts]
         self.lock = threading.Lock()
+        # Which page leads the session: the one that was opened last.
+        self.page = 0
         self.waiting = Waiting()
         self.session = Session(launch, source, self.waiting)
         self.refused = self.session.pipe.refused
@@ -49,7 +50,7 @@ class Held:
             return
         self.program: Program = self.session.program
         self.table = Table(self.program)
-        self.map = SourceMap(pathlib.Path(file + ".map"))
+        self.origins = Origins(file)
         self.gathering: Gathering
         self.total = length_of(launch, most)
         self.long: Long | None = None
@@ -73,7 +74,7 @@ class Held:
 
     def told(self) -> dict[str, Any]:
         """The program as the page reads it, and the command that plays its script."""
-        return {**self.table.told(self.title, self.map), "command": self.command(), "long": self.long is not None}
+        return {**self.table.told(self.title, self.origins), "command": self.command(), "long": self.long is not None}
 
     @property
     def title(self) -> str:

@@ -41,6 +41,8 @@ class App {
     this.code.build();
     if (this.program.long) await this.overviewed();
     await this.load(this.long ? 0 : null);
+    const there = new URLSearchParams(location.search).get("at");
+    if (there !== null && /^\d+$/.test(there)) this.goTo(Number(there));
     document.documentElement.dataset.ready = "yes";
   }
 
@@ -63,6 +65,8 @@ class App {
     const run = await this.source.run(this.program, growing => this.growing(growing));
     if (!this.long) byId("progress").hidden = true;
     this.run = run;
+    // What the run was before a value was set by hand.
+    this.ghost = was ? before : null;
     this.memory = new Memory(run);
     this.causes = new Causes(run, this.memory);
     this.cells.build();
@@ -96,7 +100,7 @@ class App {
     const {run, long} = this, end = byId("end"), told = long ? long.end : run.isOver ? run.end : "goes on";
     end.textContent = end.title = told || "looking for the end";
     end.className = told.startsWith("fault") ? "pill is-fault" : "pill";
-    byId("was").textContent = was && was !== run.end ? `was ${was}` : "";
+    byId("was").textContent = was;
     byId("moves").textContent = `${spaced(this.wholeMoves)} moves${long ? `, ${spaced(run.moves)} shown` : ""}`;
     byId("poke").hidden = !this.source.isLive || Boolean(long);
   }
@@ -351,7 +355,7 @@ class App {
 
   /** Makes a value by hand at the cursor; the run from there on is another one. */
   async make(line) {
-    const was = this.run.end, cursor = this.cursor;
+    const was = `${this.run.end} at #${this.run.moves}`, cursor = this.cursor;
     try {
       await this.source.ask("api/poke", {position: cursor, line});
       await this.load(cursor + 1, was);

@@ -91,10 +91,20 @@ export class Code {
   draw() {
     const {app} = this, {place} = app, {line} = place.instruction;
     byId("place").textContent = `${place.func.name} ${place.block.label} ${place.k}`;
-    byId("source").textContent = app.program.map?.[line - 1] ?? "";
+    this.source(line);
     if (!this.rows.has(line)) this.render(line);
     this.decorate();
     this.scrollTo(place);
+  }
+
+  /** The places that a line comes from, each with its text where that could be read: the compiler's own text, and its source. */
+  source(line) {
+    const {map, sources} = this.app.program, box = byId("source");
+    box.hidden = !map;
+    if (!map) return;
+    box.replaceChildren(...map[line - 1].map(([file, number, column]) => element("div", {class: "origin"},
+      element("span", {class: "where"}, `${file.slice(file.lastIndexOf("/") + 1)}:${number}${column ? `:${column}` : ""}`),
+      element("code", {}, sources[file]?.[number - 1]?.trim().replaceAll("\t", " ") ?? ""))));
   }
 
   decorate() {
@@ -144,17 +154,23 @@ export class Code {
     for (const value of found.values()) this.put(value, func);
   }
 
-  /** The values that were set on the way to a state of this frame. */
+  /** The values that the move to a state of this frame set; the place from which that was made is given. */
   setsBetween(here, state, place, found) {
-    const {run} = this.app, {func} = place, move = run.stepsBegun(state) - 1;
-    for (let set = lowerBound(run.setPos, Math.max(move, 0)); set < run.setPos.length && run.setPos[set] < state; set++) {
+    const {run} = this.app, {func} = place, move = state - 1, isPoke = run.pokes[move] !== undefined;
+    const isPhi = !isPoke && here.instruction.labels.length > 0, target = isPhi ? run.placeAt(state).block : here.block;
+    for (let set = lowerBound(run.setPos, move); set < run.setPos.length && run.setPos[set] === move; set++) {
       const name = run.program.names[run.setTemp[set]];
-      if (found.has(name) || run.frameOfSet(set) !== run.frameAt[state]) continue;
-      const isPhi = here.instruction.labels.length > 0, target = isPhi ? run.placeAt(state).block : here.block;
-      const line = isPhi ? target.phis.find(phi => phi.result === name)?.line ?? here.instruction.line : here.instruction.line;
-      const isStale = !run.program.dominates(func, target, isPhi ? -1 : here.k, place.block, place.k);
-      found.set(name, {line, set, name, isStale});
+      if (found.has(name)) continue;
+      // What was set by hand stands where the text sets it.
+      const line = isPoke ? this.definedAt(func, name) : isPhi ? target.phis.find(phi => phi.result === name)?.line : here.instruction.line;
+      const isStale = !isPoke && !run.program.dominates(func, target, isPhi ? -1 : here.k, place.block, place.k);
+      found.set(name, {line: line ?? here.instruction.line, set, name, isStale});
     }
+  }
+
+  definedAt(func, name) {
+    for (const block of func.blocks) for (const each of [...block.phis, ...block.body]) if (each.result === name) return each.line;
+    return func.line;
   }
 
   storeTold({instruction}, move) {
@@ -168,7 +184,7 @@ export class Code {
     if (text) return box.append(element("span", {class: "value is-store"}, text));
     const shown = causes.shown(run.value(set), run.program.widths[run.setTemp[set]], run.setPos[set] + 1);
     return box.append(element("button", {class: classes("value", isStale && "is-stale"), data: {value: name}, tabindex: "-1",
-      title: `${name} since #${run.setPos[set] + 1 + run.base}: click for why`}, line === func.line ? `${name.slice(1)} = ${shown}` : shown));
+      title: `${name} = ${shown} since #${run.setPos[set] + 1 + run.base}: click for why`}, line === func.line ? `${name.slice(1)} = ${shown}` : shown));
   }
 
   /** What the instruction that comes next reads, and where a jump goes. */
@@ -176,7 +192,7 @@ export class Code {
     const {app} = this, {run, causes} = app, box = this.rows.get(instruction.line)?.lastChild;
     if (!box) return;
     box.replaceChildren(...causes.operands(app.state).map(each => element("button",
-      {class: "value is-operand", data: {value: each.name}, tabindex: "-1", title: "click for why"}, `${each.name.slice(1)} = ${each.shown}`)));
+      {class: "value is-operand", data: {value: each.name}, tabindex: "-1", title: `${each.name} = ${each.shown}: click for why`}, `${each.name.slice(1)} = ${each.shown}`)));
     if (instruction.op !== "jnz") return;
     const condition = run.operand(instruction.operands[0][0], app.state);
     if (condition !== null) box.append(element("span", {class: "value is-way"}, `→ ${instruction.labels[condition & 0xffffffffn ? 0 : 1]}`));

@@ -136,22 +136,34 @@ export class Timeline {
   }
 
   silhouette(run, moves) {
-    const {context} = this, width = Math.floor(this.span), key = `${run.moves} ${moves} ${width}`;
-    if (this.profileKey !== key || this.profileOf !== run) {
-      this.profile = new Uint16Array(width);
-      const {depth} = run.frames;
-      for (let x = 0; x < width; x++) {
-        const begin = Math.floor(x / width * moves), end = Math.min(run.moves + 1, Math.max(begin + 1, Math.floor((x + 1) / width * moves)));
-        const stride = Math.max(1, Math.floor((end - begin) / 64));
-        for (let at = begin; at < end; at += stride) this.profile[x] = Math.max(this.profile[x], depth[run.frameAt[at]] + 1);
-      }
-      Object.assign(this, {profileKey: key, profileOf: run});
-    }
+    const {context} = this, profile = this.profile(run, moves), most = Math.max(run.maxDepth, this.app.ghost?.maxDepth ?? 0) + 1;
+    const tall = depth => depth / most * (this.overviewTall - 10), bottom = this.overviewTall - 6;
     context.fillStyle = this.color("silhouette");
+    profile.forEach((depth, x) => depth && context.fillRect(SIDE + x, bottom - tall(depth), 1, tall(depth)));
+    if (this.app.ghost) this.ghost(this.profile(this.app.ghost, moves), tall, bottom);
+  }
+
+  /** The run before a value was set by hand, as a line. */
+  ghost(profile, tall, bottom) {
+    const {context} = this;
+    context.strokeStyle = this.color("poke");
+    context.beginPath();
+    profile.forEach((depth, x) => context.lineTo(SIDE + x + .5, bottom - tall(depth)));
+    context.stroke();
+  }
+
+  /** The greatest depth of calls in each column. */
+  profile(run, moves) {
+    const width = Math.floor(this.span), key = `${run.moves} ${moves} ${width}`;
+    if (run.profile?.key === key) return run.profile.depths;
+    const depths = new Uint16Array(width), {depth} = run.frames;
     for (let x = 0; x < width; x++) {
-      const tall = this.profile[x] / (run.maxDepth + 1) * (this.overviewTall - 10);
-      if (tall) context.fillRect(SIDE + x, this.overviewTall - 6 - tall, 1, tall);
+      const begin = Math.floor(x / width * moves), end = Math.min(run.moves + 1, Math.max(begin + 1, Math.floor((x + 1) / width * moves)));
+      const stride = Math.max(1, Math.floor((end - begin) / 64));
+      for (let at = begin; at < end; at += stride) depths[x] = Math.max(depths[x], depth[run.frameAt[at]] + 1);
     }
+    run.profile = {key, depths};
+    return depths;
   }
 
   /** Of a run that is too long for arrays: whole stacks at equal distances. Between them nothing is said. */

@@ -99,7 +99,15 @@ export class Tree {
     const rows = this.nodes.map((node, index) => this.row(node, index, depths.get(node)));
     this.box.replaceChildren(element("div", {role: "tree", "aria-label": "causes", tabindex: "0",
       "aria-activedescendant": `node-${this.nodes.indexOf(walk.chosen)}`}, ...rows));
-    this.box.querySelector(".node.is-chosen")?.scrollIntoView({block: "nearest"});
+    this.reveal(this.box.querySelector(".node.is-chosen"));
+  }
+
+  /** Scrolls the tree, and not the page, so that a row is in view. */
+  reveal(row) {
+    if (!row) return;
+    const {box} = this, top = row.offsetTop, bottom = top + row.offsetHeight;
+    if (top < box.scrollTop) box.scrollTop = top;
+    else if (bottom > box.scrollTop + box.clientHeight) box.scrollTop = bottom - box.clientHeight;
   }
 
   row(node, index, depth) {
@@ -122,8 +130,9 @@ export class Tree {
 
   by({cause, isSeen}) {
     const {program} = this.app, text = cause.phi?.text ?? cause.place?.instruction.text;
-    const source = cause.place && program.map?.[cause.place.instruction.line - 1];
-    return element("span", {class: "by", title: [text, source].filter(Boolean).join("\n")}, `${cause.verb} `, text ? element("code", {}, text) : null,
+    const places = (cause.place && program.map?.[cause.place.instruction.line - 1]) ?? [];
+    const source = places.map(([file, line, column]) => `${file}:${line}${column ? `:${column}` : ""}`);
+    return element("span", {class: "by", title: [text, ...source].filter(Boolean).join("\n")}, `${cause.verb} `, text ? element("code", {}, text) : null,
       isSeen ? " (as above)" : "", cause.note ? element("em", {class: classes("note", cause.isAlarm && "is-alarm")}, cause.note) : null);
   }
 }

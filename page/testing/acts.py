@@ -125,8 +125,8 @@ def by_hand(program: str) -> str | None:
         browser.type("poke w $bias 0")
         browser.key("Enter")
         steps: list[tuple[str, object]] = [
-            ("document.getElementById('end').textContent", "done 14"), ("document.getElementById('was').textContent", "was done 30"),
-            ("app.cursor", 46), ("agreed.className + agreed.textContent", "is-rightsession #46 $fill @body 5")]
+            ("document.getElementById('end').textContent", "done 14"), ("document.getElementById('was').textContent", "done 30 at #88"),
+            ("app.ghost.end", "done 30"), ("app.cursor", 46), ("agreed.className + agreed.textContent", "is-rightsession #46 $fill @body 5")]
         for script, wanted in steps:
             given = waited(browser, script, wanted)
             if given != wanted:
@@ -269,5 +269,37 @@ def ended(program: str) -> str | None:
         browser.close()
 
 
+COMPARER = TOP / "release" / "qrev-compare-x86_64-linux"
+
+
+def side_by_side(program: str) -> str | None:
+    """README's example beside the one that is right: each side where qrev-compare says that they part."""
+    with tempfile.TemporaryDirectory(prefix="page-") as folder:
+        good = pathlib.Path(folder) / "good.ssa"
+        good.write_text(pathlib.Path(SQUARES).read_text().replace("cslew %i, 4", "csltw %i, 4"))
+        words = [str(good), SQUARES, "--events", "writes,end"]
+        told = subprocess.run(["qrev-compare", *words], executable=COMPARER, stdin=subprocess.DEVNULL, capture_output=True, text=True).stdout
+        steps = [int(line.split()[1]) for line in told.split("\n") if line.startswith("step ")]
+        browser = Browser(1600, 1000)
+        try:
+            with Serving(program, *words, options=("--compare", str(COMPARER))) as serving:
+                browser.open(serving.address)
+                ready = "[...document.querySelectorAll('iframe')].map(each => each.contentDocument?.documentElement?.dataset.ready).join()"
+                waited(browser, ready, "yes,yes")
+                sides = "[...document.querySelectorAll('iframe')].map(each => each.contentWindow.app"
+                given = browser.run(f"{sides}.cursor)"), browser.run("document.getElementById('head').textContent")
+                ends = browser.run(f"{sides}.run.end)")
+                browser.run(f"{sides}.go(1))")
+                browser.click("#there")
+                again = browser.run(f"{sides}.cursor)")
+                errors = browser.errors()
+        finally:
+            browser.close()
+    if len(steps) != 2 or given != (steps, told.split("\n")[0]) or ends != ["done 14", "done 30"]:
+        return f"the sides stand at {given} with {ends}, and the comparison says {told!r}"
+    return f"back there: {again} {errors}" if again != steps or errors else None
+
+
 CASES = {"keys": keys, "pointer": pointer, "a value by hand and the script": by_hand, "export": export, "export's size": size,
-         "hostile texts": hostile, "the server ends": ended}
+         "hostile texts": hostile, "the server ends": ended,
+         "side by side": side_by_side}

@@ -21,7 +21,6 @@ from terminal.answers import Place
 from terminal.causes import Cause, Causes, Question
 from terminal.frames import Frames
 from terminal.scratch import Launch, Scratch
-from terminal.screen import SourceMap
 from terminal.text import LOADED, STORED, Program
 from terminal.timeline import Poke, Timeline
 from terminal.values import Names
@@ -169,7 +168,7 @@ def case_of(program_path: str, name: str, file: str, words: Sequence[str], state
     gathering.gather()
     if not gathering.end:
         return None
-    case = Case(name, table.told(name, SourceMap(pathlib.Path(file + ".map"))), b"".join(gathering.parts))
+    case = Case(name, table.told(name), b"".join(gathering.parts))
     run = Timeline(len(gathering.places) - 1, pokes)
     terminal = Terminal(launch, program, run)
     try:

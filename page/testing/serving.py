@@ -16,11 +16,13 @@ class Serving:
                                         stdout=subprocess.PIPE, text=True)
         told = self.process.stdout
         assert told
-        first = told.readline()
-        self.address = told.readline().strip() if first.rstrip().endswith("is shown at") else ""
-        self.told = first
-        if self.address:
-            told.readline()
+        self.told, self.address = [], ""
+        while line := told.readline():
+            self.told.append(line.rstrip("\n"))
+            if line.endswith(" is shown at\n"):
+                self.address = told.readline().strip()
+                told.readline()
+                break
 
     def __enter__(self) -> Serving:
         return self
