@@ -29,7 +29,7 @@ from terminal.scratch import Launch
 from terminal.text import DATA
 from terminal.timeline import Poke
 
-from .table import Table
+from .table import MOST_NAME, Table
 
 # Moves that are asked for at a time: few at first, so that something is drawn at once.
 FIRST, CHUNK = 2_000, 40_000
@@ -142,7 +142,7 @@ class Gathering:
         pipe = self.process()
         place = pipe.loaded[1].split(" ", 1)[1]
         entry = self.table.program.functions[place.split(" ")[0]]
-        names = list(dict.fromkeys(name for _, name in entry.parameters))
+        names = [name for name in dict.fromkeys(name for _, name in entry.parameters) if len(name) <= MOST_NAME]
         self.places.append(self.table.ids[place])
         begin = {"base": 0, "begun": [entry.name], "given": [self.table.temporaries[entry.name, name] for name in names],
                  "written": 0, "total": self.total, "pokes": self.pokes, "top": None}

@@ -40,7 +40,7 @@ class Held:
         self.launch, self.source, self.file, self.most = launch, source, file, most
         # What stands for the program on a command line of ./qrev, and what comes last there.
         self.named, self.texts = list(named), [] if texts is None else ["--", *texts]
-        self.lock = threading.Lock()
+        self.lock, self.is_closed = threading.Lock(), False
         # Which page leads the session: the one that was opened last.
         self.page = 0
         self.waiting = Waiting()
@@ -149,6 +149,9 @@ class Held:
         return "".join(line + "\n" for line in self.session.lines)
 
     def close(self) -> None:
+        # What goes on is broken off first: a session whose process is gone would begin another one.
+        self.is_closed, self.waiting.pressed_at = True, 0.0
+        self.lock.acquire(timeout=PATIENCE)
         if not self.refused:
             # The copy of the text goes away with the session, so nothing may be started any more.
             self.gathering.stop()

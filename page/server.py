@@ -14,6 +14,7 @@ from typing import Any
 
 from terminal.pipe import Ended
 from terminal.scratch import Refused
+from terminal.waiting import Interrupted
 
 from .exporting import MODULES, PAGE, STATIC, STYLES
 from .holding import Held
@@ -163,12 +164,14 @@ class Handler(http.server.BaseHTTPRequestHandler):
             if not isinstance(asked, dict):
                 raise Refused("an object was expected")
             with held.lock:
+                if held.is_closed:
+                    raise Refused("the session has ended")
                 answer = self.acted(held, path, asked)
         except Refused as error:
             return self.refuse(400, str(error))
         except (ValueError, RecursionError):
             return self.refuse(400, "the body is no JSON")
-        except (Ended, OSError) as error:
+        except (Ended, OSError, Interrupted) as error:
             return self.refuse(500, f"the debugger ended: {error}")
         if answer is None:
             return self.refuse(404, "no such request")

@@ -15,6 +15,8 @@ from terminal.text import BUILT_IN, STACK, STACK_BYTES, Block, Function, Instruc
 # What the numbers of places and temporaries take in the arrays, as type codes of `array`.
 NARROW, WIDE = "H", "I"
 MOST_NARROW = (1 << 16) - 1
+# A line of the command language has 256 bytes: the value of a temporary with a longer name can't be asked for.
+MOST_NAME = 249
 # How many files of sources are read, and of how many bytes each.
 MOST_SOURCES, MOST_SOURCE = 32, 1 << 21
 
@@ -78,6 +80,9 @@ class Table:
         """The temporaries that a move from one place to another sets, in the function to which it leads."""
         if there == self.end:
             return ()
+        return (name for name in self.set_between(here, there) if len(name) <= MOST_NAME)
+
+    def set_between(self, here: int, there: int) -> Iterable[str]:
         operation, labels = self.places[here][3].operation, self.places[here][3].labels
         name, label, index, _ = self.places[there]
         function = self.program.functions[name]

@@ -1,4 +1,5 @@
 // The check against the session: where the cursor rests, what the page shows is compared with what the session answers.
+import {isAsked} from "./program.js";
 import {byId} from "./element.js";
 
 const REST = 60;
@@ -9,7 +10,7 @@ export function differences(run, memory, told, position) {
   if (shown !== told.place) return [`${told.place}, shown ${shown}`];
   if (place) {
     const frame = run.frameAt[position];
-    for (const [name, value] of Object.entries(told.values)) {
+    for (const [name, value] of Object.entries(told.values).filter(([name]) => isAsked(name))) {
       const set = run.lastSet(place.func.ids.get(name), frame, position), mine = set < 0 ? null : run.value(set)?.toString() ?? null;
       if (mine !== value) found.push(`${name} = ${value ?? "unset"}, shown ${mine ?? "unset"}`);
     }

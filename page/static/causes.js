@@ -1,6 +1,6 @@
 // Where a value comes from: each question has one answer, the move that set it, and what that read can be asked in turn.
 // The answers are those of `why` at the terminal (terminal/causes.py); page/test holds the two together.
-import {ALLOCATIONS, LOADED, WIDTHS, numeral, sizeOf} from "./program.js";
+import {ALLOCATIONS, LOADED, WIDTHS, isAsked, numeral, sizeOf} from "./program.js";
 import {KINDS} from "./memory.js";
 
 const MOST_BYTES = 48;
@@ -19,7 +19,7 @@ export class Causes {
     const {run, program} = this, frame = run.frameAt[position], id = run.funcOf(frame).ids.get(name);
     const set = run.lastSet(id, frame, position), width = program.widths[id];
     const value = set < 0 ? null : run.value(set);
-    const shown = set < 0 && run.isUnknown(frame) ? "?" : this.shown(value, width, position);
+    const shown = set < 0 && (run.isUnknown(frame) || !isAsked(name)) ? "?" : this.shown(value, width, position);
     return {of: "temporary", position, name, width, value, label: name, shown};
   }
 
@@ -110,6 +110,7 @@ export class Causes {
 
   /** Of a temporary that no move set: an argument of the command line, unset, or not known. */
   unset(name, at, func, set) {
+    if (!isAsked(name)) return this.made(null, "its name is too long to be asked for", []);
     if (this.run.base && (set >= 0 || this.run.frames.begin[this.run.frameAt[at]] === 0)) return this.made(null, BEFORE, []);
     if (set >= 0) return this.made(null, "an argument of the command line", []);
     const lines = new Map();

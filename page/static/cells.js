@@ -50,7 +50,7 @@ export class Cells {
     this.touched = this.touchedNow();
     const shown = program.data.filter(data => data.size);
     const objects = shown.slice(0, MOST_OBJECTS).map(({name, address, size}) => this.object(name, ` ${size}`, address, size, this.widthOf(name)));
-    const stack = memory.allocations(app.cursor).slice(-MOST_ALLOCATIONS).filter(each => each.size).map(each =>
+    const stack = memory.allocations(app.cursor, MOST_ALLOCATIONS).filter(each => each.size).map(each =>
       this.object(each.name, each.func, each.address, each.size, each.size <= 8 ? each.size : each.size % 4 ? 1 : 4));
     this.box.replaceChildren(element("div", {class: "objects"}, ...objects,
       shown.length > MOST_OBJECTS ? element("small", {class: "more"}, `${shown.length - MOST_OBJECTS} objects more`) : null,

@@ -3,22 +3,23 @@ import {STORED, lowerBound} from "./program.js";
 import {byId, classes, element} from "./element.js";
 
 const TALL = 20, TAB = "    ";
-// Lines that are elements at a time; a longer text is cut to what is near the place.
-const MOST_LINES = 3000, MARGIN = 1000;
-const MOST_STATES = 4000;
+// A text of more lines has so many of them as elements at a time, those near the place.
+const MOST_LINES = 3000, PART = 500, MARGIN = 120;
+const MOST_STATES = 4000, MOST_SIGNS = 1000;
 const KEYWORDS = new Set("function data export align section type call jmp jnz ret hlt phi".split(" "));
 const TOKEN = /#.*|"(?:\\.|[^"\\])*"?|[%$@:][\w.$]+|-?\d+|[a-z]\w*|\s+|./g;
 
 /** A line of the text, its tokens in elements; temporaries can be asked about. */
 function tokensOf(line) {
   const found = [];
-  for (const [token] of line.replaceAll("\t", TAB).matchAll(TOKEN)) {
+  const isLong = line.length > MOST_SIGNS;
+  for (const [token] of line.slice(0, MOST_SIGNS).replaceAll("\t", TAB).matchAll(TOKEN)) {
     const kind = {"#": "comment", "%": "temp", $: "global", "@": "label", '"': "string"}[token[0]]
       ?? (/^-?\d/.test(token) ? "number" : KEYWORDS.has(token) ? "keyword" : "");
     if (!kind || token.length === 1 && kind !== "number") found.push(token);
     else found.push(element("span", {class: `t-${kind}`, data: kind === "temp" ? {temp: token} : {}}, token));
   }
-  return found;
+  return isLong ? [...found, ` … ${line.length - MOST_SIGNS} signs more`] : found;
 }
 
 /** How often each place was run in the moves that are shown. */
@@ -59,7 +60,7 @@ export class Code {
   /** Makes the lines around one elements: all of them, if they aren't too many. */
   render(line) {
     const {lines} = this, whole = lines.length <= MOST_LINES;
-    const first = whole ? 1 : Math.max(1, line - MOST_LINES / 2), last = whole ? lines.length : Math.min(lines.length, first + MOST_LINES);
+    const first = whole ? 1 : Math.max(1, line - PART / 2), last = whole ? lines.length : Math.min(lines.length, first + PART);
     Object.assign(this, {first, last});
     this.rows = new Map();
     for (let number = first; number <= last; number++) this.rows.set(number, this.row(number));
@@ -78,7 +79,7 @@ export class Code {
 
   scrolled() {
     const line = Math.floor(this.box.scrollTop / TALL), shown = line + this.box.clientHeight / TALL;
-    const isNear = (line > this.first + MARGIN / 2 || this.first === 1) && (shown < this.last - MARGIN / 2 || this.last === this.lines.length);
+    const isNear = (line > this.first + MARGIN || this.first === 1) && (shown < this.last - MARGIN || this.last === this.lines.length);
     if (this.lines.length > MOST_LINES && !isNear) this.redraw(line);
   }
 
@@ -92,7 +93,10 @@ export class Code {
     const {app} = this, {place} = app, {line} = place.instruction;
     byId("place").textContent = `${place.func.name} ${place.block.label} ${place.k}`;
     this.source(line);
-    if (!this.rows.has(line)) this.render(line);
+    if (!this.rows.has(line)) {
+      this.render(line);
+      this.heat();
+    }
     this.decorate();
     this.scrollTo(place);
   }
@@ -202,9 +206,9 @@ export class Code {
   heat() {
     const {app} = this, counts = countsOf(app.run, ...app.view);
     const most = Math.log1p(counts.reduce((one, other) => Math.max(one, other), 1));
-    for (const [line, places] of app.program.placesOf) {
-      const row = this.rows.get(line);
-      if (!row) continue;
+    for (const [line, row] of this.rows) {
+      const places = app.program.placesOf.get(line);
+      if (!places) continue;
       const count = places.reduce((sum, place) => Math.max(sum, counts[place.id]), 0), share = Math.log1p(count) / most;
       const [bar, number] = row.firstChild.children;
       bar.style.width = count ? `${4 + 40 * share}px` : "0";

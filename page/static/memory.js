@@ -278,30 +278,41 @@ export class Memory {
     this.written = position => lowerBound(this.outPos, position, Math.min(run.outBase, run.out.length));
   }
 
-  /** The allocs of the frames of a state: name, function, frame, address, size, line. */
-  allocations(position) {
-    const {run} = this, found = [];
-    for (const frame of run.framesOf(position)) {
-      const func = run.funcOf(frame);
-      func.allocations ??= func.blocks.flatMap(block => block.body.filter(each => ALLOCATIONS.has(each.op)));
-      for (const instruction of func.allocations) {
-        const set = run.lastSet(func.ids.get(instruction.result), frame, position);
-        if (set < 0 || run.setPos[set] < 0 || run.pokes[run.setPos[set]] !== undefined) continue;
-        const size = run.operand(instruction.operands[0][0], run.setPos[set]);
-        found.push({name: instruction.result, func: func.name, frame, address: run.number(set), size: Number(size ?? 0),
-          line: instruction.line});
-      }
+  /** What the allocs of a frame gave last, before a state: name, function, address, size, line. */
+  allocationsOf(frame, position) {
+    const {run} = this, func = run.funcOf(frame), found = [];
+    func.allocations ??= func.blocks.flatMap(block => block.body.filter(each => ALLOCATIONS.has(each.op)));
+    for (const instruction of func.allocations) {
+      const set = run.lastSet(func.ids.get(instruction.result), frame, position);
+      if (set < 0 || run.setPos[set] < 0 || run.pokes[run.setPos[set]] !== undefined) continue;
+      const size = run.operand(instruction.operands[0][0], run.setPos[set]);
+      found.push({name: instruction.result, func: func.name, address: run.number(set), size: Number(size ?? 0), line: instruction.line});
     }
-    return found.sort((one, other) => one.address - other.address);
+    return found;
+  }
+
+  /** Those of the innermost frames of a state, in the order of their addresses, so many at most. */
+  allocations(position, most) {
+    const found = [];
+    for (const frame of this.run.framesOf(position)) {
+      if (found.length >= most) break;
+      found.push(...this.allocationsOf(frame, position));
+    }
+    return found.sort((one, other) => one.address - other.address).slice(-most);
   }
 
   /** The name of an address, in a state: of data, of a function, or of an alloc on the stack; or null. */
   nameOf(value, position) {
     const name = this.program.nameOf(value);
     if (name || position === undefined || value > 0xffffffffn || !this.program.isStack(Number(value))) return name;
-    const number = Number(value);
-    const near = this.allocations(position).filter(each => each.address <= number && number < each.address + each.size).at(-1);
-    return near ? `${near.name}+${number - near.address}` : null;
+    const {run} = this, address = Number(value);
+    for (let frame = run.frameAt[position]; frame >= 0; frame = run.frames.parent[frame]) {
+      // What lies below where the stack ended when the frame was called belongs to its callers.
+      if (address < this.topAt(run.frames.begin[frame])) continue;
+      const near = this.allocationsOf(frame, position).find(each => each.address <= address && address < each.address + each.size);
+      if (near) return `${near.name}+${address - near.address}`;
+    }
+    return null;
   }
 }
 

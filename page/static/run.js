@@ -1,6 +1,6 @@
 // A run, as arrays: the place of each state and each value that a move set, all of it answered by the debugger. Frames and
 // the last setter of a temporary are derived here, part by part as the arrays come.
-import {Program} from "./program.js";
+import {Program, isAsked} from "./program.js";
 
 const CALL = 1, RETURN = 2, JUMP = 3, OTHER = 0;
 
@@ -50,7 +50,7 @@ export class Run {
     this.kinds = Uint8Array.from(program.table, ({instruction: {op, labels}}) =>
       op === "call" ? CALL : op === "ret" ? RETURN : labels.length ? JUMP : OTHER);
     this.results = Int32Array.from(program.table, ({func, instruction}) =>
-      instruction.result ? func.ids.get(instruction.result) : -1);
+      instruction.result && isAsked(instruction.result) ? func.ids.get(instruction.result) : -1);
   }
 
   // What comes from the server, or from the file.

@@ -3,7 +3,7 @@ import {lowerBound, spaced} from "./program.js";
 import {Bands, SIDE} from "./bands.js";
 import {signOf} from "./element.js";
 
-const SHORT = 26, TALL = 96, AXIS = 20, MARKS = 16, GAP = 5, RIGHT = 14, MOST_ROWS = 31, ROWS_TALL = 124;
+const SHORT = 26, TALL = 96, AXIS = 20, MARKS = 16, GAP = 5, RIGHT = 14, MOST_ROWS = 31, ROWS_TALL = 124, MOST_SIGNS = 40;
 
 export class Timeline {
   constructor(canvas, app) {
@@ -98,7 +98,7 @@ export class Timeline {
     context.fillStyle = this.color(color);
     context.textAlign = "right";
     const most = SIDE - 14;
-    let shown = text;
+    let shown = text.length > MOST_SIGNS ? `${text.slice(0, MOST_SIGNS)}…` : text;
     while (shown.length > 2 && context.measureText(shown).width > most) shown = `${shown.slice(0, -2).trimEnd()}…`;
     context.fillText(shown, SIDE - 10, y);
     context.textAlign = "left";
@@ -228,10 +228,11 @@ export class Timeline {
 
   outputMarks(y) {
     const {context, app} = this, {run, memory} = app, {outPos} = memory;
-    let last = -99;
+    let last = -99, dot = -99;
     for (let index = lowerBound(outPos, app.view[0]), end = lowerBound(outPos, app.view[1]); index < end; index++) {
       const x = this.x(outPos[index] + .5);
-      if (x - last < 1) continue;
+      if (x - dot < 1) continue;
+      dot = x;
       context.fillStyle = this.color(outPos[index] < app.cursor ? "output" : "faint");
       const sign = run.out[index] === 10 ? "⏎" : run.out[index] === 32 ? "␣" : signOf(run.out[index]);
       if (x - last >= 9) {
@@ -268,7 +269,7 @@ export class Timeline {
     if (wide > 30 && tall > 11) {
       context.fillStyle = this.color("on-frame");
       this.inside(left, y, wide - 3, tall, () =>
-        context.fillText(run.program.functions[func].name, left + 5, y + tall / 2 - (this.perMove > .5 ? 1 : 0)));
+        context.fillText(run.program.functions[func].name.slice(0, 4 * MOST_SIGNS), left + 5, y + tall / 2 - (this.perMove > .5 ? 1 : 0)));
     }
     if (run.isComplete && frame === app.frame) {
       context.strokeStyle = this.color("now");
@@ -371,7 +372,7 @@ export class Timeline {
       const begin = run.frames.begin[bar], end = run.endOf(bar);
       lines.push(`${run.funcOf(bar).name}, ${spaced(end - begin)} moves from #${spaced(begin + run.base)}`);
     }
-    return [...lines, ...this.bands.told(at, y)].join("\n");
+    return [...lines, ...this.bands.told(at, y)].map(line => line.slice(0, 8 * MOST_SIGNS)).join("\n");
   }
 
   release() {

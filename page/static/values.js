@@ -1,9 +1,10 @@
 // The temporaries of a frame: each with its value, and a plot of all that it was in the moves that are shown.
 import {classes, element} from "./element.js";
 import {plot} from "./plot.js";
+import {lowerBound} from "./program.js";
 
 // Of more frames the outermost two and the innermost ones are shown.
-const MOST_FRAMES = 12, OUTERMOST = 2;
+const MOST_FRAMES = 12, OUTERMOST = 2, MOST_TEMPORARIES = 200, MOST_SETS = 20000;
 
 export class Values {
   constructor(box, app) {
@@ -12,11 +13,22 @@ export class Values {
   }
 
   draw() {
-    const {app} = this, {func} = app.place;
-    this.rows = func.temporaries.map(each => this.row(each));
+    const {app} = this, {func} = app.place, shown = this.shown(func), left = func.temporaries.length - shown.length;
+    this.rows = shown.map(each => this.row(each));
     this.box.replaceChildren(this.frames(), element("div", {class: "temps", role: "list", "aria-label": `temporaries of ${func.name}`},
-      ...this.rows.map(({row}) => row)), func.temporaries.length ? "" : element("p", {class: "hint"}, `${func.name} has no temporaries.`));
+      ...this.rows.map(({row}) => row)), left || !shown.length ? element("p", {class: "hint"}, left ? `${left} temporaries more, that were set before these or not at all` : `${func.name} has no temporaries.`) : "");
     this.sparks();
+  }
+
+  /** The temporaries that are shown: all, or of very many those that were set last in the frame. */
+  shown(func) {
+    if (func.temporaries.length <= MOST_TEMPORARIES) return func.temporaries;
+    const {run, frame, state} = this.app, kept = new Set();
+    let set = lowerBound(run.setPos, state) - 1;
+    for (let count = 0; set >= 0 && kept.size < MOST_TEMPORARIES && count < MOST_SETS; count++, set--) {
+      if (run.frameOfSet(set) === frame) kept.add(run.setTemp[set]);
+    }
+    return func.temporaries.filter(([, , id]) => kept.has(id));
   }
 
   /** The frames of the state, the outermost first: a click looks into one. */

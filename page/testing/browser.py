@@ -26,7 +26,11 @@ CODES = {"Escape": 27, "Enter": 13, "Backspace": 8, "ArrowLeft": 37, "ArrowUp": 
 
 def found() -> str | None:
     """The browser of this machine, or None."""
-    return next((path for path in map(shutil.which, NAMES) if path), None)
+    for name in NAMES:
+        path = shutil.which(name)
+        if path:
+            return path
+    return None
 
 
 class Broken(Exception):
@@ -49,7 +53,8 @@ class Browser:
             pass_fds=(3, 4), preexec_fn=pipes, stdout=subprocess.DEVNULL, stderr=subprocess.DEVNULL, start_new_session=True)
         os.close(read_commands)
         os.close(write_answers)
-        self.numbers, self.rest, self.events = itertools.count(1), b"", []
+        self.numbers, self.rest = itertools.count(1), b""
+        self.events: list[dict[str, Any]] = []
         self.session: str | None = None
         targets = self.send("Target.getTargets")["targetInfos"]
         page = next(each["targetId"] for each in targets if each["type"] == "page")

@@ -7,6 +7,7 @@ import pathlib
 import subprocess
 import sys
 import tempfile
+from functools import partial
 from typing import Callable, Iterator
 
 from .causes import TOP
@@ -53,6 +54,9 @@ class Asking:
         given = {"Host": self.host, **JSON, **(headers or {})}
         return asked(self.port, "POST", f"/{self.token}/{path}", list(given.items()), body)
 
+    def status(self, path: str, body: bytes) -> int:
+        return self.post(path, body)[0]
+
 
 def wanted_statuses(ask: Asking) -> Iterator[tuple[str, int, Callable[[], int]]]:
     """Each request: what it is, and the status that it must have."""
@@ -87,10 +91,10 @@ def wanted_statuses(ask: Asking) -> Iterator[tuple[str, int, Callable[[], int]]]
     for told, position in (("negative", "-1"), ("behind the end", "89"), ("a text", '"1"'), ("true", "true"), ("broken", "1.5"),
                            ("huge", "1" * 40)):
         body = f'{{"page": 1, "position": {position}}}'.encode()
-        yield f"a position that is {told}", 400, lambda body=body: ask.post("api/go", body)[0]
+        yield f"a position that is {told}", 400, partial(ask.status, "api/go", body)
     for line in ("poke w $bias 0\\nquit", "continue", "set %i 1; quit", "poke w $bias 0 0", "poke q $bias 0", "poke w $nothing 0",
                  "set %nothing 1", "poke w 5 0", "save /tmp/x", "", "set %i 0x10"):
-        yield f"the line {line!r}", 400, lambda line=line: ask.post("api/poke", (POKED % line).encode())[0]
+        yield f"the line {line!r}", 400, partial(ask.status, "api/poke", (POKED % line).encode())
     yield "a poke at the end", 400, lambda: ask.post("api/poke", b'{"page": 1, "position": 88, "line": "poke w $bias 0"}')[0]
     yield "another page", 400, lambda: ask.post("api/go", b'{"page": 7, "position": 1}')[0]
     yield "a move of the page", 200, lambda: ask.post("api/go", GO, {"Origin": f"http://{ask.host}"})[0]
