@@ -144,7 +144,8 @@ class Gathering:
         entry = self.table.program.functions[place.split(" ")[0]]
         names = [name for name in dict.fromkeys(name for _, name in entry.parameters) if len(name) <= MOST_NAME]
         self.places.append(self.table.ids[place])
-        begin = {"base": 0, "begun": [entry.name], "given": [self.table.temporaries[entry.name, name] for name in names],
+        begin = {"base": 0, "begun": [entry.name],
+                 "given": [self.table.temporaries[entry.name, name] for name in names],
                  "written": 0, "total": self.total, "pokes": self.pokes, "top": None}
         self.add(b"B", json.dumps(begin).encode())
         self.add(b"D", data_bytes(pipe, self.table))

@@ -35,7 +35,8 @@ POKE = re.compile(r"set %[\w.$]+ -?\d{1,20}|poke [bhwl] (\d{1,20}|\$[\w.$]+(\+\d
 class Held:
     """The session of one run, and what is gathered of it."""
 
-    def __init__(self, launch: Launch, source: bytes, file: str, named: Sequence[str], texts: Sequence[str] | None = None,
+    def __init__(self, launch: Launch, source: bytes, file: str, named: Sequence[str],
+                 texts: Sequence[str] | None = None,
                  most: int = MOST_MOVES):
         self.launch, self.source, self.file, self.most = launch, source, file, most
         # What stands for the program on a command line of ./qrev, and what comes last there.
@@ -114,7 +115,8 @@ class Held:
                 if line.startswith("%"):
                     value = read_value(line)
                     values[line.split(" ")[0]] = None if value is None else str(value)
-        data = [[each.address, bytes(byte or 0 for byte in session.memory(each.address, min(each.size, MOST_BYTES))).hex()]
+        data = [[each.address, bytes(byte or 0 for byte in session.memory(each.address,
+                min(each.size, MOST_BYTES))).hex()]
                 for each in self.program.data[:MOST_OBJECTS] if each.size]
         written = int(session.ask("out")[0].split(" ")[1])
         frames = [f"{place.function} {place.label} {place.index}" for place in session.frames()]

@@ -29,7 +29,8 @@ class Pair:
         return self.head.split(" ")[0] in ("same", "part", "limit", "memory")
 
     def told(self) -> dict[str, Any]:
-        return {"head": self.head, "sides": [{"name": side, "event": self.events.get(side, ""), "at": self.positions.get(side)}
+        return {"head": self.head, "sides": [{"name": side, "event": self.events.get(side, ""),
+                                              "at": self.positions.get(side)}
                                              for side in SIDES]}
 
 

@@ -23,7 +23,8 @@ from .pairing import Pair
 HOST = "127.0.0.1"
 TOKEN_BYTES = 16
 MOST_BODY = 1 << 16
-TYPES = {".html": "text/html; charset=utf-8", ".css": "text/css; charset=utf-8", ".js": "text/javascript; charset=utf-8"}
+TYPES = {".html": "text/html; charset=utf-8", ".css": "text/css; charset=utf-8",
+         ".js": "text/javascript; charset=utf-8"}
 POLICY = ("default-src 'none'; script-src 'self'; style-src 'self'; connect-src 'self'; img-src data:; base-uri 'none'; "
           "form-action 'none'; frame-src {}; frame-ancestors {}; require-trusted-types-for 'script'")
 HEADERS = (("Cache-Control", "no-store"), ("X-Content-Type-Options", "nosniff"),
@@ -140,7 +141,8 @@ class Handler(http.server.BaseHTTPRequestHandler):
     def stream(self, held: Held) -> None:
         """The arrays of the run, as they are gathered."""
         self.send_response(200)
-        for name, value in (("Content-Type", "application/octet-stream"), ("Transfer-Encoding", "chunked"), *self.server.headers):
+        for name, value in (("Content-Type", "application/octet-stream"), ("Transfer-Encoding", "chunked"),
+                            *self.server.headers):
             self.send_header(name, value)
         self.end_headers()
         for part in held.gathering.streamed():

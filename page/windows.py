@@ -87,7 +87,8 @@ class Overview:
             self.stacks.append([self.functions[line.split(" ")[0]] for line in reversed(where[-MOST_DEPTH:])])
 
     def told(self) -> dict[str, Any]:
-        return {"stride": self.stride, "stacks": self.stacks, "moves": self.moves, "end": self.end, "isDone": self.is_done,
+        return {"stride": self.stride, "stacks": self.stacks, "moves": self.moves, "end": self.end,
+                "isDone": self.is_done,
                 "seconds": round(self.seconds, 3)}
 
 

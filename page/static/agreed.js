@@ -11,10 +11,12 @@ export function differences(run, memory, told, position) {
   if (place) {
     const frame = run.frameAt[position];
     for (const [name, value] of Object.entries(told.values).filter(([name]) => isAsked(name))) {
-      const set = run.lastSet(place.func.ids.get(name), frame, position), mine = set < 0 ? null : run.value(set)?.toString() ?? null;
+      const set = run.lastSet(place.func.ids.get(name), frame, position), mine = set < 0 ? null
+        : run.value(set)?.toString() ?? null;
       if (mine !== value) found.push(`${name} = ${value ?? "unset"}, shown ${mine ?? "unset"}`);
     }
-    const frames = run.framesOf(position).map(each => run.funcOf(each).name), theirs = told.frames.map(each => each.split(" ")[0]);
+    const frames = run.framesOf(position).map(each => run.funcOf(each).name),
+      theirs = told.frames.map(each => each.split(" ")[0]);
     if (frames.join() !== theirs.join()) found.push(`frames ${theirs.join(" ")}, shown ${frames.join(" ")}`);
   }
   for (const [address, hex] of told.data) found.push(...bytesApart(memory, address, hex, position));
@@ -55,7 +57,8 @@ export class Agreed {
     }
     if (number !== this.asked || run !== app.run) return;
     const apart = differences(run, memory, told, cursor);
-    this.say(apart.length ? `differs from the session: ${apart[0]}` : `session ${told.place}`, !apart.length, apart.join("\n"));
+    this.say(apart.length ? `differs from the session: ${apart[0]}` : `session ${told.place}`, !apart.length,
+      apart.join("\n"));
   }
 
   say(text, isRight, title = "") {

@@ -60,7 +60,8 @@ export class Code {
   /** Makes the lines around one elements: all of them, if they aren't too many. */
   render(line) {
     const {lines} = this, whole = lines.length <= MOST_LINES;
-    const first = whole ? 1 : Math.max(1, line - PART / 2), last = whole ? lines.length : Math.min(lines.length, first + PART);
+    const first = whole ? 1 : Math.max(1, line - PART / 2), last = whole ? lines.length
+      : Math.min(lines.length, first + PART);
     Object.assign(this, {first, last});
     this.rows = new Map();
     for (let number = first; number <= last; number++) this.rows.set(number, this.row(number));
@@ -73,13 +74,16 @@ export class Code {
     return element("div", {class: "line", data: {line: number}},
       element("button", {class: "gutter", disabled: !runs, tabindex: "-1", "aria-label": `line ${number}`,
         title: runs ? "when this line ran, in the timeline, and to the next time (with shift to the last)" : null},
-      element("i", {class: "heat"}), element("b", {class: "count"}), element("span", {class: "number"}, String(number))),
-      element("span", {class: "badge"}), element("code", {}, ...tokensOf(this.lines[number - 1])), element("span", {class: "beside"}));
+      element("i", {class: "heat"}), element("b", {class: "count"}),
+        element("span", {class: "number"}, String(number))),
+      element("span", {class: "badge"}), element("code", {}, ...tokensOf(this.lines[number - 1])),
+        element("span", {class: "beside"}));
   }
 
   scrolled() {
     const line = Math.floor(this.box.scrollTop / TALL), shown = line + this.box.clientHeight / TALL;
-    const isNear = (line > this.first + MARGIN || this.first === 1) && (shown < this.last - MARGIN || this.last === this.lines.length);
+    const isNear = (line > this.first + MARGIN || this.first === 1)
+      && (shown < this.last - MARGIN || this.last === this.lines.length);
     if (this.lines.length > MOST_LINES && !isNear) this.redraw(line);
   }
 
@@ -107,7 +111,8 @@ export class Code {
     box.hidden = !map;
     if (!map) return;
     box.replaceChildren(...map[line - 1].map(([file, number, column]) => element("div", {class: "origin"},
-      element("span", {class: "where"}, `${file.slice(file.lastIndexOf("/") + 1)}:${number}${column ? `:${column}` : ""}`),
+      element("span", {class: "where"},
+        `${file.slice(file.lastIndexOf("/") + 1)}:${number}${column ? `:${column}` : ""}`),
       element("code", {}, sources[file]?.[number - 1]?.trim().replaceAll("\t", " ") ?? ""))));
   }
 
@@ -115,7 +120,8 @@ export class Code {
     const {app} = this, {place} = app, {func, instruction} = place;
     const isHere = app.selected === 0 && !app.isAtEnd;
     for (const [number, row] of this.rows) {
-      row.className = classes("line", number >= func.line && number <= func.lastLine + 1 && "is-frame", row.isCold && "is-cold",
+      row.className = classes("line", number >= func.line && number <= func.lastLine + 1 && "is-frame", row.isCold
+        && "is-cold",
         number === instruction.line && (isHere ? "is-now" : "is-caller"), number === app.line && "is-marked");
       if (row.lastChild.firstChild) row.lastChild.replaceChildren();
     }
@@ -144,7 +150,8 @@ export class Code {
       const here = run.placeAt(at), isFirst = !seen.has(here.id);
       seen.add(here.id);
       this.setsBetween(here, before, place, found);
-      if (here.instruction.op in STORED && isFirst && run.program.dominates(func, here.block, here.k, place.block, place.k)) {
+      if (here.instruction.op in STORED && isFirst
+        && run.program.dominates(func, here.block, here.k, place.block, place.k)) {
         found.set(`store ${here.id}`, {line: here.instruction.line, text: this.storeTold(here, at)});
       }
       before = at;
@@ -153,7 +160,8 @@ export class Code {
     const frame = run.frameAt[state];
     for (const [, name] of func.parameters) {
       const set = run.lastSet(func.ids.get(name), frame, state);
-      if (set >= 0 && run.setPos[set] < Math.max(run.frames.begin[frame], 0)) found.set(name, {line: func.line, set, name});
+      if (set >= 0 && run.setPos[set] < Math.max(run.frames.begin[frame], 0)) found.set(name,
+        {line: func.line, set, name});
     }
     for (const value of found.values()) this.put(value, func);
   }
@@ -166,20 +174,24 @@ export class Code {
       const name = run.program.names[run.setTemp[set]];
       if (found.has(name)) continue;
       // What was set by hand stands where the text sets it.
-      const line = isPoke ? this.definedAt(func, name) : isPhi ? target.phis.find(phi => phi.result === name)?.line : here.instruction.line;
+      const line = isPoke ? this.definedAt(func, name) : isPhi ? target.phis.find(phi => phi.result === name)?.line
+        : here.instruction.line;
       const isStale = !isPoke && !run.program.dominates(func, target, isPhi ? -1 : here.k, place.block, place.k);
       found.set(name, {line: line ?? here.instruction.line, set, name, isStale});
     }
   }
 
   definedAt(func, name) {
-    for (const block of func.blocks) for (const each of [...block.phis, ...block.body]) if (each.result === name) return each.line;
+    for (const block of func.blocks) for (const each of [...block.phis,
+      ...block.body]) if (each.result === name) return each.line;
     return func.line;
   }
 
   storeTold({instruction}, move) {
-    const {run, memory, causes} = this.app, [value, address] = instruction.operands.map(([text]) => run.operand(text, move));
-    return address === null ? "" : `${memory.nameOf(address, move) ?? address} ← ${causes.shown(value, instruction.op === "storel" ? "l" : "w", move)}`;
+    const {run, memory, causes} = this.app, width = instruction.op === "storel" ? "l" : "w";
+    const [value, address] = instruction.operands.map(([text]) => run.operand(text, move));
+    return address === null ? ""
+      : `${memory.nameOf(address, move) ?? address} ← ${causes.shown(value, width, move)}`;
   }
 
   put({line, set, name, isStale, text}, func) {
@@ -187,8 +199,10 @@ export class Code {
     if (!box || text === "") return;
     if (text) return box.append(element("span", {class: "value is-store"}, text));
     const shown = causes.shown(run.value(set), run.program.widths[run.setTemp[set]], run.setPos[set] + 1);
-    return box.append(element("button", {class: classes("value", isStale && "is-stale"), data: {value: name}, tabindex: "-1",
-      title: `${name} = ${shown} since #${run.setPos[set] + 1 + run.base}: click for why`}, line === func.line ? `${name.slice(1)} = ${shown}` : shown));
+    return box.append(element("button", {class: classes("value", isStale && "is-stale"), data: {value: name},
+      tabindex: "-1",
+      title: `${name} = ${shown} since #${run.setPos[set] + 1 + run.base}: click for why`}, line === func.line
+        ? `${name.slice(1)} = ${shown}` : shown));
   }
 
   /** What the instruction that comes next reads, and where a jump goes. */
@@ -196,10 +210,12 @@ export class Code {
     const {app} = this, {run, causes} = app, box = this.rows.get(instruction.line)?.lastChild;
     if (!box) return;
     box.replaceChildren(...causes.operands(app.state).map(each => element("button",
-      {class: "value is-operand", data: {value: each.name}, tabindex: "-1", title: `${each.name} = ${each.shown}: click for why`}, `${each.name.slice(1)} = ${each.shown}`)));
+      {class: "value is-operand", data: {value: each.name}, tabindex: "-1",
+        title: `${each.name} = ${each.shown}: click for why`}, `${each.name.slice(1)} = ${each.shown}`)));
     if (instruction.op !== "jnz") return;
     const condition = run.operand(instruction.operands[0][0], app.state);
-    if (condition !== null) box.append(element("span", {class: "value is-way"}, `→ ${instruction.labels[condition & 0xffffffffn ? 0 : 1]}`));
+    if (condition !== null) box.append(element("span", {class: "value is-way"},
+      `→ ${instruction.labels[condition & 0xffffffffn ? 0 : 1]}`));
   }
 
   /** How often each line ran in the moves that are shown. */

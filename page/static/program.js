@@ -139,7 +139,8 @@ function dominatorsOf(func) {
   for (let isChanged = true; isChanged;) {
     isChanged = false;
     for (const block of order.slice(1)) {
-      const best = before[block].filter(each => known[each]).reduce((one, other) => one < 0 ? other : meet(one, other), -1);
+      const best = before[block].filter(each => known[each]).reduce((one, other) => one < 0 ? other : meet(one, other),
+        -1);
       if (!known[block] || found[block] !== best) {
         known[block] = 1;
         found[block] = best;

@@ -68,7 +68,8 @@ export class Run {
   }
 
   takeBegin(begin) {
-    Object.assign(this, {base: begin.base, pokes: begin.pokes, total: begin.total, outBase: begin.written, top: begin.top,
+    Object.assign(this, {base: begin.base, pokes: begin.pokes, total: begin.total, outBase: begin.written,
+      top: begin.top,
       givenFrame: begin.begun.length - 1, maxDepth: begin.begun.length - 1});
     const {grown} = this;
     begin.begun.forEach((name, index) => {
@@ -130,7 +131,8 @@ export class Run {
   setsOf(here, there) {
     const key = here * this.program.table.length + there;
     let found = this.setsBehind.get(key);
-    if (!found) this.setsBehind.set(key, found = this.program.setBy(this.program.table[here], this.program.table[there]));
+    if (!found) this.setsBehind.set(key, found = this.program.setBy(this.program.table[here],
+      this.program.table[there]));
     return found;
   }
 
@@ -165,8 +167,10 @@ export class Run {
     if (this.setPos.length !== this.low.length) throw new Error(`${this.low.length} values for ${this.setPos.length} sets`);
     this.out = Uint8Array.from(this.output.match(/../g) ?? [], byte => parseInt(byte, 16));
     this.inTime = grouped(Uint32Array.from(this.setPos, (_, index) => index), this.setTemp, this.program.temporaries);
-    const byFrame = grouped(this.inTime.order, Uint32Array.from(this.inTime.order, set => this.frameOfSet(set)), this.frames.count);
-    this.byFrame = grouped(byFrame.order, Uint32Array.from(byFrame.order, set => this.setTemp[set]), this.program.temporaries);
+    const byFrame = grouped(this.inTime.order, Uint32Array.from(this.inTime.order, set => this.frameOfSet(set)),
+      this.frames.count);
+    this.byFrame = grouped(byFrame.order, Uint32Array.from(byFrame.order, set => this.setTemp[set]),
+      this.program.temporaries);
     this.isComplete = true;
     return this;
   }

@@ -12,7 +12,8 @@ class Serving:
     """page/main on a program; `address` is what it tells."""
 
     def __init__(self, program: str, *words: str, options: tuple[str, ...] = ()):
-        self.process = subprocess.Popen([sys.executable, "-B", str(MAIN), "--debugger", program, *options, "--", *words],
+        self.process = subprocess.Popen([sys.executable, "-B", str(MAIN), "--debugger", program, *options, "--",
+                                         *words],
                                         stdout=subprocess.PIPE, text=True)
         told = self.process.stdout
         assert told
