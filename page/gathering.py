@@ -29,7 +29,7 @@ from terminal.scratch import Launch
 from terminal.text import DATA
 from terminal.timeline import Poke
 
-from .table import Table
+from .table import MOST_NAME, Table
 
 # Moves that are asked for at a time: few at first, so that something is drawn at once.
 FIRST, CHUNK = 2_000, 40_000
@@ -142,9 +142,10 @@ class Gathering:
         pipe = self.process()
         place = pipe.loaded[1].split(" ", 1)[1]
         entry = self.table.program.functions[place.split(" ")[0]]
-        names = list(dict.fromkeys(name for _, name in entry.parameters))
+        names = [name for name in dict.fromkeys(name for _, name in entry.parameters) if len(name) <= MOST_NAME]
         self.places.append(self.table.ids[place])
-        begin = {"base": 0, "begun": [entry.name], "given": [self.table.temporaries[entry.name, name] for name in names],
+        begin = {"base": 0, "begun": [entry.name],
+                 "given": [self.table.temporaries[entry.name, name] for name in names],
                  "written": 0, "total": self.total, "pokes": self.pokes, "top": None}
         self.add(b"B", json.dumps(begin).encode())
         self.add(b"D", data_bytes(pipe, self.table))
@@ -216,8 +217,8 @@ class Gathering:
                 lines = list(map(asked.__getitem__, zip(places, places[1:])))
                 for poke in (at for at in self.pokes if begin <= at < end):
                     lines[poke - begin] = poke_asked(self.pokes[poke])
-                # Moves that set nothing are made by one line with the next one.
-                text = ("\n".join(lines) + "\n").replace("step\nstep\nprint", "step 2\nprint")
+                # A move that sets nothing is made by one line with the next one. (A name may end with `step`.)
+                text = ("\n".join(lines) + "\n").replace("\nstep\nstep\nprint", "\nstep 2\nprint")
                 pipe = self.with_room(pipe, len(text), begin)
                 self.add_values(pipe.ask_text(text))
         except (Ended, OSError) as error:

@@ -14,14 +14,13 @@ from typing import Any, Sequence
 
 from terminal.answers import read_value
 from terminal.scratch import Launch, Refused
-from terminal.screen import SourceMap
 from terminal.session import Session
 from terminal.text import Program
 from terminal.timeline import Poke, Timeline
 from terminal.waiting import Waiting
 
 from .gathering import Gathering, length_of
-from .table import Table
+from .table import Origins, Table
 from .windows import Long
 
 # A run of at most so many moves is shown whole; of a longer one an overview, and windows.
@@ -36,12 +35,15 @@ POKE = re.compile(r"set %[\w.$]+ -?\d{1,20}|poke [bhwl] (\d{1,20}|\$[\w.$]+(\+\d
 class Held:
     """The session of one run, and what is gathered of it."""
 
-    def __init__(self, launch: Launch, source: bytes, file: str, named: Sequence[str], texts: Sequence[str] | None = None,
+    def __init__(self, launch: Launch, source: bytes, file: str, named: Sequence[str],
+                 texts: Sequence[str] | None = None,
                  most: int = MOST_MOVES):
         self.launch, self.source, self.file, self.most = launch, source, file, most
         # What stands for the program on a command line of ./qrev, and what comes last there.
         self.named, self.texts = list(named), [] if texts is None else ["--", *texts]
-        self.lock = threading.Lock()
+        self.lock, self.is_closed = threading.Lock(), False
+        # Which page leads the session: the one that was opened last.
+        self.page = 0
         self.waiting = Waiting()
         self.session = Session(launch, source, self.waiting)
         self.refused = self.session.pipe.refused
@@ -49,7 +51,7 @@ class Held:
             return
         self.program: Program = self.session.program
         self.table = Table(self.program)
-        self.map = SourceMap(pathlib.Path(file + ".map"))
+        self.origins = Origins(file)
         self.gathering: Gathering
         self.total = length_of(launch, most)
         self.long: Long | None = None
@@ -73,7 +75,7 @@ class Held:
 
     def told(self) -> dict[str, Any]:
         """The program as the page reads it, and the command that plays its script."""
-        return {**self.table.told(self.title, self.map), "command": self.command(), "long": self.long is not None}
+        return {**self.table.told(self.title, self.origins), "command": self.command(), "long": self.long is not None}
 
     @property
     def title(self) -> str:
@@ -113,7 +115,8 @@ class Held:
                 if line.startswith("%"):
                     value = read_value(line)
                     values[line.split(" ")[0]] = None if value is None else str(value)
-        data = [[each.address, bytes(byte or 0 for byte in session.memory(each.address, min(each.size, MOST_BYTES))).hex()]
+        data = [[each.address, bytes(byte or 0 for byte in session.memory(each.address,
+                min(each.size, MOST_BYTES))).hex()]
                 for each in self.program.data[:MOST_OBJECTS] if each.size]
         written = int(session.ask("out")[0].split(" ")[1])
         frames = [f"{place.function} {place.label} {place.index}" for place in session.frames()]
@@ -148,6 +151,9 @@ class Held:
         return "".join(line + "\n" for line in self.session.lines)
 
     def close(self) -> None:
+        # What goes on is broken off first: a session whose process is gone would begin another one.
+        self.is_closed, self.waiting.pressed_at = True, 0.0
+        self.lock.acquire(timeout=PATIENCE)
         if not self.refused:
             # The copy of the text goes away with the session, so nothing may be started any more.
             self.gathering.stop()

@@ -14,20 +14,25 @@ from typing import Any
 
 from terminal.pipe import Ended
 from terminal.scratch import Refused
+from terminal.waiting import Interrupted
 
 from .exporting import MODULES, PAGE, STATIC, STYLES
 from .holding import Held
+from .pairing import Pair
 
 HOST = "127.0.0.1"
 TOKEN_BYTES = 16
 MOST_BODY = 1 << 16
-TYPES = {".html": "text/html; charset=utf-8", ".css": "text/css; charset=utf-8", ".js": "text/javascript; charset=utf-8"}
+TYPES = {".html": "text/html; charset=utf-8", ".css": "text/css; charset=utf-8",
+         ".js": "text/javascript; charset=utf-8"}
 POLICY = ("default-src 'none'; script-src 'self'; style-src 'self'; connect-src 'self'; img-src data:; base-uri 'none'; "
-          "form-action 'none'; frame-ancestors 'none'; require-trusted-types-for 'script'")
-HEADERS = (("Cache-Control", "no-store"), ("Content-Security-Policy", POLICY), ("X-Content-Type-Options", "nosniff"),
+          "form-action 'none'; frame-src {}; frame-ancestors {}; require-trusted-types-for 'script'")
+HEADERS = (("Cache-Control", "no-store"), ("X-Content-Type-Options", "nosniff"),
            ("Referrer-Policy", "no-referrer"), ("Cross-Origin-Resource-Policy", "same-origin"),
            ("Cross-Origin-Opener-Policy", "same-origin"))
 FILES = (PAGE, STYLES, *MODULES)
+PAIR = "pair.html"
+PAIR_FILES = (PAIR, STYLES, "pair.js", "element.js")
 
 
 class Server(http.server.ThreadingHTTPServer):
@@ -35,11 +40,12 @@ class Server(http.server.ThreadingHTTPServer):
     # Several servers may not share a port.
     allow_reuse_address = False
 
-    def __init__(self, held: Held, port: int = 0):
+    def __init__(self, sides: dict[str, Held], port: int = 0, pair: Pair | None = None):
         super().__init__((HOST, port), Handler)
-        self.held, self.token = held, secrets.token_urlsafe(TOKEN_BYTES)
-        # Which page leads the session: the one that was opened last.
-        self.page = 0
+        # A run alone stands at the path itself; of two each has a name, and the page of both is above them.
+        self.sides, self.pair, self.token = sides, pair, secrets.token_urlsafe(TOKEN_BYTES)
+        framing = "'self'" if pair else "'none'"
+        self.headers = (("Content-Security-Policy", POLICY.format(framing, framing)), *HEADERS)
 
     @property
     def address(self) -> str:
@@ -62,7 +68,7 @@ class Handler(http.server.BaseHTTPRequestHandler):
 
     def reply(self, status: int, kind: str, body: bytes) -> None:
         self.send_response(status)
-        for name, value in (("Content-Type", kind), ("Content-Length", str(len(body))), *HEADERS):
+        for name, value in (("Content-Type", kind), ("Content-Length", str(len(body))), *self.server.headers):
             self.send_header(name, value)
         self.end_headers()
         if self.command != "HEAD":
@@ -91,35 +97,55 @@ class Handler(http.server.BaseHTTPRequestHandler):
         self.refuse(403, "not from this page")
         return None
 
+    def side(self, path: str) -> tuple[Held | None, str]:
+        """Which run a path is about, and what it is about that; None for the page of both."""
+        sides = self.server.sides
+        if not self.server.pair:
+            return sides[""], path
+        name, slash, rest = path.partition("/")
+        return (sides[name], rest) if slash and name in sides else (None, path)
+
     def do_GET(self) -> None:
         path = self.asked()
         if path is None:
             return
-        held = self.server.held
+        held, path = self.side(path)
+        if held:
+            self.get(held, path)
+        elif path == "api/pair" and self.server.pair:
+            self.reply_json(self.server.pair.told())
+        else:
+            self.file(path or PAIR, PAIR_FILES)
+
+    def file(self, name: str, names: tuple[str, ...]) -> None:
+        if name not in names:
+            return self.refuse(404, "no such page")
+        self.reply(200, TYPES[pathlib.Path(name).suffix], (STATIC / name).read_bytes())
+
+    def get(self, held: Held, path: str) -> None:
+        """What is asked of a run."""
         if path == "api/run":
-            self.server.page += 1
-            self.reply_json({**held.told(), "page": self.server.page})
+            held.page += 1
+            self.reply_json({**held.told(), "page": held.page})
         elif path == "api/stream":
-            self.stream()
+            self.stream(held)
         elif path == "api/overview" and held.long:
             self.reply_json(held.long.overview.told())
         elif path == "api/script":
             self.reply(200, "text/plain; charset=utf-8", held.script().encode())
-        elif (path or PAGE) in FILES:
-            name = path or PAGE
-            self.reply(200, TYPES[pathlib.Path(name).suffix], (STATIC / name).read_bytes())
         else:
-            self.refuse(404, "no such page")
+            self.file(path or PAGE, FILES)
 
     do_HEAD = do_GET
 
-    def stream(self) -> None:
+    def stream(self, held: Held) -> None:
         """The arrays of the run, as they are gathered."""
         self.send_response(200)
-        for name, value in (("Content-Type", "application/octet-stream"), ("Transfer-Encoding", "chunked"), *HEADERS):
+        for name, value in (("Content-Type", "application/octet-stream"), ("Transfer-Encoding", "chunked"),
+                            *self.server.headers):
             self.send_header(name, value)
         self.end_headers()
-        for part in self.server.held.gathering.streamed():
+        for part in held.gathering.streamed():
             self.wfile.write(b"%x\r\n" % len(part) + part + b"\r\n")
         self.wfile.write(b"0\r\n\r\n")
 
@@ -127,6 +153,9 @@ class Handler(http.server.BaseHTTPRequestHandler):
         path = self.asked()
         if path is None:
             return
+        held, path = self.side(path)
+        if not held:
+            return self.refuse(404, "no such request")
         size = self.headers.get("Content-Length", "")
         if not (size.isascii() and size.isdecimal()) or len(size) > 6 or int(size) > MOST_BODY:
             return self.refuse(413, "no body of such a size is taken")
@@ -136,24 +165,25 @@ class Handler(http.server.BaseHTTPRequestHandler):
             asked = json.loads(self.rfile.read(int(size)))
             if not isinstance(asked, dict):
                 raise Refused("an object was expected")
-            with self.server.held.lock:
-                answer = self.acted(path, asked)
+            with held.lock:
+                if held.is_closed:
+                    raise Refused("the session has ended")
+                answer = self.acted(held, path, asked)
         except Refused as error:
             return self.refuse(400, str(error))
         except (ValueError, RecursionError):
             return self.refuse(400, "the body is no JSON")
-        except (Ended, OSError) as error:
+        except (Ended, OSError, Interrupted) as error:
             return self.refuse(500, f"the debugger ended: {error}")
         if answer is None:
             return self.refuse(404, "no such request")
         self.reply_json(answer)
 
-    def acted(self, path: str, asked: dict[str, Any]) -> Any:
+    def acted(self, held: Held, path: str, asked: dict[str, Any]) -> Any:
         """What a request of the page that leads the session is answered; None for an unknown one."""
-        held = self.server.held
         if path not in ("api/go", "api/poke", "api/window"):
             return None
-        if asked.get("page") != self.server.page:
+        if asked.get("page") != held.page:
             raise Refused("another page leads this session now; reload this one to lead it again")
         position = held.check_position(asked.get("position"))
         if path == "api/window":

@@ -6,14 +6,50 @@ page/static/run.js works out the same from the same numbers, so only the values 
 """
 from __future__ import annotations
 
+import pathlib
 from typing import Any, Iterable
 
-from terminal.screen import SourceMap
+from terminal.screen import ESCAPE, SourceMap, unescaped
 from terminal.text import BUILT_IN, STACK, STACK_BYTES, Block, Function, Instruction, Program
 
 # What the numbers of places and temporaries take in the arrays, as type codes of `array`.
 NARROW, WIDE = "H", "I"
 MOST_NARROW = (1 << 16) - 1
+# A line of the command language has 256 bytes: the value of a temporary with a longer name can't be asked for.
+MOST_NAME = 249
+# How many files of sources are read, and of how many bytes each.
+MOST_SOURCES, MOST_SOURCE = 32, 1 << 21
+
+
+class Origins:
+    """Where the lines of a lowered text come from, by the map beside it: the compiler's own text, and its source."""
+
+    def __init__(self, file: str):
+        self.lines = [self.read(line) for line in SourceMap(pathlib.Path(file + ".map")).lines]
+
+    def read(self, line: str) -> list[list[Any]]:
+        """The places of a line of the map: a file with a line, and with a column where that is known."""
+        fields = [ESCAPE.sub(unescaped, field) for field in line.split("\t")]
+        places: list[list[Any]] = [[fields[at], int(fields[at + 1])] for at in range(0, len(fields) - 1, 2)
+                                   if fields[at + 1].isdecimal()]
+        if len(fields) == 5 and len(places) == 2 and fields[4].isdecimal() and fields[4] != "0":
+            places[1].append(int(fields[4]))
+        return places
+
+    def told(self, count: int) -> list[list[list[Any]]]:
+        return (self.lines + [[]] * count)[:count]
+
+    def texts(self) -> dict[str, list[str]]:
+        """The lines of the files that are named, where they can be read from here."""
+        found = {}
+        for file in sorted({place[0] for places in self.lines for place in places})[:MOST_SOURCES]:
+            try:
+                path = pathlib.Path(file)
+                if path.is_file() and path.stat().st_size <= MOST_SOURCE:
+                    found[file] = path.read_text(errors="replace").split("\n")
+            except OSError:
+                continue
+        return found
 
 
 class Table:
@@ -44,6 +80,9 @@ class Table:
         """The temporaries that a move from one place to another sets, in the function to which it leads."""
         if there == self.end:
             return ()
+        return (name for name in self.set_between(here, there) if len(name) <= MOST_NAME)
+
+    def set_between(self, here: int, there: int) -> Iterable[str]:
         operation, labels = self.places[here][3].operation, self.places[here][3].labels
         name, label, index, _ = self.places[there]
         function = self.program.functions[name]
@@ -57,8 +96,8 @@ class Table:
             result = self.places[here][3].result
         return (result,) if result else ()
 
-    def told(self, file: str, source_map: SourceMap) -> dict[str, Any]:
-        """The program as the page reads it: lines, functions with their blocks, data, addresses."""
+    def told(self, file: str, origins: Origins | None = None) -> dict[str, Any]:
+        """The program as the page reads it: lines, functions with their blocks, data, addresses, and where lines come from."""
         program = self.program
         return {
             "file": file, "lines": program.lines, "end": self.end, "wide": self.code == WIDE,
@@ -68,7 +107,8 @@ class Table:
             "addresses": program.addresses, "calls": [[address, name] for address, name in program.calls.items()],
             "builtIn": {name: BUILT_IN[name] for name in sorted(program.built_in)},
             "stack": [STACK, STACK_BYTES], "temporaries": len(self.temporaries),
-            "map": [source_map.place(line) for line in range(1, len(program.lines) + 1)] if source_map.lines else None,
+            "map": origins.told(len(program.lines)) if origins and origins.lines else None,
+            "sources": origins.texts() if origins else {},
         }
 
     def function_told(self, function: Function) -> dict[str, Any]:

@@ -17,7 +17,7 @@ from terminal.scratch import Launch
 from terminal.text import STACK, STACK_BYTES
 
 from .gathering import Asked, Gathering, data_bytes, live_bytes
-from .table import Table
+from .table import MOST_NAME, Table
 
 WINDOW = 20_000
 # Columns of the overview: where there are more, every second one is left out. And how deep a stack is told.
@@ -87,7 +87,8 @@ class Overview:
             self.stacks.append([self.functions[line.split(" ")[0]] for line in reversed(where[-MOST_DEPTH:])])
 
     def told(self) -> dict[str, Any]:
-        return {"stride": self.stride, "stacks": self.stacks, "moves": self.moves, "end": self.end, "isDone": self.is_done,
+        return {"stride": self.stride, "stacks": self.stacks, "moves": self.moves, "end": self.end,
+                "isDone": self.is_done,
                 "seconds": round(self.seconds, 3)}
 
 
@@ -110,7 +111,9 @@ class Pool:
         def cost(at: int) -> float:
             return BACK if at >= base else (base - at) * FORWARD
         with self.lock:
-            self.free = [(at, pipe) for at, pipe in self.free if pipe.has_room(SENT) or pipe.close()]
+            for at, pipe in [each for each in self.free if not each[1].has_room(SENT)]:
+                self.free.remove((at, pipe))
+                pipe.close()
             best = min(self.free, key=lambda each: cost(each[0]), default=None)
             if best and cost(best[0]) <= cost(0) + BACK:
                 self.free.remove(best)
@@ -191,7 +194,7 @@ class Window(Gathering):
         """Tells the first state; what is to be asked for the values that are known in it."""
         frames = pipe.ask("where")[0]
         function = frames[0].split(" ")[0]
-        names = [line.split(" ")[0] for line in pipe.ask("temps")[0] if " = " in line]
+        names = [line.split(" ")[0] for line in pipe.ask("temps")[0] if " = " in line and line.index(" ") <= MOST_NAME]
         top = stack_top(pipe)
         self.places.append(self.table.ids[frames[0]])
         begin = {"base": self.base, "begun": [line.split(" ")[0] for line in reversed(frames)],

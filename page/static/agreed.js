@@ -1,4 +1,5 @@
 // The check against the session: where the cursor rests, what the page shows is compared with what the session answers.
+import {isAsked} from "./program.js";
 import {byId} from "./element.js";
 
 const REST = 60;
@@ -9,11 +10,13 @@ export function differences(run, memory, told, position) {
   if (shown !== told.place) return [`${told.place}, shown ${shown}`];
   if (place) {
     const frame = run.frameAt[position];
-    for (const [name, value] of Object.entries(told.values)) {
-      const set = run.lastSet(place.func.ids.get(name), frame, position), mine = set < 0 ? null : run.value(set)?.toString() ?? null;
+    for (const [name, value] of Object.entries(told.values).filter(([name]) => isAsked(name))) {
+      const set = run.lastSet(place.func.ids.get(name), frame, position), mine = set < 0 ? null
+        : run.value(set)?.toString() ?? null;
       if (mine !== value) found.push(`${name} = ${value ?? "unset"}, shown ${mine ?? "unset"}`);
     }
-    const frames = run.framesOf(position).map(each => run.funcOf(each).name), theirs = told.frames.map(each => each.split(" ")[0]);
+    const frames = run.framesOf(position).map(each => run.funcOf(each).name),
+      theirs = told.frames.map(each => each.split(" ")[0]);
     if (frames.join() !== theirs.join()) found.push(`frames ${theirs.join(" ")}, shown ${frames.join(" ")}`);
   }
   for (const [address, hex] of told.data) found.push(...bytesApart(memory, address, hex, position));
@@ -54,7 +57,8 @@ export class Agreed {
     }
     if (number !== this.asked || run !== app.run) return;
     const apart = differences(run, memory, told, cursor);
-    this.say(apart.length ? `differs from the session: ${apart[0]}` : `session ${told.place}`, !apart.length, apart.join("\n"));
+    this.say(apart.length ? `differs from the session: ${apart[0]}` : `session ${told.place}`, !apart.length,
+      apart.join("\n"));
   }
 
   say(text, isRight, title = "") {

@@ -41,14 +41,19 @@ class App {
     this.code.build();
     if (this.program.long) await this.overviewed();
     await this.load(this.long ? 0 : null);
+    const there = new URLSearchParams(location.search).get("at");
+    if (there !== null && /^\d+$/.test(there)) this.goTo(Number(there));
     document.documentElement.dataset.ready = "yes";
   }
 
   listen() {
-    const acts = {first: () => this.goTo(0), back: () => this.go(this.cursor - 1), forth: () => this.go(this.cursor + 1),
-      last: () => this.goTo(this.wholeMoves), whole: () => this.show(0, this.run.moves), keys: () => byId("help").showModal(),
+    const acts = {first: () => this.goTo(0), back: () => this.go(this.cursor - 1),
+      forth: () => this.go(this.cursor + 1),
+      last: () => this.goTo(this.wholeMoves), whole: () => this.show(0, this.run.moves),
+        keys: () => byId("help").showModal(),
       theme: () => this.theme(), poke: () => this.poke(), script: () => this.script(), save: () => this.save()};
-    for (const [id, act] of Object.entries(acts)) byId(id).addEventListener("click", () => (id === "theme" || this.run?.isComplete) && act());
+    for (const [id, act] of Object.entries(acts)) byId(id).addEventListener("click",
+      () => (id === "theme" || this.run?.isComplete) && act());
     byId("position").addEventListener("change", event => this.typed(event.target));
     byId("poking").addEventListener("close", () => this.poked());
     matchMedia("(prefers-color-scheme: dark)").addEventListener("change", () => this.recolor());
@@ -63,6 +68,8 @@ class App {
     const run = await this.source.run(this.program, growing => this.growing(growing));
     if (!this.long) byId("progress").hidden = true;
     this.run = run;
+    // What the run was before a value was set by hand.
+    this.ghost = was ? before : null;
     this.memory = new Memory(run);
     this.causes = new Causes(run, this.memory);
     this.cells.build();
@@ -70,7 +77,8 @@ class App {
     this.header(was);
     this.cursor = cursor ?? run.moves;
     this.selected = 0;
-    this.view = before?.isComplete && cursor !== null && !this.long ? [this.view[0], Math.min(run.moves, this.view[1])] : [0, Math.max(1, run.moves)];
+    this.view = before?.isComplete && cursor !== null && !this.long ? [this.view[0], Math.min(run.moves, this.view[1])]
+      : [0, Math.max(1, run.moves)];
     if (this.view[1] - this.view[0] < LEAST_WIDE) this.view = [0, Math.max(1, run.moves)];
     this.walk.begin(this.long && !this.isAtEnd ? this.firstQuestion() : this.causes.root(this.cursor), 2);
     this.draw();
@@ -96,7 +104,7 @@ class App {
     const {run, long} = this, end = byId("end"), told = long ? long.end : run.isOver ? run.end : "goes on";
     end.textContent = end.title = told || "looking for the end";
     end.className = told.startsWith("fault") ? "pill is-fault" : "pill";
-    byId("was").textContent = was && was !== run.end ? `was ${was}` : "";
+    byId("was").textContent = was;
     byId("moves").textContent = `${spaced(this.wholeMoves)} moves${long ? `, ${spaced(run.moves)} shown` : ""}`;
     byId("poke").hidden = !this.source.isLive || Boolean(long);
   }
@@ -189,7 +197,8 @@ class App {
     }
     this.move(position);
     const {run, cursor} = this, place = run.placeAt(cursor);
-    byId("heard").textContent = place ? `${run.placeLine(cursor)}, line ${place.instruction.line}: ${place.instruction.text}` : run.placeLine(cursor);
+    byId("heard").textContent = place
+      ? `${run.placeLine(cursor)}, line ${place.instruction.line}: ${place.instruction.text}` : run.placeLine(cursor);
     this.keepInView();
     this.agreed.rest();
   }
@@ -228,7 +237,8 @@ class App {
 
   select(index) {
     const {run, cursor} = this, known = run.framesOf(cursor).filter(frame => run.innermostState(frame, cursor) >= 0);
-    if (index >= known.length && known.length < run.framesOf(cursor).length) this.say("where this frame stands was set before this window");
+    if (index >= known.length
+      && known.length < run.framesOf(cursor).length) this.say("where this frame stands was set before this window");
     this.selected = Math.max(0, Math.min(known.length - 1, index));
     this.draw();
   }
@@ -244,7 +254,8 @@ class App {
   /** To the call of the frame, or to where it is over. */
   out(direction) {
     const {run, frame} = this, at = direction < 0 ? run.frames.begin[frame] - 1 : run.endOf(frame);
-    if (at >= 0 && at <= run.moves) this.go(at); else this.say(direction < 0 ? "this frame was there from the start" : "this frame doesn't return");
+    if (at >= 0 && at <= run.moves) this.go(at); else this.say(direction < 0 ? "this frame was there from the start"
+      : "this frame doesn't return");
   }
 
   /** The next or the last time that a line runs. */
@@ -280,7 +291,8 @@ class App {
   }
 
   keepHere() {
-    const {func, instruction} = this.place, name = instruction.result ?? instruction.operands.find(([text]) => text[0] === "%")?.[0];
+    const {func, instruction} = this.place,
+      name = instruction.result ?? instruction.operands.find(([text]) => text[0] === "%")?.[0];
     if (name) this.pin(func.ids.get(name));
   }
 
@@ -338,7 +350,8 @@ class App {
     const asked = this.walk.chosen?.question, {func} = this.place;
     const bytes = asked?.of === "memory" && WIDTHS[asked.count] && this.program.nameOf(BigInt(asked.address));
     const name = this.place.instruction.operands.find(([text]) => text[0] === "%")?.[0] ?? func.temporaries[0]?.[0];
-    byId("line").value = bytes ? `poke ${WIDTHS[asked.count]} ${bytes.replace(/\+0$/, "")} ` : name ? `set ${name} ` : "poke w $";
+    byId("line").value = bytes ? `poke ${WIDTHS[asked.count]} ${bytes.replace(/\+0$/, "")} ` : name ? `set ${name} `
+      : "poke w $";
     byId("poking").returnValue = "";
     byId("poking").showModal();
     return byId("line").setSelectionRange(99, 99);
@@ -351,7 +364,7 @@ class App {
 
   /** Makes a value by hand at the cursor; the run from there on is another one. */
   async make(line) {
-    const was = this.run.end, cursor = this.cursor;
+    const was = `${this.run.end} at #${this.run.moves}`, cursor = this.cursor;
     try {
       await this.source.ask("api/poke", {position: cursor, line});
       await this.load(cursor + 1, was);
@@ -414,11 +427,13 @@ class App {
 
   /** The colours of the style sheet, for what is painted. */
   readColors() {
-    const style = getComputedStyle(document.documentElement), found = {}, names = "sans mono ground sunken edge edge-strong ink muted faint now "
+    const style = getComputedStyle(document.documentElement), found = {},
+      names = "sans mono ground sunken edge edge-strong ink muted faint now "
       + "on-now cause cause-soft output poke fault silhouette read veil heat-strong spark spark-other on-frame";
     const numbered = "fw".split("").flatMap(letter => Array.from({length: 8}, (_, index) => `${letter}${index}`));
     for (const name of [...names.split(" "), ...numbered, "b0", "b1", "b2", "b3"]) {
-      const text = style.getPropertyValue(`--${name}`).trim(), pair = /^light-dark\(\s*([^,]+),\s*([^)]+)\)$/.exec(text);
+      const text = style.getPropertyValue(`--${name}`).trim(),
+        pair = /^light-dark\(\s*([^,]+),\s*([^)]+)\)$/.exec(text);
       found[name] = pair ? pair[this.isDark ? 2 : 1].trim() : text;
     }
     this.colors = found;

@@ -42,11 +42,13 @@ export class Bands {
     app.pins.forEach((id, index) => {
       const top = this.top + index * LANE, box = {left: SIDE, top: top + 2, wide: timeline.span, tall: LANE - 5};
       let seen = null;
-      timeline.inside(SIDE, top, timeline.span, LANE, () => { seen = plot(timeline.context, app, id, box, timeline.color); });
+      timeline.inside(SIDE, top, timeline.span, LANE,
+        () => { seen = plot(timeline.context, app, id, box, timeline.color); });
       timeline.label(run.program.names[id], top + LANE / 2 - 5, "ink", "mono");
       if (!seen) return;
       const {least, most} = seen, isAddress = Math.max(Math.abs(least), Math.abs(most)) > 999999;
-      timeline.label(isAddress ? "addresses" : least === most ? String(least) : `${least} … ${most}`, top + LANE / 2 + 7, "faint", "sans", 10);
+      timeline.label(isAddress ? "addresses" : least === most ? String(least) : `${least} … ${most}`,
+        top + LANE / 2 + 7, "faint", "sans", 10);
     });
   }
 
@@ -58,7 +60,8 @@ export class Bands {
     for (const {id} of run.program.placesOf.get(app.line) ?? []) wanted[id] = 1;
     timeline.label(`line ${app.line}`, top + LINE / 2, "ink");
     timeline.context.fillStyle = timeline.color("heat-strong");
-    const [from, to] = app.view, end = Math.min(run.moves, Math.ceil(to)), wide = Math.max(1.5, Math.min(8, timeline.perMove - 1));
+    const [from, to] = app.view, end = Math.min(run.moves, Math.ceil(to)),
+      wide = Math.max(1.5, Math.min(8, timeline.perMove - 1));
     let last = -9;
     for (let at = Math.max(0, Math.floor(from)); at < end; at++) {
       if (!wanted[run.places[at]]) continue;
@@ -103,11 +106,13 @@ export class Bands {
         }
       }
     }
-    const kept = new Set([...touched].sort((one, other) => other[1] - one[1]).slice(0, MOST_BANDS).map(([data]) => data));
+    const kept = new Set([...touched].sort((one, other) => other[1] - one[1]).slice(0,
+      MOST_BANDS).map(([data]) => data));
     const found = program.data.filter(data => kept.has(data) && data.size).map(({name, address, size}) =>
       ({name, address, size, tall: Math.max(11, Math.min(40, 5 * size / cells.widthOf(name)))}));
     const size = stack.end - stack.address;
-    if (stack.end) found.push({name: "stack", address: stack.address, size, tall: Math.max(11, Math.min(32, size / 2))});
+    if (stack.end) found.push({name: "stack", address: stack.address, size,
+      tall: Math.max(11, Math.min(32, size / 2))});
     return found;
   }
 
@@ -147,7 +152,8 @@ export class Bands {
   each(which, visit) {
     const {app} = this, {memory} = app, [from, to] = app.view, accesses = which ? memory.writes : memory.reads;
     const end = lowerBound(accesses.pos, to + 1), bandOf = this.bandOf[which];
-    for (let n = lowerBound(accesses.pos, from - 1); n < end; n++) if (bandOf[n] >= 0) visit(accesses, n, this.made[bandOf[n]]);
+    for (let n = lowerBound(accesses.pos, from - 1); n < end; n++) if (bandOf[n] >= 0) visit(accesses, n,
+      this.made[bandOf[n]]);
   }
 
   hueOf(accesses, n) {
@@ -181,7 +187,8 @@ export class Bands {
     const {timeline, app} = this, {context, scale} = timeline, [from, to] = app.view;
     const wide = Math.round(timeline.span * scale), high = Math.round(tall * scale);
     const image = new ImageData(wide, high), pixels = new Uint32Array(image.data.buffer);
-    const inks = new Map(), inkOf = name => inks.get(name) ?? inks.set(name, packedColor(timeline.color(name))).get(name);
+    const inks = new Map(), inkOf = name => inks.get(name) ?? inks.set(name,
+      packedColor(timeline.color(name))).get(name);
     const perMove = wide / (to - from);
     for (const which of [0, 1]) {
       this.each(which, (accesses, n, band) => {
@@ -189,7 +196,8 @@ export class Bands {
         if (x < 0 || x >= wide) return;
         const unit = band.tall / band.size * scale;
         const y = Math.round(band.top * scale + (accesses.address[n] - band.address) * unit);
-        const size = which ? Math.max(2, Math.round(accesses.size[n] * unit)) : 1, ink = inkOf(which ? this.hueOf(accesses, n) : "read");
+        const size = which ? Math.max(2, Math.round(accesses.size[n] * unit)) : 1,
+          ink = inkOf(which ? this.hueOf(accesses, n) : "read");
         const middle = which ? y : Math.round(y + accesses.size[n] * unit / 2);
         for (let row = middle; row < Math.min(high, middle + size); row++) {
           pixels[row * wide + x] = ink;
@@ -224,12 +232,14 @@ export class Bands {
 
   thread({from, to, isControl, isChosen}, y) {
     const {timeline} = this, {context} = timeline;
-    const left = timeline.x(from + .5), right = timeline.x(to + .5), sag = Math.min(30, 7 + Math.abs(right - left) * .12);
+    const left = timeline.x(from + .5), right = timeline.x(to + .5),
+      sag = Math.min(30, 7 + Math.abs(right - left) * .12);
     context.strokeStyle = timeline.color(isChosen ? "cause" : isControl ? "edge-strong" : "cause-soft");
     context.setLineDash(isControl ? [3, 3] : []);
     context.beginPath();
     context.moveTo(left, y);
-    context.bezierCurveTo(left + (right - left) * .25, y + sag * 1.3, left + (right - left) * .75, y + sag * 1.3, right, y);
+    context.bezierCurveTo(left + (right - left) * .25, y + sag * 1.3, left + (right - left) * .75, y + sag * 1.3, right,
+      y);
     context.stroke();
   }
 
@@ -245,7 +255,8 @@ export class Bands {
 
 /** A colour as the four bytes of a pixel. */
 function packedColor(text) {
-  const probe = packedColor.context ??= Object.assign(document.createElement("canvas"), {width: 1, height: 1}).getContext("2d", {willReadFrequently: true});
+  const probe = packedColor.context ??= Object.assign(document.createElement("canvas"),
+    {width: 1, height: 1}).getContext("2d", {willReadFrequently: true});
   probe.clearRect(0, 0, 1, 1);
   probe.fillStyle = text;
   probe.fillRect(0, 0, 1, 1);

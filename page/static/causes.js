@@ -1,6 +1,6 @@
 // Where a value comes from: each question has one answer, the move that set it, and what that read can be asked in turn.
 // The answers are those of `why` at the terminal (terminal/causes.py); page/test holds the two together.
-import {ALLOCATIONS, LOADED, WIDTHS, numeral, sizeOf} from "./program.js";
+import {ALLOCATIONS, LOADED, WIDTHS, isAsked, numeral, sizeOf} from "./program.js";
 import {KINDS} from "./memory.js";
 
 const MOST_BYTES = 48;
@@ -19,15 +19,17 @@ export class Causes {
     const {run, program} = this, frame = run.frameAt[position], id = run.funcOf(frame).ids.get(name);
     const set = run.lastSet(id, frame, position), width = program.widths[id];
     const value = set < 0 ? null : run.value(set);
-    const shown = set < 0 && run.isUnknown(frame) ? "?" : this.shown(value, width, position);
+    const shown = set < 0 && (run.isUnknown(frame) || !isAsked(name)) ? "?" : this.shown(value, width, position);
     return {of: "temporary", position, name, width, value, label: name, shown};
   }
 
   bytes(address, count, position, label) {
     const value = count <= 8 ? this.memory.value(address, count, position) : null;
     const near = this.memory.nameOf(BigInt(address), position) ?? String(address);
-    const shown = count > 8 ? `${count} bytes` : value === null ? "not live" : this.shown(value, WIDTHS[count] ?? "l", position);
-    return {of: "memory", position, address, count, value, label: label ?? `${WIDTHS[count] ?? `${count} bytes at`} ${near}`, shown};
+    const shown = count > 8 ? `${count} bytes` : value === null ? "not live"
+      : this.shown(value, WIDTHS[count] ?? "l", position);
+    return {of: "memory", position, address, count, value,
+      label: label ?? `${WIDTHS[count] ?? `${count} bytes at`} ${near}`, shown};
   }
 
   control(position) {
@@ -38,7 +40,8 @@ export class Causes {
 
   output(index) {
     const byte = this.run.out[index];
-    const shown = byte >= 32 && byte < 127 ? `“${String.fromCharCode(byte)}”` : `\\${byte.toString(8).padStart(3, "0")}`;
+    const shown = byte >= 32 && byte < 127 ? `“${String.fromCharCode(byte)}”`
+      : `\\${byte.toString(8).padStart(3, "0")}`;
     return {of: "output", position: this.memory.outPos[index], index, label: `byte ${index} of the output`, shown};
   }
 
@@ -74,7 +77,8 @@ export class Causes {
 
   operands(position) {
     const {operands} = this.run.placeAt(position).instruction;
-    return [...new Set(operands.map(([text]) => text).filter(text => text[0] === "%"))].map(name => this.temporary(name, position));
+    return [...new Set(operands.map(([text]) => text).filter(text => text[0] === "%"))].map(name => this.temporary(name,
+      position));
   }
 
   /** What a load or a blit takes from memory, where that is live. */
@@ -99,7 +103,8 @@ export class Causes {
     if (set < 0 || run.setPos[set] < 0) return this.unset(name, at, func, set);
     const move = run.setPos[set], {instruction} = run.placeAt(move);
     if (run.pokes[move] !== undefined) return this.made(move, "set by hand", [], {note: run.pokes[move]});
-    if (run.frameAt[move] !== frame) return instruction.op === "ret" ? this.executed(move, "given back by") : this.ofParameter(name, move, func);
+    if (run.frameAt[move] !== frame) return instruction.op === "ret" ? this.executed(move, "given back by")
+      : this.ofParameter(name, move, func);
     if (instruction.labels.length) return this.ofPhi(name, move);
     if (instruction.op === "call") return this.executed(move, "given back by the built-in of");
     const cause = this.executed(move, "set by");
@@ -110,11 +115,14 @@ export class Causes {
 
   /** Of a temporary that no move set: an argument of the command line, unset, or not known. */
   unset(name, at, func, set) {
-    if (this.run.base && (set >= 0 || this.run.frames.begin[this.run.frameAt[at]] === 0)) return this.made(null, BEFORE, []);
+    if (!isAsked(name)) return this.made(null, "its name is too long to be asked for", []);
+    if (this.run.base && (set >= 0 || this.run.frames.begin[this.run.frameAt[at]] === 0)) return this.made(null, BEFORE,
+      []);
     if (set >= 0) return this.made(null, "an argument of the command line", []);
     const lines = new Map();
     for (const block of func.blocks) {
-      for (const each of [...block.phis, ...block.body]) if (each.result === name) lines.set(each.line, `line ${each.line} (${block.label})`);
+      for (const each of [...block.phis, ...block.body]) if (each.result === name) lines.set(each.line,
+        `line ${each.line} (${block.label})`);
     }
     const note = lines.size ? `it is set at ${[...lines.values()].join(", ")}` : "";
     return this.made(null, "nothing set it in this call", [this.control(at)], {note, isAlarm: true});
@@ -149,10 +157,10 @@ export class Causes {
     if (after === null || after === memory.value(address, count, move)) return;
     const change = this.lastChange(address, count, move, asked);
     if (change < 0) return;
-    const poke = run.pokes[change];
+    const by = run.pokes[change] === undefined ? `line ${run.placeAt(change).instruction.line}` : "hand";
     cause.questions.push({...this.bytes(address, count, asked), isStale: true});
     Object.assign(cause, {changed: change, isAlarm: true,
-      note: `but memory was changed since, by ${poke === undefined ? `line ${run.placeAt(change).instruction.line}` : "hand"} at #${change + run.base}`});
+      note: `but memory was changed since, by ${by} at #${change + run.base}`});
   }
 
   /** The last move between two states by which bytes came to read otherwise, or -1. */
@@ -170,7 +178,8 @@ export class Causes {
 
   /** Of a temporary that the text sets at several places: the value that was there before. */
   addBefore(cause, name, func) {
-    const count = func.blocks.reduce((sum, block) => sum + [...block.phis, ...block.body].filter(each => each.result === name).length, 0);
+    const count = func.blocks.reduce((sum, block) => sum + [...block.phis,
+      ...block.body].filter(each => each.result === name).length, 0);
     if (count < 2) return;
     const before = this.temporary(name, cause.move);
     if (before.value !== null) cause.questions.push({...before, isAside: true, note: "before it was set again"});
@@ -186,7 +195,8 @@ export class Causes {
       state = before;
     }
     const move = run.stepsBegun(state) - 1;
-    return move < 0 ? this.made(null, BEFORE, []) : this.executed(move, `control came to ${run.placeAt(at).block.label} by`);
+    return move < 0 ? this.made(null, BEFORE, [])
+      : this.executed(move, `control came to ${run.placeAt(at).block.label} by`);
   }
 
   of_call({position}) {
@@ -208,15 +218,18 @@ export class Causes {
     const {program} = this, number = BigInt.asIntN(64, address), isNear = number >= 0n && number <= 0xffffffffn;
     if (isNear && program.isStack(Number(number))) return `${address} is in the stack, above its top`;
     if (!program.data.length) return `${address} is neither in the data nor in the stack`;
-    const far = ({address: begin, size}) => [BigInt(begin) - number, number - BigInt(begin + size), 0n].reduce((one, other) => one > other ? one : other);
-    const data = program.data.reduce((one, other) => far(other) < far(one) ? other : one), offset = number - BigInt(data.address);
+    const far = ({address: begin, size}) => [BigInt(begin) - number, number - BigInt(begin + size),
+      0n].reduce((one, other) => one > other ? one : other);
+    const data = program.data.reduce((one, other) => far(other) < far(one) ? other : one),
+      offset = number - BigInt(data.address);
     return `the nearest data is ${data.name}, of ${data.size} bytes: ${data.name}${offset < 0n ? "" : "+"}${offset}`;
   }
 
   /** Which allocs of the innermost frame took how much of the stack. */
   stackNote(position) {
     const {run} = this, counts = new Map(), {func} = run.placeAt(position);
-    for (const {instruction} of run.program.table.slice(func.entry, func.last)) if (ALLOCATIONS.has(instruction.op)) counts.set(instruction, 0);
+    for (const {instruction} of run.program.table.slice(func.entry,
+      func.last)) if (ALLOCATIONS.has(instruction.op)) counts.set(instruction, 0);
     for (let at = run.before(position); at >= 0; at = run.before(at)) {
       const {instruction} = run.placeAt(at);
       if (counts.has(instruction) && run.pokes[at] === undefined) counts.set(instruction, counts.get(instruction) + 1);
@@ -246,7 +259,8 @@ export class Causes {
     const ordered = [...groups].sort(([one], [other]) => other - one);
     if (ordered.length === 1) return this.writer(ordered[0][0], ordered[0][1], position);
     const questions = ordered.map(([write, found]) => ({
-      of: "writer", position, write, found, label: `byte${found.length > 1 ? "s" : ""} ${found.map(each => each - address).join(", ")}`,
+      of: "writer", position, write, found,
+        label: `byte${found.length > 1 ? "s" : ""} ${found.map(each => each - address).join(", ")}`,
       shown: found.map(each => String(this.memory.byte(each, position) ?? "not live")).join(" ")}));
     return this.made(null, `${ordered.length} writes`, questions);
   }

@@ -12,8 +12,10 @@ export class Cells {
     this.app = app;
     const cellOf = event => event.target.closest("[data-address]");
     const numbers = cell => [Number(cell.dataset.address), Number(cell.dataset.size)];
-    box.addEventListener("click", event => cellOf(event) && app.ask(app.causes.bytes(...numbers(cellOf(event)), app.cursor)));
-    box.addEventListener("pointermove", event => app.tip(cellOf(event) ? this.told(...numbers(cellOf(event))) : null, event));
+    box.addEventListener("click", event => cellOf(event)
+      && app.ask(app.causes.bytes(...numbers(cellOf(event)), app.cursor)));
+    box.addEventListener("pointermove", event => app.tip(cellOf(event) ? this.told(...numbers(cellOf(event))) : null,
+      event));
     box.addEventListener("pointerleave", () => app.tip(null));
   }
 
@@ -29,10 +31,12 @@ export class Cells {
         votes.set(data.name, tally);
       }
     }
-    this.widths = new Map([...votes].map(([name, tally]) => [name, Number(Object.entries(tally).sort((a, b) => b[1] - a[1])[0][0])]));
+    this.widths = new Map([...votes].map(([name, tally]) => [name,
+      Number(Object.entries(tally).sort((a, b) => b[1] - a[1])[0][0])]));
     this.hues = new Int32Array(program.table.length).fill(-1);
     let count = 0;
-    for (const {id, instruction} of program.table) if (instruction.op in STORED || instruction.op === "blit") this.hues[id] = -2;
+    for (const {id, instruction} of program.table) if (instruction.op in STORED
+      || instruction.op === "blit") this.hues[id] = -2;
     for (const move of memory.writes.pos) if (this.hues[run.places[move]] === -2) this.hues[run.places[move]] = count++ % 8;
   }
 
@@ -49,19 +53,23 @@ export class Cells {
     this.used = new Set();
     this.touched = this.touchedNow();
     const shown = program.data.filter(data => data.size);
-    const objects = shown.slice(0, MOST_OBJECTS).map(({name, address, size}) => this.object(name, ` ${size}`, address, size, this.widthOf(name)));
-    const stack = memory.allocations(app.cursor).slice(-MOST_ALLOCATIONS).filter(each => each.size).map(each =>
+    const objects = shown.slice(0, MOST_OBJECTS).map(({name, address, size}) => this.object(name, ` ${size}`, address,
+      size, this.widthOf(name)));
+    const stack = memory.allocations(app.cursor, MOST_ALLOCATIONS).filter(each => each.size).map(each =>
       this.object(each.name, each.func, each.address, each.size, each.size <= 8 ? each.size : each.size % 4 ? 1 : 4));
     this.box.replaceChildren(element("div", {class: "objects"}, ...objects,
-      shown.length > MOST_OBJECTS ? element("small", {class: "more"}, `${shown.length - MOST_OBJECTS} objects more`) : null,
+      shown.length > MOST_OBJECTS ? element("small", {class: "more"}, `${shown.length - MOST_OBJECTS} objects more`)
+        : null,
       stack.length ? element("h3", {}, "on the stack") : null, ...stack,
-      shown.length || stack.length ? null : element("p", {class: "hint"}, "There is no data, and nothing on the stack here.")), this.legend());
+      shown.length || stack.length ? null : element("p", {class: "hint"},
+        "There is no data, and nothing on the stack here.")), this.legend());
   }
 
   legend() {
     const {app} = this, keys = [...this.used].slice(0, MOST_KEYS).map(id => {
       const {instruction} = app.program.table[id];
-      return element("span", {class: "key", title: instruction.text}, element("i", {class: "swatch", css: {background: `var(--w${this.hueOf(id)})`}}),
+      return element("span", {class: "key", title: instruction.text},
+        element("i", {class: "swatch", css: {background: `var(--w${this.hueOf(id)})`}}),
         `line ${instruction.line} `, element("code", {}, instruction.text));
     });
     const none = app.run.base ? "nothing was written in this window before here" : "nothing was written yet";
@@ -75,17 +83,21 @@ export class Cells {
     const {op, operands} = place.instruction, value = index => run.operand(operands[index][0], app.cursor);
     if (op in LOADED) return {kind: "read", address: Number(value(0)), size: LOADED[op]};
     if (op in STORED) return {kind: "write", address: Number(value(1)), size: STORED[op], value: value(0)};
-    return op === "blit" ? {kind: "write", address: Number(value(1)), size: sizeOf(place.instruction), value: null} : null;
+    return op === "blit" ? {kind: "write", address: Number(value(1)), size: sizeOf(place.instruction), value: null}
+      : null;
   }
 
   object(name, more, address, size, width) {
-    const count = Math.ceil(size / width), isSmall = count <= MOST_NUMBERS, isText = width === 1 && this.isText(address, size);
+    const count = Math.ceil(size / width), isSmall = count <= MOST_NUMBERS, isText = width === 1
+      && this.isText(address, size);
     const cells = [];
     for (let n = 0; n < Math.min(count, MOST_PIECES); n++) {
       cells.push(this.cell(address + n * width, Math.min(width, size - n * width), {width, isSmall, isText}));
     }
-    return element("div", {class: classes("object", !isSmall && "is-wide")}, element("span", {class: "name", title: `${name} ${more}`}, name, element("small", {}, more)),
-      element("div", {class: "cells"}, ...cells, count > MOST_PIECES ? element("small", {class: "more"}, `+${spaced(count - MOST_PIECES)}`) : null));
+    return element("div", {class: classes("object", !isSmall && "is-wide")},
+      element("span", {class: "name", title: `${name} ${more}`}, name, element("small", {}, more)),
+      element("div", {class: "cells"}, ...cells, count > MOST_PIECES
+        ? element("small", {class: "more"}, `+${spaced(count - MOST_PIECES)}`) : null));
   }
 
   /** Whether most of the first bytes are signs. */
@@ -103,16 +115,21 @@ export class Cells {
     const {app} = this, {run, memory, cursor} = app;
     let write = -1;
     for (let offset = 0; offset < size; offset++) write = Math.max(write, memory.writes.last(address + offset, cursor));
-    const kind = write < 0 ? -1 : memory.writes.kind[write], place = write < 0 ? -1 : run.places[memory.writes.pos[write]];
+    const kind = write < 0 ? -1 : memory.writes.kind[write], place = write < 0 ? -1
+      : run.places[memory.writes.pos[write]];
     const isStore = kind === KINDS.store || kind === KINDS.blit;
     if (isStore) this.used.add(place);
     const value = size <= 8 ? memory.value(address, size, cursor) : null;
-    const sign = isText && value !== null ? signOf(Number(value)) : null, {touched} = this, asked = app.walk.chosen?.question;
+    const sign = isText && value !== null ? signOf(Number(value)) : null, {touched} = this,
+      asked = app.walk.chosen?.question;
     const meets = (begin, count) => begin < address + size && address < begin + count;
-    const name = classes("cell", !isSmall && "is-small", width === 1 && isText && "is-byte", sign?.length > 1 && "is-sign",
-      touched && meets(touched.address, touched.size) && `is-${touched.kind}`, asked?.of === "memory" && meets(asked.address, asked.count) && "is-asked");
+    const name = classes("cell", !isSmall && "is-small", width === 1 && isText && "is-byte", sign?.length > 1
+      && "is-sign",
+      touched && meets(touched.address, touched.size) && `is-${touched.kind}`, asked?.of === "memory"
+        && meets(asked.address, asked.count) && "is-asked");
     const hue = isStore ? `var(--w${this.hueOf(place)})` : kind === KINDS.poke ? "var(--poke)" : "transparent";
-    return element("button", {class: name, data: {address, size}, tabindex: "-1", css: {"--hue": hue, "--age": `${this.age(write)}%`}},
+    return element("button", {class: name, data: {address, size}, tabindex: "-1",
+      css: {"--hue": hue, "--age": `${this.age(write)}%`}},
       isSmall ? this.text(value, size, sign) : "", isSmall ? this.coming(address, size) : null);
   }
 
@@ -125,24 +142,29 @@ export class Cells {
   age(write) {
     const {memory, cursor} = this.app;
     if (write < 0) return 0;
-    return Math.round(82 - 56 * Math.min(1, Math.log1p(cursor - memory.writes.pos[write]) / Math.log1p(Math.max(30, cursor))));
+    return Math.round(82 - 56 * Math.min(1, Math.log1p(cursor - memory.writes.pos[write]) / Math.log1p(Math.max(30,
+      cursor))));
   }
 
   /** What the next move makes of a piece. */
   coming(address, size) {
     const {touched} = this;
-    if (touched?.kind !== "write" || touched.address !== address || touched.size !== size || touched.value === null) return null;
+    if (touched?.kind !== "write" || touched.address !== address || touched.size !== size
+      || touched.value === null) return null;
     const width = size === 8 ? "l" : {1: "b", 2: "h", 4: "w"}[size];
-    return element("span", {class: "next"}, ` → ${width === "l" ? this.app.causes.shown(touched.value, "l", this.app.cursor) : numeral(touched.value, width)}`);
+    return element("span", {class: "next"},
+      ` → ${width === "l" ? this.app.causes.shown(touched.value, "l", this.app.cursor) : numeral(touched.value, width)}`);
   }
 
   told(address, size) {
     const {app} = this, {run, memory} = app, question = app.causes.bytes(address, size, app.cursor);
     const line = (verb, accesses) => {
       const n = accesses.last(address, app.cursor), place = n < 0 ? null : run.placeAt(accesses.pos[n]);
-      return place ? `last ${verb} #${accesses.pos[n] + run.base} ${place.func.name} line ${place.instruction.line}: ${place.instruction.text}`
+      return place
+        ? `last ${verb} #${accesses.pos[n] + run.base} ${place.func.name} line ${place.instruction.line}: ${place.instruction.text}`
         : `${run.base ? "not" : "never"} ${verb} before here${run.base ? " in this window" : ""}`;
     };
-    return [`${question.label} = ${question.shown}`, line("written", memory.writes), line("read", memory.reads)].join("\n");
+    return [`${question.label} = ${question.shown}`, line("written", memory.writes),
+      line("read", memory.reads)].join("\n");
   }
 }

@@ -3,22 +3,23 @@ import {STORED, lowerBound} from "./program.js";
 import {byId, classes, element} from "./element.js";
 
 const TALL = 20, TAB = "    ";
-// Lines that are elements at a time; a longer text is cut to what is near the place.
-const MOST_LINES = 3000, MARGIN = 1000;
-const MOST_STATES = 4000;
+// A text of more lines has so many of them as elements at a time, those near the place.
+const MOST_LINES = 3000, PART = 500, MARGIN = 120;
+const MOST_STATES = 4000, MOST_SIGNS = 1000;
 const KEYWORDS = new Set("function data export align section type call jmp jnz ret hlt phi".split(" "));
 const TOKEN = /#.*|"(?:\\.|[^"\\])*"?|[%$@:][\w.$]+|-?\d+|[a-z]\w*|\s+|./g;
 
 /** A line of the text, its tokens in elements; temporaries can be asked about. */
 function tokensOf(line) {
   const found = [];
-  for (const [token] of line.replaceAll("\t", TAB).matchAll(TOKEN)) {
+  const isLong = line.length > MOST_SIGNS;
+  for (const [token] of line.slice(0, MOST_SIGNS).replaceAll("\t", TAB).matchAll(TOKEN)) {
     const kind = {"#": "comment", "%": "temp", $: "global", "@": "label", '"': "string"}[token[0]]
       ?? (/^-?\d/.test(token) ? "number" : KEYWORDS.has(token) ? "keyword" : "");
     if (!kind || token.length === 1 && kind !== "number") found.push(token);
     else found.push(element("span", {class: `t-${kind}`, data: kind === "temp" ? {temp: token} : {}}, token));
   }
-  return found;
+  return isLong ? [...found, ` … ${line.length - MOST_SIGNS} signs more`] : found;
 }
 
 /** How often each place was run in the moves that are shown. */
@@ -59,7 +60,8 @@ export class Code {
   /** Makes the lines around one elements: all of them, if they aren't too many. */
   render(line) {
     const {lines} = this, whole = lines.length <= MOST_LINES;
-    const first = whole ? 1 : Math.max(1, line - MOST_LINES / 2), last = whole ? lines.length : Math.min(lines.length, first + MOST_LINES);
+    const first = whole ? 1 : Math.max(1, line - PART / 2), last = whole ? lines.length
+      : Math.min(lines.length, first + PART);
     Object.assign(this, {first, last});
     this.rows = new Map();
     for (let number = first; number <= last; number++) this.rows.set(number, this.row(number));
@@ -72,13 +74,16 @@ export class Code {
     return element("div", {class: "line", data: {line: number}},
       element("button", {class: "gutter", disabled: !runs, tabindex: "-1", "aria-label": `line ${number}`,
         title: runs ? "when this line ran, in the timeline, and to the next time (with shift to the last)" : null},
-      element("i", {class: "heat"}), element("b", {class: "count"}), element("span", {class: "number"}, String(number))),
-      element("span", {class: "badge"}), element("code", {}, ...tokensOf(this.lines[number - 1])), element("span", {class: "beside"}));
+      element("i", {class: "heat"}), element("b", {class: "count"}),
+        element("span", {class: "number"}, String(number))),
+      element("span", {class: "badge"}), element("code", {}, ...tokensOf(this.lines[number - 1])),
+        element("span", {class: "beside"}));
   }
 
   scrolled() {
     const line = Math.floor(this.box.scrollTop / TALL), shown = line + this.box.clientHeight / TALL;
-    const isNear = (line > this.first + MARGIN / 2 || this.first === 1) && (shown < this.last - MARGIN / 2 || this.last === this.lines.length);
+    const isNear = (line > this.first + MARGIN || this.first === 1)
+      && (shown < this.last - MARGIN || this.last === this.lines.length);
     if (this.lines.length > MOST_LINES && !isNear) this.redraw(line);
   }
 
@@ -91,17 +96,32 @@ export class Code {
   draw() {
     const {app} = this, {place} = app, {line} = place.instruction;
     byId("place").textContent = `${place.func.name} ${place.block.label} ${place.k}`;
-    byId("source").textContent = app.program.map?.[line - 1] ?? "";
-    if (!this.rows.has(line)) this.render(line);
+    this.source(line);
+    if (!this.rows.has(line)) {
+      this.render(line);
+      this.heat();
+    }
     this.decorate();
     this.scrollTo(place);
+  }
+
+  /** The places that a line comes from, each with its text where that could be read: the compiler's own text, and its source. */
+  source(line) {
+    const {map, sources} = this.app.program, box = byId("source");
+    box.hidden = !map;
+    if (!map) return;
+    box.replaceChildren(...map[line - 1].map(([file, number, column]) => element("div", {class: "origin"},
+      element("span", {class: "where"},
+        `${file.slice(file.lastIndexOf("/") + 1)}:${number}${column ? `:${column}` : ""}`),
+      element("code", {}, sources[file]?.[number - 1]?.trim().replaceAll("\t", " ") ?? ""))));
   }
 
   decorate() {
     const {app} = this, {place} = app, {func, instruction} = place;
     const isHere = app.selected === 0 && !app.isAtEnd;
     for (const [number, row] of this.rows) {
-      row.className = classes("line", number >= func.line && number <= func.lastLine + 1 && "is-frame", row.isCold && "is-cold",
+      row.className = classes("line", number >= func.line && number <= func.lastLine + 1 && "is-frame", row.isCold
+        && "is-cold",
         number === instruction.line && (isHere ? "is-now" : "is-caller"), number === app.line && "is-marked");
       if (row.lastChild.firstChild) row.lastChild.replaceChildren();
     }
@@ -130,7 +150,8 @@ export class Code {
       const here = run.placeAt(at), isFirst = !seen.has(here.id);
       seen.add(here.id);
       this.setsBetween(here, before, place, found);
-      if (here.instruction.op in STORED && isFirst && run.program.dominates(func, here.block, here.k, place.block, place.k)) {
+      if (here.instruction.op in STORED && isFirst
+        && run.program.dominates(func, here.block, here.k, place.block, place.k)) {
         found.set(`store ${here.id}`, {line: here.instruction.line, text: this.storeTold(here, at)});
       }
       before = at;
@@ -139,27 +160,38 @@ export class Code {
     const frame = run.frameAt[state];
     for (const [, name] of func.parameters) {
       const set = run.lastSet(func.ids.get(name), frame, state);
-      if (set >= 0 && run.setPos[set] < Math.max(run.frames.begin[frame], 0)) found.set(name, {line: func.line, set, name});
+      if (set >= 0 && run.setPos[set] < Math.max(run.frames.begin[frame], 0)) found.set(name,
+        {line: func.line, set, name});
     }
     for (const value of found.values()) this.put(value, func);
   }
 
-  /** The values that were set on the way to a state of this frame. */
+  /** The values that the move to a state of this frame set; the place from which that was made is given. */
   setsBetween(here, state, place, found) {
-    const {run} = this.app, {func} = place, move = run.stepsBegun(state) - 1;
-    for (let set = lowerBound(run.setPos, Math.max(move, 0)); set < run.setPos.length && run.setPos[set] < state; set++) {
+    const {run} = this.app, {func} = place, move = state - 1, isPoke = run.pokes[move] !== undefined;
+    const isPhi = !isPoke && here.instruction.labels.length > 0, target = isPhi ? run.placeAt(state).block : here.block;
+    for (let set = lowerBound(run.setPos, move); set < run.setPos.length && run.setPos[set] === move; set++) {
       const name = run.program.names[run.setTemp[set]];
-      if (found.has(name) || run.frameOfSet(set) !== run.frameAt[state]) continue;
-      const isPhi = here.instruction.labels.length > 0, target = isPhi ? run.placeAt(state).block : here.block;
-      const line = isPhi ? target.phis.find(phi => phi.result === name)?.line ?? here.instruction.line : here.instruction.line;
-      const isStale = !run.program.dominates(func, target, isPhi ? -1 : here.k, place.block, place.k);
-      found.set(name, {line, set, name, isStale});
+      if (found.has(name)) continue;
+      // What was set by hand stands where the text sets it.
+      const line = isPoke ? this.definedAt(func, name) : isPhi ? target.phis.find(phi => phi.result === name)?.line
+        : here.instruction.line;
+      const isStale = !isPoke && !run.program.dominates(func, target, isPhi ? -1 : here.k, place.block, place.k);
+      found.set(name, {line: line ?? here.instruction.line, set, name, isStale});
     }
   }
 
+  definedAt(func, name) {
+    for (const block of func.blocks) for (const each of [...block.phis,
+      ...block.body]) if (each.result === name) return each.line;
+    return func.line;
+  }
+
   storeTold({instruction}, move) {
-    const {run, memory, causes} = this.app, [value, address] = instruction.operands.map(([text]) => run.operand(text, move));
-    return address === null ? "" : `${memory.nameOf(address, move) ?? address} ← ${causes.shown(value, instruction.op === "storel" ? "l" : "w", move)}`;
+    const {run, memory, causes} = this.app, width = instruction.op === "storel" ? "l" : "w";
+    const [value, address] = instruction.operands.map(([text]) => run.operand(text, move));
+    return address === null ? ""
+      : `${memory.nameOf(address, move) ?? address} ← ${causes.shown(value, width, move)}`;
   }
 
   put({line, set, name, isStale, text}, func) {
@@ -167,8 +199,10 @@ export class Code {
     if (!box || text === "") return;
     if (text) return box.append(element("span", {class: "value is-store"}, text));
     const shown = causes.shown(run.value(set), run.program.widths[run.setTemp[set]], run.setPos[set] + 1);
-    return box.append(element("button", {class: classes("value", isStale && "is-stale"), data: {value: name}, tabindex: "-1",
-      title: `${name} since #${run.setPos[set] + 1 + run.base}: click for why`}, line === func.line ? `${name.slice(1)} = ${shown}` : shown));
+    return box.append(element("button", {class: classes("value", isStale && "is-stale"), data: {value: name},
+      tabindex: "-1",
+      title: `${name} = ${shown} since #${run.setPos[set] + 1 + run.base}: click for why`}, line === func.line
+        ? `${name.slice(1)} = ${shown}` : shown));
   }
 
   /** What the instruction that comes next reads, and where a jump goes. */
@@ -176,19 +210,21 @@ export class Code {
     const {app} = this, {run, causes} = app, box = this.rows.get(instruction.line)?.lastChild;
     if (!box) return;
     box.replaceChildren(...causes.operands(app.state).map(each => element("button",
-      {class: "value is-operand", data: {value: each.name}, tabindex: "-1", title: "click for why"}, `${each.name.slice(1)} = ${each.shown}`)));
+      {class: "value is-operand", data: {value: each.name}, tabindex: "-1",
+        title: `${each.name} = ${each.shown}: click for why`}, `${each.name.slice(1)} = ${each.shown}`)));
     if (instruction.op !== "jnz") return;
     const condition = run.operand(instruction.operands[0][0], app.state);
-    if (condition !== null) box.append(element("span", {class: "value is-way"}, `→ ${instruction.labels[condition & 0xffffffffn ? 0 : 1]}`));
+    if (condition !== null) box.append(element("span", {class: "value is-way"},
+      `→ ${instruction.labels[condition & 0xffffffffn ? 0 : 1]}`));
   }
 
   /** How often each line ran in the moves that are shown. */
   heat() {
     const {app} = this, counts = countsOf(app.run, ...app.view);
     const most = Math.log1p(counts.reduce((one, other) => Math.max(one, other), 1));
-    for (const [line, places] of app.program.placesOf) {
-      const row = this.rows.get(line);
-      if (!row) continue;
+    for (const [line, row] of this.rows) {
+      const places = app.program.placesOf.get(line);
+      if (!places) continue;
       const count = places.reduce((sum, place) => Math.max(sum, counts[place.id]), 0), share = Math.log1p(count) / most;
       const [bar, number] = row.firstChild.children;
       bar.style.width = count ? `${4 + 40 * share}px` : "0";

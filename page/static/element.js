@@ -8,7 +8,8 @@ export function element(tag, properties = {}, ...children) {
     if (name === "class") made.className = value;
     else if (name.startsWith("on")) made.addEventListener(name.slice(2), value);
     else if (name === "data") Object.assign(made.dataset, value);
-    else if (name === "css") for (const [property, setting] of Object.entries(value)) made.style.setProperty(property, setting);
+    else if (name === "css") for (const [property, setting] of Object.entries(value)) made.style.setProperty(property,
+      setting);
     else made.setAttribute(name, value === true ? "" : value);
   }
   made.append(...children.filter(child => child !== null && child !== undefined && child !== false));

@@ -11,15 +11,18 @@ function table(app) {
     ["{ }", "to the call of this frame, to its return", {"{": () => app.out(-1), "}": () => app.out(1)}],
     ["Home End", "the start, the end", {Home: () => app.goTo(0), End: () => app.goTo(app.wholeMoves)}],
     ["g", "to a position", {g: () => byId("position").select()}],
-    ["u d", "the frame that called, the frame that was called", {u: () => app.select(app.selected + 1), d: () => app.select(app.selected - 1)}],
+    ["u d", "the frame that called, the frame that was called",
+      {u: () => app.select(app.selected + 1), d: () => app.select(app.selected - 1)}],
     ["w", "why: the end, or the first operand", {w: () => app.ask(app.firstQuestion())}],
-    ["↑ ↓ ⏎ ⌫", "walk the causes, open one, back to its effect", {ArrowUp: () => app.step(-1), ArrowDown: () => app.step(1),
+    ["↑ ↓ ⏎ ⌫", "walk the causes, open one, back to its effect",
+      {ArrowUp: () => app.step(-1), ArrowDown: () => app.step(1),
       Enter: () => app.walk.chosen && app.choose(app.walk.chosen), Backspace: () => app.effect()}],
     ["e", "open all that this value was made of", {e: () => app.slice()}],
     ["m", "show in the timeline when this line ran (or click its number)", {m: () => app.markHere()}],
     ["k", "keep this temporary in the timeline (or click its plot)", {k: () => app.keepHere()}],
     ["Esc", "take these out of the timeline", {Escape: () => app.clear()}],
-    ["+ − 0", "zoom in, out, the whole run (or the wheel)", {"+": () => app.zoom(.5), "=": () => app.zoom(.5), "-": () => app.zoom(2),
+    ["+ − 0", "zoom in, out, the whole run (or the wheel)",
+      {"+": () => app.zoom(.5), "=": () => app.zoom(.5), "-": () => app.zoom(2),
       0: () => app.show(0, app.run.moves)}],
     ["p", "set a value by hand", {p: () => app.poke()}],
     ["s", "what was done here, as a script", {s: () => app.script()}],
@@ -40,7 +43,8 @@ export class Keys {
   }
 
   press(event) {
-    if (event.ctrlKey || event.metaKey || event.altKey || !this.app.run?.isComplete || document.querySelector("dialog[open]")) return;
+    if (event.ctrlKey || event.metaKey || event.altKey || !this.app.run?.isComplete
+      || document.querySelector("dialog[open]")) return;
     if (event.target.matches("input, textarea")) {
       if (event.key === "Escape") event.target.blur();
       return;

@@ -97,14 +97,17 @@ export class Memory {
     keep(-1);
     for (let move = 0; move < run.moves; move++) {
       if (run.pokes[move] !== undefined) this.poked(move);
-      else if (wanted[places[move]] && places[move + 1] !== program.end) this.touched(move, program.table[places[move]], walk);
+      else if (wanted[places[move]] && places[move + 1] !== program.end) this.touched(move, program.table[places[move]],
+        walk);
       if (frameAt[move + 1] !== frame) {
-        if (run.frames.depth[frameAt[move + 1]] > run.frames.depth[frame]) this.enter(walk, run.funcOf(frameAt[move + 1]));
+        if (run.frames.depth[frameAt[move + 1]] > run.frames.depth[frame]) this.enter(walk,
+          run.funcOf(frameAt[move + 1]));
         else this.leave(walk, move);
         frame = frameAt[move + 1];
       }
       keep(move);
-      if (wanted[places[move]] === 1 && ALLOCATIONS.has(program.table[places[move]].instruction.op)) this.allocated(move, walk);
+      if (wanted[places[move]] === 1
+        && ALLOCATIONS.has(program.table[places[move]].instruction.op)) this.allocated(move, walk);
     }
   }
 
@@ -202,7 +205,8 @@ export class Memory {
   index() {
     const {program, writes, reads} = this, [stack, size] = program.stack;
     const dataPieces = Math.ceil((program.dataEnd - FROM_DATA) / PIECE) + 1;
-    const pieceOf = address => address >= stack && address < stack + size ? dataPieces + Math.floor((address - stack) / PIECE)
+    const pieceOf = address => address >= stack && address < stack + size
+      ? dataPieces + Math.floor((address - stack) / PIECE)
       : address >= FROM_DATA && address < program.dataEnd ? Math.floor((address - FROM_DATA) / PIECE) : -1;
     for (const accesses of [writes, reads]) accesses.index(pieceOf, dataPieces + size / PIECE);
     this.tops.pos = Int32Array.from(this.tops.pos);
@@ -225,7 +229,8 @@ export class Memory {
     for (;;) {
       const write = this.writes.last(address, position);
       if (write < 0) return this.initial(address);
-      const move = this.writes.pos[write], offset = address - this.writes.address[write], kind = this.writes.kind[write];
+      const move = this.writes.pos[write], offset = address - this.writes.address[write],
+        kind = this.writes.kind[write];
       if (kind === KINDS.alloc) return 0;
       if (kind !== KINDS.blit) return byteOf(this.stored(write), offset);
       // What a blit copied is asked for where it came from.
@@ -278,30 +283,43 @@ export class Memory {
     this.written = position => lowerBound(this.outPos, position, Math.min(run.outBase, run.out.length));
   }
 
-  /** The allocs of the frames of a state: name, function, frame, address, size, line. */
-  allocations(position) {
-    const {run} = this, found = [];
-    for (const frame of run.framesOf(position)) {
-      const func = run.funcOf(frame);
-      func.allocations ??= func.blocks.flatMap(block => block.body.filter(each => ALLOCATIONS.has(each.op)));
-      for (const instruction of func.allocations) {
-        const set = run.lastSet(func.ids.get(instruction.result), frame, position);
-        if (set < 0 || run.setPos[set] < 0 || run.pokes[run.setPos[set]] !== undefined) continue;
-        const size = run.operand(instruction.operands[0][0], run.setPos[set]);
-        found.push({name: instruction.result, func: func.name, frame, address: run.number(set), size: Number(size ?? 0),
-          line: instruction.line});
-      }
+  /** What the allocs of a frame gave last, before a state: name, function, address, size, line. */
+  allocationsOf(frame, position) {
+    const {run} = this, func = run.funcOf(frame), found = [];
+    func.allocations ??= func.blocks.flatMap(block => block.body.filter(each => ALLOCATIONS.has(each.op)));
+    for (const instruction of func.allocations) {
+      const set = run.lastSet(func.ids.get(instruction.result), frame, position);
+      if (set < 0 || run.setPos[set] < 0 || run.pokes[run.setPos[set]] !== undefined) continue;
+      const size = run.operand(instruction.operands[0][0], run.setPos[set]);
+      found.push({name: instruction.result, func: func.name, address: run.number(set), size: Number(size ?? 0),
+        line: instruction.line});
     }
-    return found.sort((one, other) => one.address - other.address);
+    return found;
+  }
+
+  /** Those of the innermost frames of a state, in the order of their addresses, so many at most. */
+  allocations(position, most) {
+    const found = [];
+    for (const frame of this.run.framesOf(position)) {
+      if (found.length >= most) break;
+      found.push(...this.allocationsOf(frame, position));
+    }
+    return found.sort((one, other) => one.address - other.address).slice(-most);
   }
 
   /** The name of an address, in a state: of data, of a function, or of an alloc on the stack; or null. */
   nameOf(value, position) {
     const name = this.program.nameOf(value);
     if (name || position === undefined || value > 0xffffffffn || !this.program.isStack(Number(value))) return name;
-    const number = Number(value);
-    const near = this.allocations(position).filter(each => each.address <= number && number < each.address + each.size).at(-1);
-    return near ? `${near.name}+${number - near.address}` : null;
+    const {run} = this, address = Number(value);
+    for (let frame = run.frameAt[position]; frame >= 0; frame = run.frames.parent[frame]) {
+      // What lies below where the stack ended when the frame was called belongs to its callers.
+      if (address < this.topAt(run.frames.begin[frame])) continue;
+      const near = this.allocationsOf(frame, position).find(each => each.address <= address
+        && address < each.address + each.size);
+      if (near) return `${near.name}+${address - near.address}`;
+    }
+    return null;
   }
 }
 

@@ -16,7 +16,8 @@ export class Output {
 
   build() {
     this.first = -1;
-    if (!this.app.run.out.length) this.box.replaceChildren(element("p", {class: "hint"}, "The program writes nothing."));
+    if (!this.app.run.out.length) this.box.replaceChildren(element("p", {class: "hint"},
+      "The program writes nothing."));
   }
 
   /** The bytes around the cursor, where there are more than are shown. */
@@ -31,9 +32,11 @@ export class Output {
     if (!run.out.length) return;
     const first = this.window();
     if (first !== this.first) this.show(first);
-    const count = lowerBound(memory.outPos, cursor), asked = walk.chosen?.question.of === "output" ? walk.chosen.question.index : -1;
+    const count = lowerBound(memory.outPos, cursor), asked = walk.chosen?.question.of === "output"
+      ? walk.chosen.question.index : -1;
     this.bytes.forEach((byte, index) => {
-      const name = classes("byte", run.out[first + index] === 10 && "is-newline", first + index >= count && "is-future", first + index === asked && "is-asked");
+      const name = classes("byte", run.out[first + index] === 10 && "is-newline", first + index >= count && "is-future",
+        first + index === asked && "is-asked");
       if (byte.className !== name) byte.className = name;
     });
   }
@@ -42,8 +45,11 @@ export class Output {
     const {run, memory} = this.app;
     this.first = first;
     this.bytes = Array.from(run.out.subarray(first, first + MOST_BYTES), (byte, index) => element("span",
-      {data: {byte: first + index}, title: `byte ${first + index}, written at #${memory.outPos[first + index] + run.base}: click for why`}, byte === 10 ? "⏎\n" : signOf(byte)));
-    const told = run.out.length > MOST_BYTES ? element("p", {class: "hint"}, `bytes ${first} to ${first + this.bytes.length - 1} of ${run.out.length}`) : null;
+      {data: {byte: first + index},
+        title: `byte ${first + index}, written at #${memory.outPos[first + index] + run.base}: click for why`},
+        byte === 10 ? "⏎\n" : signOf(byte)));
+    const told = run.out.length > MOST_BYTES ? element("p", {class: "hint"},
+      `bytes ${first} to ${first + this.bytes.length - 1} of ${run.out.length}`) : null;
     this.box.replaceChildren(...[told, element("pre", {}, ...this.bytes)].filter(Boolean));
   }
 }

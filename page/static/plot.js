@@ -73,10 +73,12 @@ export function plot(context, app, id, box, color) {
   const {least, most} = values.between(low, high);
   if (!(least <= most)) return null;
   const scale = {x: position => box.left + (position - from) / (to - from) * box.wide,
-    y: value => most === least ? box.top + box.tall / 2 : box.top + box.tall - 3 - (value - least) / (most - least) * (box.tall - 6)};
+    y: value => most === least ? box.top + box.tall / 2
+      : box.top + box.tall - 3 - (value - least) / (most - least) * (box.tall - 6)};
   const isDense = high - low > 3 * box.wide, isOwn = own.length > .9 * (high - low);
   if (isDense) columns(context, values, high, box, scale, app, color(isOwn ? "spark" : "spark-other"));
-  else if (!isOwn) stepLine(context, values, values.sets.subarray(low, high), app.frame, scale, app, color("spark-other"));
+  else if (!isOwn) stepLine(context, values, values.sets.subarray(low, high), app.frame, scale, app,
+    color("spark-other"));
   if (!isDense || !isOwn) stepLine(context, values, thinned(own, 4 * box.wide), null, scale, app, color("spark"));
   return {least, most};
 }

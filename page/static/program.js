@@ -7,6 +7,8 @@ export const ALLOCATIONS = new Set(["alloc4", "alloc8", "alloc16"]);
 export const WIDTHS = {1: "b", 2: "h", 4: "w", 8: "l"};
 export const BYTES = {b: 1, h: 2, w: 4, l: 8};
 const NEAR_ZERO = 65536n;
+// A line of the command language has 256 bytes: the value of a temporary with a longer name can't be asked for.
+const MOST_NAME = 249;
 
 /** The first index of a sorted array at which a value is at least `wanted`. */
 export function lowerBound(array, wanted, low = 0, high = array.length) {
@@ -16,6 +18,9 @@ export function lowerBound(array, wanted, low = 0, high = array.length) {
   }
   return low;
 }
+
+/** Whether the value of a temporary can be asked for. */
+export const isAsked = name => name.length <= MOST_NAME;
 
 /** How many bytes a load, a store or a blit touches. */
 export function sizeOf(instruction) {
@@ -68,7 +73,8 @@ export class Program {
 
   /** What a move from one place to another sets, as numbers of temporaries. */
   setBy(here, there) {
-    const {func, block, k} = there, {instruction} = here, ids = names => [...new Set(names)].map(name => func.ids.get(name));
+    const {func, block, k} = there, {instruction} = here;
+    const ids = names => [...new Set(names)].filter(isAsked).map(name => func.ids.get(name));
     if (instruction.op === "ret") return ids([block.body[k - 1].result].filter(Boolean));
     if (instruction.op === "call" && there.id === func.entry) return ids(func.parameters.map(([, name]) => name));
     if (instruction.labels.length) return ids(block.phis.map(phi => phi.result).filter(Boolean));
@@ -133,7 +139,8 @@ function dominatorsOf(func) {
   for (let isChanged = true; isChanged;) {
     isChanged = false;
     for (const block of order.slice(1)) {
-      const best = before[block].filter(each => known[each]).reduce((one, other) => one < 0 ? other : meet(one, other), -1);
+      const best = before[block].filter(each => known[each]).reduce((one, other) => one < 0 ? other : meet(one, other),
+        -1);
       if (!known[block] || found[block] !== best) {
         known[block] = 1;
         found[block] = best;

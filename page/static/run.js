@@ -1,6 +1,6 @@
 // A run, as arrays: the place of each state and each value that a move set, all of it answered by the debugger. Frames and
 // the last setter of a temporary are derived here, part by part as the arrays come.
-import {Program} from "./program.js";
+import {Program, isAsked} from "./program.js";
 
 const CALL = 1, RETURN = 2, JUMP = 3, OTHER = 0;
 
@@ -50,7 +50,7 @@ export class Run {
     this.kinds = Uint8Array.from(program.table, ({instruction: {op, labels}}) =>
       op === "call" ? CALL : op === "ret" ? RETURN : labels.length ? JUMP : OTHER);
     this.results = Int32Array.from(program.table, ({func, instruction}) =>
-      instruction.result ? func.ids.get(instruction.result) : -1);
+      instruction.result && isAsked(instruction.result) ? func.ids.get(instruction.result) : -1);
   }
 
   // What comes from the server, or from the file.
@@ -68,7 +68,8 @@ export class Run {
   }
 
   takeBegin(begin) {
-    Object.assign(this, {base: begin.base, pokes: begin.pokes, total: begin.total, outBase: begin.written, top: begin.top,
+    Object.assign(this, {base: begin.base, pokes: begin.pokes, total: begin.total, outBase: begin.written,
+      top: begin.top,
       givenFrame: begin.begun.length - 1, maxDepth: begin.begun.length - 1});
     const {grown} = this;
     begin.begun.forEach((name, index) => {
@@ -130,7 +131,8 @@ export class Run {
   setsOf(here, there) {
     const key = here * this.program.table.length + there;
     let found = this.setsBehind.get(key);
-    if (!found) this.setsBehind.set(key, found = this.program.setBy(this.program.table[here], this.program.table[there]));
+    if (!found) this.setsBehind.set(key, found = this.program.setBy(this.program.table[here],
+      this.program.table[there]));
     return found;
   }
 
@@ -165,8 +167,10 @@ export class Run {
     if (this.setPos.length !== this.low.length) throw new Error(`${this.low.length} values for ${this.setPos.length} sets`);
     this.out = Uint8Array.from(this.output.match(/../g) ?? [], byte => parseInt(byte, 16));
     this.inTime = grouped(Uint32Array.from(this.setPos, (_, index) => index), this.setTemp, this.program.temporaries);
-    const byFrame = grouped(this.inTime.order, Uint32Array.from(this.inTime.order, set => this.frameOfSet(set)), this.frames.count);
-    this.byFrame = grouped(byFrame.order, Uint32Array.from(byFrame.order, set => this.setTemp[set]), this.program.temporaries);
+    const byFrame = grouped(this.inTime.order, Uint32Array.from(this.inTime.order, set => this.frameOfSet(set)),
+      this.frames.count);
+    this.byFrame = grouped(byFrame.order, Uint32Array.from(byFrame.order, set => this.setTemp[set]),
+      this.program.temporaries);
     this.isComplete = true;
     return this;
   }

@@ -3,7 +3,8 @@ import {lowerBound, spaced} from "./program.js";
 import {Bands, SIDE} from "./bands.js";
 import {signOf} from "./element.js";
 
-const SHORT = 26, TALL = 96, AXIS = 20, MARKS = 16, GAP = 5, RIGHT = 14, MOST_ROWS = 31, ROWS_TALL = 124;
+const SHORT = 26, TALL = 96, AXIS = 20, MARKS = 16, GAP = 5, RIGHT = 14, MOST_ROWS = 31, ROWS_TALL = 124,
+  MOST_SIGNS = 40;
 
 export class Timeline {
   constructor(canvas, app) {
@@ -98,7 +99,7 @@ export class Timeline {
     context.fillStyle = this.color(color);
     context.textAlign = "right";
     const most = SIDE - 14;
-    let shown = text;
+    let shown = text.length > MOST_SIGNS ? `${text.slice(0, MOST_SIGNS)}…` : text;
     while (shown.length > 2 && context.measureText(shown).width > most) shown = `${shown.slice(0, -2).trimEnd()}…`;
     context.fillText(shown, SIDE - 10, y);
     context.textAlign = "left";
@@ -136,37 +137,54 @@ export class Timeline {
   }
 
   silhouette(run, moves) {
-    const {context} = this, width = Math.floor(this.span), key = `${run.moves} ${moves} ${width}`;
-    if (this.profileKey !== key || this.profileOf !== run) {
-      this.profile = new Uint16Array(width);
-      const {depth} = run.frames;
-      for (let x = 0; x < width; x++) {
-        const begin = Math.floor(x / width * moves), end = Math.min(run.moves + 1, Math.max(begin + 1, Math.floor((x + 1) / width * moves)));
-        const stride = Math.max(1, Math.floor((end - begin) / 64));
-        for (let at = begin; at < end; at += stride) this.profile[x] = Math.max(this.profile[x], depth[run.frameAt[at]] + 1);
-      }
-      Object.assign(this, {profileKey: key, profileOf: run});
-    }
+    const {context} = this, profile = this.profile(run, moves),
+      most = Math.max(run.maxDepth, this.app.ghost?.maxDepth ?? 0) + 1;
+    const tall = depth => depth / most * (this.overviewTall - 10), bottom = this.overviewTall - 6;
     context.fillStyle = this.color("silhouette");
+    profile.forEach((depth, x) => depth && context.fillRect(SIDE + x, bottom - tall(depth), 1, tall(depth)));
+    if (this.app.ghost) this.ghost(this.profile(this.app.ghost, moves), tall, bottom);
+  }
+
+  /** The run before a value was set by hand, as a line. */
+  ghost(profile, tall, bottom) {
+    const {context} = this;
+    context.strokeStyle = this.color("poke");
+    context.beginPath();
+    profile.forEach((depth, x) => context.lineTo(SIDE + x + .5, bottom - tall(depth)));
+    context.stroke();
+  }
+
+  /** The greatest depth of calls in each column. */
+  profile(run, moves) {
+    const width = Math.floor(this.span), key = `${run.moves} ${moves} ${width}`;
+    if (run.profile?.key === key) return run.profile.depths;
+    const depths = new Uint16Array(width), {depth} = run.frames;
     for (let x = 0; x < width; x++) {
-      const tall = this.profile[x] / (run.maxDepth + 1) * (this.overviewTall - 10);
-      if (tall) context.fillRect(SIDE + x, this.overviewTall - 6 - tall, 1, tall);
+      const begin = Math.floor(x / width * moves),
+        end = Math.min(run.moves + 1, Math.max(begin + 1, Math.floor((x + 1) / width * moves)));
+      const stride = Math.max(1, Math.floor((end - begin) / 64));
+      for (let at = begin; at < end; at += stride) depths[x] = Math.max(depths[x], depth[run.frameAt[at]] + 1);
     }
+    run.profile = {key, depths};
+    return depths;
   }
 
   /** Of a run that is too long for arrays: whole stacks at equal distances. Between them nothing is said. */
   sampled() {
-    const {context, app} = this, {stacks, stride, most} = app.long, moves = app.wholeMoves, tall = this.overviewTall - 8;
+    const {context, app} = this, {stacks, stride, most} = app.long, moves = app.wholeMoves,
+      tall = this.overviewTall - 8;
     context.fillStyle = this.color("sunken");
     context.fillRect(SIDE, 2, this.span, tall);
     const row = tall / Math.max(1, most), wide = stride / moves * this.span;
     for (let column = 0; column < stacks.length; column++) {
       for (let depth = 0; depth < stacks[column].length; depth++) {
         context.fillStyle = this.color(`f${stacks[column][depth] % 8}`);
-        context.fillRect(SIDE + column * wide, 2 + depth * row, Math.max(1, wide) + .3, Math.max(1, row - (row > 3 ? .5 : 0)));
+        context.fillRect(SIDE + column * wide, 2 + depth * row, Math.max(1, wide) + .3,
+          Math.max(1, row - (row > 3 ? .5 : 0)));
       }
     }
-    const left = SIDE + app.run.base / moves * this.span, right = SIDE + (app.run.base + app.run.moves) / moves * this.span;
+    const left = SIDE + app.run.base / moves * this.span,
+      right = SIDE + (app.run.base + app.run.moves) / moves * this.span;
     context.fillStyle = this.color("now");
     context.fillRect(left - 1, 0, Math.max(3, right - left), this.overviewTall - 5);
   }
@@ -216,10 +234,11 @@ export class Timeline {
 
   outputMarks(y) {
     const {context, app} = this, {run, memory} = app, {outPos} = memory;
-    let last = -99;
+    let last = -99, dot = -99;
     for (let index = lowerBound(outPos, app.view[0]), end = lowerBound(outPos, app.view[1]); index < end; index++) {
       const x = this.x(outPos[index] + .5);
-      if (x - last < 1) continue;
+      if (x - dot < 1) continue;
+      dot = x;
       context.fillStyle = this.color(outPos[index] < app.cursor ? "output" : "faint");
       const sign = run.out[index] === 10 ? "⏎" : run.out[index] === 32 ? "␣" : signOf(run.out[index]);
       if (x - last >= 9) {
@@ -239,14 +258,16 @@ export class Timeline {
       for (let frame = 0; frame < shown; frame++) {
         const depth = frames.depth[frame];
         if (depth >= MOST_ROWS || frames.end[frame] >= 0 && frames.end[frame] <= from) continue;
-        const left = Math.max(SIDE, this.x(frames.begin[frame])), right = Math.min(SIDE + this.span, this.x(run.endOf(frame)));
+        const left = Math.max(SIDE, this.x(frames.begin[frame])),
+          right = Math.min(SIDE + this.span, this.x(run.endOf(frame)));
         if (right <= painted[depth]) continue;
         painted[depth] = Math.max(right, Math.floor(left) + 1);
         this.bar(frame, left, right, top + depth * tall, tall);
       }
       if (this.perMove > .35 && tall > 7) this.blocks(top, tall);
     });
-    if (run.maxDepth >= MOST_ROWS) this.label(`+${run.maxDepth + 1 - MOST_ROWS} deeper`, top + rows * tall - 6, "faint", "sans", 10);
+    if (run.maxDepth >= MOST_ROWS) this.label(`+${run.maxDepth + 1 - MOST_ROWS} deeper`, top + rows * tall - 6, "faint",
+      "sans", 10);
   }
 
   bar(frame, left, right, y, tall) {
@@ -256,7 +277,8 @@ export class Timeline {
     if (wide > 30 && tall > 11) {
       context.fillStyle = this.color("on-frame");
       this.inside(left, y, wide - 3, tall, () =>
-        context.fillText(run.program.functions[func].name, left + 5, y + tall / 2 - (this.perMove > .5 ? 1 : 0)));
+        context.fillText(run.program.functions[func].name.slice(0, 4 * MOST_SIGNS), left + 5,
+          y + tall / 2 - (this.perMove > .5 ? 1 : 0)));
     }
     if (run.isComplete && frame === app.frame) {
       context.strokeStyle = this.color("now");
@@ -271,12 +293,14 @@ export class Timeline {
     let begin = from;
     for (let at = from + 1; at <= to; at++) {
       const here = run.places[at];
-      if (at < to && here !== end && run.frameAt[at] === run.frameAt[begin] && table[here].block === table[run.places[begin]].block
+      if (at < to && here !== end && run.frameAt[at] === run.frameAt[begin]
+        && table[here].block === table[run.places[begin]].block
         && here >= run.places[at - 1]) continue;
       const place = table[run.places[begin]], depth = run.frames.depth[run.frameAt[begin]];
       if (place && depth < MOST_ROWS) {
         context.fillStyle = this.color(`b${place.block.order % 4}`);
-        context.fillRect(this.x(begin), top + depth * tall + tall - 5, Math.max(.5, (at - begin) * perMove - (perMove > 2 ? 1 : 0)), 3);
+        context.fillRect(this.x(begin), top + depth * tall + tall - 5,
+          Math.max(.5, (at - begin) * perMove - (perMove > 2 ? 1 : 0)), 3);
       }
       begin = at;
     }
@@ -293,7 +317,8 @@ export class Timeline {
     context.fillRect(Math.round(x) - 1, top + 14, 2, this.height - top - 14);
     const text = `#${spaced(app.cursor + app.run.base)}`;
     this.font(11, "sans", "600");
-    const wide = context.measureText(text).width + 12, left = Math.min(Math.max(SIDE, x - wide / 2), SIDE + this.span - wide + 10);
+    const wide = context.measureText(text).width + 12,
+      left = Math.min(Math.max(SIDE, x - wide / 2), SIDE + this.span - wide + 10);
     context.beginPath();
     context.roundRect(left, top - 2, wide, 17, 4);
     context.fill();
@@ -359,7 +384,7 @@ export class Timeline {
       const begin = run.frames.begin[bar], end = run.endOf(bar);
       lines.push(`${run.funcOf(bar).name}, ${spaced(end - begin)} moves from #${spaced(begin + run.base)}`);
     }
-    return [...lines, ...this.bands.told(at, y)].join("\n");
+    return [...lines, ...this.bands.told(at, y)].map(line => line.slice(0, 8 * MOST_SIGNS)).join("\n");
   }
 
   release() {
@@ -380,7 +405,8 @@ export class Timeline {
     const {app} = this, frames = app.run.framesOf(this.clamp(this.position(x)));
     const frame = frames[frames.length - 1 - Math.floor((y - this.rows.flames) / this.rowTall)];
     if (frame === undefined) return;
-    const begin = app.run.frames.begin[frame], end = Math.min(app.run.moves, app.run.endOf(frame)), margin = (end - begin) * .02;
+    const begin = app.run.frames.begin[frame], end = Math.min(app.run.moves, app.run.endOf(frame)),
+      margin = (end - begin) * .02;
     app.show(begin - margin, end + margin);
   }
 

@@ -90,7 +90,8 @@ export class Tree {
   draw() {
     const {walk} = this.app;
     if (!walk.root) {
-      this.box.replaceChildren(element("p", {class: "hint"}, "Click a value, a byte of memory or of the output, or press ", element("kbd", {}, "w"), "."));
+      this.box.replaceChildren(element("p", {class: "hint"},
+        "Click a value, a byte of memory or of the output, or press ", element("kbd", {}, "w"), "."));
       return;
     }
     this.nodes = walk.rows();
@@ -99,7 +100,15 @@ export class Tree {
     const rows = this.nodes.map((node, index) => this.row(node, index, depths.get(node)));
     this.box.replaceChildren(element("div", {role: "tree", "aria-label": "causes", tabindex: "0",
       "aria-activedescendant": `node-${this.nodes.indexOf(walk.chosen)}`}, ...rows));
-    this.box.querySelector(".node.is-chosen")?.scrollIntoView({block: "nearest"});
+    this.reveal(this.box.querySelector(".node.is-chosen"));
+  }
+
+  /** Scrolls the tree, and not the page, so that a row is in view. */
+  reveal(row) {
+    if (!row) return;
+    const {box} = this, top = row.offsetTop, bottom = top + row.offsetHeight;
+    if (top < box.scrollTop) box.scrollTop = top;
+    else if (bottom > box.scrollTop + box.clientHeight) box.scrollTop = bottom - box.clientHeight;
   }
 
   row(node, index, depth) {
@@ -107,23 +116,30 @@ export class Tree {
     const indent = `${Math.min(depth, DEEP) * 14 + Math.max(0, depth - DEEP) * 3}px`;
     const at = cause && cause.move !== null && element("span", {class: "at"}, `#${spaced(cause.move + app.run.base)}`,
       element("small", {}, `line ${cause.place.instruction.line}`));
-    return element("div", {class: classes("node", isChosen && "is-chosen", cause && "is-open"), role: "treeitem", id: `node-${index}`,
-      data: {node: index}, css: {"--indent": indent}, "aria-level": depth + 1, "aria-expanded": String(Boolean(cause)), "aria-selected": String(isChosen)},
+    return element("div", {class: classes("node", isChosen && "is-chosen", cause && "is-open"), role: "treeitem",
+      id: `node-${index}`,
+      data: {node: index}, css: {"--indent": indent}, "aria-level": depth + 1, "aria-expanded": String(Boolean(cause)),
+        "aria-selected": String(isChosen)},
     element("span", {class: "twist", "aria-hidden": "true"}, cause ? node.kids?.length ? "▾" : "·" : "▸"),
     element("span", {class: "told"}, this.asked(node.question), cause && this.by(node)), at);
   }
 
   asked(question) {
     const isControl = question.of === "control" || question.of === "call";
-    return element("span", {class: classes("ask", isControl && "is-control", question.isAside && "is-aside", question.isStale && "is-changed")},
-      question.isStale ? "now " : "", question.label, question.shown === undefined ? null : element("b", {}, ` ${question.shown}`),
+    return element("span", {class: classes("ask", isControl && "is-control", question.isAside && "is-aside",
+      question.isStale && "is-changed")},
+      question.isStale ? "now " : "", question.label, question.shown === undefined ? null
+        : element("b", {}, ` ${question.shown}`),
       question.note ? ` ${question.note}` : "");
   }
 
   by({cause, isSeen}) {
     const {program} = this.app, text = cause.phi?.text ?? cause.place?.instruction.text;
-    const source = cause.place && program.map?.[cause.place.instruction.line - 1];
-    return element("span", {class: "by", title: [text, source].filter(Boolean).join("\n")}, `${cause.verb} `, text ? element("code", {}, text) : null,
-      isSeen ? " (as above)" : "", cause.note ? element("em", {class: classes("note", cause.isAlarm && "is-alarm")}, cause.note) : null);
+    const places = (cause.place && program.map?.[cause.place.instruction.line - 1]) ?? [];
+    const source = places.map(([file, line, column]) => `${file}:${line}${column ? `:${column}` : ""}`);
+    return element("span", {class: "by", title: [text, ...source].filter(Boolean).join("\n")}, `${cause.verb} `, text
+      ? element("code", {}, text) : null,
+      isSeen ? " (as above)" : "", cause.note ? element("em", {class: classes("note", cause.isAlarm && "is-alarm")},
+        cause.note) : null);
   }
 }

@@ -53,20 +53,27 @@ KEYS: list[tuple[list[str], str, object]] = [
     (["Backspace"], STATE, [85, "%bias", "$main @end 0"]),
     (["g"], "document.activeElement.id", "position"),
     (["Escape"], "document.activeElement.id", ""),
-    (["Home"], "app.cursor", 0), (["ArrowRight"], STATE, [1, "%bias", "$fill @start 0"]), (["ArrowLeft"], "app.cursor", 0),
+    (["Home"], "app.cursor", 0), (["ArrowRight"], STATE, [1, "%bias", "$fill @start 0"]),
+    (["ArrowLeft"], "app.cursor", 0),
     (["S-ArrowRight"], STATE, [50, "%bias", "$main @start 1"]), (["S-ArrowLeft"], "app.cursor", 0),
     (["ArrowRight", "ArrowRight", "ArrowRight", "]"], "app.cursor", 12), (["["], "app.cursor", 3),
     (["["], "document.getElementById('said').textContent", "this line didn't run before"),
-    (["{"], "app.cursor", 0), (["ArrowRight", "}"], "app.cursor", 50), (["ArrowLeft", "u"], "document.getElementById('place').textContent", "$main @start 0"),
+    (["{"], "app.cursor", 0), (["ArrowRight", "}"], "app.cursor", 50),
+    (["ArrowLeft", "u"], "document.getElementById('place').textContent", "$main @start 0"),
     (["d"], "document.getElementById('place').textContent", "$fill @end 0"),
-    (["m"], "app.line", 22), (["ArrowLeft", "k"], "app.pins.map(id => app.program.names[id])", ["%more"]), (["Escape"], "[app.line, app.pins.length]", [0, 0]),
-    (["w"], "app.walk.root.question.label", "%more"), (["End", "w", "e"], "app.walk.dots().nodes.some(({move}) => move === 44)", True),
+    (["m"], "app.line", 22), (["ArrowLeft", "k"], "app.pins.map(id => app.program.names[id])", ["%more"]),
+    (["Escape"], "[app.line, app.pins.length]", [0, 0]),
+    (["w"], "app.walk.root.question.label", "%more"),
+    (["End", "w", "e"], "app.walk.dots().nodes.some(({move}) => move === 44)", True),
     (["+"], "app.view[1] - app.view[0]", 44), (["-", "0"], "app.view", [0, 88]),
     (["?"], "document.getElementById('help').open", True), (["Escape"], "document.getElementById('help').open", False),
-    (["s"], "document.getElementById('scripted').open", True), (["Escape"], "document.getElementById('scripted').open", False),
-    (["t"], "document.documentElement.dataset.theme", "dark"), (["t"], "document.documentElement.dataset.theme", "light"),
+    (["s"], "document.getElementById('scripted').open", True),
+    (["Escape"], "document.getElementById('scripted').open", False),
+    (["t"], "document.documentElement.dataset.theme", "dark"),
+    (["t"], "document.documentElement.dataset.theme", "light"),
     (["p"], "document.getElementById('said').textContent", "the run is over here; go back into it first"),
-    (["ArrowLeft", "p"], "[document.getElementById('poking').open, document.getElementById('line').value]", [True, "set %total "]),
+    (["ArrowLeft", "p"], "[document.getElementById('poking').open, document.getElementById('line').value]",
+     [True, "set %total "]),
 ]
 
 
@@ -83,7 +90,7 @@ def keys(program: str) -> str | None:
 def pointer(program: str) -> str | None:
     """A press in the timeline, in the overview, on a value, a byte of memory, of the output, a line's number, a plot, a cause."""
     with opened(program, DIGITS) as browser:
-        box = browser.run("(() => { const box = document.getElementById('timeline').getBoundingClientRect(); return [box.left, box.top]; })()")
+        box = browser.run("(box => [box.left, box.top])(document.getElementById('timeline').getBoundingClientRect())")
         x = browser.run("app.timeline.x(101)")
         browser.press(box[0] + x, box[1] + 60)
         found = {"timeline": browser.run("app.cursor") == 101}
@@ -101,6 +108,15 @@ def pointer(program: str) -> str | None:
         browser.run("app.ask(app.causes.root(app.run.moves))")
         browser.click(".node:not(.is-open)")
         found["cause"] = browser.run("app.walk.chosen !== app.walk.root && Boolean(app.walk.chosen.cause)")
+        browser.run("app.show(0, app.run.moves)")
+        row = browser.run("app.timeline.rows.flames + app.timeline.rowTall * 1.5")
+        browser.move(box[0] + x + 2, box[1] + row)
+        tip = browser.run("document.getElementById('tip').textContent")
+        found["what a bar says"] = tip.startswith("#101 $number @digit 3  line 17: storeb %t2, %at.next\n$number, 60 moves from #71")
+        browser.press_twice(box[0] + x, box[1] + row)
+        found["a call as wide as the window"] = browser.run("app.view.map(Math.round)") == [70, 132]
+        browser.wheel(box[0] + x, box[1] + row, 120)
+        found["wheel"] = browser.run("app.view[1] - app.view[0]") > 70
         browser.run("app.show(0, 20)")
         browser.press(box[0] + browser.run("84 + app.timeline.span / 2"), box[1] + 12)
         found["overview"] = abs(browser.run("(app.view[0] + app.view[1]) / 2") - browser.run("app.run.moves / 2")) < 2
@@ -125,8 +141,10 @@ def by_hand(program: str) -> str | None:
         browser.type("poke w $bias 0")
         browser.key("Enter")
         steps: list[tuple[str, object]] = [
-            ("document.getElementById('end').textContent", "done 14"), ("document.getElementById('was').textContent", "was done 30"),
-            ("app.cursor", 46), ("agreed.className + agreed.textContent", "is-rightsession #46 $fill @body 5")]
+            ("document.getElementById('end').textContent", "done 14"),
+            ("document.getElementById('was').textContent", "done 30 at #88"),
+            ("app.ghost.end", "done 30"), ("app.cursor", 46),
+            ("agreed.className + agreed.textContent", "is-rightsession #46 $fill @body 5")]
         for script, wanted in steps:
             given = waited(browser, script, wanted)
             if given != wanted:
@@ -154,17 +172,20 @@ def export(program: str) -> str | None:
     """The exported file, opened from the disk: the same run and causes, and no request."""
     with tempfile.TemporaryDirectory(prefix="page-") as folder:
         file = f"{folder}/queens.html"
-        subprocess.run([sys.executable, "-B", str(MAIN), "--debugger", program, "--export", file, "--", QUEENS], check=True, capture_output=True)
+        subprocess.run([sys.executable, "-B", str(MAIN), "--debugger", program, "--export", file, "--", QUEENS],
+                       check=True, capture_output=True)
         browser = Browser()
         try:
             browser.send("Network.enable")
             browser.open(f"file://{file}")
-            asked = [each["params"]["request"]["url"] for each in browser.events if each.get("method") == "Network.requestWillBeSent"]
+            asked = [each["params"]["request"]["url"] for each in browser.events
+                     if each.get("method") == "Network.requestWillBeSent"]
             foreign = [url for url in asked if not url.startswith(("file:", "data:", "blob:"))]
             browser.click(".byte", 2)
-            given = browser.run("[app.run.moves, app.run.end, app.walk.root.cause.place.instruction.text, app.walk.root.kids.map(kid => kid.question.label + ' ' + kid.question.shown)]")
+            given = browser.run("[app.run.moves, app.run.end, app.walk.root.cause.place.instruction.text]")
             blocked = browser.run("fetch('http://127.0.0.1:9/').then(() => 'sent', error => 'forbidden')")
-            errors = [error for error in browser.errors() if "Content Security Policy" not in error and "Fetch API" not in error]
+            errors = [error for error in browser.errors() if "Content Security Policy" not in error
+                      and "Fetch API" not in error]
         finally:
             browser.close()
     wanted = [37116, "done 4", "call $putchar(w %letter)"]
@@ -200,7 +221,8 @@ def size(program: str) -> str | None:
     with tempfile.TemporaryDirectory(prefix="page-") as folder:
         file = pathlib.Path(folder) / "long.ssa"
         file.write_text(LONG.replace("COUNT", str(100_000 // MOVES_A_ROUND + 1)))
-        subprocess.run([sys.executable, "-B", str(MAIN), "--debugger", program, "--export", f"{folder}/long.html", "--", str(file)],
+        subprocess.run([sys.executable, "-B", str(MAIN), "--debugger", program, "--export", f"{folder}/long.html", "--",
+                        str(file)],
                        check=True, capture_output=True)
         moves = read_place(Pipe([program, str(file)]).ask("step 999999")[0][-1]).position
         size = pathlib.Path(f"{folder}/long.html").stat().st_size
@@ -228,7 +250,8 @@ def hostile(program: str) -> str | None:
         file = pathlib.Path(folder) / "<img src=x onerror=alert(1)>.ssa"
         file.write_text(HOSTILE)
         export_file = f"{folder}/hostile.html"
-        subprocess.run([sys.executable, "-B", str(MAIN), "--debugger", program, "--export", export_file, "--", str(file)], check=True, capture_output=True)
+        subprocess.run([sys.executable, "-B", str(MAIN), "--debugger", program, "--export", export_file, "--",
+                        str(file)], check=True, capture_output=True)
         browser = Browser()
         try:
             with Serving(program, str(file)) as serving:
@@ -244,8 +267,8 @@ def hostile(program: str) -> str | None:
 
 
 def hostile_fault(browser: Browser, name: str) -> str | None:
-    given = browser.run("""({hacked: window.hacked ?? null, images: document.images.length, file: document.getElementById('file').textContent,
-        bold: document.querySelectorAll('main b:not(.count):not(.ask b)').length, output: document.getElementById('output').textContent,
+    given = browser.run("""({hacked: window.hacked ?? null, images: document.images.length,
+        file: document.getElementById('file').textContent, output: document.getElementById('output').textContent,
         values: [...document.querySelectorAll('.temp .name')].map(each => each.textContent),
         first: document.querySelector('.line code').textContent})""")
     wanted = {"hacked": None, "images": 0, "file": name, "first": HOSTILE.split("\n")[0],
@@ -269,5 +292,39 @@ def ended(program: str) -> str | None:
         browser.close()
 
 
-CASES = {"keys": keys, "pointer": pointer, "a value by hand and the script": by_hand, "export": export, "export's size": size,
-         "hostile texts": hostile, "the server ends": ended}
+COMPARER = TOP / "release" / "qrev-compare-x86_64-linux"
+
+
+def side_by_side(program: str) -> str | None:
+    """README's example beside the one that is right: each side where qrev-compare says that they part."""
+    with tempfile.TemporaryDirectory(prefix="page-") as folder:
+        good = pathlib.Path(folder) / "good.ssa"
+        good.write_text(pathlib.Path(SQUARES).read_text().replace("cslew %i, 4", "csltw %i, 4"))
+        words = [str(good), SQUARES, "--events", "writes,end"]
+        told = subprocess.run(["qrev-compare", *words], executable=COMPARER, stdin=subprocess.DEVNULL,
+                              capture_output=True, text=True).stdout
+        steps = [int(line.split()[1]) for line in told.split("\n") if line.startswith("step ")]
+        browser = Browser(1600, 1000)
+        try:
+            with Serving(program, *words, options=("--compare", str(COMPARER))) as serving:
+                browser.open(serving.address)
+                ready = "[...document.querySelectorAll('iframe')].map(each => each.contentDocument?.documentElement?.dataset.ready).join()"
+                waited(browser, ready, "yes,yes")
+                sides = "[...document.querySelectorAll('iframe')].map(each => each.contentWindow.app"
+                given = browser.run(f"{sides}.cursor)"), browser.run("document.getElementById('head').textContent")
+                ends = browser.run(f"{sides}.run.end)")
+                browser.run(f"{sides}.go(1))")
+                browser.click("#there")
+                again = browser.run(f"{sides}.cursor)")
+                errors = browser.errors()
+        finally:
+            browser.close()
+    if len(steps) != 2 or given != (steps, told.split("\n")[0]) or ends != ["done 14", "done 30"]:
+        return f"the sides stand at {given} with {ends}, and the comparison says {told!r}"
+    return f"back there: {again} {errors}" if again != steps or errors else None
+
+
+CASES = {"keys": keys, "pointer": pointer, "a value by hand and the script": by_hand, "export": export,
+         "export's size": size,
+         "hostile texts": hostile, "the server ends": ended,
+         "side by side": side_by_side}

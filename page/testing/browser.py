@@ -20,13 +20,18 @@ READY = "document.documentElement.dataset.ready === 'yes'"
 FRAMES = "new Promise(done => requestAnimationFrame(() => requestAnimationFrame(done)))"
 SHIFT = 8
 # The codes of keys without a sign.
-CODES = {"Escape": 27, "Enter": 13, "Backspace": 8, "ArrowLeft": 37, "ArrowUp": 38, "ArrowRight": 39, "ArrowDown": 40, "End": 35,
+CODES = {"Escape": 27, "Enter": 13, "Backspace": 8, "ArrowLeft": 37, "ArrowUp": 38, "ArrowRight": 39, "ArrowDown": 40,
+         "End": 35,
          "Home": 36}
 
 
 def found() -> str | None:
     """The browser of this machine, or None."""
-    return next((path for path in map(shutil.which, NAMES) if path), None)
+    for name in NAMES:
+        path = shutil.which(name)
+        if path:
+            return path
+    return None
 
 
 class Broken(Exception):
@@ -45,11 +50,14 @@ class Browser:
             os.dup2(one, 3)
             os.dup2(other, 4)
         self.process = subprocess.Popen(
-            [found() or NAMES[0], *OPTIONS, f"--user-data-dir={self.folder.name}", f"--window-size={width},{height}", "about:blank"],
-            pass_fds=(3, 4), preexec_fn=pipes, stdout=subprocess.DEVNULL, stderr=subprocess.DEVNULL, start_new_session=True)
+            [found() or NAMES[0], *OPTIONS, f"--user-data-dir={self.folder.name}", f"--window-size={width},{height}",
+             "about:blank"],
+            pass_fds=(3, 4), preexec_fn=pipes, stdout=subprocess.DEVNULL, stderr=subprocess.DEVNULL,
+            start_new_session=True)
         os.close(read_commands)
         os.close(write_answers)
-        self.numbers, self.rest, self.events = itertools.count(1), b"", []
+        self.numbers, self.rest = itertools.count(1), b""
+        self.events: list[dict[str, Any]] = []
         self.session: str | None = None
         targets = self.send("Target.getTargets")["targetInfos"]
         page = next(each["targetId"] for each in targets if each["type"] == "page")
@@ -60,7 +68,8 @@ class Browser:
         self.resize(width, height, scale)
 
     def resize(self, width: int, height: int, scale: float = 1) -> None:
-        self.send("Emulation.setDeviceMetricsOverride", width=width, height=height, deviceScaleFactor=scale, mobile=False)
+        self.send("Emulation.setDeviceMetricsOverride", width=width, height=height, deviceScaleFactor=scale,
+                  mobile=False)
 
     # The protocol.
 
@@ -132,7 +141,8 @@ class Browser:
         text = {"text": key} if len(key) == 1 else {"text": "\r"} if key == "Enter" else {}
         for kind in ("keyDown", "keyUp"):
             self.send("Input.dispatchKeyEvent", type=kind, key=key, modifiers=SHIFT if shift else 0,
-                      windowsVirtualKeyCode=CODES.get(key, 0), code=key if key in CODES else "", **(text if kind == "keyDown" else {}))
+                      windowsVirtualKeyCode=CODES.get(key, 0), code=key if key in CODES else "",
+                      **(text if kind == "keyDown" else {}))
         self.settle()
 
     def keys(self, *keys: str) -> None:
@@ -146,6 +156,16 @@ class Browser:
 
     def move(self, x: float, y: float) -> None:
         self.send("Input.dispatchMouseEvent", type="mouseMoved", x=x, y=y)
+        self.settle()
+
+    def wheel(self, x: float, y: float, by: float) -> None:
+        self.send("Input.dispatchMouseEvent", type="mouseWheel", x=x, y=y, deltaX=0, deltaY=by)
+        self.settle(.1)
+
+    def press_twice(self, x: float, y: float) -> None:
+        self.press(x, y)
+        for kind in ("mousePressed", "mouseReleased"):
+            self.send("Input.dispatchMouseEvent", type=kind, x=x, y=y, button="left", clickCount=2)
         self.settle()
 
     def click(self, selector: str, index: int = 0) -> None:

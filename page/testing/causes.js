@@ -4,7 +4,8 @@
 /** A value as the terminal has it in a question: a number, unset, or bytes. */
 function valueOf(question) {
   if (question.of === "temporary") return question.value === null ? "unset" : question.value.toString();
-  if (question.of === "memory" && [1, 2, 4, 8].includes(question.count) && question.value !== null) return question.value.toString();
+  if (question.of === "memory" && [1, 2, 4, 8].includes(question.count)
+    && question.value !== null) return question.value.toString();
   return "";
 }
 
@@ -21,7 +22,8 @@ function answered(run, causes, question) {
     const parts = cause.questions.map(each => answered(run, causes, each));
     return {moves: parts.flatMap(part => part.moves), next: parts.flatMap(part => part.next), changed: null};
   }
-  return {moves: cause.move === null ? [] : [cause.move + run.base], next: cause.questions.map(each => keyOf(run, each)),
+  return {moves: cause.move === null ? [] : [cause.move + run.base],
+    next: cause.questions.map(each => keyOf(run, each)),
     changed: cause.changed === undefined ? null : cause.changed + run.base};
 }
 

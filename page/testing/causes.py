@@ -21,7 +21,6 @@ from terminal.answers import Place
 from terminal.causes import Cause, Causes, Question
 from terminal.frames import Frames
 from terminal.scratch import Launch, Scratch
-from terminal.screen import SourceMap
 from terminal.text import LOADED, STORED, Program
 from terminal.timeline import Poke, Timeline
 from terminal.values import Names
@@ -119,7 +118,8 @@ def same(wanted: Any, given: Any) -> bool:
         and wanted["changed"] == given["changed"]
 
 
-def questions_of(program: Program, gathering: Gathering, chosen: random.Random, states: int, live: Callable) -> Iterator[Asked]:
+def questions_of(program: Program, gathering: Gathering, chosen: random.Random, states: int,
+                 live: Callable) -> Iterator[Asked]:
     """Questions about random states: temporaries, the way, bytes and words of memory, the end, the output."""
     moves = len(gathering.places) - 1
     last = moves - (gathering.places[-1] == gathering.table.end)
@@ -149,7 +149,8 @@ class Live:
 
     def __call__(self, position: int, chosen: random.Random) -> list[int]:
         program, scratch = self.terminal.program, self.terminal.scratch
-        found = [data.address + chosen.randrange(data.size) for data in chosen.sample(program.data, min(2, len(program.data)))
+        found = [data.address + chosen.randrange(data.size)
+                 for data in chosen.sample(program.data, min(2, len(program.data)))
                  if data.size]
         function = self.gathering.table.places[self.gathering.places[position]][0]
         made = {one.result for _, _, one in program.functions[function].places() if one.operation.startswith("alloc")}
@@ -169,7 +170,7 @@ def case_of(program_path: str, name: str, file: str, words: Sequence[str], state
     gathering.gather()
     if not gathering.end:
         return None
-    case = Case(name, table.told(name, SourceMap(pathlib.Path(file + ".map"))), b"".join(gathering.parts))
+    case = Case(name, table.told(name), b"".join(gathering.parts))
     run = Timeline(len(gathering.places) - 1, pokes)
     terminal = Terminal(launch, program, run)
     try:
@@ -194,7 +195,8 @@ def random_cases(program_path: str, count: int, folder: str) -> Iterator[Case]:
         file = pathlib.Path(folder) / f"{seed}.ssa"
         file.write_bytes(text)
         words = list(map(str, arguments))
-        if subprocess.run([program_path, str(file), *words], stdin=subprocess.DEVNULL, stdout=subprocess.DEVNULL).returncode:
+        if subprocess.run([program_path, str(file), *words], stdin=subprocess.DEVNULL,
+                          stdout=subprocess.DEVNULL).returncode:
             continue
         case = case_of(program_path, f"random program {seed}", str(file), words, 2, seed, MOST_MOVES)
         if case:
@@ -262,7 +264,8 @@ def of_random_programs(program: str) -> str | None:
 
 # Values by hand, each at a position, with the number of frames there.
 POKES = {"squares": (Poke(45, "poke w $bias 0", 2), Poke(61, "set %sum 100", 1)),
-         "account": (Poke(12, "poke w $balance 7", 2), Poke(14, "set %i 1", 1)), "digits": (Poke(40, "set %rest 77", 2),)}
+         "account": (Poke(12, "poke w $balance 7", 2), Poke(14, "set %i 1", 1)),
+         "digits": (Poke(40, "set %rest 77", 2),)}
 
 
 def of_pokes(program: str) -> str | None:

@@ -22,7 +22,8 @@ BOXES = """(() => {
     const {width, height} = box(section);
     if (width < 190 || height < 60) found.push(`${section.className} is ${width} by ${height}`);
   }
-  const parts = [...document.querySelectorAll("header > *, nav > *")].filter(each => box(each).width && each.textContent.trim() + each.id);
+  const parts = [...document.querySelectorAll("header > *, nav > *")]
+    .filter(each => box(each).width && each.textContent.trim() + each.id);
   for (const each of parts) {
     const {left, right} = box(each);
     if (left < 0 || right > innerWidth + 1) found.push(`${name(each)} is cut: ${left} to ${right}`);
@@ -30,7 +31,8 @@ BOXES = """(() => {
   for (const one of parts) for (const other of parts) {
     const a = box(one), b = box(other);
     if (one === other || one.contains(other) || other.contains(one)) continue;
-    if (a.left < b.right - 1 && b.left < a.right - 1 && a.top < b.bottom - 1 && b.top < a.bottom - 1) found.push(`${name(one)} lies on ${name(other)}`);
+    const isApart = a.left >= b.right - 1 || b.left >= a.right - 1 || a.top >= b.bottom - 1 || b.top >= a.bottom - 1;
+    if (!isApart) found.push(`${name(one)} lies on ${name(other)}`);
   }
   const line = box(document.querySelector(".line.is-now, .line.is-caller")), code = box(document.getElementById("code"));
   if (line.top < code.top - 1 || line.bottom > code.bottom + 1) found.push("the place is out of view");
@@ -46,9 +48,11 @@ BOXES = """(() => {
 CONTRAST = """(() => {
   const numbers = text => { const all = text.match(/[\\d.]+/g).map(Number), unit = text.startsWith("color(") ? 255 : 1;
     return [...all.slice(0, 3).map(each => each * unit), all[3] ?? 1]; };
-  const light = ([r, g, b]) => [r, g, b].map(each => each / 255).map(each => each <= .03928 ? each / 12.92 : ((each + .055) / 1.055) ** 2.4)
+  const light = ([r, g, b]) => [r, g, b].map(each => each / 255)
+    .map(each => each <= .03928 ? each / 12.92 : ((each + .055) / 1.055) ** 2.4)
     .reduce((sum, each, index) => sum + each * [.2126, .7152, .0722][index], 0);
-  const ground = each => { for (let at = each; at; at = at.parentElement) { const color = numbers(getComputedStyle(at).backgroundColor);
+  const ground = each => { for (let at = each; at; at = at.parentElement) {
+    const color = numbers(getComputedStyle(at).backgroundColor);
     if (color[3] > .9) return color; } return [255, 255, 255, 1]; };
   const found = [];
   for (const each of document.querySelectorAll("body *")) {
@@ -61,7 +65,7 @@ CONTRAST = """(() => {
   return found;
 })()"""
 NAMELESS = """[...document.querySelectorAll("button, input, canvas, [role=tree], section, dialog")].filter(each =>
-  !(each.getAttribute("aria-label") || each.getAttribute("aria-labelledby") || each.getAttribute("aria-hidden") || each.textContent.trim()))
+  !["aria-label", "aria-labelledby", "aria-hidden"].some(name => each.getAttribute(name)) && !each.textContent.trim())
   .map(each => each.outerHTML.slice(0, 80))"""
 
 
@@ -105,7 +109,8 @@ def readers(program: str) -> str | None:
             return f"without a name: {nameless[:3]}"
         browser.run("app.go(44)")
         heard = browser.run("document.getElementById('heard').textContent")
-        tree = browser.run("[...document.querySelectorAll('[role=treeitem]')].map(each => [each.getAttribute('aria-level'), each.getAttribute('aria-expanded')])")
+        tree = browser.run("[...document.querySelectorAll('[role=treeitem]')]"
+                           ".map(each => ['aria-level', 'aria-expanded'].map(name => each.getAttribute(name)))")
         if heard != "#44 $fill @body 4, line 18: storew %square, %place":
             return f"a move is told as {heard!r}"
         wanted = [["1", "true"], ["2", "true"], ["3", "false"], ["3", "false"], ["3", "false"], ["2", "false"]]
@@ -120,7 +125,8 @@ def windows(program: str) -> str | None:
         with Serving(program, file, options=("--most", "20000")) as serving:
             browser.open(serving.address)
             browser.run("(async () => { while (!app.long.isDone) await new Promise(done => setTimeout(done, 20)); })()")
-            told = browser.run("[app.long.moves, app.long.end, app.long.stride, app.long.stacks.map(stack => stack.map(index => app.program.functions[index].name))]")
+            told = browser.run("[app.long.moves, app.long.end, app.long.stride, app.long.stacks.map(stack => "
+                               "stack.map(index => app.program.functions[index].name))]")
             if told[:2] != [answers.length, "done 4"]:
                 return f"the overview ends at {told[:2]}"
             for index, stack in enumerate(told[3]):
@@ -154,10 +160,15 @@ def hide_unknown(shown: dict[str, Any], answers: Answers, position: int) -> None
 
 
 TIMES = """(async act => { const all = [];
-  for (let n = 0; n < 9; n++) { const begun = performance.now(); act(); cancelAnimationFrame(app.timeline.pending); app.timeline.paint();
+  for (let n = 0; n < 9; n++) {
+    const begun = performance.now();
+    act();
+    cancelAnimationFrame(app.timeline.pending);
+    app.timeline.paint();
     all.push(performance.now() - begun); await new Promise(done => setTimeout(done, 5)); }
   return all.sort((one, other) => one - other)[4]; })"""
-ACTS = {"cursor to any place": "() => app.move(Math.floor(Math.random() * app.run.moves))", "a step": "() => app.move(app.cursor - 1)",
+ACTS = {"cursor to any place": "() => app.move(Math.floor(Math.random() * app.run.moves))",
+        "a step": "() => app.move(app.cursor - 1)",
         "the whole run painted": "() => app.show(0, app.run.moves)", "counts of all lines": "() => app.code.heat()",
         "plots of all values": "() => app.values.sparks()",
         "why of a value": "() => { app.move(Math.floor(Math.random() * app.run.moves)); app.ask(app.firstQuestion()); }"}
@@ -177,14 +188,36 @@ def measured(browser: Browser) -> dict[str, float]:
     return {name: round(browser.run(f"{TIMES}({act})"), 1) for name, act in ACTS.items()}
 
 
+# What is told and drawn of a run while it is gathered.
+GROWING = """(() => { app.timeline.paint(); const {canvas} = app.timeline, bar = document.getElementById("progress");
+  const row = app.timeline.rows.flames + 4, pixels = canvas.getContext("2d").getImageData(90, row, 1, 1).data;
+  return !app.run.isComplete && [bar.hidden, bar.value > 0 && bar.value < 1,
+    document.getElementById("moves").textContent.endsWith("gathered"), pixels[3]]; })()"""
+
+
 def times(program: str) -> str | None:
-    """A million moves: within ten times the budget, so that a slow machine passes and a square of the length doesn't."""
-    with tempfile.TemporaryDirectory(prefix="page-") as folder, opened(program, million(folder)) as browser:
-        if browser.run("app.run.moves") < 1_000_000:
-            return "the run is too short"
-        seconds = browser.run("app.run.seconds")
-        slow = [f"{name} takes {taken} ms" for name, taken in measured(browser).items() if taken > 10 * BUDGET]
-        return f"the moves are gathered in {seconds} s" if seconds > 30 else ", ".join(slow) or None
+    """A million moves: drawn while they are gathered, and all within ten times the budget, so that a slow machine passes and a
+    square of the length doesn't."""
+    with tempfile.TemporaryDirectory(prefix="page-") as folder, Serving(program, million(folder)) as serving:
+        browser = Browser()
+        try:
+            browser.open(serving.address, "window.app?.run?.moves > 1000")
+            growing = browser.run(GROWING)
+            if growing != [False, True, True, 255]:
+                return f"while it is gathered it shows {growing}"
+            browser.open(serving.address)
+            return slow_acts(browser)
+        finally:
+            browser.close()
 
 
-CASES = {"boxes": boxes, "contrast": contrast, "screen readers": readers, "windows of a long run": windows, "a million moves": times}
+def slow_acts(browser: Browser) -> str | None:
+    if browser.run("app.run.moves") < 1_000_000:
+        return "the run is too short"
+    seconds = browser.run("app.run.seconds")
+    slow = [f"{name} takes {taken} ms" for name, taken in measured(browser).items() if taken > 10 * BUDGET]
+    return f"the moves are gathered in {seconds} s" if seconds > 30 else ", ".join(slow) or None
+
+
+CASES = {"boxes": boxes, "contrast": contrast, "screen readers": readers, "windows of a long run": windows,
+         "a million moves": times}

@@ -7,6 +7,7 @@ import pathlib
 import subprocess
 import sys
 import tempfile
+from functools import partial
 from typing import Callable, Iterator
 
 from .causes import TOP
@@ -19,7 +20,8 @@ GO = b'{"page": 1, "position": 45}'
 POKED = '{"page": 1, "position": 45, "line": "%s"}'
 
 
-def asked(port: int, method: str, path: str, headers: list[tuple[str, str]], body: bytes | None = None) -> tuple[int, bytes]:
+def asked(port: int, method: str, path: str, headers: list[tuple[str, str]], body: bytes | None = None) -> tuple[int,
+        bytes]:
     """The status and the body that a request is answered with, which is sent as it stands."""
     connection = http.client.HTTPConnection("127.0.0.1", port, timeout=10)
     connection.putrequest(method, path, skip_host=True, skip_accept_encoding=True)
@@ -44,7 +46,8 @@ class Asking:
         self.token = address.rstrip("/").rsplit("/", 1)[1]
         self.host = f"127.0.0.1:{self.port}"
 
-    def get(self, path: str = "", token: str | None = None, method: str = "GET", host: str | None = None, **headers: str) -> int:
+    def get(self, path: str = "", token: str | None = None, method: str = "GET", host: str | None = None,
+            **headers: str) -> int:
         named = [(name.replace("_", "-"), value) for name, value in headers.items()]
         hosted = [("Host", self.host if host is None else host)] if host != "" else []
         return asked(self.port, method, f"/{self.token if token is None else token}/{path}", [*hosted, *named])[0]
@@ -53,12 +56,16 @@ class Asking:
         given = {"Host": self.host, **JSON, **(headers or {})}
         return asked(self.port, "POST", f"/{self.token}/{path}", list(given.items()), body)
 
+    def status(self, path: str, body: bytes) -> int:
+        return self.post(path, body)[0]
+
 
 def wanted_statuses(ask: Asking) -> Iterator[tuple[str, int, Callable[[], int]]]:
     """Each request: what it is, and the status that it must have."""
     yield "the page", 200, lambda: ask.get()
     yield "the program", 200, lambda: ask.get("api/run")
-    yield "from its own page", 200, lambda: ask.get("api/script", Origin=f"http://{ask.host}", Sec_Fetch_Site="same-origin")
+    yield "from its own page", 200, lambda: ask.get("api/script", Origin=f"http://{ask.host}",
+                                                    Sec_Fetch_Site="same-origin")
     yield "no token", 403, lambda: asked(ask.port, "GET", "/", [("Host", ask.host)])[0]
     yield "no token, a file", 403, lambda: asked(ask.port, "GET", "/app.js", [("Host", ask.host)])[0]
     yield "another token", 403, lambda: ask.get("api/run", token="x" * len(ask.token))
@@ -67,7 +74,8 @@ def wanted_statuses(ask: Asking) -> Iterator[tuple[str, int, Callable[[], int]]]
     yield "another host", 403, lambda: ask.get("api/run", host=f"evil.example:{ask.port}")
     yield "a host by name", 403, lambda: ask.get("", host=f"localhost:{ask.port}")
     yield "no host", 403, lambda: ask.get("", host="")
-    yield "two hosts", 403, lambda: asked(ask.port, "GET", f"/{ask.token}/", [("Host", ask.host), ("Host", "evil.example")])[0]
+    yield "two hosts", 403, lambda: asked(ask.port, "GET", f"/{ask.token}/",
+                                          [("Host", ask.host), ("Host", "evil.example")])[0]
     yield "another origin", 403, lambda: ask.get("api/run", Origin="http://evil.example")
     yield "no origin of its own", 403, lambda: ask.get("api/run", Origin="null")
     yield "another port's origin", 403, lambda: ask.get("api/run", Origin=f"http://127.0.0.1:{ask.port + 1}")
@@ -84,14 +92,17 @@ def wanted_statuses(ask: Asking) -> Iterator[tuple[str, int, Callable[[], int]]]
     yield "no JSON", 400, lambda: ask.post("api/go", b"{")[0]
     yield "JSON that nests", 400, lambda: ask.post("api/go", b"[" * 60000)[0]
     yield "JSON that is no object", 400, lambda: ask.post("api/go", b"[1]")[0]
-    for told, position in (("negative", "-1"), ("behind the end", "89"), ("a text", '"1"'), ("true", "true"), ("broken", "1.5"),
+    for told, position in (("negative", "-1"), ("behind the end", "89"), ("a text", '"1"'), ("true", "true"),
+                           ("broken", "1.5"),
                            ("huge", "1" * 40)):
         body = f'{{"page": 1, "position": {position}}}'.encode()
-        yield f"a position that is {told}", 400, lambda body=body: ask.post("api/go", body)[0]
-    for line in ("poke w $bias 0\\nquit", "continue", "set %i 1; quit", "poke w $bias 0 0", "poke q $bias 0", "poke w $nothing 0",
+        yield f"a position that is {told}", 400, partial(ask.status, "api/go", body)
+    for line in ("poke w $bias 0\\nquit", "continue", "set %i 1; quit", "poke w $bias 0 0", "poke q $bias 0",
+                 "poke w $nothing 0",
                  "set %nothing 1", "poke w 5 0", "save /tmp/x", "", "set %i 0x10"):
-        yield f"the line {line!r}", 400, lambda line=line: ask.post("api/poke", (POKED % line).encode())[0]
-    yield "a poke at the end", 400, lambda: ask.post("api/poke", b'{"page": 1, "position": 88, "line": "poke w $bias 0"}')[0]
+        yield f"the line {line!r}", 400, partial(ask.status, "api/poke", (POKED % line).encode())
+    yield "a poke at the end", 400, lambda: ask.post("api/poke",
+                                                     b'{"page": 1, "position": 88, "line": "poke w $bias 0"}')[0]
     yield "another page", 400, lambda: ask.post("api/go", b'{"page": 7, "position": 1}')[0]
     yield "a move of the page", 200, lambda: ask.post("api/go", GO, {"Origin": f"http://{ask.host}"})[0]
 
@@ -117,12 +128,14 @@ def headers(program: str) -> str | None:
         told = dict(connection.getresponse().getheaders())
         connection.close()
     policy = told.get("Content-Security-Policy", "")
-    for part in ("default-src 'none'", "script-src 'self';", "style-src 'self';", "connect-src 'self'", "frame-ancestors 'none'"):
+    for part in ("default-src 'none'", "script-src 'self';", "style-src 'self';", "connect-src 'self'",
+                 "frame-ancestors 'none'"):
         if part not in policy:
             return f"the policy {policy!r} lacks {part}"
     if "unsafe" in policy or "Access-Control-Allow-Origin" in told:
         return f"{told}"
-    wanted = {"Referrer-Policy": "no-referrer", "X-Content-Type-Options": "nosniff", "Cross-Origin-Resource-Policy": "same-origin"}
+    wanted = {"Referrer-Policy": "no-referrer", "X-Content-Type-Options": "nosniff",
+              "Cross-Origin-Resource-Policy": "same-origin"}
     return next((f"{name}: {told.get(name)}" for name, value in wanted.items() if told.get(name) != value), None)
 
 
@@ -145,7 +158,8 @@ def taken_over(program: str) -> str | None:
     """The page that was opened last leads the session, and the one before is told so."""
     with Serving(program, SQUARES) as serving:
         ask = Asking(serving.address)
-        pages = [json.loads(asked(ask.port, "GET", f"/{ask.token}/api/run", [("Host", ask.host)])[1])["page"] for _ in range(2)]
+        pages = [json.loads(asked(ask.port, "GET", f"/{ask.token}/api/run", [("Host", ask.host)])[1])["page"]
+                 for _ in range(2)]
         told = [ask.post("api/go", json.dumps({"page": page, "position": 3}).encode()) for page in pages]
     if [status for status, _ in told] != [400, 200] or b"another page leads" not in told[0][1]:
         return f"{pages}: {told}"
@@ -154,7 +168,8 @@ def taken_over(program: str) -> str | None:
 
 def ended(program: str) -> str | None:
     """Ctrl-C ends the server and its processes, with status 0."""
-    process = subprocess.Popen([sys.executable, "-B", str(MAIN), "--debugger", program, "--", SQUARES], stdout=subprocess.PIPE, text=True)
+    process = subprocess.Popen([sys.executable, "-B", str(MAIN), "--debugger", program, "--", SQUARES],
+                               stdout=subprocess.PIPE, text=True)
     assert process.stdout
     lines = [process.stdout.readline() for _ in range(3)]
     children = pathlib.Path(f"/proc/{process.pid}/task/{process.pid}/children").read_text().split()
@@ -170,8 +185,10 @@ def refused(program: str) -> str | None:
     with tempfile.TemporaryDirectory(prefix="page-") as folder:
         file = pathlib.Path(folder) / "bad.ssa"
         file.write_text("function w $main() {\n@start\n\tret %x\n}\n")
-        told = subprocess.run([sys.executable, "-B", str(MAIN), "--debugger", program, "--", str(file)], capture_output=True, text=True)
-        missing = subprocess.run([sys.executable, "-B", str(MAIN), "--debugger", program, "--", folder + "/none.ssa"], capture_output=True, text=True)
+        told = subprocess.run([sys.executable, "-B", str(MAIN), "--debugger", program, "--", str(file)],
+                              capture_output=True, text=True)
+        missing = subprocess.run([sys.executable, "-B", str(MAIN), "--debugger", program, "--", folder + "/none.ssa"],
+                                 capture_output=True, text=True)
     wanted = f"{file}:3: C6: a temporary that is nowhere defined\n    ret %x\n"
     if (told.returncode, told.stdout) != (1, wanted):
         return f"status {told.returncode}, {told.stdout!r}"
@@ -179,4 +196,5 @@ def refused(program: str) -> str | None:
     return None if is_told else f"{missing}"
 
 
-CASES = {"statuses": statuses, "headers": headers, "alone": alone, "one page": taken_over, "Ctrl-C": ended, "refused texts": refused}
+CASES = {"statuses": statuses, "headers": headers, "alone": alone, "one page": taken_over, "Ctrl-C": ended,
+         "refused texts": refused}

@@ -12,15 +12,18 @@ class Serving:
     """page/main on a program; `address` is what it tells."""
 
     def __init__(self, program: str, *words: str, options: tuple[str, ...] = ()):
-        self.process = subprocess.Popen([sys.executable, "-B", str(MAIN), "--debugger", program, *options, "--", *words],
+        self.process = subprocess.Popen([sys.executable, "-B", str(MAIN), "--debugger", program, *options, "--",
+                                         *words],
                                         stdout=subprocess.PIPE, text=True)
         told = self.process.stdout
         assert told
-        first = told.readline()
-        self.address = told.readline().strip() if first.rstrip().endswith("is shown at") else ""
-        self.told = first
-        if self.address:
-            told.readline()
+        self.told, self.address = [], ""
+        while line := told.readline():
+            self.told.append(line.rstrip("\n"))
+            if line.endswith(" is shown at\n"):
+                self.address = told.readline().strip()
+                told.readline()
+                break
 
     def __enter__(self) -> Serving:
         return self

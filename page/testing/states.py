@@ -32,8 +32,10 @@ SHOWN = """(position => {
     values: Object.fromEntries(texts(".temp", each => [each.querySelector(".name").textContent,
       (each.querySelector(".number").title || each.querySelector(".number").textContent).split(" ")[0]])),
     frames: texts(".frames .frame"),
-    cells: texts(".cell:not(.is-small)", each => [Number(each.dataset.address), Number(each.dataset.size), each.firstChild?.data ?? ""]),
-    bytes: app.program.data.map(({address, size}) => Array.from({length: Math.min(size, 256)}, (_, at) => app.memory.byte(address + at, position))),
+    cells: texts(".cell:not(.is-small)", each =>
+      [Number(each.dataset.address), Number(each.dataset.size), each.firstChild?.data ?? ""]),
+    bytes: app.program.data.map(({address, size}) =>
+      Array.from({length: Math.min(size, 256)}, (_, at) => app.memory.byte(address + at, position))),
     output: texts(".byte:not(.is-future)", each => Number(each.dataset.byte)).length,
   };
 })"""
@@ -59,7 +61,8 @@ class Answers:
         lines = self.pipe.ask("temps")[0]
         values = {line.split(" ")[0]: read_value(line) for line in lines if line.startswith("%")}
         data = [[byte for at in range(0, min(each.size, 256), 256)
-                 for byte in read_bytes(self.pipe.ask(f"mem {each.address} {min(each.size, 256)}")[0][0])] for each in self.text.data]
+                 for byte in read_bytes(self.pipe.ask(f"mem {each.address} {min(each.size, 256)}")[0][0])]
+                 for each in self.text.data]
         return {"place": place, "frames": frames, "values": values, "data": data,
                 "output": len(read_output(self.pipe.ask("out")[0][0]))}
 
@@ -115,7 +118,8 @@ def cell_faults(answers: Answers, cells: list[list[Any]]) -> Iterator[str]:
             yield f"{text!r} in the piece at {address} of the bytes {answer}"
 
 
-def run_faults(program: str, browser: Browser, name: str, file: str, words: Sequence[str] = (), states: int = STATES) -> list[str]:
+def run_faults(program: str, browser: Browser, name: str, file: str, words: Sequence[str] = (),
+               states: int = STATES) -> list[str]:
     """The views of a program's run at random states, and where the page's own comparison finds something."""
     answers, chosen = Answers(program, file, words), random.Random(SEED)
     with Serving(program, file, *words) as serving:
@@ -138,7 +142,8 @@ def run_faults(program: str, browser: Browser, name: str, file: str, words: Sequ
 def lowered(name: str, folder: str) -> str:
     """A text of a real compiler, in the language of the debugger."""
     file = f"{folder}/{name}.lowered.ssa"
-    subprocess.run([sys.executable, "-B", str(TOP / "lower" / "qrev-lower"), "--link", "--entry", "main", "--output", file,
+    subprocess.run([sys.executable, "-B", str(TOP / "lower" / "qrev-lower"), "--link", "--entry", "main", "--output",
+                    file,
                     str(REAL / f"{name}.ssa")], check=True, capture_output=True)
     return file
 
@@ -160,16 +165,20 @@ def shown_everywhere(program: str) -> str | None:
 def differs(program: str) -> str | None:
     """Where a view is wrong, the page says so in red: a byte, a value and a frame that are told otherwise."""
     browser = Browser()
-    wrong = {"values": ("told.values['%square'] = '7'", "%square = 7, shown 4"), "frames": ("told.frames.push('$main @start 0')", "frames "),
+    wrong = {"values": ("told.values['%square'] = '7'", "%square = 7, shown 4"),
+             "frames": ("told.frames.push('$main @start 0')", "frames "),
              "data": ("told.data[0][1] = 'ff' + told.data[0][1].slice(2)", "$squares+0 = 255, shown 0"),
-             "written": ("told.written = 3", "3 bytes written, shown 0"), "place": ("told.place = '#26 $fill @body 5'", "#26 $fill @body 5, shown")}
+             "written": ("told.written = 3", "3 bytes written, shown 0"),
+             "place": ("told.place = '#26 $fill @body 5'", "#26 $fill @body 5, shown")}
     try:
         with Serving(program, str(TOP / "examples" / "squares.ssa")) as serving:
             browser.open(serving.address)
             browser.run("app.go(26)")
             for name, (change, wanted) in wrong.items():
-                given = browser.run("(async () => { const ask = app.source.ask.bind(app.source); const told = await (await ask('api/go', {position: 26})).json(); "
-                                    f"{change}; app.source.ask = async () => ({{json: async () => told}}); await app.agreed.compare(); app.source.ask = ask; "
+                given = browser.run("(async () => { const ask = app.source.ask.bind(app.source); "
+                                    "const told = await (await ask('api/go', {position: 26})).json(); "
+                                    f"{change}; app.source.ask = async () => ({{json: async () => told}}); "
+                                    "await app.agreed.compare(); app.source.ask = ask; "
                                     "return [agreed.className, agreed.textContent]; })()")
                 if given[0] != "is-wrong" or wanted not in given[1]:
                     return f"a difference of {name} is shown as {json.dumps(given)}"
