@@ -12,12 +12,13 @@ from page.table import Table
 from terminal.launching import refusal, split_words
 from terminal.pipe import Pipe
 from terminal.scratch import SLICE, Launch
-from terminal.screen import SourceMap
+from terminal.sourcemap import SourceMap
 from terminal.text import Program
 
 from .following import Excepted, Follower
 from .heap import WrongHeap, roles_of
 from .kinds import ALL, WrongKind, chosen
+from .states import TooLong, table_of
 from .telling import as_sarif, summary
 
 TOP = pathlib.Path(__file__).resolve().parent.parent
@@ -111,7 +112,11 @@ def checked(debugger: str, asked: Asked, place: pathlib.Path, out: TextIO) -> in
     pipe.close()
     if pipe.refused:
         return refused(pipe, asked, source)
-    table, gathered = run_of(launch, source, asked.limit)
+    try:
+        table, gathered = run_of(launch, source, asked.limit)
+    except TooLong as error:
+        print(f"qrev: {asked.file}: {error}", file=sys.stderr)
+        return UNREAD
     try:
         heap = roles_of(table.program, asked.heap, asked.has_no_heap)
     except WrongHeap as error:
@@ -123,7 +128,7 @@ def checked(debugger: str, asked: Asked, place: pathlib.Path, out: TextIO) -> in
 
 def run_of(launch: Launch, source: bytes, limit: int) -> tuple[Table, Gathering]:
     """The places and values of a run, up to a limit of moves."""
-    table = Table(Program(source))
+    table = table_of(Program(source))
     gathered = Gathering(launch, table, limit)
     gathered.gather()
     failed = part_of(gathered, b"X")
@@ -145,7 +150,7 @@ def part_of(gathered: Gathering, letter: bytes) -> bytes:
 
 def told(follower: Follower, gathered: Gathering, moves: int, asked: Asked, out: TextIO) -> int:
     found = follower.suspicions()
-    source = SourceMap(pathlib.Path(asked.file + ".map")).place
+    source = SourceMap.beside(asked.file).place
     is_over = bool(gathered.end)
     end = gathered.end if is_over else f"limit at {follower.table.places[gathered.places[-1]][0]}"
     if asked.format == "json":

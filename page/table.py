@@ -9,7 +9,7 @@ from __future__ import annotations
 import pathlib
 from typing import Any, Iterable
 
-from terminal.screen import ESCAPE, SourceMap, unescaped
+from terminal.sourcemap import ESCAPE, SourceMap, unescaped
 from terminal.text import BUILT_IN, STACK, STACK_BYTES, Block, Function, Instruction, Program
 
 # What the numbers of places and temporaries take in the arrays, as type codes of `array`.
@@ -25,7 +25,7 @@ class Origins:
     """Where the lines of a lowered text come from, by the map beside it: the compiler's own text, and its source."""
 
     def __init__(self, file: str):
-        self.lines = [self.read(line) for line in SourceMap(pathlib.Path(file + ".map")).lines]
+        self.lines = [self.read(line) for line in SourceMap.beside(file).lines]
 
     def read(self, line: str) -> list[list[Any]]:
         """The places of a line of the map: a file with a line, and with a column where that is known."""

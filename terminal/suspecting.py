@@ -5,9 +5,9 @@ from check.following import Follower
 from check.heap import roles_of
 from check.kinds import WrongKind, chosen
 from check.shadow import Object, Part
+from check.states import TooLong, table_of
 from check.telling import bits_told, object_told, origin_told, summary
 from page.gathering import Gathering
-from page.table import Table
 
 from .expressions import Wrong
 from .scratch import Refused
@@ -21,7 +21,10 @@ MOST = 1_000_000
 def followed(shell: Shell, at: Timeline, most: int, kinds: frozenset[str]) -> tuple[Follower, Gathering, int]:
     """The shadow of the session's run after so many moves, or at its end."""
     program = shell.session.program
-    table = Table(program)
+    try:
+        table = table_of(program)
+    except TooLong as error:
+        raise Refused(str(error)) from None
     gathered = Gathering(shell.launch, table, most, pokes=at.pokes)
     gathered.gather()
     failed = [part[5:].decode() for part in gathered.parts if part[:1] == b"X"]

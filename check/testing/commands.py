@@ -126,6 +126,17 @@ def lowered_fault(program: str) -> str | None:
     return None if well else f"{told.stdout!r} and {told.stderr!r}"
 
 
+def long_name_fault(program: str) -> str | None:
+    """A temporary by whose name the debugger can't be asked is an error of one line."""
+    text = ROUNDS.replace("%j", "%" + "j" * 300)
+    with tempfile.TemporaryDirectory(prefix="check-") as place:
+        file = pathlib.Path(place) / "text.ssa"
+        file.write_text(text)
+        told = run(program, str(file))
+    well = told.returncode == 2 and not told.stdout and told.stderr.count("\n") == 1 and "has a name of 301 bytes" in told.stderr
+    return None if well else f"{told.returncode}, {told.stdout!r} and {told.stderr!r}"
+
+
 def wide_fault(program: str) -> str | None:
     """A large object whose every byte is written and read doesn't cost the square of its size."""
     text = ("data $a = { z 65536 }\nexport function w $main() {\n@start\n@loop\n\t%i =l phi @start 0, @loop %j\n"
@@ -153,7 +164,8 @@ def cases(program: str) -> Iterator[Case]:
         yield f"command {name}", lambda command=command: command_fault(program, *command)
     for name, *written in WRITTEN:
         yield f"command {name}", lambda written=written: written_fault(program, *written)
-    for name, call in (("count", count_fault), ("json", json_fault), ("lowered", lowered_fault), ("wide", wide_fault)):
+    for name, call in (("count", count_fault), ("json", json_fault), ("lowered", lowered_fault), ("wide", wide_fault),
+                       ("long name", long_name_fault)):
         yield f"command {name}", lambda call=call: call(program)
     for page in (TOP / "README.md", TOP / "docs" / "CHECKING.md"):
         yield from page_faults(program, page)

@@ -71,7 +71,10 @@ export class Causes {
   /** The instruction that comes next in a state, with its operands; of a blit the bytes that are asked about. */
   executed(move, verb, wanted = null) {
     const place = this.run.placeAt(move);
-    const questions = [...this.operands(move), ...this.bytesRead(move, place.instruction, wanted), this.control(move)];
+    const read = this.bytesRead(move, place.instruction, wanted), operands = this.operands(move);
+    // What a load took comes before where it took it.
+    const first = place.instruction.op in LOADED ? [...read, ...operands] : [...operands, ...read];
+    const questions = [...first, this.control(move)];
     return this.made(move, verb, questions);
   }
 
@@ -103,8 +106,7 @@ export class Causes {
     if (set < 0 || run.setPos[set] < 0) return this.unset(name, at, func, set);
     const move = run.setPos[set], {instruction} = run.placeAt(move);
     if (run.pokes[move] !== undefined) return this.made(move, "set by hand", [], {note: run.pokes[move]});
-    if (run.frameAt[move] !== frame) return instruction.op === "ret" ? this.executed(move, "given back by")
-      : this.ofParameter(name, move, func);
+    if (run.frameAt[move] !== frame) return instruction.op === "ret" ? this.ofResult(move) : this.ofParameter(name, move, func);
     if (instruction.labels.length) return this.ofPhi(name, move);
     if (instruction.op === "call") return this.executed(move, "given back by the built-in of");
     const cause = this.executed(move, "set by");
@@ -126,6 +128,15 @@ export class Causes {
     }
     const note = lines.size ? `it is set at ${[...lines.values()].join(", ")}` : "";
     return this.made(null, "nothing set it in this call", [this.control(at)], {note, isAlarm: true});
+  }
+
+  /** The ret that gave a value back, and the call: a wrong argument is as likely as a wrong body. */
+  ofResult(move) {
+    const {run} = this, cause = this.executed(move, "given back by"), called = run.frames.begin[run.frameAt[move]] - 1;
+    if (called < 0) return cause;
+    const {instruction} = run.placeAt(called);
+    cause.questions.push(...this.operands(called));
+    return Object.assign(cause, {called, note: `to the call at #${called + run.base}, line ${instruction.line}: ${instruction.text}`});
   }
 
   ofParameter(name, move, func) {

@@ -22,7 +22,8 @@ function answered(run, causes, question) {
     const parts = cause.questions.map(each => answered(run, causes, each));
     return {moves: parts.flatMap(part => part.moves), next: parts.flatMap(part => part.next), changed: null};
   }
-  return {moves: cause.move === null ? [] : [cause.move + run.base],
+  const moves = [cause.move, cause.called].filter(move => move !== null && move !== undefined);
+  return {moves: moves.map(move => move + run.base),
     next: cause.questions.map(each => keyOf(run, each)),
     changed: cause.changed === undefined ? null : cause.changed + run.base};
 }
