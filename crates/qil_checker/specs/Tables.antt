@@ -10,7 +10,13 @@ use Rattle.qil_tree.specs.declared.tree.PhiSource.{PhiSource}
 use Rattle.qil_rules.specs.declared.mention.MentionKind.{MentionKind}
 use Rattle.qil_rules.specs.declared.mention.MentionKind.TheVariants.{DataName, FunctionName, Label, Edge, PhiOf, Defines, Uses}
 use Rattle.qil_rules.specs.declared.mention.Mention.{Mention}
+use Rattle.indexmap.specs.IndexMap.{IndexMap, get_by}
+use denote.Ref.{Bor}
 use Rattle.qil_rules.specs.Text.{IsAt, AreDistinct, IsAmong}
+
+-- the place that a map has for a name
+abbrev pub place_in : {S : Type 0} → IndexMap (Bor (List ℕ)) ℕ S → List ℕ → Option ℕ
+place_in m x = get_by (λ k. bytes_eq x k.now) m
 
 -- the name that a mention brings to a table of this kind
 abbrev pub named : MentionKind → TableKind → Option (List ℕ)

@@ -2,8 +2,8 @@
 
 ghost use Rattle.std.specs.Prelude.{◌≡◌, List, ℕ, Some, IfOk, IsTrue, ◌↔◌, ◌+◌, MatchOption, slice_get, if◌then◌else◌};
 ghost use Rattle.std.specs.List.{count_by};
-ghost use Rattle.qil_names.specs.Tables.{value_at, values_at, kept};
-ghost use Rattle.qil_checker.specs.Tables.{first, is_named, predecessors_of, head_name, begun_label, AreAtHome, AreAtHand, AreAtHandFor};
+ghost use Rattle.qil_names.specs.Tables.{values_at, kept};
+ghost use Rattle.qil_checker.specs.Tables.{place_in, first, is_named, predecessors_of, head_name, begun_label, AreAtHome, AreAtHand, AreAtHandFor};
 ghost use Rattle.qil_rules.specs.Text.{FirstClass, IsUndefined, IsAgain, LacksLabel, IsFirstLabel};
 ghost use Rattle.qil_rules.specs.Rules.{IsSecondLabel, IsLostLabel, IsJumpToFirst, IsOtherClass, IsUndefinedUse, IsNarrowUse, IsWrongPhi, IsUntypedReturn, IsNarrowResult, HasManyTemporaries, HasManyBlocks, is_label, is_function, begins_function};
 ghost use Rattle.qil_checker.specs.Scan.{IsSingle, IsAgainFirst};
@@ -73,9 +73,9 @@ pub struct IndexedDefinition<'p, 'a, A: Allocator> {
     ghost phis_are: { AreAtHome mentions.items },
     ghost first_is: { first_label ≡ begun_label mentions.items },
     ghost blocks_are: { blocks ≡ count_by is_label mentions.items },
-    ghost defined_places: { (x : List ℕ) → value_at tables.defined.values x ≡ first (is_named Defined x) 0 mentions.items },
-    ghost named_places: { (x : List ℕ) → value_at tables.named.values x ≡ first (is_named Named x) 0 mentions.items },
-    ghost label_places: { (x : List ℕ) → value_at tables.labels.values x ≡ first (is_named Labels x) 0 mentions.items },
+    ghost defined_places: { (x : List ℕ) → place_in tables.defined.places x ≡ first (is_named Defined x) 0 mentions.items },
+    ghost named_places: { (x : List ℕ) → place_in tables.named.places x ≡ first (is_named Named x) 0 mentions.items },
+    ghost label_places: { (x : List ℕ) → place_in tables.labels.places x ≡ first (is_named Labels x) 0 mentions.items },
     ghost predecessor_lists: { (x : List ℕ) → values_at tables.predecessors.lists x ≡ predecessors_of x mentions.items },
 }
 

@@ -3,6 +3,7 @@
 
 mod checker;
 mod definition;
+mod first_places;
 mod lookup;
 mod phi_labels;
 mod predecessors;

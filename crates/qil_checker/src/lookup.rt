@@ -1,12 +1,13 @@
 //! The tables of a text: where its names of each kind stand first, and the predecessors of its blocks.
 
 ghost use Rattle.std.specs.Prelude.{◌≡◌, List, ℕ, IfOk, option_copied};
-ghost use Rattle.qil_names.specs.Tables.{value_at, values_at};
-ghost use Rattle.qil_checker.specs.Tables.{first, named, is_named, predecessors_of};
+ghost use Rattle.qil_names.specs.Tables.{values_at};
+ghost use Rattle.qil_checker.specs.Tables.{place_in, first, named, is_named, predecessors_of};
 ghost use Rattle.qil_checker.specs.declared.lookup.TableKind.TheVariants.{Defined, Named, Labels};
 
+use crate::first_places::FirstPlaces;
 use crate::predecessors::all_predecessors;
-use qil_names::{Firsts, Groups};
+use qil_names::Groups;
 use qil_rules::{Mention, MentionKind};
 use qil_tree::Name;
 use std::alloc::{AllocError, Allocator};
@@ -25,10 +26,10 @@ pub enum TableKind {
 
 /// The place that a table has for a name.
 pub fn place_of<'a, A: Allocator + Copy>(
-    places: &Firsts<'a, usize, A>,
+    places: &FirstPlaces<'a, A>,
     name: &Name<'a>,
 ) -> Option<usize>
-    ensures { result ≡ value_at places.now.values name.now }
+    ensures { result ≡ place_in places.now.places name.now }
 {
     places.get(name.bytes())
 }
@@ -52,10 +53,10 @@ fn first_places<'a, A: Allocator + Copy>(
     keys: RandomState,
     mentions: &[Mention<'_, 'a>],
     kind: TableKind,
-) -> Result<Firsts<'a, usize, A>, AllocError>
-    ensures { IfOk result (λ t. (x : List ℕ) → value_at t.values x ≡ first (is_named kind x) 0 mentions.now) }
+) -> Result<FirstPlaces<'a, A>, AllocError>
+    ensures { IfOk result (λ t. (x : List ℕ) → place_in t.places x ≡ first (is_named kind x) 0 mentions.now) }
 {
-    let mut table = Firsts::new(alloc, keys);
+    let mut table = FirstPlaces::new(alloc, keys);
     for (place, mention) in mentions.iter().enumerate() {
         match named(mention, kind) {
             Some(name) => table.note(name.bytes(), place)?,
@@ -69,11 +70,11 @@ fn first_places<'a, A: Allocator + Copy>(
 #[derive(Drop)]
 pub struct Tables<'a, A: Allocator> {
     /// Where temporaries are defined first.
-    pub defined: Firsts<'a, usize, A>,
+    pub defined: FirstPlaces<'a, A>,
     /// Where temporaries are defined or used first.
-    pub named: Firsts<'a, usize, A>,
+    pub named: FirstPlaces<'a, A>,
     /// Where labels begin a block first.
-    pub labels: Firsts<'a, usize, A>,
+    pub labels: FirstPlaces<'a, A>,
     /// The labels of the blocks that go to each block.
     pub predecessors: Groups<'a, Name<'a>, A>,
 }
@@ -81,9 +82,9 @@ pub struct Tables<'a, A: Allocator> {
 /// Where the names of each kind stand first.
 #[derive(Drop)]
 struct Places<'a, A: Allocator> {
-    defined: Firsts<'a, usize, A>,
-    named: Firsts<'a, usize, A>,
-    labels: Firsts<'a, usize, A>,
+    defined: FirstPlaces<'a, A>,
+    named: FirstPlaces<'a, A>,
+    labels: FirstPlaces<'a, A>,
 }
 
 // Apart from `Tables::new`, so that fewer tables have to be let go on each way out.
@@ -92,9 +93,9 @@ fn all_places<'a, A: Allocator + Copy>(
     keys: RandomState,
     mentions: &[Mention<'_, 'a>],
 ) -> Result<Places<'a, A>, AllocError>
-    ensures defined { IfOk result (λ t. (x : List ℕ) → value_at t.defined.values x ≡ first (is_named Defined x) 0 mentions.now) }
-    ensures named { IfOk result (λ t. (x : List ℕ) → value_at t.named.values x ≡ first (is_named Named x) 0 mentions.now) }
-    ensures labels { IfOk result (λ t. (x : List ℕ) → value_at t.labels.values x ≡ first (is_named Labels x) 0 mentions.now) }
+    ensures defined { IfOk result (λ t. (x : List ℕ) → place_in t.defined.places x ≡ first (is_named Defined x) 0 mentions.now) }
+    ensures named { IfOk result (λ t. (x : List ℕ) → place_in t.named.places x ≡ first (is_named Named x) 0 mentions.now) }
+    ensures labels { IfOk result (λ t. (x : List ℕ) → place_in t.labels.places x ≡ first (is_named Labels x) 0 mentions.now) }
 {
     Ok(Places {
         defined: first_places(alloc, keys, mentions, TableKind::Defined)?,
@@ -109,9 +110,9 @@ impl<'a, A: Allocator + Copy> Tables<'a, A> {
         keys: RandomState,
         mentions: &[Mention<'_, 'a>],
     ) -> Result<Tables<'a, A>, AllocError>
-        ensures defined { IfOk result (λ t. (x : List ℕ) → value_at t.defined.values x ≡ first (is_named Defined x) 0 mentions.now) }
-        ensures named { IfOk result (λ t. (x : List ℕ) → value_at t.named.values x ≡ first (is_named Named x) 0 mentions.now) }
-        ensures labels { IfOk result (λ t. (x : List ℕ) → value_at t.labels.values x ≡ first (is_named Labels x) 0 mentions.now) }
+        ensures defined { IfOk result (λ t. (x : List ℕ) → place_in t.defined.places x ≡ first (is_named Defined x) 0 mentions.now) }
+        ensures named { IfOk result (λ t. (x : List ℕ) → place_in t.named.places x ≡ first (is_named Named x) 0 mentions.now) }
+        ensures labels { IfOk result (λ t. (x : List ℕ) → place_in t.labels.places x ≡ first (is_named Labels x) 0 mentions.now) }
         ensures predecessors { IfOk result (λ t. (x : List ℕ) → values_at t.predecessors.lists x ≡ predecessors_of x mentions.now) }
     {
         let places = all_places(alloc, keys, mentions)?;

@@ -1,12 +1,11 @@
 //! Whether the labels of a phi are those of another list, each once.
 
 ghost use Rattle.std.specs.Prelude.{◌≡◌, List, ℕ, IfOk, IsTrue, ◌↔◌};
-ghost use Rattle.qil_names.specs.Tables.{value_at};
-ghost use Rattle.qil_checker.specs.Tables.{first, is, AreKnown, AreSameOnce};
+ghost use Rattle.qil_checker.specs.Tables.{place_in, first, is, AreKnown, AreSameOnce};
 ghost use Rattle.qil_rules.specs.Text.{AreDistinct, labels_of};
 
+use crate::first_places::FirstPlaces;
 use crate::lookup::place_of;
-use qil_names::Firsts;
 use qil_tree::{Name, PhiSource};
 use std::alloc::{AllocError, Allocator};
 use std::hash::RandomState;
@@ -30,10 +29,10 @@ fn places_of<'a, A: Allocator + Copy>(
     alloc: A,
     keys: RandomState,
     names: &[Name<'a>],
-) -> Result<Firsts<'a, usize, A>, AllocError>
-    ensures { IfOk result (λ t. (x : List ℕ) → value_at t.values x ≡ first (is x) 0 names.now) }
+) -> Result<FirstPlaces<'a, A>, AllocError>
+    ensures { IfOk result (λ t. (x : List ℕ) → place_in t.places x ≡ first (is x) 0 names.now) }
 {
-    let mut table = Firsts::new(alloc, keys);
+    let mut table = FirstPlaces::new(alloc, keys);
     for (place, name) in names.iter().enumerate() {
         table.note(name.bytes(), place)?;
     }
@@ -41,8 +40,8 @@ fn places_of<'a, A: Allocator + Copy>(
 }
 
 /// Whether no name of the list stands twice.
-fn each_once<'a, A: Allocator + Copy>(names: &[Name<'a>], places: &Firsts<'a, usize, A>) -> bool
-    requires { (x : List ℕ) → value_at places.now.values x ≡ first (is x) 0 names.now }
+fn each_once<'a, A: Allocator + Copy>(names: &[Name<'a>], places: &FirstPlaces<'a, A>) -> bool
+    requires { (x : List ℕ) → place_in places.now.places x ≡ first (is x) 0 names.now }
     ensures { IsTrue result ↔ AreDistinct names.now }
 {
     for (place, name) in names.iter().enumerate() {
@@ -59,8 +58,8 @@ fn each_once<'a, A: Allocator + Copy>(names: &[Name<'a>], places: &Firsts<'a, us
 }
 
 /// Whether a table has each name of a list.
-fn all_known<'a, A: Allocator + Copy>(names: &[Name<'a>], table: &Firsts<'a, usize, A>) -> bool
-    ensures { IsTrue result ↔ AreKnown names.now (value_at table.now.values) }
+fn all_known<'a, A: Allocator + Copy>(names: &[Name<'a>], table: &FirstPlaces<'a, A>) -> bool
+    ensures { IsTrue result ↔ AreKnown names.now (place_in table.now.places) }
 {
     for (place, name) in names.iter().enumerate() {
         match place_of(table, name) {
@@ -75,11 +74,11 @@ fn all_known<'a, A: Allocator + Copy>(names: &[Name<'a>], table: &Firsts<'a, usi
 fn are_same_once<'a, A: Allocator + Copy>(
     names: &[Name<'a>],
     others: &[Name<'a>],
-    here: &Firsts<'a, usize, A>,
-    there: &Firsts<'a, usize, A>,
+    here: &FirstPlaces<'a, A>,
+    there: &FirstPlaces<'a, A>,
 ) -> bool
-    requires here { (x : List ℕ) → value_at here.now.values x ≡ first (is x) 0 names.now }
-    requires there { (x : List ℕ) → value_at there.now.values x ≡ first (is x) 0 others.now }
+    requires here { (x : List ℕ) → place_in here.now.places x ≡ first (is x) 0 names.now }
+    requires there { (x : List ℕ) → place_in there.now.places x ≡ first (is x) 0 others.now }
     ensures { IsTrue result ↔ AreSameOnce names.now others.now }
 {
     each_once(names, here) && all_known(names, there) && all_known(others, here)

@@ -3,8 +3,8 @@
 ghost use Rattle.std.specs.Prelude.{◌≡◌, ◌++◌, ◌∷◌, map, List, ℕ, ◌≤◌, Some, take, IfOk, OnOk, IsTrue, ◌↔◌, MatchOption, slice_get};
 ghost use Rattle.std.specs.List.{count_by};
 ghost use Rattle.qil_rules.specs.Mentions.{texts, texts_in, data_mentions, func_mentions};
-ghost use Rattle.qil_names.specs.Tables.{value_at, kept};
-ghost use Rattle.qil_checker.specs.Tables.{first, has_name, AreAtHandFor};
+ghost use Rattle.qil_names.specs.Tables.{kept};
+ghost use Rattle.qil_checker.specs.Tables.{place_in, first, has_name, AreAtHandFor};
 ghost use Rattle.qil_rules.specs.Rules.{AreWellFormed, AreBroken, IsKept, IsBrokenFirst, Breaks, IsNamedBefore, IsSecondName, IsUnknown, IsLostGlobal, IsTooMuch, is_built_in, is_function};
 ghost use Rattle.qil_checker.specs.Scan.{Keeps, Breach};
 ghost use Rattle.qil_checker.specs.Whole.{mentions_of};
@@ -12,9 +12,9 @@ ghost use Rattle.qil_rules.specs.Forms.{HaveForm};
 ghost use Rattle.qil_tree.specs.declared.tree.Definition.{Definition};
 
 use crate::definition::IndexedDefinition;
+use crate::first_places::FirstPlaces;
 use crate::lookup::place_of;
 use crate::walk;
-use qil_names::Firsts;
 use qil_rules::{Form, Mention, MentionKind, Rule};
 use qil_tree::{Data, Definition, Func, Name, Program};
 use std::alloc::{AllocError, Allocator};
@@ -142,10 +142,10 @@ fn first_names<'a, A: Allocator + Copy>(
     alloc: A,
     keys: RandomState,
     texts: &[IndexedDefinition<'_, 'a, A>],
-) -> Result<Firsts<'a, usize, A>, AllocError>
-    ensures { IfOk result (λ t. (x : List ℕ) → value_at t.values x ≡ first (has_name x) 0 (mentions_of texts.now)) }
+) -> Result<FirstPlaces<'a, A>, AllocError>
+    ensures { IfOk result (λ t. (x : List ℕ) → place_in t.places x ≡ first (has_name x) 0 (mentions_of texts.now)) }
 {
-    let mut table = Firsts::new(alloc, keys);
+    let mut table = FirstPlaces::new(alloc, keys);
     for (number, text) in texts.iter().enumerate() {
         table.note(text.name.bytes(), number)?;
     }
@@ -173,8 +173,8 @@ struct Visit<'t, 'p, 'a, A: Allocator> {
 #[derive(Drop)]
 pub struct ProgramIndex<'p, 'a, A: Allocator> {
     texts: Vec<IndexedDefinition<'p, 'a, A>, A>,
-    names: Firsts<'a, usize, A>,
-    ghost first_names: { (x : List ℕ) → value_at names.values x ≡ first (has_name x) 0 (mentions_of texts.items) },
+    names: FirstPlaces<'a, A>,
+    ghost first_names: { (x : List ℕ) → place_in names.places x ≡ first (has_name x) 0 (mentions_of texts.items) },
 }
 
 impl<'p, 'a, A: Allocator + Copy> ProgramIndex<'p, 'a, A> {

@@ -7,3 +7,4 @@ pub mod Whole
 pub mod FactsBlocks
 pub mod Facts
 pub mod KnownLabels
+pub mod SetsOfNames

@@ -1,9 +1,9 @@
 -- The names of one more element of a list are noted, behind those of the elements before it.
-use Rattle.std.proofs.Common.{◌≡◌, ◌∙◌, sym, ap, ℕ, ◌+◌, ◌<◌, ◌≤◌, List, [], ◌∷◌, length, drop, get_or}
+use Rattle.std.proofs.Common.{◌≡◌, ◌∙◌, sym, ap, ℕ, ◌+◌, ◌<◌, ◌≤◌, List, [], ◌∷◌, length, drop, get_or, Bor}
 use Rattle.std.proofs.lemmas.List.{drop_more, drop_all}
 use Rattle.std.specs.Prelude.{map}
 use Rattle.std.specs.List.{flat_map}
-use Rattle.qil_names.specs.Numbers.{recorded}
+use Rattle.qil_names.specs.Numbers.{noted, recorded}
 use Rattle.qil_names.proofs.NumberLemmas.{recorded_append}
 
 left_from : {X : Type 0} (xs : List X) (i : ℕ) (x : X) → i < length xs → x ≡ get_or xs i x → drop i xs ≡ x ∷ drop (i + 1) xs
@@ -20,6 +20,12 @@ pub one_named : {X : Type 0} (f : X → List ℕ) (xs : List X) (i : ℕ) (x : X
 one_named f xs i x name old new all l e named made so_far =
     ap (λ n. recorded n (map f (drop (i + 1) xs))) (made ∙ ap (λ n. recorded old (n ∷ [])) named)
     ∙ sym (recorded_append old (f x ∷ []) (map f (drop (i + 1) xs))) ∙ ap (λ ys. recorded old (map f ys)) (sym (left_from xs i x l e)) ∙ so_far
+
+-- the same of names that are lent
+pub one_lent : (xs : List (Bor (List ℕ))) (i : ℕ) (old new all : List (List ℕ)) (d : Bor (List ℕ)) → i < length xs → new ≡ noted old ((get_or xs i d).now) → recorded old (map (λ n. n.now) (drop i xs)) ≡ all
+    → recorded new (map (λ n. n.now) (drop (i + 1) xs)) ≡ all
+one_lent xs i old new all d l made so_far =
+    ap (λ n. recorded n (map (λ n. n.now) (drop (i + 1) xs))) made ∙ ap (λ ys. recorded old (map (λ n. n.now) ys)) (sym (drop_more xs i d l)) ∙ so_far
 
 -- once all elements were gone through, the names of all are noted
 pub none_left : {X : Type 0} (f : List X → List (List ℕ)) (xs : List X) (i : ℕ) (old all : List (List ℕ)) → length xs ≤ i → recorded old (f (drop i xs)) ≡ all → recorded old (f []) ≡ all

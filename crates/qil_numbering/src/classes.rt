@@ -9,7 +9,8 @@ ghost use Rattle.qil_names.specs.Tables.{value_at};
 ghost use Rattle.qil_numbering.specs.Classes.{param_target, inst_targets, block_targets, func_targets, first_class};
 ghost use Rattle.qil_code.specs.Numbered.{class_of_temp};
 
-use qil_names::{Firsts, Numbers};
+use crate::ordered_names::OrderedNames;
+use qil_names::Firsts;
 use qil_tree::{Block, Class, Func, Inst, InstKind, Param, Phi, Target};
 use std::alloc::{AllocError, Allocator};
 use std::hash::RandomState;
@@ -142,7 +143,7 @@ pub fn classes_of<'a, A: Allocator + Copy>(
     alloc: A,
     keys: RandomState,
     func: &Func<'a, A>,
-    names: &Numbers<'a, A>,
+    names: &OrderedNames<'a, A>,
 ) -> Result<Vec<Class, A>, AllocError>
     ensures { IfOk result (λ v. v.items ≡ map (class_of_temp func.now) names.now) }
 {

@@ -6,7 +6,7 @@ ghost use Rattle.qil_meaning.specs.Names.{operand_names, phi_names, inst_names, 
 ghost use Rattle.qil_names.specs.Numbers.{recorded};
 ghost use Rattle.qil_code.specs.Gather.{expr_names, param_names, arguments_names, sources_names, labels_in};
 
-use qil_names::Numbers;
+use crate::ordered_names::OrderedNames;
 use qil_tree::{
     Argument, Block, Expr, Func, Inst, InstKind, Jump, JumpKind, Operand, Param, Phi, PhiSource,
 };
@@ -14,7 +14,7 @@ use std::alloc::{AllocError, Allocator};
 use std::hash::RandomState;
 
 fn note_operand<'a, A: Allocator + Copy>(
-    names: &mut Numbers<'a, A>,
+    names: &mut OrderedNames<'a, A>,
     operand: &Operand<'a>,
 ) -> Result<(), AllocError>
     ensures { OnOk result (names.new ≡ recorded names.old (operand_names operand.now)) }
@@ -28,7 +28,7 @@ fn note_operand<'a, A: Allocator + Copy>(
 }
 
 fn note_two<'a, A: Allocator + Copy>(
-    names: &mut Numbers<'a, A>,
+    names: &mut OrderedNames<'a, A>,
     left: &Operand<'a>,
     right: &Operand<'a>,
 ) -> Result<(), AllocError>
@@ -39,7 +39,7 @@ fn note_two<'a, A: Allocator + Copy>(
 }
 
 fn note_expr<'a, A: Allocator + Copy>(
-    names: &mut Numbers<'a, A>,
+    names: &mut OrderedNames<'a, A>,
     expr: &Expr<'a>,
 ) -> Result<(), AllocError>
     ensures { OnOk result (names.new ≡ recorded names.old (expr_names expr.now)) }
@@ -54,7 +54,7 @@ fn note_expr<'a, A: Allocator + Copy>(
 }
 
 fn note_arguments<'a, A: Allocator + Copy>(
-    names: &mut Numbers<'a, A>,
+    names: &mut OrderedNames<'a, A>,
     arguments: &[Argument<'a>],
 ) -> Result<(), AllocError>
     ensures { OnOk result (names.new ≡ recorded names.old (arguments_names arguments.now)) }
@@ -66,7 +66,7 @@ fn note_arguments<'a, A: Allocator + Copy>(
 }
 
 fn note_inst<'a, A: Allocator + Copy>(
-    names: &mut Numbers<'a, A>,
+    names: &mut OrderedNames<'a, A>,
     inst: &Inst<'a, A>,
 ) -> Result<(), AllocError>
     ensures { OnOk result (names.new ≡ recorded names.old (inst_names inst.now)) }
@@ -95,7 +95,7 @@ fn note_inst<'a, A: Allocator + Copy>(
 }
 
 fn note_sources<'a, A: Allocator + Copy>(
-    names: &mut Numbers<'a, A>,
+    names: &mut OrderedNames<'a, A>,
     sources: &[PhiSource<'a>],
 ) -> Result<(), AllocError>
     ensures { OnOk result (names.new ≡ recorded names.old (sources_names sources.now)) }
@@ -107,7 +107,7 @@ fn note_sources<'a, A: Allocator + Copy>(
 }
 
 fn note_phi<'a, A: Allocator + Copy>(
-    names: &mut Numbers<'a, A>,
+    names: &mut OrderedNames<'a, A>,
     phi: &Phi<'a, A>,
 ) -> Result<(), AllocError>
     ensures { OnOk result (names.new ≡ recorded names.old (phi_names phi.now)) }
@@ -117,7 +117,7 @@ fn note_phi<'a, A: Allocator + Copy>(
 }
 
 fn note_jump<'a, A: Allocator + Copy>(
-    names: &mut Numbers<'a, A>,
+    names: &mut OrderedNames<'a, A>,
     jump: &Jump<'a>,
 ) -> Result<(), AllocError>
     ensures { OnOk result (names.new ≡ recorded names.old (jump_names jump.now.kind)) }
@@ -132,7 +132,7 @@ fn note_jump<'a, A: Allocator + Copy>(
 }
 
 fn note_phis<'a, A: Allocator + Copy>(
-    names: &mut Numbers<'a, A>,
+    names: &mut OrderedNames<'a, A>,
     phis: &[Phi<'a, A>],
 ) -> Result<(), AllocError>
     ensures { OnOk result (names.new ≡ recorded names.old (flat_map phi_names phis.now)) }
@@ -144,7 +144,7 @@ fn note_phis<'a, A: Allocator + Copy>(
 }
 
 fn note_insts<'a, A: Allocator + Copy>(
-    names: &mut Numbers<'a, A>,
+    names: &mut OrderedNames<'a, A>,
     insts: &[Inst<'a, A>],
 ) -> Result<(), AllocError>
     ensures { OnOk result (names.new ≡ recorded names.old (flat_map inst_names insts.now)) }
@@ -156,7 +156,7 @@ fn note_insts<'a, A: Allocator + Copy>(
 }
 
 fn note_block<'a, A: Allocator + Copy>(
-    names: &mut Numbers<'a, A>,
+    names: &mut OrderedNames<'a, A>,
     block: &Block<'a, A>,
 ) -> Result<(), AllocError>
     ensures { OnOk result (names.new ≡ recorded names.old (block_names block.now)) }
@@ -167,7 +167,7 @@ fn note_block<'a, A: Allocator + Copy>(
 }
 
 fn note_blocks<'a, A: Allocator + Copy>(
-    names: &mut Numbers<'a, A>,
+    names: &mut OrderedNames<'a, A>,
     blocks: &[Block<'a, A>],
 ) -> Result<(), AllocError>
     ensures { OnOk result (names.new ≡ recorded names.old (flat_map block_names blocks.now)) }
@@ -179,7 +179,7 @@ fn note_blocks<'a, A: Allocator + Copy>(
 }
 
 fn note_params<'a, A: Allocator + Copy>(
-    names: &mut Numbers<'a, A>,
+    names: &mut OrderedNames<'a, A>,
     params: &[Param<'a>],
 ) -> Result<(), AllocError>
     ensures { OnOk result (names.new ≡ recorded names.old (param_names params.now)) }
@@ -196,10 +196,10 @@ pub fn temps_of<'a, A: Allocator + Copy>(
     alloc: A,
     keys: RandomState,
     func: &Func<'a, A>,
-) -> Result<Numbers<'a, A>, AllocError>
+) -> Result<OrderedNames<'a, A>, AllocError>
     ensures { IfOk result (λ names. names ≡ temps_named func.now) }
 {
-    let mut names = Numbers::new(alloc, keys);
+    let mut names = OrderedNames::new(alloc, keys);
     note_params(&mut names, func.params.as_slice())?;
     note_blocks(&mut names, func.blocks.as_slice())?;
     Ok(names)
@@ -210,10 +210,10 @@ pub fn labels_of<'a, A: Allocator + Copy>(
     alloc: A,
     keys: RandomState,
     blocks: &[Block<'a, A>],
-) -> Result<Numbers<'a, A>, AllocError>
+) -> Result<OrderedNames<'a, A>, AllocError>
     ensures { IfOk result (λ names. names ≡ recorded [] (labels_in blocks.now)) }
 {
-    let mut names = Numbers::new(alloc, keys);
+    let mut names = OrderedNames::new(alloc, keys);
     for block in blocks {
         names.note(block.label.bytes())?;
     }
@@ -225,10 +225,10 @@ pub fn funcs_of<'a, A: Allocator + Copy>(
     alloc: A,
     keys: RandomState,
     funcs: &[Func<'a, A>],
-) -> Result<Numbers<'a, A>, AllocError>
+) -> Result<OrderedNames<'a, A>, AllocError>
     ensures { IfOk result (λ names. names ≡ recorded [] (map (λ f. f.name) funcs.now)) }
 {
-    let mut names = Numbers::new(alloc, keys);
+    let mut names = OrderedNames::new(alloc, keys);
     for func in funcs {
         names.note(func.name.bytes())?;
     }

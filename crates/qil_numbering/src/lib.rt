@@ -7,6 +7,7 @@ mod classes;
 mod gather;
 mod moves;
 mod numbering;
+mod ordered_names;
 mod resolve;
 mod shape;
 

@@ -23,7 +23,8 @@ fn numbered<'c, A: Allocator + Copy>(
     let program = checked.program();
     let names = funcs_of(alloc, keys, program.funcs.as_slice())?;
     let funcs = funcs_code(alloc, keys, image, program.funcs.as_slice())?;
-    Ok(Code::new(program, image, names, funcs))
+    let kept = names.kept(alloc, keys)?;
+    Ok(Code::new(program, image, kept, funcs))
 }
 
 /// Numbers a checked program, which lies as its image says. `keys` are those of the tables by name.

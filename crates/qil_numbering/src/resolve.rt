@@ -4,11 +4,11 @@ ghost use Rattle.std.specs.Prelude.{◌≡◌, ◌≤◌, IfOk, map, length};
 ghost use Rattle.qil_tree.specs.declared.tree.Operand.TheVariants as operands;
 ghost use Rattle.qil_code.specs.Numbered.{slot_in, operand_of, expr_of, receiver_of, argument_of, inst_of, param_of, move_with};
 
+use crate::ordered_names::OrderedNames;
 use qil_code::{
     NumberedArgument, NumberedExpr, NumberedInst, NumberedOperand, PhiMove, Receiver, Slot,
 };
 use qil_layout::Image;
-use qil_names::Numbers;
 use qil_tree::{
     AbiType, Argument, CallResult, Expr, Inst, InstKind, Items, Name, Operand, Param, Target,
 };
@@ -18,8 +18,8 @@ use std::alloc::{AllocError, Allocator};
 #[derive(Drop)]
 pub struct Resolver<'r, 'c, A: Allocator> {
     pub image: &'r Image<'c, A>,
-    pub temps: &'r Numbers<'c, A>,
-    pub labels: &'r Numbers<'c, A>,
+    pub temps: &'r OrderedNames<'c, A>,
+    pub labels: &'r OrderedNames<'c, A>,
     ghost few_temps: { length temps.now ≤ 65535 },
     ghost few_labels: { length labels.now ≤ 65535 },
 }

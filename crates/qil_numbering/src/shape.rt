@@ -12,12 +12,13 @@ ghost use Rattle.qil_code.specs.Ranges.{IsShort, JumpIsShort, BlockIsShort, Func
 use crate::classes::classes_of;
 use crate::gather::{labels_of, temps_of};
 use crate::moves::moves_of;
+use crate::ordered_names::OrderedNames;
 use crate::resolve::Resolver;
 use qil_code::{
     BlockId, Edge, FuncCode, NumberedBlock, NumberedFunc, NumberedInst, NumberedJump, PhiMove,
 };
 use qil_layout::Image;
-use qil_names::{Groups, Numbers};
+use qil_names::Groups;
 use qil_tree::{Block, Func, Inst, Items, Jump, JumpKind, Name};
 use std::alloc::{AllocError, Allocator};
 use std::hash::RandomState;
@@ -187,8 +188,8 @@ fn numbered_func<'a, A: Allocator + Copy>(
     alloc: A,
     keys: RandomState,
     image: &Image<'a, A>,
-    temps: &Numbers<'a, A>,
-    labels: &Numbers<'a, A>,
+    temps: &OrderedNames<'a, A>,
+    labels: &OrderedNames<'a, A>,
     func: &Func<'a, A>,
 ) -> Result<NumberedFunc<A>, AllocError>
     requires few_temps { length temps.now ≤ 65535 }
@@ -227,10 +228,12 @@ fn func_code<'a, A: Allocator + Copy>(
     let temps = temps_of(alloc, keys, func)?;
     let labels = labels_of(alloc, keys, func.blocks.as_slice())?;
     let code = numbered_func(alloc, keys, image, &temps, &labels, func)?;
+    let kept_temps = temps.kept(alloc, keys)?;
+    let kept_labels = labels.kept(alloc, keys)?;
     Ok(FuncCode {
         code,
-        temps,
-        labels,
+        temps: kept_temps,
+        labels: kept_labels,
     })
 }
 

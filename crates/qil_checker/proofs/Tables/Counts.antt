@@ -9,13 +9,12 @@ use Rattle.std.proofs.lemmas.Slice.Eq.{bytes_eq-Decides}
 use Rattle.std.proofs.lemmas.Cmp.{nat_list_eq_equiv}
 use Rattle.std.proofs.lemmas.Map.Made.{is_some-lookup, length-le_from_is_member, AllPairs-from_IsDistinct, IsDistinct-from_AllPairs}
 use Rattle.std.proofs.lemmas.List.Folds.{list_any_at, Any-from_list_any}
-use Rattle.std.specs.HashMap.{HashMap, keys}
+use Rattle.indexmap.specs.IndexMap.{IndexMap, keys}
 use Rattle.qil_checker.specs.declared.lookup.TableKind.TheVariants.{Named}
 use Rattle.qil_rules.specs.declared.mention.Mention.{Mention}
 use Rattle.qil_rules.specs.Text.{IsTemporary}
 use Rattle.qil_rules.specs.Rules.{HasManyTemporaries}
-use Rattle.qil_names.specs.Tables.{value_at}
-use Rattle.qil_checker.specs.Tables.{is_named, first}
+use Rattle.qil_checker.specs.Tables.{place_in, is_named, first}
 use Rattle.qil_checker.proofs.Texts.Places.{same_name, temp_found, temp_absent}
 
 apart_names : (x : List ℕ) (ks : List (Bor (List ℕ))) → AllByRecursion (λ y. bytes_eq x y.now ≡ false) ks → AllByRecursion (λ y. bytes_eq x y ≡ false) (map (λ k. k.now) ks)
@@ -49,18 +48,18 @@ is_long n m l = grind (arith, nat_tests)
 short : (n m : ℕ) → IsTrue (nat_lt n m) → n < m
 short n m t = grind (arith, nat_tests)
 
-module _ {S : Type 0} (m : HashMap (Bor (List ℕ)) ℕ S) (text : List Mention)
-    (places : (x : List ℕ) → value_at m x ≡ first (is_named Named x) 0 text)
+module _ {S : Type 0} (m : IndexMap (Bor (List ℕ)) ℕ S) (text : List Mention)
+    (places : (x : List ℕ) → place_in m x ≡ first (is_named Named x) 0 text)
     (unique : IsDistinct (λ x y. bytes_eq x.now y.now) (keys m))
   where
-    has_place : (q : List ℕ) → is_some (value_at m q) ≡ list_any (bytes_eq q) (map (λ k. k.now) (keys m))
+    has_place : (q : List ℕ) → is_some (place_in m q) ≡ list_any (bytes_eq q) (map (λ k. k.now) (keys m))
     has_place q = is_some-lookup (λ k. bytes_eq q k.now) m.entries ∙ sym (any_names q (keys m))
 
     is_temporary : (q : List ℕ) → list_any (bytes_eq q) (map (λ k. k.now) (keys m)) ≡ true → IsTemporary text q
-    is_temporary q has = let p = some_there (value_at m q) (has_place q ∙ has) in temp_found text q p.0 (sym (places q) ∙ p.1)
+    is_temporary q has = let p = some_there (place_in m q) (has_place q ∙ has) in temp_found text q p.0 (sym (places q) ∙ p.1)
 
     is_listed : (q : List ℕ) → IsTemporary text q → list_any (bytes_eq q) (map (λ k. k.now) (keys m)) ≡ true
-    is_listed q t = sym (has_place q) ∙ none_there (value_at m q) (λ none. temp_absent text q (sym (places q) ∙ none) t)
+    is_listed q t = sym (has_place q) ∙ none_there (place_in m q) (λ none. temp_absent text q (sym (places q) ∙ none) t)
 
     pub too_many : 65535 < length m.entries → HasManyTemporaries text
     too_many long =

@@ -4,8 +4,8 @@ use borrow.Author.Differences.{ints}
 use Rattle.std.proofs.Common.{arith, ap, ◌∙◌}
 use Rattle.std.specs.Option.{option_or}
 use Rattle.std.proofs.lemmas.Result.{IfOk-from_err}
-use Rattle.qil_names.specs.Tables.{value_at, for_name}
-use Rattle.qil_checker.specs.Tables.{first, has_name}
+use Rattle.qil_names.specs.Tables.{for_name}
+use Rattle.qil_checker.specs.Tables.{place_in, first, has_name}
 use Rattle.qil_checker.specs.Whole.{mentions_of}
 use Rattle.qil_checker.proofs.Programs.Gathered.{recorded_name, all_recorded}
 use Rattle.qil_checker.proofs.program_index.first_names.Goals as goal
@@ -15,11 +15,11 @@ loop-number-init g c = λ x. ap (λ o. option_or o (first (has_name x) 0 (mentio
 
 pub loop-number-preserved : goal.loop-number-preserved
 loop-number-preserved g c = λ x.
-    recorded_name c.index-texts-number.result c.args.texts.now c.loop-number.number x (value_at c.loop-number.table.values x) (value_at c.note.new.self.values x) _
-    (c.loop-number.invariant x) (omega arith) c.index-texts-number.is (c.in_ok-note.ensures x ∙ ap (λ n. option_or (value_at c.loop-number.table.values x) (for_name n c.loop-number.number x)) c.bytes.ensures)
+    recorded_name c.index-texts-number.result c.args.texts.now c.loop-number.number x (place_in c.loop-number.table.places x) (place_in c.note.new.self.places x) _
+    (c.loop-number.invariant x) (omega arith) c.index-texts-number.is (c.in_ok-note.ensures x ∙ ap (λ n. option_or (place_in c.loop-number.table.places x) (for_name n c.loop-number.number x)) c.bytes.ensures)
 
 pub returns : goal.returns
-returns g c = λ x. all_recorded c.args.texts.now c.loop-number.number x (value_at c.loop-number.table.values x) _ (c.loop-number.invariant x) (omega arith)
+returns g c = λ x. all_recorded c.args.texts.now c.loop-number.number x (place_in c.loop-number.table.places x) _ (c.loop-number.invariant x) (omega arith)
 
 pub offset_bounds-texts-number : goal.offset_bounds-texts-number
 offset_bounds-texts-number c = grind (ints, arith, common_steps)

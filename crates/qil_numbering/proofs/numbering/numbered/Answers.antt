@@ -28,7 +28,7 @@ new-requires g c =
     codes-are p c.args.image.now _ c.in_ok-funcs.funcs.items c.in_ok-funcs.ensures.codes c.as_slice-2.ensures image in
     record {
       image_is = image;
-      names_are = c.in_ok-names.ensures ∙ ap (λ fs. recorded [] (map (λ f. f.name) fs)) c.as_slice.ensures ∙ (numerable p kept).names;
+      names_are = c.in_ok-kept.ensures ∙ c.in_ok-names.ensures ∙ ap (λ fs. recorded [] (map (λ f. f.name) fs)) c.as_slice.ensures ∙ (numerable p kept).names;
       funcs_are = funcs_are;
       few = few_functions p kept;
       blocks = subst HasBlocks (sym c.program-program.ensures.program) c.program-program.ensures.blocks;

@@ -4,6 +4,7 @@ use Rattle.std.proofs.Common.{◌∙◌, ap, sym, subst, ◌≤◌, length, []}
 use Rattle.std.proofs.lemmas.List.{length-map}
 use Rattle.qil_names.specs.Numbers.{recorded}
 use Rattle.qil_code.specs.Gather.{labels_in}
+use Rattle.qil_code.specs.Numbered.{func_with}
 use Rattle.qil_numbering.proofs.Whole.{code-is}
 use Rattle.qil_numbering.proofs.shape.func_code.Goals as goal
 
@@ -20,8 +21,10 @@ numbered_func-requires-clause-labels g c = c.in_ok-labels.ensures ∙ ap (λ bs.
 
 pub returns-clause-code : goal.returns-clause-code
 returns-clause-code g c =
-    code-is c.args.image.now c.args.func.now c.in_ok-code.code c.in_ok-temps.temps c.in_ok-labels.labels c.in_ok-temps.ensures
-    (c.in_ok-labels.ensures ∙ ap (λ bs. recorded [] (labels_in bs)) c.as_slice.ensures ∙ c.requires.labels) c.in_ok-code.ensures.code
+    code-is c.args.image.now c.args.func.now c.in_ok-code.code c.in_ok-kept_temps.kept_temps c.in_ok-kept_labels.kept_labels
+    (c.in_ok-kept_temps.ensures ∙ c.in_ok-temps.ensures)
+    (c.in_ok-kept_labels.ensures ∙ c.in_ok-labels.ensures ∙ ap (λ bs. recorded [] (labels_in bs)) c.as_slice.ensures ∙ c.requires.labels)
+    (c.in_ok-code.ensures.code ∙ ap (λ ts. func_with c.args.image.now c.args.func.now ts) (sym c.in_ok-kept_temps.ensures))
 
 pub returns-clause-short : goal.returns-clause-short
 returns-clause-short g c = c.in_ok-code.ensures.short
