@@ -68,6 +68,10 @@ pub no-step : {A : Type 0} (p : Program A) (r : ℕ) (t new : Timeline) → r �
 unfolding moved
 no-step p r t new e moves = moves ∙ ap (λ n. moved p n t) e
 
+pub none-moved : {A : Type 0} (p : Program A) (t : Timeline) → t ≡ moved p 0 t
+unfolding moved
+none-moved p t = refl
+
 -- ---- what a machine says by its own program
 
 pub walked-by : {A : Type 0} (q p : Program A) (a b : ℕ) (t now new : Timeline) → q ≡ p → IsWalked p t a now → new ≡ moved q b now → ((j : ℕ) → j < b → at_end (moved q j now) ≡ false) → IsWalked p t (a + b) new
