@@ -27,10 +27,9 @@ pub(crate) fn keep_copy<A: Allocator + Copy, C: HasProgram<A>, M: Restorable<A, 
         → state_of (M.present machine.old) ≡ walk (M.present machine.old).program (first_of (M.kept machine.old)) pokes position
         → StillKept (M.present machine.old).program (M.kept machine.old) (M.kept machine.new) positions.new.items pokes n }
 {
-    let before = machine.kept_bytes();
     add_copy(machine, positions, position);
     let bytes = machine.kept_bytes();
-    spacing.fit(bytes.saturating_sub(before));
+    spacing.fit(positions.len(), bytes);
     if spacing.is_crowded(positions.len(), bytes) {
         thin(machine, positions, now, spacing);
     }
@@ -84,7 +83,7 @@ fn thin<A: Allocator + Copy, C: HasProgram<A>, M: Restorable<A, C>>(
         }
         spacing.widen(positions.len(), now);
     }
-    spacing.settle(positions.len());
+    spacing.settle(positions.len(), machine.kept_bytes());
 }
 
 /// Lets all copies go of states after a position.

@@ -1,6 +1,6 @@
 //! Runs forward, part by part, with copies kept between the parts; or with a look at stops after each move.
 
-ghost use Rattle.std.specs.Prelude.{◌≡◌, ◌≤◌, ◌<◌, ◌+◌, ◌^◌, ◌⊎◌, ℕ, true, false, [], length};
+ghost use Rattle.std.specs.Prelude.{◌≡◌, ◌≢◌, ◌≤◌, ◌<◌, ◌+◌, ◌^◌, ◌⊎◌, ℕ, true, false, [], length};
 ghost use Rattle.qil_meaning.specs.Timeline.{moved, at_end};
 ghost use Rattle.qil_meaning.specs.Runs.{RunsOn};
 ghost use Rattle.qil_stops.specs.Listed.{AreReadable};
@@ -57,6 +57,7 @@ impl<A: Allocator + Copy, M: HasCopies<A>> Checkpoints<A, M> {
     where
         M: Restorable<A, C>,
         requires { self.old.position + limit ≤ 2 ^ 62 }
+        ensures spared { result.0 ≢ Reason.Memory }
         ensures program { (M.present self.new.machine).program ≡ (M.present self.old.machine).program }
         ensures run { RunsOn (M.present self.old.machine).program [] limit (held_timeline M.present M.kept self.old) result.0 result.1 (held_timeline M.present M.kept self.new) }
     {
@@ -75,6 +76,7 @@ impl<A: Allocator + Copy, M: HasCopies<A>> Checkpoints<A, M> {
         requires near { self.old.position + limit ≤ 2 ^ 62 }
         requires few { length stops.now ≤ 64 }
         requires readable { AreReadable stops.now }
+        ensures spared { result.0 ≢ Reason.Memory }
         ensures program { (M.present self.new.machine).program ≡ (M.present self.old.machine).program }
         ensures run { RunsOn (M.present self.old.machine).program (named_stops (M.present self.old.machine).program stops.now) limit (held_timeline M.present M.kept self.old) result.0 result.1 (held_timeline M.present M.kept self.new) }
     {

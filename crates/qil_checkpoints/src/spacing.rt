@@ -1,6 +1,6 @@
 //! How far apart copies stand: near now at small gaps, far away at large ones. No promise rests on it.
 
-ghost use Rattle.std.specs.Prelude.{◌≡◌, ◌≤◌, ◌<◌, ◌+◌, true};
+ghost use Rattle.std.specs.Prelude.{◌≤◌, ◌<◌};
 
 /// The least gap, which only going back lays copies at.
 const FINE: u64 = 1 << 6;
@@ -9,7 +9,7 @@ const FINE: u64 = 1 << 6;
 const DENSE: u64 = 1 << 14;
 
 /// The largest gap, where there is room for so many copies.
-const SPARSE: u64 = 1 << 20;
+const SPARSE: u64 = 1 << 21;
 
 /// How many gaps of a size stand side by side before the next size.
 const WIDTH: u64 = 16;
@@ -41,6 +41,8 @@ pub(crate) struct Spacing {
     least: u64,
     /// About how many bytes all copies may take.
     budget: usize,
+    /// How many they took when they were last counted.
+    bytes: usize,
     /// With how many copies it is looked which of them may go.
     crowd: usize,
 }
@@ -55,6 +57,7 @@ impl Spacing {
             width: WIDTH,
             least: FINE,
             budget,
+            bytes: 0,
             crowd: MORE,
         }
     }
@@ -109,11 +112,16 @@ impl Spacing {
         moves > self.fine
     }
 
-    /// Fits the gaps to how many bytes a copy took.
-    pub(crate) fn fit(&mut self, bytes: usize) {
-        let bytes = bytes as u64;
-        self.fine = power_from(bytes / BYTES_A_MOVE).max(self.least);
-        self.dense = power_from(bytes).max(DENSE).max(self.least);
+    /// Fits the gaps to how many bytes a copy takes: one more was made, and all take so many.
+    pub(crate) fn fit(&mut self, count: usize, bytes: usize) {
+        let size = if bytes > self.bytes {
+            bytes - self.bytes
+        } else {
+            bytes / count.max(1)
+        };
+        self.bytes = bytes;
+        self.fine = power_from(size as u64 / BYTES_A_MOVE).max(self.least);
+        self.dense = power_from(size as u64).max(DENSE).max(self.least);
         self.sparse = self.sparse.max(self.dense);
     }
 
@@ -155,9 +163,10 @@ impl Spacing {
         }
     }
 
-    /// Has it looked again only with some copies more than these.
-    pub(crate) fn settle(&mut self, count: usize) {
+    /// Has it looked again only with some copies more than these, which take so many bytes.
+    pub(crate) fn settle(&mut self, count: usize, bytes: usize) {
         self.crowd = count.saturating_add(MORE);
+        self.bytes = bytes;
     }
 }
 
