@@ -1,10 +1,11 @@
-"""Long runs under `--replay`, at the edges of the parts between the copies of states, which are made every 2^20 moves: forward,
-back, pokes and watches there. Places and values are worked out from the position alone; what stops say is asked of a session
+"""Long runs under `--replay`, at the edges of the parts between the copies of states, which are made every 2^14 moves and kept at
+2^21 far away: forward, back, over copies behind the present state, pokes and watches there. Places and values are worked out from the position alone; what stops say is asked of a session
 without the option besides, whose transcript it must be."""
 from harness.running import Case
 
 PART = 1 << 20
-EDGES = (PART - 1, PART, PART + 1)
+NEAR = 1 << 14
+EDGES = (NEAR - 1, NEAR, NEAR + 1, PART - 1, PART, PART + 1)
 
 # Three moves a round: an addition, a comparison and the jump. `@start` has two, the copy and the jump that isn't written.
 TEXT = b"""export function w $main() {
@@ -144,6 +145,36 @@ def poked_there(edge):
     return asked
 
 
+def ahead(edge):
+    """Over states that copies are kept of, and over the same positions once a poke has made others of them."""
+    asked = Asked()
+    ask, look = asked.ask, asked.look
+    far = 3 * edge
+    ask(f"step {far}", at(far).line())
+    ask(f"back {far - 40}", at(40).line())
+    look(at(40))
+    ask(f"step {edge}", at(40 + edge).line())
+    look(at(40 + edge))
+    ask(f"step {far - 40 - edge}", at(far).line())
+    look(at(far))
+    ask(f"back {far - edge}", at(edge).line())
+    poked = at(edge).poked(70_000)
+    ask("set %i 70000", poked.line())
+    ask(f"step {edge}", poked.after(edge).line())
+    look(poked.after(edge))
+    ask(f"step {edge}", poked.after(2 * edge).line())
+    look(poked.after(2 * edge))
+    ask(f"back {edge + 10}", poked.after(edge - 10).line())
+    look(poked.after(edge - 10))
+    ask(f"back {edge - 9}", at(edge).line())
+    ask(f"step {2 * edge}", at(far).line())
+    look(at(far))
+    for back in range(1, 200):
+        ask("back", at(far - back).line())
+        look(at(far - back))
+    return asked
+
+
 def computed(running, made, edge, most):
     asked = made(edge)
     head = "loaded 1 functions 0 data bytes ssa no $main %i\n" + START.line()
@@ -174,6 +205,7 @@ def cases():
         for most in ("1", "64"):
             yield Case(f"to and fro over {edge}, --replay {most}", computed, (to_and_fro, edge, most))
             yield Case(f"pokes at {edge}, --replay {most}", computed, (poked_there, edge, most))
+            yield Case(f"over copies behind {edge}, --replay {most}", computed, (ahead, edge, most))
             yield Case(f"stops around {edge}, --replay {most}", as_without, (TEXT, stops_there(edge), most, "5000000"))
     wide = b"step 1048580\nmem 65528 16\nprint %i\nstep 1048576\nback 1048577\nprint %i\nwatch %i\nreverse\nwhere\nreverse\nback 100000\nprint %i\nback 948575\nwhere\n"
     for most in ("1", "2", "64"):

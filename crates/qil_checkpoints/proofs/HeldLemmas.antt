@@ -1,5 +1,6 @@
 -- What is held, after a run, a jump back and a poke; and the timeline then.
-use Rattle.std.proofs.Common.{◌≡◌, sym, ap, ◌∙◌, subst, ℕ, suc, ◌+◌, ◌-◌, min, ◌<◌, ◌≤◌, true, false, List, [], ◌∷◌, ◌++◌, length, take, None, Ok, ◌⊎◌, inl, inr, arith}
+use Rattle.std.proofs.Common.{◌≡◌, sym, ap, ◌∙◌, subst, ℕ, suc, ◌+◌, ◌-◌, min, ◌<◌, ◌≤◌, true, false, List, [], ◌∷◌, ◌++◌, length, take, Some, None, Ok, ◌⊎◌, inl, inr, arith}
+use Rattle.std.specs.Prelude.{slice_get}
 use Rattle.qil_tree.specs.declared.tree.Program.{Program}
 use Rattle.qil_meaning.specs.State.{State, is_final}
 use Rattle.qil_meaning.specs.Targets.{after}
@@ -8,11 +9,11 @@ use Rattle.qil_meaning.specs.Moves.{back_by}
 use Rattle.qil_state.specs.State.{Whole, state_of}
 use Rattle.qil_checkpoints.specs.declared.poked.Poked.{Poked}
 use Rattle.qil_checkpoints.specs.Walk.{after_poke, HasWidth, count_before, walk, walked, timeline_at, AreMoves}
-use Rattle.qil_checkpoints.specs.Held.{Held, first_of, count_to, IsKept, Holds, Reaches, held_timeline}
+use Rattle.qil_checkpoints.specs.Held.{Held, first_of, AreUpTo, IsKept, Holds, Reaches, held_timeline}
 use Rattle.qil_checkpoints.proofs.Parts.{poked-raise, poked-push, front-same, push-before}
-use Rattle.qil_checkpoints.proofs.AlongWalks.{SamePokes, same-below, walk-zero, walk-after, walk-same}
+use Rattle.qil_checkpoints.proofs.AlongWalks.{SamePokes, walk-zero, walk-after, walk-same, runs-there}
 use Rattle.qil_checkpoints.proofs.WalkTimelines.{walked-length, at-position, timeline-same, moved-walk, no-poke, moves-more, walk-push, moves-push, timeline-push, gone-walk}
-use Rattle.qil_checkpoints.proofs.Copies.{positions-raise, positions_same, first-take, count-some, kept-cut, kept-begun}
+use Rattle.qil_checkpoints.proofs.Copies.{kept-there, kept-moves, kept-same, come-same, kept-begun}
 
 -- ---- from parts to what equals them
 
@@ -28,7 +29,7 @@ walk-as {A} p q kept other pokes n e f = ap (λ (r : Program A). walk r (first_o
 -- ---- after a run
 
 kept-more : {A : Type 0} (p : Program A) (kept : List State) (positions : List ℕ) (pokes : List Poked) (n m : ℕ) → IsKept p kept positions pokes n → n ≤ m → AreMoves p (first_of kept) pokes m → IsKept p kept positions pokes m
-kept-more p kept positions pokes n m is le moves = record { copies = is.copies; rising = positions-raise positions n m is.rising le; poked = poked-raise 0 pokes n m is.poked le; moves = moves }
+kept-more p kept positions pokes n m is le moves = record { copies = is.copies; start = is.start; come_to = is.come_to; poked = poked-raise 0 pokes n m is.poked le; moves = moves }
 
 -- the states that were run through are those of the walk
 ran_at : {A : Type 0} (w : Whole A) (kept : List State) (positions : List ℕ) (pokes : List Poked) (n k : ℕ) → Holds w kept positions pokes n → walk w.program (first_of kept) pokes (n + k) ≡ after w.program (state_of w) k
@@ -82,53 +83,67 @@ reaches-as {A} p kept positions other pokes made k e f r = (
   subst (λ (ks : List ℕ). IsKept p kept ks made r.0) (sym e) (subst (λ (qs : List Poked). IsKept p kept positions qs r.0) (sym f) r.2),
 )
 
--- fewer copies and pokes, but the same states up to a position
-walk-cut : {A : Type 0} (p : Program A) (kept : List State) (positions : List ℕ) (pokes : List Poked) (n m : ℕ) → IsKept p kept positions pokes n → m ≤ n
-    → walk p (first_of kept) pokes m ≡ walk p (first_of (take (count_to m positions) kept)) (take (count_before m pokes) pokes) m
-walk-cut p kept positions pokes n m is le =
+-- fewer pokes and other copies, but the same states up to a position
+walk-cut : {A : Type 0} (p : Program A) (kept other : List State) (positions : List ℕ) (pokes made : List Poked) (n m : ℕ) → IsKept p kept positions pokes n → m ≤ n → first_of other ≡ first_of kept → made ≡ take (count_before m pokes) pokes
+    → walk p (first_of kept) pokes m ≡ walk p (first_of other) made m
+walk-cut p kept other positions pokes made n m is le first cut =
     walk-same p (first_of kept) pokes (take (count_before m pokes) pokes) m (λ j lt. sym (front-same 0 pokes n m j is.poked lt))
-    ∙ ap (λ (s : State). walk p s (take (count_before m pokes) pokes) m) (sym (first-take (count_to m positions) kept (count-some positions n m is.rising)))
+    ∙ ap (λ (qs : List Poked). walk p (first_of kept) qs m) (sym cut)
+    ∙ ap (λ (s : State). walk p s made m) (sym first)
 
-pub held-cut : {A : Type 0} (w new : Whole A) (kept other : List State) (positions fewer : List ℕ) (pokes made : List Poked) (n m : ℕ) → IsKept w.program kept positions pokes n → m ≤ n → new.program ≡ w.program
-    → state_of new ≡ walk w.program (first_of kept) pokes m → other ≡ take (count_to m positions) kept → fewer ≡ take (count_to m positions) positions → made ≡ take (count_before m pokes) pokes
-    → Holds new other fewer made m
-held-cut {A} w new kept other positions fewer pokes made n m is le e at cut_kept cut_positions cut_pokes =
-    subst (λ (qs : List Poked). Holds new other fewer qs m) (sym cut_pokes) (subst (λ ks. Holds new other ks (take (count_before m pokes) pokes) m) (sym cut_positions) (record {
-      is_kept = kept-as w.program new.program (take (count_to m positions) kept) other (take (count_to m positions) positions) (take (count_before m pokes) pokes) m (sym e) (sym cut_kept) (kept-cut w.program kept positions pokes n m is le);
-      now = at ∙ walk-cut w.program kept positions pokes n m is le ∙ walk-as w.program new.program (take (count_to m positions) kept) other (take (count_before m pokes) pokes) m (sym e) (sym cut_kept);
-    }))
+pub held-cut : {A : Type 0} (p : Program A) (new : Whole A) (kept other : List State) (positions more : List ℕ) (pokes made : List Poked) (n m : ℕ) → IsKept p kept positions pokes n → m ≤ n → new.program ≡ p
+    → state_of new ≡ walk p (first_of kept) pokes m → first_of other ≡ first_of kept → made ≡ take (count_before m pokes) pokes → IsKept p other more made m → Holds new other more made m
+held-cut {A} p new kept other positions more pokes made n m is le e at first cut still = record {
+  is_kept = subst (λ (r : Program A). IsKept r other more made m) (sym e) still;
+  now = at ∙ walk-cut p kept other positions pokes made n m is le first cut ∙ ap (λ (r : Program A). walk r (first_of other) made m) (sym e);
+}
 
 pub timeline-cut : {A : Type 0} (p q : Program A) (kept other : List State) (positions : List ℕ) (pokes made : List Poked) (n m k : ℕ) → IsKept p kept positions pokes n → k + m ≡ n → q ≡ p
-    → other ≡ take (count_to m positions) kept → made ≡ take (count_before m pokes) pokes → timeline_at q (first_of other) made m ≡ gone k (timeline_at p (first_of kept) pokes n)
-timeline-cut {A} p q kept other positions pokes made n m k is sum e cut_kept cut_pokes =
+    → first_of other ≡ first_of kept → made ≡ take (count_before m pokes) pokes → timeline_at q (first_of other) made m ≡ gone k (timeline_at p (first_of kept) pokes n)
+timeline-cut {A} p q kept other positions pokes made n m k is sum e first cut =
     let fewer : List Poked = take (count_before m pokes) pokes in
-    ap (λ (qs : List Poked). timeline_at q (first_of other) qs m) cut_pokes
-    ∙ timeline-as q p other (take (count_to m positions) kept) fewer m e cut_kept
-    ∙ ap (λ (s : State). timeline_at p s fewer m) (first-take (count_to m positions) kept (count-some positions n m is.rising))
+    ap (λ (qs : List Poked). timeline_at q (first_of other) qs m) cut
+    ∙ ap (λ (r : Program A). timeline_at r (first_of other) fewer m) e
+    ∙ ap (λ (s : State). timeline_at p s fewer m) first
     ∙ timeline-same p (first_of kept) fewer pokes m (λ j lt. front-same 0 pokes n m j is.poked lt)
     ∙ sym (gone-walk p (first_of kept) pokes k m n sum)
 
+-- ---- after a jump forward to a copy
+
+pub held-skip : {A : Type 0} (w new : Whole A) (kept other : List State) (positions : List ℕ) (pokes : List Poked) (n i k : ℕ) → Holds w kept positions pokes n → new.program ≡ w.program → other ≡ kept → slice_get positions i ≡ Some k → n ≤ k
+    → slice_get kept i ≡ Some (state_of new) → Holds new other positions pokes k
+held-skip {A} w new kept other positions pokes n i k h e f at le there = record {
+  is_kept = kept-as w.program new.program kept other positions pokes k (sym e) (sym f) (kept-more w.program kept positions pokes n k h.is_kept le (kept-moves w.program kept positions pokes n i k h.is_kept at));
+  now = kept-there w.program kept positions pokes n i k (state_of new) h.is_kept at there ∙ walk-as w.program new.program kept other pokes k (sym e) (sym f);
+}
+
+pub running-skip : {A : Type 0} (w : Whole A) (kept : List State) (positions : List ℕ) (pokes : List Poked) (n i k j : ℕ) → Holds w kept positions pokes n → slice_get positions i ≡ Some k → n + j < k
+    → at_end (moved w.program j (timeline_at w.program (first_of kept) pokes n)) ≡ false
+running-skip w kept positions pokes n i k j h at lt =
+    ap at_end (moved-walk w.program (first_of kept) pokes n j (no-poke pokes n j h.is_kept.poked))
+    ∙ runs-there w.program (first_of kept) pokes k (n + j) (kept-moves w.program kept positions pokes n i k h.is_kept at) lt (no-poke pokes n (j + 1) h.is_kept.poked (n + j) (omega arith) (omega arith))
+
 -- ---- after a poke
 
-kept-poked : {A : Type 0} (p : Program A) (next : State) (kept : List State) (positions : List ℕ) (pokes : List Poked) (q : Poked) (n : ℕ) → IsKept p kept positions pokes n → q.position ≡ n → HasWidth q.poke
+kept-poked : {A : Type 0} (p : Program A) (next : State) (kept : List State) (positions : List ℕ) (pokes : List Poked) (q : Poked) (n : ℕ) → IsKept p kept positions pokes n → AreUpTo n positions → q.position ≡ n → HasWidth q.poke
     → after_poke p (walk p (first_of kept) pokes n) q.poke ≡ Ok next → IsKept p kept positions (pokes ++ q ∷ []) (n + 1)
-kept-poked {A} p next kept positions pokes q n is at wide made =
+kept-poked p next kept positions pokes q n is up at wide made =
     let same : SamePokes pokes (pokes ++ q ∷ []) n = λ j lt. sym (push-before pokes q j (omega (arith, lt, at))) in
     record {
-      copies = is.copies ∙ positions_same (λ k. walk p (first_of kept) pokes k) (λ k. walk p (first_of kept) (pokes ++ q ∷ []) k) positions n is.rising
-          (λ k under. walk-same p (first_of kept) pokes (pokes ++ q ∷ []) k (same-below pokes (pokes ++ q ∷ []) n k same under));
-      rising = positions-raise positions n (n + 1) is.rising (omega arith);
+      copies = kept-same p kept positions pokes (pokes ++ q ∷ []) n same up is.copies;
+      start = is.start;
+      come_to = come-same p kept positions pokes (pokes ++ q ∷ []) n same up is.come_to;
       poked = poked-push 0 pokes n q is.poked at wide;
       moves = moves-push p (first_of kept) next pokes q n is.moves is.poked at made;
     }
 
-pub held-push : {A : Type 0} (w new : Whole A) (kept other : List State) (positions : List ℕ) (pokes more : List Poked) (q : Poked) (n : ℕ) → Holds w kept positions pokes n → new.program ≡ w.program → other ≡ kept
+pub held-push : {A : Type 0} (w new : Whole A) (kept other : List State) (positions : List ℕ) (pokes more : List Poked) (q : Poked) (n : ℕ) → Holds w kept positions pokes n → AreUpTo n positions → new.program ≡ w.program → other ≡ kept
     → q.position ≡ n → HasWidth q.poke → after_poke w.program (state_of w) q.poke ≡ Ok (state_of new) → more ≡ pokes ++ q ∷ [] → Holds new other positions more (n + 1)
-held-push {A} w new kept other positions pokes more q n h e f at wide made pushed =
+held-push {A} w new kept other positions pokes more q n h up e f at wide made pushed =
     let there : after_poke w.program (walk w.program (first_of kept) pokes n) q.poke ≡ Ok (state_of new) = ap (λ (t : State). after_poke w.program t q.poke) (sym h.now) ∙ made in
     let one : suc n ≡ n + 1 = omega arith in
     subst (λ (qs : List Poked). Holds new other positions qs (n + 1)) (sym pushed) (record {
-      is_kept = kept-as w.program new.program kept other positions (pokes ++ q ∷ []) (n + 1) (sym e) (sym f) (kept-poked w.program (state_of new) kept positions pokes q n h.is_kept at wide there);
+      is_kept = kept-as w.program new.program kept other positions (pokes ++ q ∷ []) (n + 1) (sym e) (sym f) (kept-poked w.program (state_of new) kept positions pokes q n h.is_kept up at wide there);
       now = walk-push w.program (first_of kept) (state_of new) pokes q n h.is_kept.poked at there ∙ ap (walk w.program (first_of kept) (pokes ++ q ∷ [])) one
           ∙ walk-as w.program new.program kept other (pokes ++ q ∷ []) (n + 1) (sym e) (sym f);
     })

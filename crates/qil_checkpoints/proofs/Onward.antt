@@ -1,12 +1,13 @@
 -- Runs forward, part after part.
-use Rattle.std.proofs.Common.{◌≡◌, refl, sym, ap, ◌∙◌, subst, ℕ, zero, suc, ◌+◌, ◌-◌, ◌<◌, ◌≤◌, true, false, cond, [], ◌⊎◌, inl, inr, arith}
+use Rattle.std.proofs.Common.{◌≡◌, refl, sym, ap, ◌∙◌, subst, ℕ, zero, suc, ◌+◌, ◌-◌, ◌<◌, ◌≤◌, Bool, true, false, cond, [], Some, None, ◌⊎◌, inl, inr, arith}
 use Rattle.std.proofs.lemmas.Bool.{cases_lt}
 use Rattle.std.specs.Option.{option_or}
 use Rattle.qil_tree.specs.declared.tree.Program.{Program}
 use Rattle.qil_meaning.specs.Timeline.{Timeline, forward, at_end, moved}
 use Rattle.qil_meaning.specs.Moves.{forward_by}
-use Rattle.qil_meaning.specs.Runs.{if_holds, stop_on, RunsOn}
-use Rattle.qil_meaning.specs.declared.reason.Reason.TheVariants.{End, Limit}
+use Rattle.qil_meaning.specs.Runs.{if_holds, stop_on, stopping, RunsOn}
+use Rattle.qil_meaning.specs.declared.reason.Reason.{Reason}
+use Rattle.qil_meaning.specs.declared.reason.Reason.TheVariants.{End, Limit, Memory}
 use Rattle.qil_stops.proofs.OnWay.{IsOnWay, none-stopped, on-last, on-end, or_none}
 use Rattle.qil_stops.proofs.Walks.{IsWalked, walked-all}
 
@@ -68,8 +69,27 @@ pub no-step : {A : Type 0} (p : Program A) (r : ℕ) (t new : Timeline) → r �
 unfolding moved
 no-step p r t new e moves = moves ∙ ap (λ n. moved p n t) e
 
+pub none-moved : {A : Type 0} (p : Program A) (t : Timeline) → t ≡ moved p 0 t
+unfolding moved
+none-moved p t = refl
+
 -- ---- what a machine says by its own program
 
 pub walked-by : {A : Type 0} (q p : Program A) (a b : ℕ) (t now new : Timeline) → q ≡ p → IsWalked p t a now → new ≡ moved q b now → ((j : ℕ) → j < b → at_end (moved q j now) ≡ false) → IsWalked p t (a + b) new
 walked-by {A} q p a b t now new e way more runs =
     walked-part p a b t now new way (subst (λ (r : Program A). new ≡ moved r b now) e more) (λ j lt. subst (λ (r : Program A). at_end (moved r j now) ≡ false) e (runs j lt))
+
+-- ---- no reason is out of memory
+
+ends_otherwise : End ≡ Memory → ⊥
+ends_otherwise e = cc
+
+halts_otherwise : None ≡ Some Memory → ⊥
+halts_otherwise e = cc
+
+pub spared-by : (b : Bool) (r other : Reason) → r ≡ cond b End other → stopping other ≡ Some other → r ≡ Memory → ⊥
+spared-by true r other is plain e = let both : End ≡ Memory = sym is ∙ e in ends_otherwise both
+spared-by false r other is plain e =
+    let same : other ≡ Memory = sym is ∙ e in
+    let both : None ≡ Some Memory = subst (λ (x : Reason). stopping x ≡ Some x) same plain in
+    halts_otherwise both

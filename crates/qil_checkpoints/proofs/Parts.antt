@@ -112,6 +112,55 @@ pub part-is : (pokes : List Poked) (high from to : ℕ) → ArePoked 0 pokes hig
 part-is pokes high from to poked le under = λ j ge lt.
     sym (front-same from (drop (count_before from pokes) pokes) high to j (rest-poked 0 pokes high from poked (omega (arith, le, under))) lt ∙ rest-same pokes from j ge)
 
+-- ---- the first poke that is not before a position
+
+counts : (q : Poked) (qs : List Poked) (n c : ℕ) → nat_lt q.position n ≡ true → count_before n qs ≡ c → count_before n (q ∷ qs) ≡ suc c
+counts q qs n c e f = rw (e, f) (one_more c)
+
+-- with one that is before it in front
+at_later : (q : Poked) (qs : List Poked) (m c : ℕ) (d : Poked) → count_before m (q ∷ qs) ≡ suc c → nat_lt q.position (get_or qs c d).position ≡ true → m ≤ (get_or qs c d).position → count_before (get_or qs c d).position qs ≡ c
+    → (m ≤ (get_or (q ∷ qs) (count_before m (q ∷ qs)) d).position) × (count_before (get_or (q ∷ qs) (count_before m (q ∷ qs)) d).position (q ∷ qs) ≡ count_before m (q ∷ qs))
+at_later q qs m c d e under le same =
+    subst (λ i. (m ≤ (get_or (q ∷ qs) i d).position) × (count_before (get_or (q ∷ qs) i d).position (q ∷ qs) ≡ i)) (sym e) ((le, counts q qs (get_or qs c d).position c under same))
+
+at_first : (q : Poked) (qs : List Poked) (m : ℕ) (d : Poked) → count_before m (q ∷ qs) ≡ 0 → nat_lt q.position q.position ≡ false → m ≤ q.position
+    → (m ≤ (get_or (q ∷ qs) (count_before m (q ∷ qs)) d).position) × (count_before (get_or (q ∷ qs) (count_before m (q ∷ qs)) d).position (q ∷ qs) ≡ count_before m (q ∷ qs))
+at_first q qs m d e not le =
+    subst (λ i. (m ≤ (get_or (q ∷ qs) i d).position) × (count_before (get_or (q ∷ qs) i d).position (q ∷ qs) ≡ i)) (sym e) ((le, none q qs not))
+  where
+    none : (q : Poked) (qs : List Poked) → nat_lt q.position q.position ≡ false → count_before q.position (q ∷ qs) ≡ 0
+    none q qs not = rw not refl
+
+at_cases : (q : Poked) (qs : List Poked) (m : ℕ) (d : Poked) (b : Bool) → nat_lt q.position m ≡ b → count_before m (q ∷ qs) < length (q ∷ qs)
+    → (count_before m qs < length qs → (m ≤ (get_or qs (count_before m qs) d).position) × (count_before (get_or qs (count_before m qs) d).position qs ≡ count_before m qs))
+    → (m ≤ (get_or (q ∷ qs) (count_before m (q ∷ qs)) d).position) × (count_before (get_or (q ∷ qs) (count_before m (q ∷ qs)) d).position (q ∷ qs) ≡ count_before m (q ∷ qs))
+at_cases q qs m d true e lt deep =
+    let more : count_before m (q ∷ qs) ≡ suc (count_before m qs) = counts q qs m (count_before m qs) e refl in
+    let less : count_before m qs < length qs = omega (arith, more, lt) in
+    let there : (m ≤ (get_or qs (count_before m qs) d).position) × (count_before (get_or qs (count_before m qs) d).position qs ≡ count_before m qs) = deep less in
+    let le : m ≤ (get_or qs (count_before m qs) d).position = there.0 in
+    let under : nat_lt q.position (get_or qs (count_before m qs) d).position ≡ true = grind (arith, nat_tests, e, le) in
+    at_later q qs m (count_before m qs) d more under le there.1
+at_cases q qs m d false e lt deep =
+    at_first q qs m d (rw e refl) (grind (arith, nat_tests)) (grind (arith, nat_tests, e))
+
+count_at : (pokes : List Poked) (m : ℕ) (d : Poked) → count_before m pokes < length pokes
+    → (m ≤ (get_or pokes (count_before m pokes) d).position) × (count_before (get_or pokes (count_before m pokes) d).position pokes ≡ count_before m pokes)
+count_at [] m d lt = absurd (omega (arith, lt))
+count_at (q ∷ qs) m d lt = at_cases q qs m d (nat_lt q.position m) refl lt (λ less. count_at qs m d less)
+
+-- up to it the pokes before the position are all
+pub cut-same : (pokes fewer : List Poked) (high m r first : ℕ) (d : Poked) → ArePoked 0 pokes high → r ≡ count_before m pokes → r < length pokes → first ≡ (get_or pokes r d).position → fewer ≡ take r pokes
+    → (m ≤ first) × ((j : ℕ) → j < first → poke_at pokes j ≡ poke_at fewer j)
+cut-same pokes fewer high m r first d poked count lt at cut =
+    let inside : count_before m pokes < length pokes = omega (arith, count, lt) in
+    let there : (m ≤ (get_or pokes (count_before m pokes) d).position) × (count_before (get_or pokes (count_before m pokes) d).position pokes ≡ count_before m pokes) = count_at pokes m d inside in
+    let here : first ≡ (get_or pokes (count_before m pokes) d).position = at ∙ ap (λ i. (get_or pokes i d).position) count in
+    let long : count_before first pokes ≡ r = ap (λ n. count_before n pokes) here ∙ there.1 ∙ sym count in
+    let same : take (count_before first pokes) pokes ≡ fewer = ap (λ i. take i pokes) long ∙ sym cut in
+    let le : m ≤ (get_or pokes (count_before m pokes) d).position = there.0 in
+    (omega (arith, le, here), λ j below. sym (front-same 0 pokes high first j poked below) ∙ ap (λ (qs : List Poked). poke_at qs j) same)
+
 -- ---- the first poke of a part
 
 pub part-none : (pokes : List Poked) (q : Poked) (qs : List Poked) (from to : ℕ) → IsPart pokes (q ∷ qs) from to → ArePoked from (q ∷ qs) to → (j : ℕ) → from ≤ j → j < q.position → poke_at pokes j ≡ None

@@ -1,6 +1,5 @@
 -- What a history over checkpoints holds: a machine with its copies, and the pokes.
-use Rattle.std.specs.Prelude.{◌≡◌, ℕ, ◌<◌, ◌≤◌, nat_le, Bool, List, [], ◌∷◌, map, None}
-use Rattle.std.specs.List.{prefix_len}
+use Rattle.std.specs.Prelude.{◌≡◌, ℕ, ◌≤◌, List, [], ◌∷◌, map, None}
 use Rattle.qil_tree.specs.declared.tree.Program.{Program}
 use Rattle.qil_meaning.specs.State.{running, State}
 use Rattle.qil_meaning.specs.Timeline.{Timeline}
@@ -25,29 +24,29 @@ abbrev pub first_of : List State → State
 first_of [] = nowhere
 first_of (s ∷ others) = s
 
--- positions that rise from one to another
-abbrev pub RiseTo : ℕ → List ℕ → ℕ → Type 0
-RiseTo low [] high = low ≤ high
-RiseTo low (k ∷ ks) high = (low < k) × RiseTo k ks high
+-- the first position is that of the start
+abbrev pub FromStart : List ℕ → Type 0
+FromStart [] = ⊥
+FromStart (k ∷ ks) = k ≡ 0
 
--- positions of copies: the first is the start, and none is above n
-abbrev pub ArePositions : List ℕ → ℕ → Type 0
-ArePositions [] n = ⊥
-ArePositions (k ∷ ks) n = (k ≡ 0) × RiseTo k ks n
+-- none is above n
+abbrev pub AreUpTo : ℕ → List ℕ → Type 0
+AreUpTo n [] = Unit {0}
+AreUpTo n (k ∷ ks) = (k ≤ n) × AreUpTo n ks
 
--- how many are not above n
-abbrev pub is_to : ℕ → ℕ → Bool
-is_to n k = nat_le k n
-
-abbrev pub count_to : ℕ → List ℕ → ℕ
-count_to n positions = prefix_len (is_to n) positions
+-- each is come to by moves
+abbrev pub AreComeTo : {A : Type 0} → Program A → State → List Poked → List ℕ → Type 0
+AreComeTo p s pokes [] = Unit {0}
+AreComeTo p s pokes (k ∷ ks) = AreMoves p s pokes k × AreComeTo p s pokes ks
 
 -- ---- what is kept of a run
 
--- of the moves up to position n: copies of the walk's states at some positions, and all pokes
+-- of the moves up to position n: all pokes, and copies of the walk's states at some positions, in any order, also behind n, where
+-- the walk goes on by steps
 pub record IsKept {A : Type 0} (p : Program A) (kept : List State) (positions : List ℕ) (pokes : List Poked) (n : ℕ) : Type 0 where
   pub copies : kept ≡ map (λ k. walk p (first_of kept) pokes k) positions
-  pub rising : ArePositions positions n
+  pub start : FromStart positions
+  pub come_to : AreComeTo p (first_of kept) pokes positions
   pub poked : ArePoked 0 pokes n
   pub moves : AreMoves p (first_of kept) pokes n
 
@@ -57,8 +56,8 @@ pub record Holds {A : Type 0} (w : Whole A) (kept : List State) (positions : Lis
   pub now : state_of w ≡ walk w.program (first_of kept) pokes n
 
 -- the same with other copies, of which the first is still that of the start
-pub record StillHolds {A : Type 0} (w : Whole A) (kept other : List State) (positions : List ℕ) (pokes : List Poked) (n : ℕ) : Type 0 where
-  pub holds : Holds w other positions pokes n
+pub record StillKept {A : Type 0} (p : Program A) (kept other : List State) (positions : List ℕ) (pokes : List Poked) (n : ℕ) : Type 0 where
+  pub is_kept : IsKept p other positions pokes n
   pub first : first_of other ≡ first_of kept
 
 -- it is kept at least up to a position

@@ -16,10 +16,11 @@ ghost use Rattle.qil_checkpoints.specs.Walk.{after_poke, HasWidth, IsWalk};
 ghost use Rattle.qil_checkpoints.specs.Held.{first_of, Holds, held_timeline};
 ghost use Rattle.qil_checkpoints.specs.Hits.{IsQuiet};
 
-use crate::keeping::keep_copy;
+use crate::keeping::{forget_later, keep_copy};
 use crate::poked::{KeptPoke, Poked};
-use crate::replaying::{go_back, jump, poke};
+use crate::replaying::{copy_ahead, go_back, jump, poke};
 use crate::searching::{hit_or_lowest, search_back};
+use crate::spacing::Spacing;
 use arrayvec::ArrayVec;
 use qil_code::Slot;
 use qil_history::HasProgram;
@@ -40,8 +41,7 @@ pub struct Checkpoints<A: Allocator, M: HasCopies<A>> {
     pokes: Vec<Poked, A>,
     /// How many moves were made: steps and pokes.
     position: u64,
-    /// About how many bytes the copies may take.
-    budget: usize,
+    pub(crate) spacing: Spacing,
 }
 
 impl<A: Allocator, M: HasCopies<A>> Model for Checkpoints<A, M> {
@@ -81,7 +81,7 @@ impl<A: Allocator + Copy, M: HasCopies<A>> Checkpoints<A, M> {
             positions,
             pokes: Vec::new(alloc),
             position: 0,
-            budget,
+            spacing: Spacing::new(budget),
         })
     }
 
@@ -129,7 +129,29 @@ impl<A: Allocator + Copy, M: HasCopies<A>> Checkpoints<A, M> {
         made
     }
 
-    /// Keeps a copy of the state, where the budget allows it and there is memory.
+    /// Goes on to the latest copy that is kept of the next so many moves, if that spares some. Gives how many moves that is.
+    pub(crate) fn skip<C: HasProgram<A>>(&mut self, count: u64) -> u64
+    where
+        M: Restorable<A, C>,
+        requires { self.old.position + count ≤ 2 ^ 62 }
+        ensures program { (M.present self.new.machine).program ≡ (M.present self.old.machine).program }
+        ensures position { self.new.position ≡ self.old.position + result }
+        ensures few { result ≤ count }
+        ensures moved { held_timeline M.present M.kept self.new ≡ moved (M.present self.old.machine).program result (held_timeline M.present M.kept self.old) }
+        ensures running { (j : ℕ) → j < result → at_end (moved (M.present self.old.machine).program j (held_timeline M.present M.kept self.old)) ≡ false }
+    {
+        let positions = self.positions.as_slice();
+        let copy = match copy_ahead(positions, self.position, count, &self.spacing) {
+            Some(copy) => copy,
+            None => return 0,
+        };
+        self.machine.restore(copy.index);
+        let skipped = copy.position - self.position;
+        self.position = copy.position;
+        skipped
+    }
+
+    /// Keeps a copy of the state, if there is none yet, where the budget allows it and there is memory.
     pub(crate) fn keep_copy<C: HasProgram<A>>(&mut self)
     where
         M: Restorable<A, C>,
@@ -137,15 +159,19 @@ impl<A: Allocator + Copy, M: HasCopies<A>> Checkpoints<A, M> {
         ensures position { self.new.position ≡ self.old.position }
         ensures same { held_timeline M.present M.kept self.new ≡ held_timeline M.present M.kept self.old }
     {
+        if self.positions.contains(&self.position) {
+            return;
+        }
         keep_copy(
             &mut self.machine,
             &mut self.positions,
             self.position,
-            self.budget,
+            self.position,
+            &mut self.spacing,
         );
     }
 
-    /// Goes back to a position. The copies and the pokes behind it are let go.
+    /// Goes back to a position. The pokes behind it are let go.
     pub(crate) fn go_to<C: HasProgram<A>>(&mut self, position: u64)
     where
         M: Restorable<A, C>,
@@ -159,6 +185,7 @@ impl<A: Allocator + Copy, M: HasCopies<A>> Checkpoints<A, M> {
             &mut self.positions,
             &mut self.pokes,
             position,
+            &mut self.spacing,
         );
         self.position = position;
     }
@@ -193,6 +220,7 @@ impl<A: Allocator + Copy, M: HasCopies<A>> Checkpoints<A, M> {
             &mut self.positions,
             &mut self.pokes,
             hit.position,
+            &mut self.spacing,
         );
         self.position = hit.position;
         (hit.reason, now - hit.position)
@@ -216,6 +244,7 @@ impl<A: Allocator + Copy, M: HasCopies<A>> Checkpoints<A, M> {
         if let Err(error) = poke(&mut self.machine, made) {
             return Err(error);
         }
+        forget_later(&mut self.machine, &mut self.positions, self.position);
         self.pokes.push_reserved(Poked {
             position: self.position,
             poke: made,

@@ -10,6 +10,7 @@ mod poked;
 mod replaying;
 mod running;
 mod searching;
+mod spacing;
 
 pub use checkpoints::Checkpoints;
 pub use hit::Hit;

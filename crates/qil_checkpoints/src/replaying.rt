@@ -1,15 +1,17 @@
 //! Brings a machine to a position of a walk: from the last copy before it, by the same steps and pokes again.
 
-ghost use Rattle.std.specs.Prelude.{◌≡◌, ◌≢◌, ◌≤◌, ◌<◌, ◌+◌, ◌^◌, ℕ, List, Some, None, Ok, Err, OnOk, OnErr, IfErr, length};
+ghost use Rattle.std.specs.Prelude.{◌≡◌, ◌≢◌, ◌≤◌, ◌<◌, ◌+◌, ◌^◌, ◌⊎◌, ℕ, List, Some, None, Ok, Err, OnOk, OnErr, IfErr, IfSome, length, take, slice_get};
 ghost use Rattle.qil_meaning.specs.State.{State};
 ghost use Rattle.qil_meaning.specs.Timeline.{gone};
 ghost use Rattle.qil_state.specs.State.{state_of};
 ghost use Rattle.qil_history.specs.Pokes.{Explains};
 ghost use Rattle.qil_checkpoints.specs.declared.poked.Poked.{Poked};
 ghost use Rattle.qil_checkpoints.specs.Walk.{after_poke, HasWidth, poke_at, ArePoked, count_before, part_of, IsPart, walk, timeline_at, AreMoves};
-ghost use Rattle.qil_checkpoints.specs.Held.{first_of, count_to, IsKept, Holds, Reaches};
+ghost use Rattle.qil_checkpoints.specs.Held.{first_of, FromStart, IsKept, Holds, StillKept, Reaches};
 
+use crate::keeping::{forget_later, keep_copy};
 use crate::poked::{KeptPoke, Poked};
+use crate::spacing::Spacing;
 use qil_history::HasProgram;
 use qil_machine::PokeError;
 use qil_stops::Restorable;
@@ -34,15 +36,64 @@ pub(crate) fn part_of(pokes: &[Poked], from: u64, to: u64) -> &[Poked]
     &rest[..count_before(rest, to)]
 }
 
-/// How many of the copies, by their positions, are not of a later state than that of a position.
-pub(crate) fn count_to(positions: &[u64], position: u64) -> usize
-    ensures count { result ≡ count_to position positions.now }
-    ensures within { result ≤ length positions.now }
+/// Where a copy is found, and the position of its state.
+#[derive(Clone, Copy)]
+pub(crate) struct FoundCopy {
+    pub index: usize,
+    pub position: u64,
+}
+
+/// The later of two copies: the one that was found, and one at an index and a position, if its state isn't after the last position.
+#[inline(always)]
+fn later_copy(found: FoundCopy, index: usize, position: u64, last: u64) -> FoundCopy
+    requires { found.position ≤ last }
+    ensures one { (result ≡ found) ⊎ ((result.index ≡ index) × (result.position ≡ position)) }
+    ensures last { result.position ≤ last }
 {
-    positions
-        .iter()
-        .take_while(|copied| **copied <= position)
-        .count()
+    if position <= last && position >= found.position {
+        FoundCopy { index, position }
+    } else {
+        found
+    }
+}
+
+/// The copy of the latest state that isn't after a position. That it is the latest is no promise.
+pub(crate) fn latest_copy(positions: &[u64], last: u64) -> FoundCopy
+    requires { FromStart positions.now }
+    ensures there { slice_get positions.now result.index ≡ Some result.position }
+    ensures last { result.position ≤ last }
+{
+    let mut found = FoundCopy {
+        index: 0,
+        position: 0,
+    };
+    for index in 0..positions.len() {
+        found = later_copy(found, index, positions[index], last);
+    }
+    found
+}
+
+/// The copy of the latest state among the next so many behind a position, if there is one that spares more moves than it costs.
+pub(crate) fn copy_ahead(
+    positions: &[u64],
+    position: u64,
+    count: u64,
+    spacing: &Spacing,
+) -> Option<FoundCopy>
+    requires start { FromStart positions.now }
+    requires near { position + count ≤ 2 ^ 62 }
+    ensures there { IfSome result (λ copy. slice_get positions.now copy.index ≡ Some copy.position) }
+    ensures later { IfSome result (λ copy. position ≤ copy.position) }
+    ensures within { IfSome result (λ copy. copy.position ≤ position + count) }
+{
+    if !spacing.is_far(count) {
+        return None;
+    }
+    let copy = latest_copy(positions, position + count);
+    if copy.position < position || !spacing.is_far(copy.position - position) {
+        return None;
+    }
+    Some(copy)
 }
 
 /// Pokes a machine.
@@ -133,7 +184,24 @@ pub(crate) fn replay<A: Allocator + Copy, C: HasProgram<A>, M: Restorable<A, C>>
     run_again(machine, at, to);
 }
 
-/// Brings a machine to the state of a position: back to the last copy of a state not after it, and on from there.
+/// Makes the moves from a position to a later one again, of which these are all pokes.
+fn run_through<A: Allocator + Copy, C: HasProgram<A>, M: Restorable<A, C>>(
+    machine: &mut M,
+    pokes: &[Poked],
+    from: u64,
+    to: u64,
+)
+    requires order { from ≤ to }
+    requires poked { (n : ℕ) × (to ≤ n) × ArePoked 0 pokes.now n }
+    ensures program { (M.present machine.new).program ≡ (M.present machine.old).program }
+    ensures kept { M.kept machine.new ≡ M.kept machine.old }
+    ensures state { (s : State) → AreMoves (M.present machine.old).program s pokes.now to
+        → state_of (M.present machine.old) ≡ walk (M.present machine.old).program s pokes.now from → state_of (M.present machine.new) ≡ walk (M.present machine.old).program s pokes.now to }
+{
+    replay(machine, part_of(pokes, from, to), from, to);
+}
+
+/// Brings a machine to the state of a position: back to the latest copy of a state not after it, and on from there.
 pub(crate) fn jump<A: Allocator + Copy, C: HasProgram<A>, M: Restorable<A, C>>(
     machine: &mut M,
     positions: &[u64],
@@ -145,18 +213,86 @@ pub(crate) fn jump<A: Allocator + Copy, C: HasProgram<A>, M: Restorable<A, C>>(
     ensures kept { M.kept machine.new ≡ M.kept machine.old }
     ensures state { state_of (M.present machine.new) ≡ walk (M.present machine.old).program (first_of (M.kept machine.old)) pokes.now position }
 {
-    let index = count_to(positions, position) - 1;
-    let from = positions[index];
-    machine.restore(index);
-    replay(machine, part_of(pokes, from, position), from, position);
+    let copy = latest_copy(positions, position);
+    machine.restore(copy.index);
+    run_through(machine, pokes, copy.position, position);
 }
 
-/// Goes back to a position: the copies and the pokes behind it are let go.
+/// The same, and lays copies on the way, the denser the nearer.
+fn come_to<A: Allocator + Copy, C: HasProgram<A>, M: Restorable<A, C>>(
+    machine: &mut M,
+    positions: &mut Vec<u64, A>,
+    pokes: &[Poked],
+    position: u64,
+    spacing: &mut Spacing,
+)
+    requires { Reaches (M.present machine.old).program (M.kept machine.old) positions.old.items pokes.now position }
+    ensures length { length (M.kept machine.new) ≡ length positions.new.items }
+    ensures program { (M.present machine.new).program ≡ (M.present machine.old).program }
+    ensures state { state_of (M.present machine.new) ≡ walk (M.present machine.old).program (first_of (M.kept machine.old)) pokes.now position }
+    ensures kept { (n : ℕ) → position ≤ n → IsKept (M.present machine.old).program (M.kept machine.old) positions.old.items pokes.now n
+        → StillKept (M.present machine.old).program (M.kept machine.old) (M.kept machine.new) positions.new.items pokes.now n }
+{
+    let copy = latest_copy(positions.as_slice(), position);
+    machine.restore(copy.index);
+    let mut at = copy.position;
+    while at < position {
+        let next = spacing.next_mark(at, position);
+        run_through(machine, pokes, at, next);
+        lay_copy(machine, positions, next, position, spacing);
+        at = next;
+    }
+}
+
+/// Keeps a copy on the way to a position, but none there.
+fn lay_copy<A: Allocator + Copy, C: HasProgram<A>, M: Restorable<A, C>>(
+    machine: &mut M,
+    positions: &mut Vec<u64, A>,
+    at: u64,
+    position: u64,
+    spacing: &mut Spacing,
+)
+    requires { length (M.kept machine.old) ≡ length positions.old.items }
+    ensures length { length (M.kept machine.new) ≡ length positions.new.items }
+    ensures whole { M.present machine.new ≡ M.present machine.old }
+    ensures kept { (pokes : List Poked) (n : ℕ) → IsKept (M.present machine.old).program (M.kept machine.old) positions.old.items pokes n → at ≤ n
+        → state_of (M.present machine.old) ≡ walk (M.present machine.old).program (first_of (M.kept machine.old)) pokes at
+        → StillKept (M.present machine.old).program (M.kept machine.old) (M.kept machine.new) positions.new.items pokes n }
+{
+    if at < position {
+        keep_copy(machine, positions, at, position, spacing);
+    }
+}
+
+/// Lets the pokes go that were made from a position on, and the copies of states behind such a poke.
+fn cut<A: Allocator + Copy, C: HasProgram<A>, M: Restorable<A, C>>(
+    machine: &mut M,
+    positions: &mut Vec<u64, A>,
+    pokes: &mut Vec<Poked, A>,
+    position: u64,
+)
+    requires { length (M.kept machine.old) ≡ length positions.old.items }
+    ensures length { length (M.kept machine.new) ≡ length positions.new.items }
+    ensures whole { M.present machine.new ≡ M.present machine.old }
+    ensures pokes { pokes.new.items ≡ take (count_before position pokes.old.items) pokes.old.items }
+    ensures kept { (n : ℕ) → IsKept (M.present machine.old).program (M.kept machine.old) positions.old.items pokes.old.items n → position ≤ n
+        → StillKept (M.present machine.old).program (M.kept machine.old) (M.kept machine.new) positions.new.items pokes.new.items position }
+{
+    let count = count_before(pokes.as_slice(), position);
+    if count < pokes.len() {
+        let first = pokes[count].position;
+        forget_later(machine, positions, first);
+        pokes.truncate(count);
+    }
+}
+
+/// Goes back to a position: the pokes behind it are let go, and the copies that they lead to.
 pub(crate) fn go_back<A: Allocator + Copy, C: HasProgram<A>, M: Restorable<A, C>>(
     machine: &mut M,
     positions: &mut Vec<u64, A>,
     pokes: &mut Vec<Poked, A>,
     position: u64,
+    spacing: &mut Spacing,
 )
     requires { Reaches (M.present machine.old).program (M.kept machine.old) positions.old.items pokes.old.items position }
     ensures program { (M.present machine.new).program ≡ (M.present machine.old).program }
@@ -164,10 +300,6 @@ pub(crate) fn go_back<A: Allocator + Copy, C: HasProgram<A>, M: Restorable<A, C>
     ensures gone { (n k : ℕ) → IsKept (M.present machine.old).program (M.kept machine.old) positions.old.items pokes.old.items n → k + position ≡ n
         → timeline_at (M.present machine.new).program (first_of (M.kept machine.new)) pokes.new.items position ≡ gone k (timeline_at (M.present machine.old).program (first_of (M.kept machine.old)) pokes.old.items n) }
 {
-    jump(machine, positions.as_slice(), pokes.as_slice(), position);
-    let count = count_to(positions.as_slice(), position);
-    machine.forget_after(count);
-    positions.truncate(count);
-    let made = count_before(pokes.as_slice(), position);
-    pokes.truncate(made);
+    come_to(machine, positions, pokes.as_slice(), position, spacing);
+    cut(machine, positions, pokes, position);
 }

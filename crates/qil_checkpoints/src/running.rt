@@ -1,6 +1,6 @@
 //! Runs forward, part by part, with copies kept between the parts; or with a look at stops after each move.
 
-ghost use Rattle.std.specs.Prelude.{◌≡◌, ◌≤◌, ◌<◌, ◌+◌, ◌^◌, ◌⊎◌, ℕ, true, false, [], length};
+ghost use Rattle.std.specs.Prelude.{◌≡◌, ◌≢◌, ◌≤◌, ◌<◌, ◌+◌, ◌^◌, ◌⊎◌, ℕ, true, false, [], length};
 ghost use Rattle.qil_meaning.specs.Timeline.{moved, at_end};
 ghost use Rattle.qil_meaning.specs.Runs.{RunsOn};
 ghost use Rattle.qil_stops.specs.Listed.{AreReadable};
@@ -12,19 +12,6 @@ use qil_history::HasProgram;
 use qil_meaning::Reason;
 use qil_stops::{HasCopies, NumberedStop, Restorable};
 use std::alloc::Allocator;
-
-/// A copy is kept at positions that are multiples of this.
-const GAP: u64 = 1 << 20;
-
-/// How many moves are made before a copy may be kept again: up to the next multiple of the gap, and no more than are left.
-#[inline(always)]
-fn part_length(position: u64, left: u64) -> u64
-    ensures few { result ≤ left }
-    ensures some { 0 < left → 0 < result }
-{
-    let room = GAP - position % GAP;
-    if room < left { room } else { left }
-}
 
 impl<A: Allocator + Copy, M: HasCopies<A>> Checkpoints<A, M> {
     /// Makes up to so many steps, and fewer only where the run is over. Gives how many.
@@ -39,9 +26,9 @@ impl<A: Allocator + Copy, M: HasCopies<A>> Checkpoints<A, M> {
         ensures running { (j : ℕ) → j < result → at_end (moved (M.present self.old.machine).program j (held_timeline M.present M.kept self.old)) ≡ false }
         ensures over { (result ≡ count) ⊎ (at_end (held_timeline M.present M.kept self.new) ≡ true) }
     {
-        let mut made = 0;
+        let mut made = self.skip(count);
         while made < count {
-            let part = part_length(self.moves(), count - made);
+            let part = self.spacing.part_length(self.moves(), count - made);
             let done = self.run_part(part);
             made += done;
             if done < part {
@@ -60,7 +47,7 @@ impl<A: Allocator + Copy, M: HasCopies<A>> Checkpoints<A, M> {
         ensures position { self.new.position ≡ self.old.position }
         ensures same { held_timeline M.present M.kept self.new ≡ held_timeline M.present M.kept self.old }
     {
-        if self.moves() % GAP == 0 {
+        if self.spacing.is_kept(self.moves()) {
             self.keep_copy();
         }
     }
@@ -70,6 +57,7 @@ impl<A: Allocator + Copy, M: HasCopies<A>> Checkpoints<A, M> {
     where
         M: Restorable<A, C>,
         requires { self.old.position + limit ≤ 2 ^ 62 }
+        ensures spared { result.0 ≢ Reason.Memory }
         ensures program { (M.present self.new.machine).program ≡ (M.present self.old.machine).program }
         ensures run { RunsOn (M.present self.old.machine).program [] limit (held_timeline M.present M.kept self.old) result.0 result.1 (held_timeline M.present M.kept self.new) }
     {
@@ -88,6 +76,7 @@ impl<A: Allocator + Copy, M: HasCopies<A>> Checkpoints<A, M> {
         requires near { self.old.position + limit ≤ 2 ^ 62 }
         requires few { length stops.now ≤ 64 }
         requires readable { AreReadable stops.now }
+        ensures spared { result.0 ≢ Reason.Memory }
         ensures program { (M.present self.new.machine).program ≡ (M.present self.old.machine).program }
         ensures run { RunsOn (M.present self.old.machine).program (named_stops (M.present self.old.machine).program stops.now) limit (held_timeline M.present M.kept self.old) result.0 result.1 (held_timeline M.present M.kept self.new) }
     {
@@ -95,7 +84,7 @@ impl<A: Allocator + Copy, M: HasCopies<A>> Checkpoints<A, M> {
         let before = readings.as_slice();
         let mut made = 0;
         while made < limit {
-            let part = part_length(self.moves(), limit - made);
+            let part = self.spacing.part_length(self.moves(), limit - made);
             let done = self.run_part_quietly(stops, before, part);
             if done == 0 {
                 return (Reason::End, made);

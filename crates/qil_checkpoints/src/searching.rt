@@ -9,12 +9,12 @@ ghost use Rattle.qil_stops.specs.Named.{named_stops};
 ghost use Rattle.qil_stops.specs.Readings.{AllTell};
 ghost use Rattle.qil_checkpoints.specs.declared.poked.Poked.{Poked};
 ghost use Rattle.qil_checkpoints.specs.Walk.{poke_at, ArePoked, IsPart, walk, AreMoves};
-ghost use Rattle.qil_checkpoints.specs.Held.{first_of, ArePositions, Reaches};
+ghost use Rattle.qil_checkpoints.specs.Held.{first_of, FromStart, Reaches};
 ghost use Rattle.qil_checkpoints.specs.Hits.{stop_at, IsLastHit, IsNextStand, IsQuiet, hit_or_lowest, later_hit};
 
 use crate::hit::Hit;
 use crate::poked::{KeptPoke, Poked};
-use crate::replaying::{count_to, jump, part_of, poke_again};
+use crate::replaying::{jump, latest_copy, part_of, poke_again};
 use qil_history::HasProgram;
 use qil_meaning::Reason;
 use qil_stops::looking::{first_break, read_again, readings};
@@ -151,12 +151,11 @@ fn last_hit<A: Allocator + Copy, C: HasProgram<A>, M: Restorable<A, C>>(
 /// is looked at.
 fn part_start(positions: &[u64], lowest: u64, end: u64) -> u64
     requires some { lowest < end }
-    requires positions { (n : ℕ) × ArePositions positions.now n }
+    requires start { FromStart positions.now }
     ensures low { lowest ≤ result }
     ensures high { result < end }
 {
-    let index = count_to(positions, end - 1) - 1;
-    let copied = positions[index];
+    let copied = latest_copy(positions, end - 1).position;
     if copied < lowest { lowest } else { copied }
 }
 

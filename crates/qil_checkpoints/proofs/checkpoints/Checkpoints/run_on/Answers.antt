@@ -1,17 +1,18 @@
 -- Part after part.
 use Rattle.std.proofs.Common.{◌∙◌, sym, refl, subst, ◌+◌, arith}
 use Rattle.qil_meaning.specs.Timeline.{Timeline}
-use Rattle.qil_stops.proofs.Walks.{IsWalked, walked-none}
+use Rattle.qil_stops.proofs.Walks.{IsWalked}
 use Rattle.qil_checkpoints.specs.Held.{held_timeline}
-use Rattle.qil_checkpoints.proofs.Onward.{walked-by}
+use Rattle.qil_checkpoints.proofs.Onward.{walked-by, walked-of}
 use Rattle.qil_checkpoints.proofs.checkpoints.Checkpoints.run_on.Goals as goal
 
 pub loop-made-init : goal.loop-made-init
 loop-made-init g c = record {
-  program = refl;
-  position = omega arith;
-  few = omega arith;
-  way = walked-none (g.M.HasCopies.present c.args.self.now.machine).program (held_timeline g.M.HasCopies.present g.M.HasCopies.kept c.args.self.now);
+  program = c.skip-made.ensures.program;
+  position = c.skip-made.ensures.position;
+  few = c.skip-made.ensures.few;
+  way = walked-of (g.M.HasCopies.present c.args.self.now.machine).program c.skip-made.result (held_timeline g.M.HasCopies.present g.M.HasCopies.kept c.args.self.now) (held_timeline g.M.HasCopies.present g.M.HasCopies.kept c.skip-made.new.self)
+      c.skip-made.ensures.moved c.skip-made.ensures.running;
 }
 
 pub returns-then-done-part-clause-moved : goal.returns-then-done-part-clause-moved

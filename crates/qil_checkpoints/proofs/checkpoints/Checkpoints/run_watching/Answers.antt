@@ -4,11 +4,11 @@ use Rattle.qil_meaning.specs.Timeline.{Timeline, at_end, moved}
 use Rattle.qil_meaning.specs.Runs.{RunsOn}
 use Rattle.qil_stops.specs.Named.{named_stops}
 use Rattle.qil_stops.specs.Readings.{AllTell}
-use Rattle.qil_stops.proofs.OnWay.{IsOnWay, on-begun, on-more, on-halt, on-end}
+use Rattle.qil_stops.proofs.OnWay.{IsOnWay, on-begun, on-more, on-halt, on-end, stopped-plain}
 use Rattle.qil_stops.proofs.Telling.{found-at, reported-still}
 use Rattle.qil_stops.proofs.Told.{told-as}
 use Rattle.qil_checkpoints.specs.Held.{held_timeline}
-use Rattle.qil_checkpoints.proofs.Onward.{no-step}
+use Rattle.qil_checkpoints.proofs.Onward.{no-step, spared-by}
 use Rattle.qil_checkpoints.proofs.Quiet.{before-last-by, ended}
 use Rattle.qil_checkpoints.proofs.checkpoints.Checkpoints.run_watching.Goals as goal
 
@@ -55,6 +55,23 @@ returns-in-Some-clause-run g c =
     (sym c.in-Some.is ∙ found-at (g.M.HasCopies.present c.run_part_quietly-done.new.self.machine).program p new.now mid.now new.now c.args.stops.now c.as_slice-before.result.now c.as_slice-before.result.now c.stopped_here.result (c.run_part_quietly-done.ensures.program ∙ i.program) refl
     refl c.stopped_here.ensures last.told)
     refl c.end_or.ensures (omega (arith, some, i.few, c.run_part_quietly-done.ensures.few, c.part_length-part.ensures.few, c.loop-made-test.true)))
+
+pub returns-in-Some-clause-spared : goal.returns-in-Some-clause-spared
+returns-in-Some-clause-spared g c =
+    let i = c.loop-made.invariant in
+    let p = (g.M.HasCopies.present c.args.self.now.machine).program in
+    let q = (g.M.HasCopies.present c.loop-made.self.machine).program in
+    let t = held_timeline g.M.HasCopies.present g.M.HasCopies.kept c.args.self.now in
+    let now = held_timeline g.M.HasCopies.present g.M.HasCopies.kept c.loop-made.self in
+    let new = held_timeline g.M.HasCopies.present g.M.HasCopies.kept c.run_part_quietly-done.new.self in
+    let r = c.run_part_quietly-done.result in
+    let some : 0 < r = omega (arith, c.if-done-eq0.false) in
+    let mid = moved p (r - 1) now in
+    let last = before-last-by q p c.args.stops.now c.as_slice-before.result.now c.loop-made.made r t now new i.program i.count some i.way i.reported c.run_part_quietly-done.ensures.quiet c.run_part_quietly-done.ensures.running c.run_part_quietly-done.ensures.moved in
+    spared-by (at_end new) c.end_or.result c.in-Some.reason c.end_or.ensures
+    (stopped-plain (named_stops p c.args.stops.now) mid.now new.now c.in-Some.reason
+    (sym c.in-Some.is ∙ found-at (g.M.HasCopies.present c.run_part_quietly-done.new.self.machine).program p new.now mid.now new.now c.args.stops.now c.as_slice-before.result.now c.as_slice-before.result.now c.stopped_here.result (c.run_part_quietly-done.ensures.program ∙ i.program) refl
+    refl c.stopped_here.ensures last.told))
 
 pub loop-made-preserved : goal.loop-made-preserved
 loop-made-preserved g c =
