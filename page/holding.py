@@ -41,7 +41,9 @@ class Held:
         self.launch, self.source, self.file, self.most = launch, source, file, most
         # What stands for the program on a command line of ./qrev, and what comes last there.
         self.named, self.texts = list(named), [] if texts is None else ["--", *texts]
-        self.lock, self.is_closed = threading.Lock(), False
+        # One request at a time leads the session, and one looks at another window.
+        self.leading, self.looking, self.is_closed = threading.Lock(), threading.Lock(), False
+        self.asked = 0
         # Which page leads the session: the one that was opened last.
         self.page = 0
         self.waiting = Waiting()
@@ -86,6 +88,12 @@ class Held:
         return f"./qrev {shlex.join([*self.named, *self.launch.words, *self.texts])}"
 
     # The session.
+
+    def open(self) -> Held:
+        """The same, unless it has ended."""
+        if self.is_closed:
+            raise Refused("the session has ended")
+        return self
 
     def check_position(self, position: Any) -> int:
         last = self.long.overview.moves if self.long else len(self.gathering.wait().places) - 1
@@ -153,7 +161,8 @@ class Held:
     def close(self) -> None:
         # What goes on is broken off first: a session whose process is gone would begin another one.
         self.is_closed, self.waiting.pressed_at = True, 0.0
-        self.lock.acquire(timeout=PATIENCE)
+        self.leading.acquire(timeout=PATIENCE)
+        self.looking.acquire(timeout=PATIENCE)
         if not self.refused:
             # The copy of the text goes away with the session, so nothing may be started any more.
             self.gathering.stop()

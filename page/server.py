@@ -165,10 +165,7 @@ class Handler(http.server.BaseHTTPRequestHandler):
             asked = json.loads(self.rfile.read(int(size)))
             if not isinstance(asked, dict):
                 raise Refused("an object was expected")
-            with held.lock:
-                if held.is_closed:
-                    raise Refused("the session has ended")
-                answer = self.acted(held, path, asked)
+            answer = self.acted(held, path, asked)
         except Refused as error:
             return self.refuse(400, str(error))
         except (ValueError, RecursionError):
@@ -187,5 +184,14 @@ class Handler(http.server.BaseHTTPRequestHandler):
             raise Refused("another page leads this session now; reload this one to lead it again")
         position = held.check_position(asked.get("position"))
         if path == "api/window":
-            return held.reach(position)
-        return held.go(position) if path == "api/go" else held.poke(position, asked.get("line"))
+            # A window isn't waited for until the session is where the cursor was before.
+            with held.looking:
+                return held.open().reach(position)
+        held.asked += 1
+        number = held.asked
+        with held.leading:
+            if path == "api/poke":
+                return held.open().poke(position, asked.get("line"))
+            if number != held.asked:
+                raise Refused("another position was asked for since")
+            return held.open().go(position)

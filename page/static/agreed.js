@@ -2,7 +2,8 @@
 import {isAsked} from "./program.js";
 import {byId} from "./element.js";
 
-const REST = 60;
+// How long a cursor rests before the session is led to it, and when it is said that this goes on, in milliseconds.
+const REST = 60, LATE = 300;
 
 /** What the page shows otherwise than a session that stands at a position, in words. */
 export function differences(run, memory, told, position) {
@@ -42,8 +43,11 @@ export class Agreed {
 
   /** Compares once the cursor has rested for a moment. */
   rest() {
+    if (!this.app.source.isLive) return;
     clearTimeout(this.resting);
-    if (this.app.source.isLive) this.resting = setTimeout(() => this.compare(), REST);
+    clearTimeout(this.late);
+    this.resting = setTimeout(() => this.compare(), REST);
+    this.late = setTimeout(() => this.show("the session is on its way", "is-late"), LATE);
   }
 
   async compare() {
@@ -62,9 +66,12 @@ export class Agreed {
   }
 
   say(text, isRight, title = "") {
-    const box = byId("agreed");
-    box.className = isRight ? "is-right" : "is-wrong";
-    box.textContent = text;
-    box.title = title || (isRight ? "the session stands here too, and answers what is shown" : "");
+    clearTimeout(this.late);
+    this.show(text, isRight ? "is-right" : "is-wrong",
+      title || (isRight ? "the session stands here too, and answers what is shown" : ""));
+  }
+
+  show(text, state, title = "") {
+    Object.assign(byId("agreed"), {className: state, textContent: text, title});
   }
 }

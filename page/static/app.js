@@ -77,15 +77,23 @@ class App {
     this.header(was);
     this.cursor = cursor ?? run.moves;
     this.selected = 0;
-    this.view = before?.isComplete && cursor !== null && !this.long ? [this.view[0], Math.min(run.moves, this.view[1])]
-      : [0, Math.max(1, run.moves)];
-    if (this.view[1] - this.view[0] < LEAST_WIDE) this.view = [0, Math.max(1, run.moves)];
-    this.walk.begin(this.long && !this.isAtEnd ? this.firstQuestion() : this.causes.root(this.cursor), 2);
+    this.view = this.viewOf(run, was ? before : null);
+    // Behind a value by hand the question is what the run ends in now.
+    const at = was ? run.moves : this.cursor;
+    this.walk.begin(this.long && !this.isAtEnd ? this.firstQuestion() : this.causes.root(at), 2);
     this.draw();
     this.code.heat();
     this.tree.draw();
     this.loadedIn = performance.now() - begun;
     this.agreed.rest();
+  }
+
+  /** The window of a new run: the same moves as of the one before, where a part of that was shown; else all. */
+  viewOf(run, before) {
+    const whole = [0, Math.max(1, run.moves)], [from, to] = this.view;
+    if (!before || from <= 0 && to >= before.moves) return whole;
+    const end = Math.min(run.moves, to);
+    return end - from < LEAST_WIDE ? whole : [from, end];
   }
 
   /** The run as far as it has come. */

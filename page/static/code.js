@@ -26,6 +26,8 @@ function tokensOf(line) {
 export function countsOf(run, from, to) {
   const counts = new Uint32Array(run.program.table.length), end = Math.min(run.moves, Math.ceil(to)), {places} = run;
   for (let move = Math.max(0, Math.floor(from)); move < end; move++) counts[places[move]]++;
+  // What was set by hand ran no line.
+  for (const move of Object.keys(run.pokes).map(Number)) if (move >= from && move < end) counts[places[move]]--;
   return counts;
 }
 
@@ -138,7 +140,8 @@ export class Code {
     if (top >= scrollTop + TALL && top <= scrollTop + clientHeight - 3 * TALL) return;
     const wanted = top - start < clientHeight - 4 * TALL ? start : top - clientHeight / 2;
     // No line is cut at the top.
-    this.box.scrollTop = Math.max(0, Math.round(wanted / TALL) * TALL);
+    const most = Math.floor((this.box.scrollHeight - clientHeight) / TALL);
+    this.box.scrollTop = Math.max(0, Math.min(most, Math.round(wanted / TALL))) * TALL;
   }
 
   /** Beside each line of the frame's function the value that it set last, found by going back along the frame. */

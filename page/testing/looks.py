@@ -172,6 +172,7 @@ ACTS = {"cursor to any place": "() => app.move(Math.floor(Math.random() * app.ru
         "the whole run painted": "() => app.show(0, app.run.moves)", "counts of all lines": "() => app.code.heat()",
         "plots of all values": "() => app.values.sparks()",
         "why of a value": "() => { app.move(Math.floor(Math.random() * app.run.moves)); app.ask(app.firstQuestion()); }"}
+ENEMY_ACTS = {"why of a value": ACTS["why of a value"]}
 BUDGET = 100
 
 
@@ -182,10 +183,10 @@ def million(folder: str) -> str:
     return str(file)
 
 
-def measured(browser: Browser) -> dict[str, float]:
+def measured(browser: Browser, acts: dict[str, str]) -> dict[str, float]:
     """Milliseconds of each act with all that it draws, the median of nine."""
     browser.run("app.show(0, app.run.moves)")
-    return {name: round(browser.run(f"{TIMES}({act})"), 1) for name, act in ACTS.items()}
+    return {name: round(browser.run(f"{TIMES}({act})"), 1) for name, act in acts.items()}
 
 
 # What is told and drawn of a run while it is gathered.
@@ -215,9 +216,69 @@ def slow_acts(browser: Browser) -> str | None:
     if browser.run("app.run.moves") < 1_000_000:
         return "the run is too short"
     seconds = browser.run("app.run.seconds")
-    slow = [f"{name} takes {taken} ms" for name, taken in measured(browser).items() if taken > 10 * BUDGET]
+    slow = [f"{name} takes {taken} ms" for name, taken in measured(browser, ACTS).items() if taken > 10 * BUDGET]
     return f"the moves are gathered in {seconds} s" if seconds > 30 else ", ".join(slow) or None
 
 
-CASES = {"boxes": boxes, "contrast": contrast, "screen readers": readers, "windows of a long run": windows,
+# Texts that an enemy would write: each by its name, with the most milliseconds of a move with all that it draws.
+DEEP = """export function w $main() {
+@start
+\t%result =w call $down(w 990)
+\tret %result
+}
+function w $down(w %left) {
+@start
+\t%own =l alloc8 16
+\tstorew %left, %own
+\t%less =w sub %left, 1
+\tjnz %less, @more, @end
+@more
+\t%found =w call $down(w %less)
+\tret %found
+@end
+\t%last =w loadw %own
+\tret %last
+}
+"""
+
+
+def enemy_texts() -> dict[str, str]:
+    long = "n" * 30_000
+    body = "export function w $main() {{\n@start\n{}\tret 1\n}}\n"
+    return {
+        "names of 30,000 signs": f"data ${long} = {{ z 100000 }}\n" + body.format(
+            f"\t%{long} =l add ${long}, 8\n\tstorew 7, ${long}\n\tblit ${long}, ${long}, 90000\n"),
+        "8,000 temporaries": body.format("".join(f"\t%t{n} =w copy {n % 9}\n" for n in range(8_000))),
+        "70,000 places": body.format("\t%a =w copy 1\n" * 70_000),
+        "a line of 800,000 signs": "# " + "x%y " * 200_000 + "\n" + body.format("\t%a =w copy 1\n"),
+        "2,000 objects": "".join(f"data $d{n} = {{ w {n} }}\n" for n in range(2_000)) + body.format(
+            "".join(f"\tstorew {n}, $d{n}\n" for n in range(2_000))),
+        "990 frames": DEEP,
+    }
+
+
+def enemies(program: str) -> str | None:
+    """Texts of great names, lines, places, objects and depths: the page comes, agrees with the session, and isn't slow."""
+    browser = Browser()
+    try:
+        with tempfile.TemporaryDirectory(prefix="page-") as folder:
+            for name, text in enemy_texts().items():
+                file = pathlib.Path(folder) / "enemy.ssa"
+                file.write_text(text)
+                with Serving(program, str(file)) as serving:
+                    browser.open(serving.address)
+                    slow = [f"{act} takes {taken} ms" for act, taken in measured(browser, ENEMY_ACTS).items()
+                            if taken > 10 * BUDGET]
+                    browser.run("app.go(Math.floor(app.run.moves * .7)); app.slice()")
+                    browser.run("app.agreed.compare()")
+                    agreed = browser.run("[agreed.className, agreed.textContent]")
+                    if slow or agreed[0] != "is-right" or browser.errors():
+                        return f"{name}: {slow} {agreed} {browser.errors()}"
+                    browser.open("about:blank", "true")
+    finally:
+        browser.close()
+    return None
+
+
+CASES = {"enemy texts": enemies, "boxes": boxes, "contrast": contrast, "screen readers": readers, "windows of a long run": windows,
          "a million moves": times}
