@@ -201,6 +201,9 @@ class Translator:
         kind, word = name[-1], name[1:-1]
         types = SIGNED if word[0] == "s" and word not in COMPARED else TYPES
         operands = [f"({types[kind]})({self.value(value, kind)})" for value in each.operands]
+        if word in ("o", "uo"):
+            ordered = f"({operands[0]} == {operands[0]} && {operands[1]} == {operands[1]})"
+            return ordered if word == "o" else f"!{ordered}"
         return f"{operands[0]} {COMPARED[word if word in COMPARED else word[1:]]} {operands[1]}"
 
     def call(self, call: Call) -> str:
