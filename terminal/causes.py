@@ -329,6 +329,9 @@ class Causes:
                           self.line_told(at, place, jump)] + [ASKED] * len(questions), questions)
 
     def of_parameter(self, question: Question, at: Timeline, function: str) -> Cause:
+        call, callee = self.call_in_own(at)
+        if callee:
+            return self.executed(call, f"{question.text} was given by {callee}, called at")
         cause = self.executed(at, f"{question.text} is an argument of")
         names = [parameter for _, parameter in self.program.functions[function].parameters]
         index = names.index(question.name) + 1
@@ -402,7 +405,8 @@ class Causes:
         function = self.frames.where(entry)[0].function
         if not entry.position:
             return Cause(entry, [f"the run begins with {function}"])
-        return self.executed(entry.at(entry.position - 1), f"{function} was called by")
+        call, callee = self.call_in_own(entry.at(entry.position - 1))
+        return self.executed(call, f"{function} was called by" + (f" {callee}, called at" if callee else ""))
 
     # Ends, faults and output.
 

@@ -11,7 +11,7 @@ from typing import TYPE_CHECKING, NamedTuple
 
 from .instructions import STORES
 from .runtime import is_offered
-from .symbols import Symbol
+from .symbols import Symbol, references
 from .tree import Call, Data, Function, Instruction, Value
 
 if TYPE_CHECKING:
@@ -41,6 +41,8 @@ class Families:
         self.candidates = [symbol for symbol in program.exported.values()
                            if symbol.raw in program.runtime.places and is_offered(symbol.raw) and symbol.is_function()]
         self.beside = set(self.candidates)
+        self.named = {raw for unit in program.units for definition in unit.text.definitions
+                      for raw in references(definition) if raw not in unit.own}
         self.reached = {symbol: program.reached_from([symbol], self.beside) for symbol in self.candidates}
         self.state = {symbol: {other for other in self.reached[symbol] if self.is_state(other)}
                       for symbol in self.candidates}
@@ -87,8 +89,20 @@ class Families:
             return "needs functions from outside"
         if symbol.raw not in HEAP_NAMES:
             return None
+        lacking = self.lacking(symbol)
+        if lacking:
+            return f"comes without a {lacking} of the text's own"
         size = max((size for other in reached for size in self.mappings_of(other)), default=0)
         return f"asks the system for {size} bytes at once" if size > LARGEST_MAPPING else None
+
+    def lacking(self, symbol: Symbol) -> str | None:
+        """What the texts name of a heap and don't have, though they have its malloc: it couldn't know their blocks."""
+        prefix, point, name = symbol.raw.rpartition(".")
+        if (name or symbol.raw).lstrip("$") != "malloc":
+            return None
+        front = prefix + point or "$"
+        wanted = [f"{front}realloc", f"{front}free"]
+        return next((raw for raw in wanted if raw not in self.program.exported and raw in self.named), None)
 
     def mappings_of(self, symbol: Symbol) -> Iterator[int]:
         """The numbers that a function of a text gives to calls that lead to memory of the system."""

@@ -21,7 +21,8 @@ FLOATING = {
 
 
 def floating_signatures() -> dict[str, Signature]:
-    found = {"$lround": Signature("l", ("d",)), "$lrint": Signature("l", ("d",))}
+    found = {"$lround": Signature("l", ("d",)), "$lrint": Signature("l", ("d",)), "$atof": Signature("d", ("l",)),
+             "$strtod": Signature("d", ("l", "l")), "$strtof": Signature("s", ("l", "l"))}
     for shape, names in FLOATING.items():
         for name in names.split():
             found["$" + name] = Signature(shape[0], tuple(shape[2:-1]))

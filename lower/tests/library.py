@@ -9,6 +9,7 @@ import subprocess
 import sys
 import tempfile
 from collections.abc import Callable, Iterator
+from fractions import Fraction
 from typing import NamedTuple
 
 from .floats import string_of
@@ -69,6 +70,34 @@ def numeral(choice: random.Random) -> bytes:
         choice.choice((b"", b"", b" 7", b"z", b".5"))
 
 
+def decimal(choice: random.Random) -> bytes:
+    """What may be a float: near halves, at the ends of the range, with many digits, in hexadecimal, and words."""
+    kind = choice.random()
+    front = choice.choice(SPACES) + choice.choice((b"", b"", b"-", b"+"))
+    behind = choice.choice((b"", b"", b"x", b"e", b"e+", b".5", b" 1"))
+    if kind < 0.3:
+        value = struct.unpack("<d", struct.pack("<Q", choice.getrandbits(63)))[0]
+        return front + f"{value:.{choice.randrange(25)}e}".encode() + behind
+    if kind < 0.45:
+        # Between two neighbours, or right beside that.
+        bits = choice.getrandbits(52) | choice.randrange(900, 1150) << 52
+        low, high = (struct.unpack("<d", struct.pack("<Q", bits + more))[0] for more in (0, 1))
+        half = (Fraction(low) + Fraction(high)) / 2
+        digits = str(half.numerator * 10 ** 900 // half.denominator)
+        return front + digits.encode() + choice.choice((b"", b"0", b"1")) + b"e-900" + behind
+    if kind < 0.6:
+        digits = "".join(choice.choice("0123456789") for _ in range(choice.choice((1, 3, 17, 19, 40, 900))))
+        point = choice.randrange(len(digits) + 1)
+        return front + f"{digits[:point]}.{digits[point:]}e{choice.randrange(-340, 320)}".encode() + behind
+    if kind < 0.8:
+        digits = "".join(choice.choice("0123456789abcdefABCDEF") for _ in range(choice.choice((1, 2, 13, 14, 16, 17, 30))))
+        point = choice.randrange(len(digits) + 1)
+        power = choice.choice(("", "p3", "P-7", f"p{choice.randrange(-1150, 1100)}"))
+        return front + f"0x{digits[:point]}.{digits[point:]}{power}".encode() + behind
+    return front + choice.choice((b"0", b"-0.0", b".", b".5", b"5.", b"inf", b"INFINITY", b"infin", b"nan", b"NaNa", b"e5", b"1e",
+                                  b"1e999999999", b"1e-999999999", b"0x", b"0x.", b"0x.8", b"0xp1", b"00012", b"0.000e9")) + behind
+
+
 def text(choice: random.Random, most: int = 24) -> bytes:
     letters = b"ab" if choice.random() < 0.7 else bytes(range(1, 256))
     return bytes(choice.choice(letters) for _ in range(choice.randrange(most)))
@@ -119,6 +148,8 @@ def shapes() -> list[Shape]:
              texts("llabs", "l", "l", integer), texts("atoi", "w", "p", numeral), texts("atol", "l", "p", numeral)]
     found += [Shape(name, kind, "pew", lambda choice: [numeral(choice), 0, base(choice)])
               for name, kind in (("strtol", "l"), ("strtoll", "l"), ("strtoul", "u"), ("strtoull", "u"))]
+    found += [Shape("strtod", "d", "pe", lambda choice: [decimal(choice), 0]),
+              Shape("strtof", "s", "pe", lambda choice: [decimal(choice), 0]), texts("atof", "d", "p", decimal)]
     found += [texts("strcat", "b", "bp", text, text), texts("strncat", "b", "bpl", text, text, size),
               texts("strcpy", "b", "bp", text, text), texts("strncpy", "b", "bpl", text, text, size),
               texts("stpcpy", "b", "bp", text, text), texts("strlen", "l", "p", text), texts("strnlen", "l", "pl", text, size),
@@ -174,7 +205,7 @@ def asked(shape: Shape, given: list) -> Record:
     if "e" in shape.takes and shape.takes[0] == "p":
         was_set = was_set - arguments[0] + 1 & LONG if was_set else 0
     bits = [bits_of(kind, value) if kind in "dswlu" else value for kind, value in zip(shape.takes, given)]
-    error = ctypes.get_errno() if shape.name.startswith(("strto", "ato")) else 0
+    error = ctypes.get_errno() if shape.name.startswith(("strto", "ato")) and shape.gives not in "ds" else 0
     if shape.name.startswith("modf"):
         was_set = bits_of(shape.gives, (ctypes.c_double if shape.gives == "d" else ctypes.c_float).from_buffer(place).value)
     return Record(bits, bits_of(shape.gives, result), was_set, buffer.raw if "b" in shape.takes else b"", error)
@@ -268,7 +299,7 @@ def comparing(shape: Shape, count: int) -> Iterator[str]:
         yield f"\t%got =l {'extuw' if shape.gives == 'w' else 'copy'} %r"
     yield "\t%differs =w cnel %got, %want.result"
     yield "\t%now =l loadl $set"
-    if shape.takes == "pew":
+    if shape.takes[:2] == "pe":
         yield "\t%is.set =l cnel %now, 0"
         yield "\t%now =l sub %now, %v0"
         yield "\t%now =l add %now, 1"

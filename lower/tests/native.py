@@ -201,6 +201,9 @@ class Translator:
         kind, word = name[-1], name[1:-1]
         types = SIGNED if word[0] == "s" and word not in COMPARED else TYPES
         operands = [f"({types[kind]})({self.value(value, kind)})" for value in each.operands]
+        if word in ("o", "uo"):
+            ordered = f"({operands[0]} == {operands[0]} && {operands[1]} == {operands[1]})"
+            return ordered if word == "o" else f"!{ordered}"
         return f"{operands[0]} {COMPARED[word if word in COMPARED else word[1:]]} {operands[1]}"
 
     def call(self, call: Call) -> str:
@@ -213,9 +216,9 @@ class Translator:
         return f"{self.name(call.result)} = {text}" if call.result else text
 
 
-def source_of(folder: pathlib.Path, number: int, text: str) -> pathlib.Path:
-    """A text as what gcc takes: as qbe makes it, if that is installed, or as C."""
-    if shutil.which("qbe"):
+def source_of(folder: pathlib.Path, number: int, text: str, is_by_c: bool) -> pathlib.Path:
+    """A text as what gcc takes: as qbe makes it, if that is installed and wanted, or as C."""
+    if not is_by_c and shutil.which("qbe"):
         (folder / f"{number}.ssa").write_text(text)
         subprocess.run(["qbe", "-o", f"{number}.s", f"{number}.ssa"], cwd=folder, timeout=60, check=True)
         return folder / f"{number}.s"
@@ -224,11 +227,11 @@ def source_of(folder: pathlib.Path, number: int, text: str) -> pathlib.Path:
     return source
 
 
-def native(texts: list[str], words: list[str]) -> Ended:
+def native(texts: list[str], words: list[str], is_by_c: bool = False) -> Ended:
     """Builds texts by gcc, and runs what comes of them."""
     with tempfile.TemporaryDirectory(prefix="native-") as place:
         folder = pathlib.Path(place)
-        sources = [source_of(folder, number, text) for number, text in enumerate(texts)]
+        sources = [source_of(folder, number, text, is_by_c) for number, text in enumerate(texts)]
         (folder / "helpers.c").write_text(HELPERS)
         built = subprocess.run(["gcc", "-w", "-O1", "-fno-builtin", "-fno-strict-aliasing", "-fwrapv", "-no-pie", "-o",
                                 "program", *sources, "helpers.c", "-lm"], cwd=folder, capture_output=True, text=True,

@@ -186,6 +186,40 @@ def mappings_fault(running: Running, seed: int) -> str | None:
     return lowered if isinstance(lowered, str) else differ("end", "done 0", running.run(lowered.text).end)
 
 
+# A heap without a realloc of its own: natively that of the C library would be given blocks that it doesn't know.
+NO_REALLOC = """
+export function w $main() {
+@start
+	%p =l call $malloc(l 8)
+	storel 42, %p
+	%q =l call $realloc(l %p, l 5000)
+	%x =w loadw %q
+	call $free(l %q)
+	ret %x
+}
+"""
+# A free of its own alone, which counts: the blocks are those of the C library.
+COUNTED_FREE = """
+data $count = { w 0 }
+export function $free(l %p) {
+@start
+	%n =w loadw $count
+	%m =w add %n, 1
+	storew %m, $count
+	ret
+}
+export function w $main() {
+@start
+	%p =l call $malloc(l 8)
+	%q =l call $calloc(l 8, l 1)
+	call $free(l %p)
+	call $free(l %q)
+	%n =w loadw $count
+	ret %n
+}
+"""
+
+
 def text_of(name: str) -> str:
     return (LIBRARY / name).read_text()
 
@@ -232,6 +266,9 @@ def families(running: Running) -> Results:
     yield "system/a heap with marks", fault(running, {"a.ssa": text_of("checked-heap.ssa")}, "done 42", "")
     checked = text_of("checked-heap.ssa").replace("$main", "$other")
     yield "system/calloc of the text's own heap", fault(running, {"a.ssa": checked, "b.ssa": OWN_CALLOC}, "done 42", "")
+    yield "system/a heap without a realloc", fault(running, {"a.ssa": checked, "b.ssa": NO_REALLOC}, "done 42", "",
+                                                   note="$malloc comes without a $realloc of the text's own")
+    yield "system/a free of its own", fault(running, {"a.ssa": COUNTED_FREE}, "done 2", "")
     yield "system/a heap with locks", fault(running, {"a.ssa": LOCKED}, "done 42", "", note="$free shares state with $malloc")
     yield "system/what looks at its data", fault(running, {"a.ssa": LOCKED}, "done 42", "",
                                                   note="$heap_used uses $used, which functions that were replaced")

@@ -181,6 +181,29 @@ SINGLES_LINES: Lines = [
     ("why 1", ["%z =s phi @one %x, @two %y", "[1] %x = 0.5"]), ("why 1", ["%x =s copy s_0.5"]), ("why %c", ["%c =w cges %v, s_1.0"]),
 ]
 
+# A function that the runtime calls.
+CALLED = """
+data $table = { w 3 1 2 }
+function w $compare(l %a, l %b) {
+@start
+	%x =w loadw %a
+	%y =w loadw %b
+	%less =w sub %x, %y
+	ret %less
+}
+export function w $main() {
+@start
+	call $qsort(l $table, l 3, l 4, l $compare)
+	%r =w loadw $table
+	ret %r
+}
+"""
+CALLED_LINES: Lines = [
+    ("b $compare", []), ("c", ["#"]), ("why %a", ["%a = ", "was given by $qsort, called at\n", "call $qsort(l $table, l 3,"]),
+    ("why call", ["$compare was called by $qsort, called at\n"]), ("why --inside %a", ["argument 1 of 2", "call %compare("]),
+    ("delete", []), ("c", ["done 1"]), ("why w $table", ["stored by $qsort, called at\n"]),
+]
+
 OPERATIONS = ["add", "mul", "sub", "div", "mul", "add", "div", "sub", "sub", "mul", "add", "div"]
 # One question for each operation of the source, from the last to the first, and one for the copy.
 CHAIN_LINES: Lines = [
@@ -297,7 +320,7 @@ def session_fault(program: str, text: str, lines: Lines) -> str | None:
 
 
 SESSIONS = {"absent": (ABSENT, ABSENT_LINES), "freed": (FREED, FREED_LINES), "nowhere": (NOWHERE, NOWHERE_LINES),
-            "floats": (FLOATS, FLOATS_LINES), "singles": (SINGLES, SINGLES_LINES),
+            "floats": (FLOATS, FLOATS_LINES), "singles": (SINGLES, SINGLES_LINES), "called": (CALLED, CALLED_LINES),
             "chain of floats": (chain(OPERATIONS), CHAIN_LINES), "short names": (large(), LARGE_LINES),
             "places": (PLACES, PLACES_LINES)}
 
