@@ -8,6 +8,8 @@ from dataclasses import dataclass, field, replace
 from .text import Data, Function, Instruction, Operand, Program
 from .values import FLOAT_BYTES, FLOATS, as_float
 
+# The function of the runtime in which a signal to the program itself ends it.
+SIGNALLED = "$ended.by.signal"
 # Instructions on floats that are others on their bits.
 OF_FLOATS = {"loadl": "load", "loaduw": "load", "copy": "copy", "phi": "phi", "call": "call"}
 STORES = {"storel": "stored", "storew": "stores"}
@@ -50,6 +52,8 @@ class Lowered:
         """How a run ended that was halted in a function which isn't the program's own."""
         if function in self.outside:
             return f"halted in {function}, which isn't there"
+        if function == SIGNALLED and function in self.runtime:
+            return "ended by a signal"
         return f"halted in {function}" if function in self.runtime else None
 
     def tell_classes(self, program: Program) -> None:

@@ -21,9 +21,9 @@ from terminal.shell import FAULT
 FOLDER = pathlib.Path(__file__).resolve().parent.parent
 TOP = FOLDER.parent
 PROMPT = "(qrev) "
-PLACE = re.compile(r"#\d+ (?:[$]\S+ @\S+ \d+|done.*|exit.*|fault.*|halted in .*)")
+PLACE = re.compile(r"#\d+ (?:[$]\S+ @\S+ \d+|done.*|exit.*|fault.*|halted in .*|ended by a signal)")
 # How the front end tells an end that the debugger calls a fault.
-HALTED = re.compile(r" halted in .*")
+HALTED = re.compile(r" halted in .*| ended by a signal")
 # What a line showed before it was erased: how far a long search has come is shown, and then taken away again.
 ERASED = re.compile(r"[^\n]*\r\x1b\[K")
 

@@ -54,6 +54,24 @@ FREED_LINES: Lines = [
 ]
 
 
+SIGNAL = """
+function $abort() {
+@start
+	%pid =w call $getpid()
+	%r =w call $kill(w %pid, w 6)
+	hlt
+}
+export function w $main() {
+@start
+	call $abort()
+	ret 0
+}
+"""
+SIGNAL_LINES: Lines = [
+    ("c", ["ended by a signal\n  source: a.ssa:5\n", "call $kill(w %pid, w 6)"]), ("bt", ["$abort @start 2", "$main @start 1"]),
+    ("why", ["ended by a signal, at #", "$abort @start 1"]),
+]
+
 NOWHERE = """
 function w $count(l %text) {
 @start
@@ -319,7 +337,7 @@ def session_fault(program: str, text: str, lines: Lines) -> str | None:
             session.close()
 
 
-SESSIONS = {"absent": (ABSENT, ABSENT_LINES), "freed": (FREED, FREED_LINES), "nowhere": (NOWHERE, NOWHERE_LINES),
+SESSIONS = {"absent": (ABSENT, ABSENT_LINES), "freed": (FREED, FREED_LINES), "nowhere": (NOWHERE, NOWHERE_LINES), "signal": (SIGNAL, SIGNAL_LINES),
             "floats": (FLOATS, FLOATS_LINES), "singles": (SINGLES, SINGLES_LINES), "called": (CALLED, CALLED_LINES),
             "chain of floats": (chain(OPERATIONS), CHAIN_LINES), "short names": (large(), LARGE_LINES),
             "places": (PLACES, PLACES_LINES)}
