@@ -210,7 +210,12 @@ class Adapter:
         return found
 
     def set_breakpoints(self, given):
-        path = self.source_asked(given)
+        try:
+            path = self.source_asked(given)
+        except Failure:
+            # Editors keep the breakpoints of all files, and send them to each session.
+            elsewhere = {"verified": False, "message": "the program isn't made from this file"}
+            return {"breakpoints": [elsewhere for _ in items_in(given, "breakpoints")]}
         if path is None:
             return self.replace_stops("text", given, self.text_stop)
         return self.replace_stops(("source", path), given, lambda wanted: self.source_stop(path, wanted))

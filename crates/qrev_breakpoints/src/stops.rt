@@ -5,7 +5,7 @@ use qil_lines::{Place, line_of, place_in};
 use qil_machine::Machine;
 use qil_pieces::Fragment;
 use qil_tree::{Func, Program};
-use qrev_debuggee::{Body, Debuggee, Done, Failure, HasMachine, RequestedStop, StopFamily};
+use qrev_debuggee::{Body, Cause, Debuggee, Done, Failure, HasMachine, RequestedStop, StopFamily};
 use qrev_protocol::{Array, InObject, Whole};
 use qrev_requests::Arguments;
 use qrev_views::{as_text, put_source};
@@ -26,6 +26,7 @@ pub enum Flaw {
     HitCondition,
     LogMessage,
     AccessType,
+    AnotherFile,
 }
 
 /// What the editor is told.
@@ -40,6 +41,7 @@ fn flaw_words(flaw: Flaw) -> &'static str {
         Flaw::HitCondition => "not supported: hitCondition",
         Flaw::LogMessage => "not supported: logMessage",
         Flaw::AccessType => "not supported: accessType",
+        Flaw::AnotherFile => "the program isn't made from this file",
     }
 }
 
@@ -278,13 +280,33 @@ fn set_line<'c, A: Allocator + Copy + 'c, L: HasMachine<A, Machine<'c, A>>>(
     }
 }
 
-/// Makes breakpoints at lines of a file in place of those that are there.
+/// Answers for breakpoints in a file that the program isn't made from: editors keep those of all files, and send them to each
+/// session.
+fn put_elsewhere<A: Allocator + Copy>(
+    asked: Arguments<'_, '_, A>,
+    body: Body<A>,
+) -> Result<Body<A>, Failure> {
+    let mut list = body.array("breakpoints")?;
+    for index in 0..usize::MAX {
+        let Some(_) = asked.item("breakpoints", index) else {
+            break;
+        };
+        list = put_flaw(list, flaw_words(Flaw::AnotherFile))?;
+    }
+    Ok(list.end()?)
+}
+
+/// Makes breakpoints at lines of a file in place of those that are there. In a file that the program isn't made from none is made.
 pub fn set_breakpoints<'c, A: Allocator + Copy + 'c, L: HasMachine<A, Machine<'c, A>>>(
     debuggee: &mut Debuggee<'c, A, L>,
     asked: Arguments<'_, '_, A>,
     body: Body<A>,
 ) -> Result<Body<A>, Failure> {
-    let file = file_asked(debuggee, asked.inside("source"))?;
+    let file = match file_asked(debuggee, asked.inside("source")) {
+        Ok(file) => file,
+        Err(Failure::Because(Cause::AnotherFile)) => return put_elsewhere(asked, body),
+        Err(failure) => return Err(failure),
+    };
     let family = match &file {
         AskedFile::Text => StopFamily::Text,
         AskedFile::Source(source) => StopFamily::Source(source.first_line),
