@@ -4,7 +4,7 @@ import {plot} from "./plot.js";
 import {lowerBound} from "./program.js";
 
 // Of more frames the outermost two and the innermost ones are shown.
-const MOST_FRAMES = 12, OUTERMOST = 2, MOST_TEMPORARIES = 200, MOST_SETS = 20000;
+const MOST_FRAMES = 12, OUTERMOST = 2, MOST_TEMPORARIES = 120, MOST_SETS = 20000;
 
 export class Values {
   constructor(box, app) {
@@ -82,12 +82,13 @@ export class Values {
   }
 
   sparks() {
-    for (const {chart, id} of this.rows ?? []) this.spark(chart, id);
+    // All sizes are read before anything is drawn: else each drawing would have the page laid out anew.
+    const sizes = (this.rows ?? []).map(({chart}) => [chart.clientWidth, chart.clientHeight]);
+    this.rows?.forEach(({chart, id}, index) => this.spark(chart, id, ...sizes[index]));
   }
 
-  spark(canvas, id) {
-    const {app} = this, [from, to] = app.view, scale = devicePixelRatio, wide = canvas.clientWidth,
-      tall = canvas.clientHeight;
+  spark(canvas, id, wide, tall) {
+    const {app} = this, [from, to] = app.view, scale = devicePixelRatio;
     canvas.width = wide * scale;
     canvas.height = tall * scale;
     const context = canvas.getContext("2d"), color = name => app.colors[name];
