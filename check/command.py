@@ -74,10 +74,10 @@ class Asked:
             raise BadCommand(f"--limit {limit}: a number from 1 to {MOST_LIMIT} was expected")
         self.limit = int(limit)
         try:
-            self.kinds = chosen(given.get("--kinds", [None])[-1])
+            self.kinds = chosen(given["--kinds"][-1] if "--kinds" in given else None)
         except WrongKind as error:
             raise BadCommand(str(error)) from None
-        self.heap, self.has_no_heap = given.get("--heap", [None])[-1], "--no-heap" in given
+        self.heap, self.has_no_heap = given["--heap"][-1] if "--heap" in given else None, "--no-heap" in given
         self.format = given.get("--format", ["text"])[-1]
         if self.format not in ("text", "json"):
             raise BadCommand(f"--format {self.format}: text or json was expected")

@@ -100,14 +100,14 @@ class Follower:
     def move(self, instruction: Instruction, there: int, values: Iterator[int]) -> None:
         """Looks at the instruction that comes next, and goes on to the state behind it."""
         operation = instruction.operation
-        reads = [self.read(operand) for operand in instruction.operands]
-        if None in reads:
-            # The move ends the run, for the temporary is unset.
+        reads = self.reads(instruction)
+        if len(reads) < len(instruction.operands):
+            # The move ends the run, for a temporary is unset.
             return
         self.look(operation, instruction, reads)
         if operation in DIVISIONS:
             # What was reported counts as set already in this move.
-            reads = [self.read(operand) for operand in instruction.operands]
+            reads = self.reads(instruction)
         if there == self.table.end and operation not in ("ret", "call"):
             return
         if operation in LOADED:
@@ -141,6 +141,10 @@ class Follower:
             if self.memory.is_live(address + place, 1):
                 self.memory.store(address + place, 1, int(words[3]) >> 8 * place, Shadow(MIXED))
 
+    def reads(self, instruction: Instruction) -> list[Read]:
+        """The operands that are set."""
+        return [read for operand in instruction.operands if (read := self.read(operand))]
+
     def read(self, operand: Operand) -> Read | None:
         """An operand as the instruction wants it; None if it is unset."""
         text, frame = operand.text, self.frames[-1]
@@ -159,9 +163,9 @@ class Follower:
         return Read(value, shadow, None) if operand.type == "l" else Read(value & MASK["w"], rules.cut(shadow), None)
 
     def set(self, instruction: Instruction, shadow: Shadow, values: Iterator[int]) -> None:
-        frame = self.frames[-1]
-        frame.values[instruction.result] = next(values)
-        frame.shadows[instruction.result] = shadow
+        frame, name = self.frames[-1], instruction.result or ""
+        frame.values[name] = next(values)
+        frame.shadows[name] = shadow
 
     # What is noted.
 
@@ -402,7 +406,7 @@ class Follower:
     def allocate(self, instruction: Instruction, size: int, values: Iterator[int]) -> None:
         frame = self.frames[-1]
         self.set(instruction, SET, values)
-        address = frame.values[instruction.result] or 0
+        address = frame.values[instruction.result or ""] or 0
         self.memory.raise_top(address + size)
         slot = Object("slot", f"{frame.function.name} {instruction.result}", address, size, self.position)
         self.objects.slots.append(slot)
@@ -417,7 +421,7 @@ class Follower:
         if not phis:
             return
         shadows = [(phi, self.read(phi.operands[phi.labels.index(left)])) for phi in phis]
-        for name in dict.fromkeys(phi.result for phi in phis):
+        for name in dict.fromkeys(phi.result or "" for phi in phis):
             frame.values[name] = next(values)
         for phi, read in shadows:
             if read:
@@ -463,7 +467,7 @@ class Follower:
         if frame.function.name in self.heap:
             self.heap_depth -= 1
         self.frames.pop()
-        ended = self.objects.end_slots(frame.slots, self.position)
+        self.objects.end_slots(frame.slots, self.position)
         self.memory.top = frame.floor
         if frame.heap:
             shadow = self.end_heap_call(frame, frame.heap, reads[0].value if reads else 0, shadow)
@@ -477,7 +481,6 @@ class Follower:
         kind = call.type or "w"
         caller.values[call.result] = value
         caller.shadows[call.result] = rules.fitted(shadow, kind, self.position, f"given back by {frame.function.name} as {kind}")
-        del ended
 
     def end_heap_call(self, frame: Frame, heap: HeapCall, result: int, shadow: Shadow) -> Shadow:
         """What a call of the heap has given or ended; the shadow of its result."""

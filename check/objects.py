@@ -33,7 +33,7 @@ class Objects:
         block.died = position
         self.blocks.remove(block)
 
-    def end_slots(self, count: int, position: int) -> list[Object]:
+    def end_slots(self, count: int, position: int) -> None:
         """Ends all slots but so many, with the blocks that lie in them."""
         ended = self.slots[count:]
         del self.slots[count:]
@@ -42,7 +42,6 @@ class Objects:
         if ended and self.blocks:
             for block in [each for each in self.blocks if each.within in ended]:
                 self.end_block(block, position)
-        return ended
 
     def block_at(self, address: int) -> Object | None:
         """The living block that begins at an address."""

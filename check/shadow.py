@@ -190,7 +190,11 @@ def bounds(value: int, open_bits: int, width: str, is_signed: bool) -> tuple[int
     sign = 1 << BITS[width] - 1
     if open_bits & sign:
         least, greatest = least | sign, greatest & ~sign
-    return tuple(number - 2 * sign if number & sign else number for number in (least, greatest))
+    return as_signed(least, sign), as_signed(greatest, sign)
+
+
+def as_signed(number: int, sign: int) -> int:
+    return number - 2 * sign if number & sign else number
 
 
 def open_of_comparison(relation: str, a: int, oa: int, b: int, ob: int, width: str) -> int:
