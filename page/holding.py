@@ -20,6 +20,7 @@ from terminal.timeline import Poke, Timeline
 from terminal.waiting import Waiting
 
 from .gathering import Gathering, length_of
+from .suspecting import suspicions_of
 from .table import Origins, Table
 from .windows import Long
 
@@ -74,6 +75,10 @@ class Held:
 
     def gathered(self, pokes: tuple[Poke, ...]) -> Gathering:
         return Gathering(self.launch, self.table, self.most, None if pokes else self.total, pokes).begin()
+
+    def suspicions(self) -> list[dict[str, Any]]:
+        """Those of the run as it is now; of a run that is too long for arrays none are looked for."""
+        return [] if self.long else suspicions_of(self.gathering.wait())
 
     def told(self) -> dict[str, Any]:
         """The program as the page reads it, and the command that plays its script."""

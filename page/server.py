@@ -131,6 +131,8 @@ class Handler(http.server.BaseHTTPRequestHandler):
             self.stream(held)
         elif path == "api/overview" and held.long:
             self.reply_json(held.long.overview.told())
+        elif path == "api/suspicions":
+            self.reply_json(held.suspicions())
         elif path == "api/script":
             self.reply(200, "text/plain; charset=utf-8", held.script().encode())
         else:

@@ -22,6 +22,7 @@ class App {
     this.cursor = this.selected = this.line = 0;
     this.view = [0, 1];
     this.pins = [];
+    this.suspicions = [];
     this.walk = new Walk(this);
     this.timeline = new Timeline(byId("timeline"), this);
     this.code = new Code(byId("code"), this);
@@ -51,7 +52,7 @@ class App {
       forth: () => this.go(this.cursor + 1),
       last: () => this.goTo(this.wholeMoves), whole: () => this.show(0, this.run.moves),
         keys: () => byId("help").showModal(),
-      theme: () => this.theme(), poke: () => this.poke(), script: () => this.script(), save: () => this.save()};
+      theme: () => this.theme(), poke: () => this.poke(), suspects: () => this.toSuspicion(), script: () => this.script(), save: () => this.save()};
     for (const [id, act] of Object.entries(acts)) byId(id).addEventListener("click",
       () => (id === "theme" || this.run?.isComplete) && act());
     byId("position").addEventListener("change", event => this.typed(event.target));
@@ -86,6 +87,29 @@ class App {
     this.tree.draw();
     this.loadedIn = performance.now() - begun;
     this.agreed.rest();
+    this.suspect(run);
+  }
+
+  /** Asks for the suspicions of a run, and shows them, unless another run is shown by then. */
+  async suspect(run) {
+    const found = this.long ? [] : await this.source.suspicions();
+    if (this.run !== run) return;
+    this.suspicions = found;
+    const button = byId("suspects"), number = found.length;
+    button.hidden = !number;
+    button.textContent = `▲ ${number} suspicion${number === 1 ? "" : "s"}`;
+    button.title = found.slice(0, 8).map(each => `#${each.position} ${each.kind}: ${each.text}`).join("\n");
+    this.code.suspects();
+    this.timeline.draw();
+  }
+
+  /** To the next suspicion, or to the first behind the last. */
+  toSuspicion() {
+    const found = this.suspicions;
+    if (!found.length) return this.say("nothing in this run is suspected");
+    const next = found.find(each => each.position > this.cursor) ?? found[0];
+    this.goTo(next.position);
+    this.say(`${next.kind}: ${next.text}${next.count > 1 ? ` (${next.count} times)` : ""}`);
   }
 
   /** The window of a new run: the same moves as of the one before, where a part of that was shown; else all. */

@@ -130,6 +130,7 @@ export class Code {
     this.values(place);
     if (isHere) this.operands(place);
     this.badges();
+    this.suspects();
   }
 
   /** Brings the place into view, with the beginning of its function if that fits. */
@@ -235,6 +236,17 @@ export class Code {
       number.textContent = !count ? "" : count > 99999 ? `${Math.round(count / 1000)}k` : String(count);
       row.isCold = !count;
       row.classList.toggle("is-cold", row.isCold);
+    }
+  }
+
+  /** A sign at each line of which a move is suspected. */
+  suspects() {
+    for (const row of this.rows.values()) row.lastElementChild.classList.remove("is-suspect");
+    for (const {line, kind} of this.app.suspicions) {
+      const beside = this.rows.get(line)?.lastElementChild;
+      if (!beside) continue;
+      beside.classList.add("is-suspect");
+      beside.dataset.kind = kind;
     }
   }
 

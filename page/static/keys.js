@@ -13,6 +13,7 @@ function table(app) {
     ["g", "to a position", {g: () => byId("position").select()}],
     ["u d", "the frame that called, the frame that was called",
       {u: () => app.select(app.selected + 1), d: () => app.select(app.selected - 1)}],
+    ["x", "to the next suspicion", {x: () => app.toSuspicion()}],
     ["w", "why: the end, or the first operand", {w: () => app.ask(app.firstQuestion())}],
     ["↑ ↓ ⏎ ⌫", "walk the causes, open one, back to its effect",
       {ArrowUp: () => app.step(-1), ArrowDown: () => app.step(1),

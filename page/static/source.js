@@ -28,7 +28,14 @@ export class Source {
       return new Program(told);
     }
     this.packed = this.embedded.textContent.trim().split("\n");
-    return new Program(JSON.parse(new TextDecoder().decode(await inflated(this.packed[0]))));
+    this.told = JSON.parse(new TextDecoder().decode(await inflated(this.packed[0])));
+    return new Program(this.told);
+  }
+
+  /** What the run does that no right compiler's output does; an exported page has it with the program. */
+  async suspicions() {
+    if (!this.isLive) return this.told.suspicions ?? [];
+    return (await this.ask("api/suspicions")).json();
   }
 
   /** The run, part by part; `grown` is called as it grows. */

@@ -132,6 +132,8 @@ export class Timeline {
     context.strokeStyle = this.color("edge-strong");
     context.strokeRect(left + .5, 2.5, Math.max(2, right - left - 1), tall - 1);
     if (!run.isComplete) return;
+    context.fillStyle = this.color("fault");
+    for (const {position} of app.suspicions) context.fillRect(SIDE + position / moves * this.span - 1, tall - 6, 3, 8);
     context.fillStyle = this.color("now");
     context.fillRect(SIDE + app.cursor / moves * this.span - 1, 1, 2, tall + 2);
   }
@@ -218,6 +220,12 @@ export class Timeline {
       if (x < SIDE || x > SIDE + this.span) continue;
       context.fillStyle = this.color("poke");
       context.fillText("✎", x, y);
+    }
+    for (const {position} of app.suspicions) {
+      const x = this.x(position + .5);
+      if (x < SIDE || x > SIDE + this.span) continue;
+      context.fillStyle = this.color("fault");
+      context.fillText("▲", x, y);
     }
     if (run.isOver && app.view[1] >= run.moves) {
       const isFault = run.end.startsWith("fault"), text = `${isFault ? "✕" : "■"} ${run.end}`;

@@ -72,6 +72,8 @@ KEYS: list[tuple[list[str], str, object]] = [
     (["t"], "document.documentElement.dataset.theme", "dark"),
     (["t"], "document.documentElement.dataset.theme", "light"),
     (["p"], "document.getElementById('said').textContent", "the run is over here; go back into it first"),
+    (["Home", "x"], "[app.cursor, document.getElementById('suspects').textContent]", [44, "▲ 1 suspicion"]),
+    (["End"], "app.cursor", 88),
     (["ArrowLeft", "p"], "[document.getElementById('poking').open, document.getElementById('line').value]",
      [True, "set %total "]),
 ]
