@@ -29,6 +29,23 @@ WITH_VALUE = ("--limit", "--kinds", "--heap", "--except", "--format")
 NONE, REFUSED, UNREAD, SOME, FAULT, TOO_LONG = 0, 1, 2, 3, 4, 5
 
 
+class Told(Follower):
+    """Tells at a terminal how far it has come."""
+
+    moves = 0
+
+    def pulse(self, position: int) -> None:
+        if sys.stderr.isatty():
+            sys.stderr.write(f"\r{position:,} of {self.moves:,} moves\x1b[K" if position else "")
+            sys.stderr.flush()
+
+    def end(self) -> None:
+        """Takes the line away again."""
+        if sys.stderr.isatty():
+            sys.stderr.write("\r\x1b[K")
+            sys.stderr.flush()
+
+
 class BadCommand(Exception):
     """What is wrong with the words."""
 
@@ -121,8 +138,10 @@ def checked(debugger: str, asked: Asked, place: pathlib.Path, out: TextIO) -> in
         heap = roles_of(table.program, asked.heap, asked.has_no_heap)
     except WrongHeap as error:
         raise BadCommand(str(error)) from None
-    follower = Follower(table, part_of(gathered, b"D"), asked.kinds, heap, asked.excepted)
+    follower = Told(table, part_of(gathered, b"D"), asked.kinds, heap, asked.excepted)
+    follower.moves = len(gathered.places) - 1
     moves = follower.follow(list(gathered.places), iter(gathered.values))
+    follower.end()
     return told(follower, gathered, moves, asked, out)
 
 

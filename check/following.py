@@ -18,6 +18,7 @@ from .telling import Suspicion, bits_told, distance_told, object_told, origin_to
 
 DIVISIONS = frozenset(("div", "rem", "udiv", "urem"))
 SHIFTS = frozenset(("shl", "shr", "sar"))
+PULSE = (1 << 16) - 1
 
 
 @dataclass
@@ -79,6 +80,9 @@ class Follower:
 
     # The run.
 
+    def pulse(self, position: int) -> None:
+        """Called now and then on the way: a command tells by it how far it has come."""
+
     def follow(self, places: list[int], values: Iterator[int]) -> int:
         """Goes along all moves of these states; how many they are."""
         function = self.program.functions[self.table.places[places[0]][0]]
@@ -89,6 +93,8 @@ class Follower:
         self.frames.append(frame)
         for position in range(len(places) - 1):
             self.position, self.here = position, places[position]
+            if not position & PULSE:
+                self.pulse(position)
             if position in self.pokes:
                 self.poke(self.pokes[position].split(), values)
                 continue
