@@ -108,7 +108,11 @@ def watch(shell: Shell, rest: str) -> None:
         expected = "%TEMPORARY, $FUNCTION %TEMPORARY, a width (b, h, w, l, s, d) or a number of bytes was expected"
         raise Wrong(f"{words[0]}: {expected}")
     stop.condition, stop.condition_text = condition, text
-    if not stop.frame:
+    if stop.memory:
+        # The address that is watched, whatever the temporaries in it hold when the line is typed again.
+        address = stop.memory.address
+        stop.typed = f"watch {words[0]} {shell.frames.names.of(address) or address}" + (f" if {text}" if text else "")
+    elif not stop.frame:
         stop.typed = f"watch {rest}"
     shell.say(f"watch {shell.runs.add(stop)}")
 

@@ -503,16 +503,17 @@ def stops_kept(program: str) -> str | None:
         session = Held(program, str(SQUARES))
         try:
             for line in ("b 14 if %i > 2", "commands\np %i\nend", "tbreak $fill", "watch w $bias", "ignore 3 1", "disable 3",
-                         "watch %i"):
+                         "watch %i", "goto 27", "watch w %place if 1"):
                 session.do(line)
             told = session.do(f"save breakpoints {file}")
-            if "3 stops" not in told or "left out, as it is about one frame: 4: %i of this call of $main" not in told:
+            if "4 stops" not in told or "left out, as it is about one frame: 4: %i of this call of $main" not in told:
                 return f"{told!r}"
             session.do("delete")
+            session.do("goto 44")
             session.do(f"source {file}")
             found = session.do("stops").splitlines()
             wanted = ["$fill @body 0 (line 14), if %i > 2, types `p %i`", "$fill @start 0 (line 8), once",
-                      "w $bias+0, the next 1 are passed over, switched off"]
+                      "w $bias+0, the next 1 are passed over, switched off", "w $squares+8, if 1"]
             if [line.partition(": ")[2] for line in found] != wanted:
                 return f"{found} in place of {wanted}"
             told = session.do(f"source {own}")
