@@ -192,7 +192,8 @@ def refused(program: str) -> str | None:
     wanted = f"{file}:3: C6: a temporary that is nowhere defined\n    ret %x\n"
     if (told.returncode, told.stdout) != (1, wanted):
         return f"status {told.returncode}, {told.stdout!r}"
-    is_told = (missing.returncode, missing.stdout, missing.stderr) == (2, "", "cannot read program\n")
+    is_told = (missing.returncode, missing.stdout, missing.stderr) == \
+        (2, "", f"qrev: {folder}/none.ssa: No such file or directory\n")
     return None if is_told else f"{missing}"
 
 

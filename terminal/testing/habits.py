@@ -220,7 +220,7 @@ def refused(program: str) -> str | None:
         text = SQUARES.read_text().replace("mul %i, %i", "mul %i, %j")
         words = [os.path.join(TOP, "terminal", "main"), "--debugger", program, "--"]
         for file, wanted, status in ((written(folder, "a.ssa", text), "a.ssa:14: C6: ", 1),
-                                     (os.path.join(folder, "none.ssa"), "cannot read program", 2),
+                                     (os.path.join(folder, "none.ssa"), "none.ssa: No such file or directory", 2),
                                      (written(folder, "c.ssa", text.replace("mul %i, %j", "copy d_-3.0")),
                                       "c.ssa:14: L1: a constant of a float, which is left out here; `./qrev --lower`", 1),
                                      (written(folder, "d.ssa", text.replace("mul %i, %j", "call $printf(l 0)")),
