@@ -27,6 +27,25 @@ LIMIT = 2_000_000
 MOST_LIMIT = (1 << 32) - 1
 WITH_VALUE = ("--limit", "--kinds", "--heap", "--except", "--format")
 NONE, REFUSED, UNREAD, SOME, FAULT, TOO_LONG = 0, 1, 2, 3, 4, 5
+HELP = f"""Runs a program, and says what it does that no right compiler's output does
+
+Usage: ./qrev --check FILE [ARGS..] [OPTIONS]
+       ./qrev --check --lower FILE.. [OPTIONS]
+
+Options:
+      --entry NAME           The function that runs first [default: main]
+      --limit N              Look at N moves [default: {LIMIT}]
+      --kinds KIND,..        Look for these kinds of suspicions alone; `strict`: for the default ones and the strict ones
+      --heap ROLE=FUNC,..    The functions that make and free blocks of the heap, in the roles take, calloc, realloc,
+                             memalign, give and look
+      --no-heap              An allocator is code like any other
+      --except KIND:$NAME    Not this kind for this object or function; may be given more than once
+      --format text|json     json is SARIF [default: text]
+
+The status is {NONE} if there is no suspicion, {SOME} if there are some, {FAULT} if there is none but the run ends by a
+fault, {TOO_LONG} if there is none up to the limit, {REFUSED} if the program is refused, {UNREAD} if it can't be read, 64 for a
+bad command line. The kinds are in docs/CHECKING.md.
+"""
 
 
 class Told(Follower):

@@ -76,6 +76,19 @@ def command_fault(program: str, words: list[str], status: int, out: str | None, 
     return None if same and bool(told.stderr) == bool(errors) else f"{told.returncode}, {told.stdout!r} and {told.stderr!r}"
 
 
+def help_fault(program: str) -> str | None:
+    """The help has each option and each status that the page has."""
+    page = (TOP / "docs" / "CHECKING.md").read_text().partition("## The command")[2].partition("## Kinds")[0]
+    wanted = set(re.findall(r"--[a-z][a-z-]*", page)) - {"--check"} | set(re.findall(r"(?m)^\| ([0-9, ]+) \|", page))
+    for words in (["--help"], [SQUARES, "-h"]):
+        told = run(program, *words)
+        lacking = [word for word in wanted for part in word.split(", ")
+                   if not re.search(rf"(?<![\w-]){re.escape(part)}(?![\w-])", told.stdout)]
+        if told.returncode or told.stderr or lacking or len(wanted) < 10:
+            return f"{words}: {told.returncode}, {lacking}, {told.stderr!r}"
+    return None
+
+
 def written_fault(program: str, text: str, words: list[str], status: int, last: str) -> str | None:
     with tempfile.TemporaryDirectory(prefix="check-") as place:
         file = pathlib.Path(place) / "text.ssa"
@@ -164,8 +177,8 @@ def cases(program: str) -> Iterator[Case]:
         yield f"command {name}", lambda command=command: command_fault(program, *command)
     for name, *written in WRITTEN:
         yield f"command {name}", lambda written=written: written_fault(program, *written)
-    for name, call in (("count", count_fault), ("json", json_fault), ("lowered", lowered_fault), ("wide", wide_fault),
-                       ("long name", long_name_fault)):
+    for name, call in (("help", help_fault), ("count", count_fault), ("json", json_fault), ("lowered", lowered_fault),
+                       ("wide", wide_fault), ("long name", long_name_fault)):
         yield f"command {name}", lambda call=call: call(program)
     for page in (TOP / "README.md", TOP / "docs" / "CHECKING.md"):
         yield from page_faults(program, page)
