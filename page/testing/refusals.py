@@ -189,12 +189,17 @@ def refused(program: str) -> str | None:
                               capture_output=True, text=True)
         missing = subprocess.run([sys.executable, "-B", str(MAIN), "--debugger", program, "--", folder + "/none.ssa"],
                                  capture_output=True, text=True)
+        none = subprocess.run([sys.executable, "-B", str(MAIN), "--debugger", program, "--", "--entry", "main"],
+                              capture_output=True, text=True)
     wanted = f"{file}:3: C6: a temporary that is nowhere defined\n    ret %x\n"
     if (told.returncode, told.stdout) != (1, wanted):
         return f"status {told.returncode}, {told.stdout!r}"
-    is_told = (missing.returncode, missing.stdout, missing.stderr) == \
-        (2, "", f"qrev: {folder}/none.ssa: No such file or directory\n")
-    return None if is_told else f"{missing}"
+    if (missing.returncode, missing.stdout, missing.stderr) != \
+            (2, "", f"qrev: {folder}/none.ssa: No such file or directory\n"):
+        return f"{missing}"
+    is_told = (none.returncode, none.stdout, none.stderr) == \
+        (64, "", "qrev: a program was expected: ./qrev --page FILE [ARGS..]\n")
+    return None if is_told else f"{none}"
 
 
 CASES = {"statuses": statuses, "headers": headers, "alone": alone, "one page": taken_over, "Ctrl-C": ended,
