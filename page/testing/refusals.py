@@ -4,6 +4,7 @@ from __future__ import annotations
 import http.client
 import json
 import pathlib
+import signal
 import subprocess
 import sys
 import tempfile
@@ -168,8 +169,10 @@ def taken_over(program: str) -> str | None:
 
 def ended(program: str) -> str | None:
     """Ctrl-C ends the server and its processes, with status 0."""
+    # What a shell starts in the background ignores Ctrl-C, and hands that on.
     process = subprocess.Popen([sys.executable, "-B", str(MAIN), "--debugger", program, "--", SQUARES],
-                               stdout=subprocess.PIPE, text=True)
+                               stdout=subprocess.PIPE, text=True,
+                               preexec_fn=lambda: signal.signal(signal.SIGINT, signal.SIG_DFL))
     assert process.stdout
     lines = [process.stdout.readline() for _ in range(3)]
     children = pathlib.Path(f"/proc/{process.pid}/task/{process.pid}/children").read_text().split()
