@@ -14,7 +14,7 @@ from typing import Any
 
 STATIC = pathlib.Path(__file__).resolve().parent / "static"
 # In the order in which each finds what it wants of the others.
-MODULES = ("program.js", "run.js", "memory.js", "causes.js", "element.js", "source.js", "plot.js", "bands.js",
+MODULES = ("program.js", "run.js", "memory.js", "causes.js", "ghost.js", "element.js", "source.js", "plot.js", "bands.js",
            "timeline.js",
            "code.js", "values.js", "tree.js", "cells.js", "output.js", "agreed.js", "keys.js", "app.js")
 STYLES, PAGE = "page.css", "index.html"

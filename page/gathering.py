@@ -132,7 +132,7 @@ class Gathering:
 
     def process(self) -> Pipe:
         """A process that keeps no history, in the first state."""
-        pipe = Pipe(self.launch.command(1))
+        pipe = Pipe(self.launch.command(1), renaming=self.launch.renaming)
         if pipe.refused:
             raise pipe.refused
         return pipe
@@ -266,7 +266,7 @@ def live_bytes(pipe: Pipe, address: int, size: int) -> bytes:
 
 def length_of(launch: Launch, most: int) -> int | None:
     """How many moves a run has, or None where it has more than so many."""
-    pipe = Pipe(launch.command(1))
+    pipe = Pipe(launch.command(1), renaming=launch.renaming)
     if pipe.refused:
         raise pipe.refused
     place = pipe.ask(f"step {most}")[0][-1]

@@ -13,7 +13,8 @@ from dataclasses import replace
 from typing import Any, Sequence
 
 from terminal.answers import read_value
-from terminal.scratch import Launch, Refused
+from terminal.lowered import lowered_of
+from terminal.scratch import KEEPING, Launch, Refused
 from terminal.session import Session
 from terminal.text import Program
 from terminal.timeline import Poke, Timeline
@@ -21,6 +22,7 @@ from terminal.waiting import Waiting
 
 from .gathering import Gathering, length_of
 from .suspecting import suspicions_of
+from .lowering import Lowering
 from .table import Origins, Table
 from .windows import Long
 
@@ -55,6 +57,7 @@ class Held:
         self.program: Program = self.session.program
         self.table = Table(self.program)
         self.origins = Origins(file)
+        self.lowering = Lowering(self.program, source, launch, lowered_of(file))
         self.gathering: Gathering
         self.total = length_of(launch, most)
         self.long: Long | None = None
@@ -65,12 +68,7 @@ class Held:
 
     def begin_long(self) -> None:
         """Of a run that is too long for arrays an overview is made, and its first window."""
-        # A session that keeps each move would take 24 bytes of each.
-        self.session.close()
-        self.launch = replace(self.launch, words=(*self.launch.words, "--replay"))
-        plain = replace(self.launch, words=self.launch.words[:-1])
-        self.session = Session(self.launch, self.source, self.waiting)
-        self.long = Long(plain, self.table)
+        self.long = Long(self.launch, self.table)
         self.gathering = self.long.window(0)
 
     def gathered(self, pokes: tuple[Poke, ...]) -> Gathering:
@@ -82,7 +80,7 @@ class Held:
 
     def told(self) -> dict[str, Any]:
         """The program as the page reads it, and the command that plays its script."""
-        return {**self.table.told(self.title, self.origins), "command": self.command(), "long": self.long is not None}
+        return {**self.table.told(self.title, self.origins, self.lowering), "command": self.command(), "long": self.long is not None}
 
     @property
     def title(self) -> str:
@@ -178,5 +176,5 @@ class Held:
 
 
 def without_bounds(launch: Launch) -> Launch:
-    """A launch whose processes keep all moves: the page goes everywhere."""
-    return replace(launch, history=None, words=tuple(word for word in launch.words if not word.startswith("--replay")))
+    """A launch whose processes go everywhere, as the page does."""
+    return replace(launch, history=None, words=tuple(word for word in launch.words if not word.startswith(KEEPING)))

@@ -9,6 +9,8 @@ from typing import Any, Sequence
 from terminal.launching import split_words
 
 SIDES = ("good", "bad")
+# The events that are compared if nothing is said, and what a side has in place of one.
+DEFAULT, NO_EVENT = ("output", "calls", "end"), ("none", "limit", "memory")
 EVENT, STEP = re.compile(r"^(good|bad): (.*)$"), re.compile(r"^step (\d+)$")
 # Options of the comparison alone, which a session of one side doesn't have.
 OWN = ("--events", "--session")
@@ -22,14 +24,21 @@ class Pair:
     positions: dict[str, int]
     text: str
     status: int
+    kinds: list[str]
 
     @property
     def is_told(self) -> bool:
         """Whether both texts ran, so that there is something to show."""
         return self.head.split(" ")[0] in ("same", "part", "limit", "memory")
 
+    @property
+    def number(self) -> int | None:
+        """The number of the event by which they part, or at which a side goes no further."""
+        found = re.search(r" at event (\d+)$", self.head)
+        return int(found.group(1)) if found else None
+
     def told(self) -> dict[str, Any]:
-        return {"head": self.head, "sides": [{"name": side, "event": self.events.get(side, ""),
+        return {"head": self.head, "number": self.number, "kinds": self.kinds, "none": list(NO_EVENT), "sides": [{"name": side, "event": self.events.get(side, ""),
                                               "at": self.positions.get(side)}
                                              for side in SIDES]}
 
@@ -48,7 +57,15 @@ def compared(program: str, words: Sequence[str]) -> Pair:
             events[side] = event.group(2)
         elif step and side:
             positions[side] = int(step.group(1))
-    return Pair(text.split("\n")[0], events, positions, text + run.stderr.decode("utf-8", "replace"), run.returncode)
+    return Pair(text.split("\n")[0], events, positions, text + run.stderr.decode("utf-8", "replace"), run.returncode,
+                kinds_of(words))
+
+
+def kinds_of(words: Sequence[str]) -> list[str]:
+    """The kinds of events that are compared."""
+    given = [word.partition("=")[2] or following for word, following in zip(words, [*words[1:], ""])
+             if word.partition("=")[0] == "--events"]
+    return given[-1].split(",") if given else list(DEFAULT)
 
 
 def two_files(words: Sequence[str]) -> tuple[list[str], list[str]]:

@@ -32,7 +32,7 @@ HEADERS = (("Cache-Control", "no-store"), ("X-Content-Type-Options", "nosniff"),
            ("Cross-Origin-Opener-Policy", "same-origin"))
 FILES = (PAGE, STYLES, *MODULES)
 PAIR = "pair.html"
-PAIR_FILES = (PAIR, STYLES, "pair.js", "element.js")
+PAIR_FILES = (PAIR, STYLES, "pair.js", "element.js", "events.js", "memory.js", "program.js")
 
 
 class Server(http.server.ThreadingHTTPServer):
@@ -195,5 +195,5 @@ class Handler(http.server.BaseHTTPRequestHandler):
             if path == "api/poke":
                 return held.open().poke(position, asked.get("line"))
             if number != held.asked:
-                raise Refused("another position was asked for since")
+                return {"overtaken": "another position was asked for since"}
             return held.open().go(position)

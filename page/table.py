@@ -7,10 +7,13 @@ page/static/run.js works out the same from the same numbers, so only the values 
 from __future__ import annotations
 
 import pathlib
-from typing import Any, Iterable
+from typing import TYPE_CHECKING, Any, Callable, Iterable
 
 from terminal.sourcemap import ESCAPE, SourceMap, unescaped
 from terminal.text import BUILT_IN, STACK, STACK_BYTES, Block, Function, Instruction, Program
+
+if TYPE_CHECKING:
+    from .lowering import Lowering
 
 # What the numbers of places and temporaries take in the arrays, as type codes of `array`.
 NARROW, WIDE = "H", "I"
@@ -96,12 +99,14 @@ class Table:
             result = self.places[here][3].result
         return (result,) if result else ()
 
-    def told(self, file: str, origins: Origins | None = None) -> dict[str, Any]:
-        """The program as the page reads it: lines, functions with their blocks, data, addresses, and where lines come from."""
+    def told(self, file: str, origins: Origins | None = None, lowering: Lowering | None = None) -> dict[str, Any]:
+        """The program as the page reads it: lines, functions with their blocks, data, addresses, where lines come from, and what the
+        names of a lowered text stand for."""
         program = self.program
         return {
+            "lowered": lowering.told(self) if lowering else None,
             "file": file, "lines": program.lines, "end": self.end, "wide": self.code == WIDE,
-            "functions": [self.function_told(function) for function in program.functions.values()],
+            "functions": [self.function_told(function, lowering) for function in program.functions.values()],
             "data": [{"name": data.name, "line": data.line, "address": data.address, "size": data.size}
                      for data in program.data],
             "addresses": program.addresses, "calls": [[address, name] for address, name in program.calls.items()],
@@ -111,12 +116,15 @@ class Table:
             "sources": origins.texts() if origins else {},
         }
 
-    def function_told(self, function: Function) -> dict[str, Any]:
+    def function_told(self, function: Function, lowering: Lowering | None = None) -> dict[str, Any]:
+        def written(instruction: Instruction) -> str:
+            return lowering.written(function.name, instruction) if lowering else instruction.written()
+
         return {"name": function.name, "line": function.line, "type": function.type,
                 "parameters": [[kind, name] for kind, name in function.parameters],
                 "temporaries": [[name, width, self.temporaries[function.name, name]]
                                 for name, width in all_temporaries(function).items()],
-                "blocks": [block_told(block) for block in function.blocks.values()]}
+                "blocks": [block_told(block, written) for block in function.blocks.values()]}
 
 
 def all_temporaries(function: Function) -> dict[str, str]:
@@ -124,12 +132,12 @@ def all_temporaries(function: Function) -> dict[str, str]:
     return function.temporaries
 
 
-def block_told(block: Block) -> dict[str, Any]:
-    return {"label": block.label, "line": block.line, "phis": [instruction_told(phi) for phi in block.phis],
-            "body": [instruction_told(each) for each in block.body]}
+def block_told(block: Block, written: Callable[[Instruction], str]) -> dict[str, Any]:
+    return {"label": block.label, "line": block.line, "phis": [instruction_told(phi, written) for phi in block.phis],
+            "body": [instruction_told(each, written) for each in block.body]}
 
 
-def instruction_told(instruction: Instruction) -> dict[str, Any]:
+def instruction_told(instruction: Instruction, written: Callable[[Instruction], str]) -> dict[str, Any]:
     return {"line": instruction.line, "op": instruction.operation, "result": instruction.result,
             "type": instruction.type, "operands": [[each.text, each.type] for each in instruction.operands],
-            "labels": list(instruction.labels), "count": instruction.count, "text": instruction.written()}
+            "labels": list(instruction.labels), "count": instruction.count, "text": written(instruction)}

@@ -1,8 +1,8 @@
 """A run that is too long for arrays: an overview of whole stacks at equal distances, and windows of some thousand moves.
 
-The overview is made by one process that runs to the end, and drawn while it comes. A process under `--replay` goes back to any
-position in some milliseconds, and forward at the speed of a run. So some stand at the end of the run: a window is gathered
-by the one that is there soonest, and another is led to the end in its place, in the background.
+The overview is made by one process that runs to the end, and drawn while it comes. A process goes in some
+milliseconds, back and forward, to any position that it has been at, and beyond that at the speed of a run. So one that has been
+at the end gathers all windows, and another is led to the end in the background, for when the first was sent as much as it reads.
 """
 from __future__ import annotations
 
@@ -26,10 +26,10 @@ AT_ONCE = 20
 # A run is followed so far, unless it is stopped before.
 MOST_MOVES = 2_000_000_000
 SLICE = 20_000_000
-# How many processes stand ready at the end, how many there are at most, and how much each may keep.
+# How many processes have been at the end, how many there are at most, and how much each may keep.
 SPARES, MOST_PROCESSES, KEPT = 2, 4, 32
-# What a move back takes, and one forward, in seconds: roughly, to choose among processes.
-BACK, FORWARD = 0.02, 2e-8
+# What a jump takes to where a process has been, and a move beyond that, in seconds: roughly, to choose among processes.
+JUMP, FORWARD = 0.02, 2e-8
 # The bytes of a stack that are read at the beginning of a window.
 MOST_STACK = 1 << 16
 # What a window sends a process at most.
@@ -94,46 +94,47 @@ class Overview:
 
 def replaying(launch: Launch) -> Pipe:
     file = [launch.file] if launch.file else []
-    return Pipe([launch.debugger, *file, *launch.words, f"--replay={KEPT}"])
+    return Pipe([launch.debugger, *file, *launch.words, f"--memory={KEPT}"], renaming=launch.renaming)
 
 
 class Pool:
-    """Processes that stand somewhere in the run, each free for the next window."""
+    """Processes that stand somewhere in the run, each free for the next window: where it stands, and how far it has been."""
 
     def __init__(self, launch: Launch, overview: Overview):
         self.launch, self.overview = launch, overview
-        self.free: list[tuple[int, Pipe]] = []
+        self.free: list[tuple[int, int, Pipe]] = []
         self.coming, self.is_closed = 0, False
         self.lock = threading.Lock()
 
-    def take(self, base: int) -> tuple[int, Pipe]:
-        """The process that is soonest at a position, and where it stands."""
-        def cost(at: int) -> float:
-            return BACK if at >= base else (base - at) * FORWARD
+    def take(self, base: int) -> tuple[int, int, Pipe]:
+        """The process that is soonest at a position, where it stands and how far it has been. Of several one is used up before the
+        next."""
+        def cost(been: int) -> float:
+            return JUMP if been >= base else JUMP + (base - been) * FORWARD
         with self.lock:
-            for at, pipe in [each for each in self.free if not each[1].has_room(SENT)]:
-                self.free.remove((at, pipe))
-                pipe.close()
-            best = min(self.free, key=lambda each: cost(each[0]), default=None)
-            if best and cost(best[0]) <= cost(0) + BACK:
+            for each in [each for each in self.free if not each[2].has_room(SENT)]:
+                self.free.remove(each)
+                each[2].close()
+            best = min(self.free, key=lambda each: (cost(each[1]), -each[2].sent), default=None)
+            if best and cost(best[1]) <= cost(0) + JUMP:
                 self.free.remove(best)
                 return best
-        return 0, replaying(self.launch)
+        return 0, 0, replaying(self.launch)
 
-    def give(self, at: int, pipe: Pipe) -> None:
+    def give(self, at: int, been: int, pipe: Pipe) -> None:
         with self.lock:
-            self.free.append((at, pipe))
+            self.free.append((at, max(at, been), pipe))
             while len(self.free) > MOST_PROCESSES:
-                # Of those that aren't at the end the one that was given first goes.
-                old = next((each for each in self.free if each[0] < self.overview.moves), self.free[0])
+                # Of those that weren't at the end the one that was given first goes.
+                old = next((each for each in self.free if each[1] < self.overview.moves), self.free[0])
                 self.free.remove(old)
-                old[1].close()
+                old[2].close()
         self.refill()
 
     def refill(self) -> None:
         """Leads as many processes to the end as should stand there, in the background."""
         with self.lock:
-            ready = sum(at >= self.overview.moves for at, _ in self.free) + self.coming
+            ready = sum(been >= self.overview.moves for _, been, _ in self.free) + self.coming
             wanted = SPARES - ready if self.overview.is_done and not self.is_closed else 0
             self.coming += max(wanted, 0)
         for _ in range(wanted):
@@ -146,7 +147,7 @@ class Pool:
                 pipe.ask(f"step {min(SLICE, self.overview.moves - at)}")
                 at += SLICE
             with self.lock:
-                self.free.append((min(at, self.overview.moves), pipe))
+                self.free.append((min(at, self.overview.moves), self.overview.moves, pipe))
         except (Ended, OSError):
             # The run can be looked at without this process.
             pass
@@ -157,7 +158,7 @@ class Pool:
     def close(self) -> None:
         self.is_closed = True
         with self.lock:
-            for _, pipe in self.free:
+            for _, _, pipe in self.free:
                 pipe.close()
             self.free = []
 
@@ -228,14 +229,14 @@ class Long:
 
     def look(self) -> None:
         self.overview.look()
-        self.pool.give(self.overview.moves, self.overview.pipe)
+        self.pool.give(self.overview.moves, self.overview.moves, self.overview.pipe)
 
     def window(self, position: int) -> Window:
         """The window around a position."""
         base = max(0, min(position - WINDOW // 2, self.overview.moves - WINDOW))
         window = Window(self.launch, self.table, base)
-        at, pipe = self.pool.take(base)
-        self.pool.give(window.gather_from(at, pipe), pipe)
+        at, been, pipe = self.pool.take(base)
+        self.pool.give(window.gather_from(at, pipe), been, pipe)
         return window
 
     def close(self) -> None:

@@ -40,7 +40,8 @@ def why(shell: Shell, rest: str) -> None:
         shell.chain.append(shell.causes.of(question_numbered(shell, int(words[0].strip("[]")))))
     else:
         shell.chain = [asked(shell, words, rest)]
-    shell.say(*shell.chain[-1].shown())
+    lines = shell.chain[-1].shown()
+    shell.say(*(shell.lookout.of_cause(shell.chain[-1].at, lines) if shell.lookout else lines))
 
 
 def question_numbered(shell: Shell, number: int) -> Question:

@@ -13,10 +13,11 @@ from .answers import Place, read_output
 from .frames import Frames, allocations_of, steps_begun
 from .levels import own_hits
 from .lowered import Lowered
+from .origins import Origins
 from .scratch import Scratch
 from .text import ALLOCATIONS, BUILT_IN, LOADED, STORED, Instruction, Program
 from .timeline import Timeline
-from .values import FLOATS, Names, as_float, is_stack, remarks, shown_bytes, signed
+from .values import BYTES, FLOATS, Names, as_float, is_stack, remarks, shown_bytes, signed
 
 MOST_BYTES_ASKED = 48
 # How many stores of the same value are looked for before `why` is content with the last change.
@@ -84,6 +85,7 @@ class Causes:
         # Whether functions of the runtime are looked into; else each is one instruction of the program.
         self.is_inside = False
         self.accesses = Accesses(program, scratch)
+        self.origins = Origins(self)
         self.source = source
 
     def of(self, question: Question) -> Cause:
@@ -104,13 +106,21 @@ class Causes:
         return (f"  #{at.position} {place.function} {place.label} {place.index}  line {instruction.line}: {written}"
                 + (f"  ({source})" if source else ""))
 
+    def address_told(self, value: int, width: str, at: Timeline, name: str = "", address: int = 0,
+                     frame: Timeline | None = None) -> str | None:
+        """The name of an address in a state, and of what holds it: a temporary of the innermost frame, or of the one that is so in
+        another state; or eight bytes. If it was made in a slot whose frame is over, it is named by that, with what is there now."""
+        found = self.frames.name(value, width, at)
+        over = self.origins.over(value, frame or at, name, address) if width == "l" and (name or address) else None
+        return over.long + (f"; now {found}" if found else "") if over else found
+
     def valued(self, text: str, value: int | None, width: str, at: Timeline) -> str:
         """A name with its value, and with what the value also is."""
         if value is None:
             return f"{text} unset"
         if width in FLOATS:
             return f"{text} = {as_float(value, width)}"
-        found = remarks(value, width, self.frames.name(value, width, at))
+        found = remarks(value, width, self.address_told(value, width, at, text))
         return f"{text} = {value}" + (f" ({', '.join(found)})" if found else "")
 
     def class_of(self, function: str, name: str) -> str:
@@ -136,7 +146,7 @@ class Causes:
         value = int.from_bytes(bytes(found), "little")
         if width in FLOATS:
             return f"{head} = {as_float(value, width)}"
-        said = remarks(value, width, self.frames.name(value, width, at))
+        said = remarks(value, width, self.address_told(value, width, at, address=address))
         if width == "b" and 32 <= value < 127:
             said = [shown_bytes(bytes(found))]
         return f"{head} = {value}" + (f" ({', '.join(said)})" if said else "")
@@ -427,7 +437,13 @@ class Causes:
         return cause
 
     def dead_told(self, address: int, at: Timeline) -> str:
-        """What lies near an address without bytes."""
+        """What lies near an address without bytes, or the slot of a frame that is over in which it was made."""
+        _, instruction = self.innermost(at)
+        names = [operand.text for operand in instruction.operands if operand.is_temporary]
+        for name, value in zip(names, self.scratch.go(at).values(*names)):
+            over = self.origins.over(address, at, name) if value == address else None
+            if over:
+                return f"  {address} is {over.long}"
         if self.program.data and not is_stack(address):
             number = signed(address, "l")
             data = min(self.program.data, key=lambda data: distance(number, data.address, data.size))
@@ -473,8 +489,16 @@ class Causes:
 
     def of_memory(self, question: Question) -> Cause:
         """The stores that wrote some bytes last: one for all of them, or several for some each."""
-        at, address = question.at, question.address
-        left = set(range(question.count))
+        writers, left, is_sure = self.writers(question.address, question.count, question.at)
+        cause = self.told_writers(question, writers, left)
+        if not is_sure:
+            cause.lines.append("  stores of the same value behind that weren't looked for: `writers` lists all")
+        return cause
+
+    def writers(self, address: int, count: int, at: Timeline) -> tuple[list[tuple[int, set[int]]], set[int], bool]:
+        """The moves that wrote some bytes last, each with its bytes; the bytes that none wrote; and whether stores of the same
+        value were looked for."""
+        left = set(range(count))
         writers: list[tuple[int, set[int]]] = []
         is_sure, high = True, at.position
         while left:
@@ -490,10 +514,7 @@ class Causes:
                     writers.append((change, span))
                 left -= span
             high = change
-        cause = self.told_writers(question, writers, left)
-        if not is_sure:
-            cause.lines.append("  stores of the same value behind that weren't looked for: `writers` lists all")
-        return cause
+        return writers, left, is_sure
 
     def last_change(self, address: int, left: set[int], at: Timeline) -> int | None:
         stops = [f"watch b {address + offset}" for offset in sorted(left)]
@@ -504,11 +525,11 @@ class Causes:
         """Looks for stores of what was there already, behind the last change; False where they are too many."""
         first, count = address + min(left), max(left) - min(left) + 1
         sites = [site for site in self.accesses.sites(True) if self.accesses.may_touch(site, True, first, count)]
-        if at.position <= low or not sites:
+        if at.position <= low:
             return True
         if len(sites) > MOST_SITES:
             return False
-        found: list[tuple[int, set[int]]] = []
+        found = self.poked(address, left, at, low)
         is_sure = True
         for index in range(0, len(sites), MOST_STOPS):
             is_sure = self.covered(sites[index:index + MOST_STOPS], address, left, at, low, found) and is_sure
@@ -520,6 +541,19 @@ class Causes:
                 writers.append((position, span & left))
                 left -= span
         return is_sure
+
+    def poked(self, address: int, left: set[int], at: Timeline, low: int) -> list[tuple[int, set[int]]]:
+        """The pokes behind a position that wrote some of the bytes, also those that left them as they were."""
+        found = []
+        for poke in at.pokes:
+            word, width, *words = poke.line.split()
+            if word != "poke" or poke.position < low:
+                continue
+            name, _, offset = words[0].partition("+")
+            begin = self.accesses.constant(name) + int(offset or 0) - address
+            span = left & set(range(max(begin, 0), begin + BYTES[width]))
+            found += [(poke.position, span)] * bool(span)
+        return found
 
     def covered(self, sites: list[Site], address: int, left: set[int], at: Timeline, low: int, found: list) -> bool:
         """Adds stores by these sites, the latest first, until all bytes have one; False where too many were looked at."""

@@ -5,7 +5,7 @@ from typing import Sequence
 
 from .answers import meaning_of
 
-OPTIONS = ("--entry", "--limit", "--history")
+OPTIONS = ("--entry", "--limit", "--memory", "--history")
 MOST = {"--limit": (1 << 32) - 1, "--history": 1_000_000}
 
 
@@ -25,7 +25,10 @@ def split_words(words: Sequence[str]) -> tuple[str, list[str], dict[str, int]]:
             plain.append(word)
             continue
         value = value if has_value else rest.pop(0) if rest else ""
-        if name == "--entry" or not value.isdigit() or not 1 <= int(value) <= MOST[name]:
+        if value and (name == "--memory" or (name, value) == ("--history", "all")):
+            plain.append(f"{name}={value}")
+            continue
+        if name not in MOST or not value.isdigit() or not 1 <= int(value) <= MOST[name]:
             # The debugger refuses what is wrong, in its own words.
             plain += [name, value] if value else [name]
         else:

@@ -55,7 +55,7 @@ def examine(shell: Shell, rest: str) -> None:
         shown = []
         for at in range(first, min(first + per_line, count)):
             piece = found[at * size:(at + 1) * size]
-            shown.append("--" if None in piece else unit_shown(shell, piece, unit, letter))
+            shown.append("--" if None in piece else unit_shown(shell, piece, unit, letter, address + at * size))
         there = address + first * size
         shell.say(f"{named(shell, there)}: {'  '.join(shown)}")
     shell.examined = address + count * size
@@ -79,10 +79,11 @@ def read_format(shell: Shell, letters: str) -> tuple[int, str, str]:
     return count, shell.unit, shell.format
 
 
-def unit_shown(shell: Shell, piece: list[int], unit: str, letter: str) -> str:
+def unit_shown(shell: Shell, piece: list[int], unit: str, letter: str, address: int) -> str:
     value = int.from_bytes(bytes(piece), "little")
     if letter == "a":
-        return named(shell, value)
+        name = shell.causes.address_told(value, unit, shell.session.timeline, address=address) if unit == "l" else None
+        return f"{value} {name}" if name else named(shell, value)
     if letter == "x":
         return f"0x{value:0{2 * BYTES[unit]}x}"
     return formatted(value, unit, letter)
@@ -366,5 +367,5 @@ TOPICS = {
     "stop": "break tbreak watch ignore condition commands disable enable stops delete",
     "ask": "suspects made why path readers writers when compare",
     "change": "set poke",
-    "session": "save source help quit",
+    "session": "tui save source other help quit",
 }

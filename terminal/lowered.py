@@ -28,6 +28,8 @@ class Lowered:
     floats: dict[tuple[str, str], str] = field(default_factory=dict)
     # The floats of an object: where they begin, their class and their number.
     data: dict[str, list[tuple[int, str, int]]] = field(default_factory=dict)
+    # The lines of the text whose stores write constants of floats, with their classes.
+    stores: dict[int, str] = field(default_factory=dict)
     # The old names of temporaries and labels that have new ones.
     renamed: dict[str, str] = field(default_factory=dict)
     # The classes of each function's parameters.
@@ -45,6 +47,8 @@ class Lowered:
             self.floats[words[0], words[1]] = words[2]
         elif kind == "data":
             self.data.setdefault(words[0], []).append((int(words[1]), words[2], int(words[3])))
+        elif kind == "stored":
+            self.stores[int(words[0])] = words[1]
         elif kind == "name":
             self.renamed[words[0]] = words[1]
 
@@ -79,8 +83,8 @@ class Lowered:
             return self.of_float(instruction, cls, classes)
         if cls in FLOATS and operation == "xor" and operands[1].text == SIGN_BITS[cls]:
             return f"{instruction.result} ={cls} neg {constant(operands[0].text, cls)}"
-        if operation in STORES and classes.get(operands[0].text) in FLOATS:
-            return f"{STORES[operation]} {operands[0].text}, {operands[1].text}"
+        if operation in STORES and (classes.get(operands[0].text) in FLOATS or instruction.line in self.stores):
+            return f"{STORES[operation]} {constant(operands[0].text, STORES[operation][-1])}, {operands[1].text}"
         return self.with_classes(instruction, classes).written() if operation == "call" else instruction.written()
 
     def of_float(self, instruction: Instruction, cls: str, classes: dict[str, str]) -> str:

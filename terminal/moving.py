@@ -2,6 +2,7 @@
 from __future__ import annotations
 
 from .expressions import Wrong
+from .output import Standard, is_plain
 from .runs import Outcome
 from .scratch import Refused
 from .shell import Leave, Shell, command
@@ -29,16 +30,17 @@ def by_many(shell: Shell, text: str, sign: int) -> None:
     """So many moves forward or back, or as many as there are."""
     session, count = shell.session, shell.count(text, MOST_MOVES)
     word = "step" if sign > 0 else "back"
-    left = count
+    left, target = count, session.place.position + sign * count
     while left:
-        moved = session.move(f"{word} {min(left, shell.launch.limit)}" if count > 1 else word)
+        size = min(left, session.most_at_once(word))
+        moved = session.move(f"{word} {size}" if count > 1 else word)
         if moved.refusal and left == count:
             shell.outcome(Outcome(refusal=moved.refusal))
             return
-        left -= min(left, shell.launch.limit)
+        left -= size
         if moved.refusal or moved.reason or moved.place.end or shell.waiting.is_pressed:
             break
-        shell.waiting.tell(session.place.position)
+        shell.waiting.tell(session.place.position, target=max(0, target))
     shell.show("stopped by Ctrl-C" if left and shell.waiting.is_pressed else "")
 
 
@@ -172,11 +174,14 @@ def restart(shell: Shell, rest: str) -> None:
     go(shell, shell.checkpoints[rest])
 
 
-@command("set", "set %x EXPRESSION | set listsize N", "expression", is_repeated=False)
+@command("set", "set %x EXPRESSION | set listsize N | set height N | set pagination on|off | set style enabled on|off", "expression",
+         is_repeated=False)
 def set_(shell: Shell, rest: str) -> None:
-    """Sets a temporary of the innermost frame. That is a move, which `back` takes back. `set listsize N` has `list` show N lines."""
-    if rest.split()[:1] == ["listsize"]:
-        shell.list_size = shell.count(rest.partition(" ")[2], MOST_LISTED, shell.list_size)
+    """Sets a temporary of the innermost frame. That is a move, which `back` takes back. `set listsize N` has `list` show N lines;
+    a terminal has `height` lines, 0 for as many as there are; `pagination` stops at each full screen, and `style enabled` has
+    colours."""
+    if rest.split()[:1] and rest.split()[0] in OPTIONS:
+        OPTIONS[rest.split()[0]](shell, rest.partition(" ")[2].strip())
         return
     rest = rest.removeprefix("var ")
     name, _, value = rest.replace("=", " = ", 1).partition(" ") if "=" in rest.split(" ")[0] else rest.partition(" ")
@@ -187,6 +192,40 @@ def set_(shell: Shell, rest: str) -> None:
         raise Refused("a temporary can be set in the innermost frame alone; `frame 0` selects it")
     _, width = shell.temporary(name)
     changed(shell, f"set {name} {signed_word(shell, value, width)}")
+
+
+def set_list_size(shell: Shell, text: str) -> None:
+    shell.list_size = shell.count(text, MOST_LISTED, shell.list_size)
+
+
+def set_height(shell: Shell, text: str) -> None:
+    output = standard(shell)
+    output.height = 0 if text in ("0", "unlimited") else shell.count(text, MOST_LISTED)
+    output.begin()
+
+
+def set_pagination(shell: Shell, text: str) -> None:
+    standard(shell).is_paged = is_on(text) and not is_plain()
+    standard(shell).begin()
+
+
+def set_style(shell: Shell, text: str) -> None:
+    standard(shell).has_colours = is_on(text.removeprefix("enabled").strip()) and not is_plain()
+
+
+def standard(shell: Shell) -> Standard:
+    if not isinstance(shell.output, Standard):
+        raise Refused("this is an option of the prompt; `q` leads back there")
+    return shell.output
+
+
+def is_on(text: str) -> bool:
+    if text not in ("on", "off", ""):
+        raise Wrong(f"{text}: on or off was expected")
+    return text != "off"
+
+
+OPTIONS = {"listsize": set_list_size, "height": set_height, "pagination": set_pagination, "style": set_style}
 
 
 @command("poke", "poke WIDTH ADDRESS EXPRESSION", "expression", is_repeated=False)

@@ -108,6 +108,32 @@ class Pipe:
                 at = behind
         return answers
 
+    def begin(self, *lines: str) -> bool:
+        """Sends commands whose answers `finish` takes, whenever they have come; False if there is no room for them at once."""
+        sent = self.written("".join(f"{line}\n" for line in lines)) + MARK
+        try:
+            written = os.write(self.process.stdin.fileno(), sent)
+        except (BlockingIOError, BrokenPipeError):
+            return False
+        self.sent += written
+        if written < len(sent):
+            self.close()
+        return written == len(sent)
+
+    def has_answered(self) -> bool:
+        """Whether some of an answer is there."""
+        return bool(select.select([self.process.stdout.fileno()], [], [], 0)[0])
+
+    def finish(self, count: int) -> list[list[str]]:
+        """The answers to so many commands that were begun, each of which tells by its first line how long it is."""
+        told = self.told(self.exchange(b"", 1)).split("\n")
+        answers, at = [], 0
+        for _ in range(count):
+            behind = at + (2 if told[at].startswith("stop: ") else 1)
+            answers.append(told[at:behind])
+            at = behind
+        return answers
+
     def ask_text(self, text: str) -> str:
         """All that is answered to some lines, for answers that tell themselves where they end."""
         return self.told(self.exchange(self.written(text) + MARK, 1)[:-len(MARKED)])

@@ -11,7 +11,7 @@ except ImportError:
     readline = None
 
 from .expressions import WORDS as EXPRESSION_WORDS
-from .shell import COMMANDS, Leave, Shell
+from .shell import COMMANDS, Leave, Shell, Switched
 
 PROMPT = "(qrev) "
 GATHERING = "> "
@@ -50,12 +50,15 @@ def candidates(shell: Shell, line: str, begun: str) -> Iterator[str]:
 
 
 class Prompt:
-    def __init__(self, shell: Shell, is_terminal: bool):
+    def __init__(self, shell: Shell, is_terminal: bool, names: dict[int, str] | None = None):
         self.shell, self.is_terminal = shell, is_terminal
+        # What stands before the lines of each session, where there are two.
+        self.names = names or {}
         self.found: list[str] = []
 
     def install(self) -> None:
-        """History and completion, where there is readline."""
+        """History and completion, where there is readline; and what somebody at a terminal would wait for."""
+        self.shell.session.is_followed = self.is_terminal
         if readline is None or not self.is_terminal:
             return
         readline.set_completer_delims(" \t\n[](),+-*!<>=&|^~")
@@ -90,7 +93,7 @@ class Prompt:
         waiting = self.shell.waiting
         waiting.is_at_prompt = True
         try:
-            return input(PROMPT if self.shell.gathering is None else GATHERING)
+            return input(self.names.get(id(self.shell), PROMPT) if self.shell.gathering is None else GATHERING)
         finally:
             waiting.is_at_prompt = False
 
@@ -113,6 +116,9 @@ class Prompt:
                 continue
             try:
                 self.shell.run(line)
+            except Switched:
+                self.shell = self.shell.other or self.shell
+                self.shell.run("frame") if self.shell.session.frames() else self.shell.show()
             except Leave:
                 break
             was_interrupted = self.shell.waiting.is_pressed

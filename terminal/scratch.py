@@ -18,12 +18,18 @@ from .waiting import Interrupted, Waiting
 
 SLICE = 1_000_000
 MOST_AT_ONCE = 4096
+# The process follows the session if it is so many moves away, so that a question behind a long run needn't wait for it.
+FAR = 8 * SLICE
+# The debugger takes no more moves for one `step` or `back`.
+MOST_MOVES = (1 << 32) - 1
 # A batch that took less than this, in seconds, is followed by a larger one.
 SHORT = 0.03
 MOST_BYTES = 256
 # A stop as it is told: why, by which stop if by one, and where.
 TOLD = re.compile(r"stop: (\w+)(?: (\d+))?\n(#(\d+) .*)\n")
 ENDS = ("end", "start", "memory")
+# Words that say what is kept of a run.
+KEEPING = ("--memory", "--replay", "--history")
 # What is told where a history with a bound begins.
 OLDEST, OLDER = "stop: oldest", "no: history ends"
 
@@ -45,10 +51,17 @@ class Launch:
     history: int | None = None
     renaming: Renaming | None = None
 
+    @property
+    def keeps_copies(self) -> bool:
+        """Whether the debugger goes back from copies of states, so that far is as near as close by."""
+        return not self.history and "--history=all" not in self.words
+
     def command(self, history: int | None) -> list[str]:
+        """With a history of so many moves, whatever the words say of what is kept."""
+        words = [word for word in self.words if not word.startswith(KEEPING)] if history else self.words
         bound = ["--history", str(history)] if history else []
         file = [self.file] if self.file else []
-        return [self.debugger, *file, *self.words, "--limit", str(self.limit), *bound]
+        return [self.debugger, *file, *words, "--limit", str(self.limit), *bound]
 
 
 class Hit(NamedTuple):
@@ -70,6 +83,8 @@ class Scratch:
         self.timeline, self.place = Timeline(), Place(0)
         self.stops: list[str] = []
         self.numbers: dict[int, int] = {}
+        # What it was sent and hasn't been asked about yet.
+        self.following: list[str] = []
 
     @property
     def history(self) -> int | None:
@@ -79,7 +94,7 @@ class Scratch:
     def drop(self) -> None:
         if self.pipe:
             self.pipe.close()
-        self.pipe, self.timeline, self.numbers = None, Timeline(), {}
+        self.pipe, self.timeline, self.numbers, self.following = None, Timeline(), {}, []
 
     def start(self) -> None:
         self.drop()
@@ -87,6 +102,36 @@ class Scratch:
         if self.pipe.refused:
             raise self.pipe.refused
         self.place = read_place(self.pipe.loaded[1])
+
+    def follow(self, there: Timeline) -> None:
+        """Has the process go towards another state of the session's run while that goes on, if it is far away."""
+        if self.following:
+            if not self.pipe.has_answered():
+                return
+            self.settle()
+        if abs(there.position - self.timeline.position) < FAR:
+            return
+        if not self.pipe or self.pipe.process.poll() is not None:
+            self.start()
+        line = lines_between(self.timeline, there)[0]
+        word, _, count = line.partition(" ")
+        if word in ("step", "back"):
+            line = f"{word} {min(int(count), MOST_MOVES)}"
+        if self.pipe.has_room(len(line) + 3) and self.pipe.begin(line):
+            self.following = [line]
+
+    def settle(self) -> None:
+        """Waits until the process stands where it was sent."""
+        if not self.following:
+            return
+        lines, self.following = self.following, []
+        try:
+            answers = self.pipe.finish(len(lines))
+        except (Interrupted, Ended):
+            self.drop()
+            raise
+        for line, answer in zip(lines, answers):
+            self.after(answer, line)
 
     def ask(self, *lines: str) -> list[list[str]]:
         """Answers of the process that is there. Where it is broken off it is gone, and the next question begins another."""
@@ -98,6 +143,7 @@ class Scratch:
 
     def asked(self, size: int, call: Callable[[Pipe], Answer]) -> Answer:
         """What a call of the process gives, which sends so many bytes."""
+        self.settle()
         if not self.pipe:
             self.start()
         if not self.pipe.has_room(size):
@@ -110,6 +156,10 @@ class Scratch:
 
     def go(self, there: Timeline) -> Scratch:
         """Goes to another state of the session's run; where the process was ended meanwhile, with another one."""
+        try:
+            self.settle()
+        except Ended:
+            pass
         if not self.pipe or self.pipe.process.poll() is not None:
             self.start()
         if self.timeline != there and not self.move(there):
@@ -122,9 +172,10 @@ class Scratch:
         for line in lines_between(self.timeline, there):
             word, _, count = line.partition(" ")
             left = int(count) if word in ("step", "back") else 0
-            while left > 4 * SLICE:
-                self.waiting.tell(self.after(self.ask(f"{word} {4 * SLICE}")[0], line))
-                left -= 4 * SLICE
+            most = MOST_MOVES if word == "back" and self.launch.keeps_copies else 4 * SLICE
+            while left > most:
+                self.waiting.tell(self.after(self.ask(f"{word} {most}")[0], line), target=there.position)
+                left -= most
             self.after(self.ask(f"{word} {left}" if left else line)[0], line)
         return self.timeline == there
 

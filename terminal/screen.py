@@ -9,6 +9,7 @@ from typing import Iterator
 from .answers import Place
 from .frames import Frames, allocations_of
 from .lowered import Lowered
+from .origins import Origins
 from .session import Session
 from .sourcemap import SourceMap
 from .text import Instruction
@@ -24,10 +25,8 @@ HALTED = "fault halted"
 
 
 class Screen:
-    def __init__(self, session: Session, frames: Frames, file: str, lowered: Lowered):
-        self.session, self.frames = session, frames
-        self.map = SourceMap.beside(file)
-        self.lowered = lowered
+    def __init__(self, session: Session, frames: Frames, sources: SourceMap, lowered: Lowered, origins: Origins):
+        self.session, self.frames, self.map, self.lowered, self.origins = session, frames, sources, lowered, origins
 
     @property
     def width(self) -> int | None:
@@ -46,15 +45,16 @@ class Screen:
 
     # Values.
 
-    def name(self, value: int, width: str) -> str | None:
-        """The name of an address in the state where the session stands."""
+    def name(self, value: int, width: str, temporary: str = "") -> str | None:
+        """The name of an address in the state where the session stands, and of a temporary that holds it."""
         if width != "l":
             return None
         found = self.session.names.of(value)
         if found or not is_stack(value):
             return found
         if self.session.place.position <= MOST_MOVES:
-            return self.short_owner(value)
+            over = self.origins.over(value, self.session.timeline, temporary, is_asked=False) if temporary else None
+            return over.short if over else self.short_owner(value)
         return self.own_allocation(value)
 
     def short_owner(self, value: int) -> str | None:
@@ -80,7 +80,7 @@ class Screen:
         for operand in instruction.operands:
             if operand.is_temporary:
                 value = self.session.value(operand.text)
-                name = self.name(value, classes[operand.text]) if value is not None else None
+                name = self.name(value, classes[operand.text], operand.text) if value is not None else None
                 found.append(f"{operand.text}={brief(value, classes[operand.text], name)}")
         return list(dict.fromkeys(found))
 
@@ -100,7 +100,8 @@ class Screen:
             operand = phi.operands[phi.labels.index(place.label)]
             value = self.known(operand.text)
             width = function.temporaries[phi.result or ""]
-            shown = "unset" if value is None else brief(value, width, self.name(value, width))
+            name = operand.text if operand.is_temporary else ""
+            shown = "unset" if value is None else brief(value, width, self.name(value, width, name))
             found.append(f"{phi.result}={shown}")
         return found
 

@@ -3,7 +3,7 @@ from __future__ import annotations
 
 from .answers import Moved, Place, read_bytes, read_moved, read_place, read_value
 from .pipe import Ended, Pipe
-from .scratch import MOST_BYTES, Launch, Refused, Scratch, frames_of
+from .scratch import MOST_BYTES, MOST_MOVES, Launch, Refused, Scratch, frames_of
 from .text import Program
 from .timeline import Timeline, common, lines_between
 from .values import Names
@@ -22,8 +22,12 @@ class Session:
         self.lines: list[str] = []
         self.news: list[str] = []
         self.timeline = Timeline()
+        # How far the run has been with the pokes that it has now.
+        self.reached = 0
         self.kept: dict[str, list[str]] = {}
         self.selected = 0
+        # Whether the process for questions keeps up with long runs: where somebody waits for their answers.
+        self.is_followed = False
         if not self.pipe.refused:
             self.place = read_place(self.pipe.loaded[1])
             self.program = Program(source, launch.renaming)
@@ -42,22 +46,30 @@ class Session:
         if line.split(" ")[0] in MOVES:
             moved = read_moved(answer)
             self.place = moved.place
-            self.timeline = self.timeline.moved(moved.place.position, line, depth)
+            before, self.timeline = self.timeline, self.timeline.moved(moved.place.position, line, depth)
+            self.reached = max(self.reached if before.pokes == self.timeline.pokes else 0, self.timeline.position)
             self.selected = 0
+            if self.is_followed:
+                self.scratch.follow(self.timeline)
         return answer
 
     def move(self, line: str) -> Moved:
         return read_moved(self.change(line))
+
+    def most_at_once(self, word: str) -> int:
+        """How many moves one line makes, so that Ctrl-C is heard; where copies of states are kept, all that go over what was run."""
+        ahead = MOST_MOVES if word == "back" else self.reached - self.timeline.position
+        return max(self.launch.limit, min(ahead, MOST_MOVES) if self.launch.keeps_copies else 0)
 
     def go(self, there: Timeline) -> None:
         """Leads the session to another state by steps, and by the pokes that were made on the way there."""
         for line in lines_between(self.timeline, there):
             word, _, count = line.partition(" ")
             left = int(count) if word in ("step", "back") else 0
-            while left > self.launch.limit:
-                self.move(f"{word} {self.launch.limit}")
-                left -= self.launch.limit
-                self.waiting.tell(self.place.position)
+            while left > (most := self.most_at_once(word)):
+                self.move(f"{word} {most}")
+                left -= most
+                self.waiting.tell(self.place.position, target=there.position)
                 self.waiting.stop_if_pressed()
             self.move(f"{word} {left}" if left else line)
             if self.timeline.position > there.position == common(self.timeline, there):

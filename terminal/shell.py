@@ -3,7 +3,6 @@ from __future__ import annotations
 
 import difflib
 import shlex
-import sys
 from dataclasses import dataclass
 from typing import Callable, Sequence
 
@@ -11,12 +10,15 @@ from .answers import Place
 from .causes import Cause, Causes
 from .expressions import Node, Unset, Value, Wrong, evaluate, parse, parts_of, whole
 from .frames import Frames
+from .lookout import Lookout
 from .lowered import lowered_of
+from .output import Output, Quit, Standard
 from .pipe import Ended
 from .runs import STOPPED, Outcome, Runs
 from .scratch import SLICE, Launch, Refused
 from .screen import Screen
 from .session import Session
+from .sourcemap import SourceMap
 from .timeline import Timeline
 from .values import FLOATS, FORMATS, as_float, bits_of, formatted, remarks, unsigned
 from .waiting import Interrupted, Waiting
@@ -59,6 +61,10 @@ class Leave(Exception):
     """The session is to end."""
 
 
+class Switched(Exception):
+    """The session of the other text is to go on, where two are compared."""
+
+
 class FrameState:
     """The state of the selected frame, as expressions look at it."""
 
@@ -89,6 +95,8 @@ class Shell:
     def __init__(self, launch: Launch, file: str, source: bytes, waiting: Waiting, budget: int | None = None,
                  memory_told: int = MEMORY_TOLD, lowered: Sequence[str] = ()):
         self.launch, self.waiting = launch, waiting
+        self.output: Output = Standard(waiting)
+        self.lookout: Lookout | None = None
         # What stands for the program on a command line of ./qrev, and what comes last there.
         end = lowered.index("--") if "--" in lowered else len(lowered)
         self.named, self.texts = ["--lower", *lowered[:end]] if lowered else [file], lowered[end:]
@@ -99,9 +107,10 @@ class Shell:
         self.lowered.tell_classes(self.session.program)
         self.frames = Frames(self.session.program, self.session.names, self.session.scratch)
         self.runs = Runs(self.session, self.frames, budget)
-        self.screen = Screen(self.session, self.frames, file, self.lowered)
-        self.causes = Causes(self.session.program, self.session.names, self.frames, self.session.scratch,
-                             self.screen.map.place, self.lowered)
+        sources = SourceMap.beside(file)
+        self.causes = Causes(self.session.program, self.session.names, self.frames, self.session.scratch, sources.place,
+                             self.lowered)
+        self.screen = Screen(self.session, self.frames, sources, self.lowered, self.causes.origins)
         self.memory_told = memory_told * MEGABYTE
         self.displays: dict[int, tuple[str, str]] = {}
         self.checkpoints: dict[str, Timeline] = {}
@@ -117,19 +126,22 @@ class Shell:
         # The commands of a stop, while their lines are being typed; and how many files and stops the line at hand comes from.
         self.gathering: list[str] | None = None
         self.nested = 0
+        # The session of the other text, where two are compared.
+        self.other: Shell | None = None
 
     # What is said.
 
     def say(self, *lines: str) -> None:
-        self.waiting.clear()
-        sys.stdout.write("".join(line + "\n" for line in lines))
-        sys.stdout.flush()
+        self.output.say(*lines)
 
     def begin(self) -> None:
         """What is said before the first line."""
-        self.say(*self.session.pipe.loaded[:1])
-        self.show()
-        self.say("`help` lists the commands")
+        try:
+            self.say(*self.session.pipe.loaded[:1])
+            self.show()
+            self.say("`help` lists the commands")
+        except Quit:
+            pass
 
     def replayed(self, script: str) -> str:
         """The command that plays a saved script to the same state."""
@@ -179,6 +191,9 @@ class Shell:
         if outcome.reason == "end" and not self.has_said_end:
             self.has_said_end = True
             self.say("the run is over: `why` says what it comes of, `back` goes back into it")
+            seen = self.lookout.at_end(self.session.timeline) if self.lookout else []
+            if seen:
+                self.say(*seen)
         if outcome.stop and outcome.stop.commands:
             self.do_nested(outcome.stop.commands)
 
@@ -198,9 +213,8 @@ class Shell:
         taken = self.session.memory_taken()
         if taken > self.memory_told:
             self.memory_told = 2 * taken
-            self.say(f"the session takes {taken // MEGABYTE} MB, some 28 bytes a move; with --history 1000000 it would "
-                     "keep the last million moves only, in 28 MB, and `back` would end there; with --replay it would keep "
-                     "copies of states and no moves, in 64 MB, and `back` would go everywhere")
+            self.say(f"the session takes {taken // MEGABYTE} MB, some 28 bytes a move; without --history it would keep "
+                     "copies of states, in 64 MB, and `back` would go as far")
 
     # What lines are made of.
 
@@ -267,20 +281,34 @@ class Shell:
         number = unsigned(value.number, width)
         if letters and letters != "a":
             return f"{text} = {formatted(number, width, letters)}"
-        name = self.frames.name(number, "l" if letters else value.width, self.session.timeline)
+        name = self.address_told(text, number, "l" if letters else value.width)
         if letters:
             return f"{text} = {number}" + (f" {name}" if name else "")
         said = remarks(number, value.width, name) if value.width else []
         return f"{text} = {number if value.width else value.number}" + (f" ({', '.join(said)})" if said else "")
+
+    def address_told(self, text: str, value: int, width: str) -> str | None:
+        """The name of an address that an expression gives: of a temporary, or of eight bytes of memory, also which slot of a frame
+        that is over it was made in."""
+        at, node = self.session.timeline, self.parsed(text)
+        if node.kind == "temporary" and self.session.frames():
+            return self.causes.address_told(value, width, at, node.text, frame=self.frames.frame(at, self.session.selected))
+        if node.kind == "memory" and node.text == "l":
+            address = whole(evaluate(node.parts[0], FrameState(self))) % (1 << 64)
+            return self.causes.address_told(value, width, at, address=address)
+        return self.frames.name(value, width, at)
 
     # Lines.
 
     def run(self, line: str) -> None:
         """Does what a line asks, and says what came of it or what is wrong with it."""
         self.waiting.begin()
+        self.output.begin()
         before = self.session.place
         try:
             self.do(line)
+        except Quit:
+            pass
         except (Wrong, Unset, Refused) as error:
             self.say(str(error))
             self.show_if_moved(before)
@@ -291,12 +319,13 @@ class Shell:
             self.say(f"the debugger ended ({end}); `save FILE` still writes the session's lines")
         except RecursionError:
             self.say("the expression is nested too deeply")
-        except Leave:
+        except (Leave, Switched):
             raise
         except Exception as error:
             self.fault(error)
         finally:
             self.waiting.clear()
+            self.output.begin()
             for news in self.session.news:
                 self.say(news)
             self.session.news.clear()

@@ -4,6 +4,7 @@ from __future__ import annotations
 import signal
 import sys
 import time
+from typing import Callable
 
 SHOWN_AFTER = 1.0
 SHOWN_EVERY = 0.2
@@ -24,6 +25,8 @@ class Waiting:
         self.is_shown = False
         self.begun = self.shown_at = time.monotonic()
         self.first: int | None = None
+        # Where progress is shown other than at the prompt.
+        self.told: Callable[[str], None] | None = None
 
     def install(self) -> None:
         signal.signal(signal.SIGINT, self.handle)
@@ -55,16 +58,28 @@ class Waiting:
         if self.is_pressed:
             raise Interrupted
 
-    def tell(self, position: int, what: str = "") -> None:
-        """Shows how far a run is, where it takes over a second."""
+    def tell(self, position: int, what: str = "", target: int | None = None) -> None:
+        """Shows how far a run is that takes over a second; with a target, how much of it that is and how long it still takes."""
         now = time.monotonic()
         if self.first is None:
             self.first, self.begun = position, min(self.begun, now)
         if now - self.begun < SHOWN_AFTER or now - self.shown_at < SHOWN_EVERY or not sys.stdout.isatty():
             return
-        self.shown_at, self.is_shown = now, True
-        rate = abs(position - self.first) / (now - self.begun) / 1e6
-        sys.stdout.write(f"\r\x1b[K{what}#{position}, {rate:.1f} million moves a second; Ctrl-C stops")
+        self.shown_at = now
+        made = abs(position - self.first)
+        rate = made / (now - self.begun)
+        share = ""
+        if target is not None and made:
+            left = abs(target - position)
+            share = f" of #{target} ({100 * made // (made + left)} %, {left / rate:.0f} s left)"
+        self.show(f"{what}#{position}{share}, {rate / 1e6:.1f} million moves a second; Ctrl-C stops")
+
+    def show(self, text: str) -> None:
+        if self.told:
+            self.told(text)
+            return
+        self.is_shown = True
+        sys.stdout.write(f"\r\x1b[K{text}")
         sys.stdout.flush()
 
     def clear(self) -> None:

@@ -171,7 +171,8 @@ class CallWriter:
         for index, (cls, (kind, _)) in enumerate(zip(taken_by(target), arguments)):
             if is_float(cls) != is_float(kind):
                 self.note(f"argument {index + 1} behind the dots of {target.name} is a {kind}, and its `vaarg` there takes a "
-                          f"{cls}: native code takes floats and integers from registers of their own", Weight.OTHER)
+                          f"{cls}: native code takes floats and integers from registers of their own",
+                          Weight.APART if self.symbol in self.program.reached else Weight.OTHER)
                 return
 
     def fitted(self, kind: str, value: Value, wanted: str, number: int, target: Symbol) -> str:

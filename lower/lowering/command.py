@@ -18,6 +18,7 @@ from .sizes import LARGE, told_bytes
 from .squeezing import squeeze_names, squeeze_spaces
 from .symbols import Symbol
 from .tree import Text
+from .unreached import cut_unreached
 from .writing import MOST_BYTES, ProgramWriter, map_of, size_of_text, text_of
 
 BAD_COMMAND_LINE, NOT_READ, LEFT_OVER = 64, 2, 1
@@ -69,7 +70,7 @@ class Lowering:
     def __init__(self, texts: list[Text], entry: str, is_linked: bool, words: list[str] | None = None,
                  input_bytes: bytes = b""):
         """`words` are the arguments of the entry as texts, without the name of the program."""
-        self.report = Report()
+        self.report, self.is_linked = Report(), is_linked
         self.program = Program(texts, self.report)
         give_input(self.program.runtime, input_bytes)
         self.entry = self.entry_symbol("$" + entry)
@@ -110,6 +111,8 @@ class Lowering:
             return {}
         renamed = squeeze_names(self.chunks)
         self.report.count("temporaries and labels with short names, to fit", len(renamed))
+        if self.is_linked and self.entry is not None and size_of_text(self.chunks) > MOST_BYTES:
+            self.report.count("functions that no call can reach, cut to fit", cut_unreached(self.chunks, self.entry.name))
         return renamed
 
     def entry_symbol(self, raw: str) -> Symbol | None:
@@ -171,6 +174,6 @@ def main(words: list[str]) -> int:
         return NOT_READ
     for line in lowering.overflows:
         print(f"qrev-lower: {line}", file=sys.stderr)
-    for line in lowering.report.lines() if given.report else lowering.report.halting():
+    for line in lowering.report.lines() if given.report else lowering.report.told():
         print(line, file=sys.stderr)
     return LEFT_OVER if lowering.overflows or lowering.report.would_halt() else 0

@@ -3,11 +3,12 @@
 Each line is a kind and words, with tabulators between:
 
     outside $f                a function from outside, which halts
-    runtime $f                a function of the runtime
+    runtime $f                a function of the runtime, or data of it
     instruction $f NAME C C*  the runtime's function for an instruction on floats: the classes of its result and its operands
     result $f C               a function that gives a float: s or d
     float $f %x C             a temporary that holds a float
     data $x OFFSET C COUNT    floats in data, from an offset on
+    stored LINE C             a line of the text, whose store writes a constant of a float
     name NEW OLD              a temporary or a label that is written by a shorter name, in all functions
 """
 from collections.abc import Iterator
@@ -17,7 +18,7 @@ from .data import size_of
 from .functions import FLOAT_CALLS
 from .instructions import FLOATS, WITH_RESULT
 from .symbols import Symbol
-from .tree import Data, Function
+from .tree import Data, Function, Instruction
 
 if TYPE_CHECKING:
     from .writing import Chunk
@@ -46,6 +47,8 @@ def told_function(symbol: Symbol, function: Function) -> Iterator[str]:
 
 def told_data(symbol: Symbol, data: Data) -> Iterator[str]:
     """The floats of an object, those of one class on end together."""
+    if symbol.is_of_runtime():
+        yield line("runtime", symbol.name)
     at = 0
     runs: list[tuple[int, str, int]] = []
     for item in data.items:
@@ -60,15 +63,27 @@ def told_data(symbol: Symbol, data: Data) -> Iterator[str]:
     yield from (line("data", symbol.name, *run) for run in runs)
 
 
+def told_stores(chunk: "Chunk", function: Function, before: int) -> Iterator[str]:
+    """The stores of constants of floats, by the lines of the text, of which so many stand before the function's."""
+    stores = {each.line: each.name[-1] for block in function.blocks for each in block.instructions
+              if isinstance(each, Instruction) and each.name in ("stores", "stored") and isinstance(each.operands[0], int)}
+    for index, (text, (origin, _)) in enumerate(zip(chunk.texts, chunk.origins) if stores else ()):
+        if origin in stores and text.lstrip().startswith("store"):
+            yield line("stored", before + index + 1, stores[origin])
+
+
 def meanings_of(chunks: list["Chunk"], renamed: dict[str, str]) -> str:
     """The lines of all definitions that are written, and the old names of what has new ones."""
     told = [line("name", new, old) for new, old in renamed.items()]
+    before = 0
     for chunk in chunks:
         definition = chunk.symbol.definition
         if definition is None:
             told.append(line("outside", chunk.symbol.name))
         elif isinstance(definition, Function):
             told += told_function(chunk.symbol, definition)
+            told += told_stores(chunk, definition, before) if not chunk.symbol.is_of_runtime() else ()
         else:
             told += told_data(chunk.symbol, definition)
+        before += len(chunk.texts)
     return "".join(told)

@@ -8,7 +8,13 @@ class Weight(Enum):
 
     SAME = auto()  # It runs as native code does.
     OTHER = auto()  # It may run otherwise than native code.
+    APART = auto()  # It runs otherwise than native code there, and can be reached.
     HALTS = auto()  # It would halt there, and can be reached.
+
+
+# What stands behind a note.
+SAID = {Weight.SAME: "", Weight.OTHER: " (native code may differ)", Weight.APART: " (native code differs)",
+        Weight.HALTS: " (would halt)"}
 
 
 class Report:
@@ -33,14 +39,13 @@ class Report:
     def would_halt(self) -> bool:
         return Weight.HALTS in self.notes.values()
 
-    def halting(self) -> list[str]:
-        """The notes of what would halt: these are told without being asked for."""
-        return [f"{note} (would halt)" for note, weight in self.notes.items() if weight is Weight.HALTS]
+    def told(self) -> list[str]:
+        """The notes that are told without being asked for: of what can be reached, and would halt or runs otherwise."""
+        return [note + SAID[weight] for note, weight in self.notes.items() if weight in (Weight.APART, Weight.HALTS)]
 
     def lines(self) -> list[str]:
         """The counts by name, then the notes: first those of what runs as it did, last what would halt."""
         told = [f"{number} {what}" for what, number in sorted(self.counts.items())] + self.sizes
-        for weight, behind in ((Weight.SAME, ""), (Weight.OTHER, " (native code may differ)"),
-                               (Weight.HALTS, " (would halt)")):
+        for weight, behind in SAID.items():
             told += [note + behind for note, has in self.notes.items() if has is weight]
         return told

@@ -105,7 +105,7 @@ def wrapper_faults(running: Running) -> Results:
         lines = run.stdout.split("\n")
         yield "command/--lower", differ("run", (0, True, ['out 12 "argument 42\\012"', ""], ""),
                                         (run.returncode, lines[-3].endswith(" done 6"), lines[-2:], run.stderr))
-        for words in (["--replay", "2"], ["--replay"], ["--replay=65536"]):
+        for words in (["--memory", "2"], ["--memory=65536"], ["--history", "all"], ["--replay", "2"], ["--replay"], ["--replay=65536"]):
             run = wrapper.run("--lower", "a.ssa", "b.ssa", "42", *words)
             yield f"command/--lower with {words}", differ("run", (0, ['out 12 "argument 42\\012"', ""], ""),
                                                            (run.returncode, run.stdout.split("\n")[-2:], run.stderr))

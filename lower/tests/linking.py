@@ -237,13 +237,18 @@ export function w $main() {
 """
 
 
+RETURNS = "export function w $main() {\n@start\n\tret 0\n}\n"
+
+
 def order_fault(running: Running) -> str | None:
     """A call whose arguments behind dots stand in another order than that in which they are taken is told."""
     lowered = running.lower({"a.ssa": ORDER}, "--link", "--report")
     told = [line for line in lowered.errors.split("\n") if "behind the dots of $f" in line]
     return differ("told", ["a.ssa:13: argument 1 behind the dots of $f is a w, and its `vaarg` there takes a d: native code "
-                           "takes floats and integers from registers of their own (native code may differ)"], told) or \
-        differ("end", "done 7", running.run(lowered.text).end)
+                           "takes floats and integers from registers of their own (native code differs)"], told) or \
+        differ("told without being asked", told, running.lower({"a.ssa": ORDER}, "--link").errors.split("\n")[:-1]) or \
+        differ("status", 0, lowered.status) or differ("end", "done 7", running.run(lowered.text).end) or \
+        differ("where nothing calls it", "", running.lower({"a.ssa": ORDER.replace("$main", "$other") + RETURNS}).errors)
 
 
 # Names that are the runtime's own: the text's are others, and one that it lacks is one from outside.

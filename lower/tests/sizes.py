@@ -19,6 +19,44 @@ def text_of(functions: int, word: str) -> str:
         "\t%x =l call $f0(l 5)\n\tret %x\n}\n"
 
 
+def table_text(functions: int, argument: str) -> str:
+    """Functions that a table alone names, of two parameters; $main calls one of the table that has one parameter, with its address
+    from there, and with a second argument if that is given."""
+    parts = []
+    for number in range(functions):
+        lines = [f"\t%n{step} =l add %n{step - 1}, %m" for step in range(1, STEPS)]
+        parts.append(f"function l $f{number}(l %n0, l %m) {{\n@start\n" + "\n".join(lines) + f"\n\tret %n{STEPS - 1}\n}}\n")
+    names = ", ".join(f"l $f{number}" for number in range(functions))
+    return f"data $table = {{ l $one, {names} }}\n" + "".join(parts) + f"""function l $one(l %n) {{
+@start
+\t%r =l add %n, 2
+\tret %r
+}}
+export function l $main() {{
+@start
+\t%f =l loadl $table
+\t%x =l call %f(l 40{argument})
+\t%g =l add $table, 8
+\t%last =l loadl %g
+\t%is =w ceql %last, $f0
+\t%e =l extuw %is
+\t%y =l add %x, %e
+\tret %y
+}}
+"""
+
+
+def table_fault(running: Running, argument: str, status: int, end: str | None) -> str | None:
+    """A table of functions that only a call of another shape could enter is cut to fit, and the run is the same."""
+    lowered = running.lower({"a.ssa": table_text(600, argument)}, "--link", "--report")
+    fault = differ("status", status, lowered.status) or \
+        differ("functions that are cut", end is not None, "600 functions that no call can reach, cut to fit" in lowered.errors)
+    if fault or end is None:
+        return fault
+    return differ("size", True, len(lowered.text) <= 1 << 20) or differ("end", end, running.run(lowered.text).end) or \
+        differ("lines of the map", lowered.text.count("\n"), lowered.map.count("\n"))
+
+
 def fault_of(running: Running, text: str, functions: int, told: str, output: str) -> str | None:
     lowered = running.lower({"a.ssa": text}, "--link", "--report")
     run = running.run(lowered.text)
@@ -36,6 +74,9 @@ def results(running: Running) -> Results:
                                   (240, "name", "texts that are written without spaces"),
                                   (250, "a.long.name.of.temporaries", "temporaries and labels with short names")):
         yield f"sizes/{functions} functions", fault_of(running, text_of(functions, word), functions, told, output)
+    # The call by an address has the shape of $one, and then that of all others.
+    yield "sizes/a table of functions that nothing calls", table_fault(running, "", 0, "done 43")
+    yield "sizes/a table of functions that may be called", table_fault(running, ", l 1", 1, None)
     text = text_of(800, "x")
     lowered = running.lower({"a.ssa": text}, "--link", "--report")
     yield "sizes/too large all the same", differ("status", 1, lowered.status) or \

@@ -59,7 +59,7 @@ export class Agreed {
       if (number === this.asked) this.say(error instanceof TypeError ? "the server has ended" : error.message, false);
       return;
     }
-    if (number !== this.asked || run !== app.run) return;
+    if (number !== this.asked || run !== app.run || told.overtaken) return;
     const apart = differences(run, memory, told, cursor);
     this.say(apart.length ? `differs from the session: ${apart[0]}` : `session ${told.place}`, !apart.length,
       apart.join("\n"));

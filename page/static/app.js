@@ -3,6 +3,7 @@ import {Agreed} from "./agreed.js";
 import {Causes} from "./causes.js";
 import {Cells} from "./cells.js";
 import {Code} from "./code.js";
+import {Ghost} from "./ghost.js";
 import {Keys} from "./keys.js";
 import {Memory} from "./memory.js";
 import {Output} from "./output.js";
@@ -23,6 +24,8 @@ class App {
     this.view = [0, 1];
     this.pins = [];
     this.suspicions = [];
+    // Whether the runtime of a lowered text counts as its instructions.
+    this.isFolded = false;
     this.walk = new Walk(this);
     this.timeline = new Timeline(byId("timeline"), this);
     this.code = new Code(byId("code"), this);
@@ -39,6 +42,8 @@ class App {
     this.program = await this.source.program();
     byId("file").textContent = this.program.file;
     document.title = `${this.program.file} · qrev`;
+    this.isFolded = this.program.hasOthers;
+    byId("fold").hidden = !this.program.hasOthers;
     this.code.build();
     if (this.program.long) await this.overviewed();
     await this.load(this.long ? 0 : null);
@@ -48,11 +53,10 @@ class App {
   }
 
   listen() {
-    const acts = {first: () => this.goTo(0), back: () => this.go(this.cursor - 1),
-      forth: () => this.go(this.cursor + 1),
+    const acts = {first: () => this.goTo(0), back: () => this.one(-1), forth: () => this.one(1),
       last: () => this.goTo(this.wholeMoves), whole: () => this.show(0, this.run.moves),
         keys: () => byId("help").showModal(),
-      theme: () => this.theme(), poke: () => this.poke(), suspects: () => this.toSuspicion(), script: () => this.script(), save: () => this.save()};
+      theme: () => this.theme(), poke: () => this.poke(), fold: () => this.fold(), suspects: () => this.toSuspicion(), script: () => this.script(), save: () => this.save()};
     for (const [id, act] of Object.entries(acts)) byId(id).addEventListener("click",
       () => (id === "theme" || this.run?.isComplete) && act());
     byId("position").addEventListener("change", event => this.typed(event.target));
@@ -64,21 +68,22 @@ class App {
 
   /** Takes the run from its source, and shows it: its calls while it comes, and then all. */
   async load(cursor = null, was = "") {
-    const begun = performance.now(), before = this.run;
+    const begun = performance.now(), before = {run: this.run, memory: this.memory, isInside: !this.isFolded};
     if (!this.long) byId("progress").hidden = false;
     const run = await this.source.run(this.program, growing => this.growing(growing));
     if (!this.long) byId("progress").hidden = true;
     this.run = run;
-    // What the run was before a value was set by hand.
-    this.ghost = was ? before : null;
     this.memory = new Memory(run);
+    // What the run was before a value was set by hand.
+    this.ghost = was ? new Ghost(before, {run, memory: this.memory}, cursor - 1) : null;
     this.causes = new Causes(run, this.memory);
     this.cells.build();
     this.output.build();
     this.header(was);
+    this.causes.isInside = !this.isFolded;
     this.cursor = cursor ?? run.moves;
-    this.selected = 0;
-    this.view = this.viewOf(run, was ? before : null);
+    this.selected = this.firstFrame();
+    this.view = this.viewOf(run, was ? before.run : null);
     // Behind a value by hand the question is what the run ends in now.
     const at = was ? run.moves : this.cursor;
     this.walk.begin(this.long && !this.isAtEnd ? this.firstQuestion() : this.causes.root(at), 2);
@@ -133,9 +138,10 @@ class App {
   }
 
   header(was) {
-    const {run, long} = this, end = byId("end"), told = long ? long.end : run.isOver ? run.end : "goes on";
+    const {run, long} = this, end = byId("end"), halted = run.isOver && this.causes.haltedAt(run.beforeEnd(run.moves));
+    const told = halted || (long ? long.end : run.isOver ? run.end : "goes on");
     end.textContent = end.title = told || "looking for the end";
-    end.className = told.startsWith("fault") ? "pill is-fault" : "pill";
+    end.className = told.startsWith("fault") || halted ? "pill is-fault" : "pill";
     byId("was").textContent = was;
     byId("moves").textContent = `${spaced(this.wholeMoves)} moves${long ? `, ${spaced(run.moves)} shown` : ""}`;
     byId("poke").hidden = !this.source.isLive || Boolean(long);
@@ -193,6 +199,12 @@ class App {
     return this.run.placeAt(this.cursor) === null;
   }
 
+  /** The frame that is looked into first: the innermost one, or the innermost one of the program's own. */
+  firstFrame() {
+    const {run, cursor} = this;
+    return this.isFolded ? Math.max(0, run.framesOf(cursor).indexOf(run.ownFrame(cursor))) : 0;
+  }
+
   get frame() {
     const frames = this.run.framesOf(this.cursor);
     return frames[Math.min(this.selected, frames.length - 1)];
@@ -217,7 +229,8 @@ class App {
   /** Moves the page's cursor alone; the session follows when it rests (`go`). */
   move(position) {
     this.cursor = Math.max(0, Math.min(this.run.moves, position));
-    this.selected = 0;
+    this.selected = this.firstFrame();
+    this.follows?.(this.cursor);
     this.draw();
   }
 
@@ -275,11 +288,38 @@ class App {
     this.draw();
   }
 
+  /** Folds the runtime of a lowered text away, or shows what it does. */
+  fold() {
+    if (!this.program.hasOthers) return;
+    this.isFolded = !this.isFolded;
+    this.causes.isInside = !this.isFolded;
+    byId("fold").setAttribute("aria-pressed", String(!this.isFolded));
+    this.code.refold();
+    this.walk.begin(this.walk.root?.question ?? this.causes.root(this.cursor), 2);
+    this.move(this.cursor);
+    this.drawCauses();
+    this.code.heat();
+    this.say(this.isFolded ? "a function of the runtime counts as one instruction" : "the runtime is shown as it runs");
+  }
+
+  /** Whether a state is one of the runtime alone, and it is folded away. */
+  isAway(position) {
+    const {run} = this;
+    return this.isFolded && run.placeAt(position) !== null && !run.isOwnFrame(run.frameAt[position]);
+  }
+
+  /** One move, or a whole call of what is folded away. */
+  one(direction) {
+    let at = this.cursor + direction;
+    while (at > 0 && at < this.run.moves && this.isAway(at)) at += direction;
+    this.go(at);
+  }
+
   /** Over calls, as `next` and `reverse-next`. */
   over(direction) {
     const {run} = this, depth = run.frames.depth[run.frameAt[this.cursor]];
     let at = this.cursor + direction;
-    while (at > 0 && at < run.moves && run.frames.depth[run.frameAt[at]] > depth) at += direction;
+    while (at > 0 && at < run.moves && (run.frames.depth[run.frameAt[at]] > depth || this.isAway(at))) at += direction;
     this.go(at);
   }
 

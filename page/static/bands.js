@@ -75,8 +75,9 @@ export class Bands {
   /** The objects that the run touches, each as tall as it has pieces; then the stack. */
   get list() {
     const {run} = this.app;
-    if (this.listOf === run) return this.made;
-    this.listOf = run;
+    const {isFolded} = this.app;
+    if (this.listOf === run && this.wasFolded === isFolded) return this.made;
+    Object.assign(this, {listOf: run, wasFolded: isFolded});
     const found = this.touched(), total = found.reduce((sum, band) => sum + band.tall + 2, 0);
     const factor = total > MOST_TALL ? MOST_TALL / total : 1;
     let top = 2;
@@ -108,7 +109,7 @@ export class Bands {
     }
     const kept = new Set([...touched].sort((one, other) => other[1] - one[1]).slice(0,
       MOST_BANDS).map(([data]) => data));
-    const found = program.data.filter(data => kept.has(data) && data.size).map(({name, address, size}) =>
+    const found = program.data.filter(data => kept.has(data) && data.size && !(this.wasFolded && program.isOther(data.name))).map(({name, address, size}) =>
       ({name, address, size, tall: Math.max(11, Math.min(40, 5 * size / cells.widthOf(name)))}));
     const size = stack.end - stack.address;
     if (stack.end) found.push({name: "stack", address: stack.address, size,

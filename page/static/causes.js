@@ -1,9 +1,11 @@
 // Where a value comes from: each question has one answer, the move that set it, and what that read can be asked in turn.
 // The answers are those of `why` at the terminal (terminal/causes.py); page/test holds the two together.
-import {ALLOCATIONS, LOADED, WIDTHS, isAsked, numeral, sizeOf} from "./program.js";
+import {ALLOCATIONS, FLOATS, LOADED, WIDTHS, floatText, isAsked, numeral, sizeOf} from "./program.js";
 import {KINDS} from "./memory.js";
 
-const MOST_BYTES = 48;
+const MOST_BYTES = 48, MOST_CELLS = 16;
+// What lowering has in place of the arguments behind dots.
+const CELLS = "%.cells.";
 const BEFORE = "before this window";
 
 export class Causes {
@@ -11,6 +13,8 @@ export class Causes {
     this.run = run;
     this.program = run.program;
     this.memory = memory;
+    // Whether functions of the runtime are looked into; else each is one instruction of the program.
+    this.isInside = false;
   }
 
   // Questions. Each is about a state, in whose innermost frame it is asked.
@@ -23,13 +27,14 @@ export class Causes {
     return {of: "temporary", position, name, width, value, label: name, shown};
   }
 
-  bytes(address, count, position, label) {
+  bytes(address, count, position, label, cls = "") {
     const value = count <= 8 ? this.memory.value(address, count, position) : null;
     const near = this.memory.nameOf(BigInt(address), position) ?? String(address);
+    const width = cls || this.program.floatAt(address, count) || WIDTHS[count];
     const shown = count > 8 ? `${count} bytes` : value === null ? "not live"
-      : this.shown(value, WIDTHS[count] ?? "l", position);
-    return {of: "memory", position, address, count, value,
-      label: label ?? `${WIDTHS[count] ?? `${count} bytes at`} ${near}`, shown};
+      : this.shown(value, width ?? "l", position);
+    return {of: "memory", position, address, count, value, width,
+      label: label ?? `${width ?? `${count} bytes at`} ${near}`, shown};
   }
 
   control(position) {
@@ -48,12 +53,14 @@ export class Causes {
   /** The question of how the run ended, or of how it came to a state. */
   root(position) {
     const {run} = this;
-    return run.placeAt(position) ? this.control(position) : {of: "end", position, label: run.end};
+    return run.placeAt(position) ? this.control(position)
+      : {of: "end", position, label: this.haltedAt(run.beforeEnd(position)) ?? run.end};
   }
 
   /** A value as it is read best: an address by its name. */
   shown(value, width, position) {
     if (value === null) return "unset";
+    if (width in FLOATS) return floatText(value, width);
     return (width === "l" && this.memory.nameOf(value, position)) || numeral(value, width);
   }
 
@@ -71,11 +78,51 @@ export class Causes {
   /** The instruction that comes next in a state, with its operands; of a blit the bytes that are asked about. */
   executed(move, verb, wanted = null) {
     const place = this.run.placeAt(move);
-    const read = this.bytesRead(move, place.instruction, wanted), operands = this.operands(move);
+    const read = [...this.bytesRead(move, place.instruction, wanted), ...this.bytesCopied(move, place.instruction, wanted)],
+      operands = this.operands(move);
     // What a load took comes before where it took it.
     const first = place.instruction.op in LOADED ? [...read, ...operands] : [...operands, ...read];
-    const questions = [...first, this.control(move)];
+    const questions = [...first, ...this.cellsGiven(move, place), this.control(move)];
     return this.made(move, verb, questions);
+  }
+
+  /** What a call of memcpy or one of its kin copied to bytes that are asked about, where that is live. */
+  bytesCopied(move, {op, operands}, wanted) {
+    if (op !== "call" || !wanted || !this.program.copying.has(operands[0][0])) return [];
+    const [to, from] = operands.slice(1, 3).map(([text]) => this.run.operand(text, move));
+    if (to === null || from === null || from > 0xffffffffn || BigInt(wanted.address) < to) return [];
+    const address = Number(from) + wanted.address - Number(to), count = Math.min(wanted.count, MOST_BYTES);
+    for (let at = 0; at < count; at++) if (this.memory.byte(address + at, move) === null) return [];
+    return [this.bytes(address, count, move)];
+  }
+
+  /** The arguments behind the dots of a call, which are in cells of memory. */
+  cellsGiven(move, {func, instruction: {op, operands}}) {
+    const name = op === "call" && operands.find(([text]) => text.startsWith(CELLS))?.[0];
+    const begin = name ? this.run.operand(name, move) : null;
+    if (begin === null) return [];
+    const made = this.program.table.slice(func.entry, func.last).find(({instruction}) => instruction.result === name);
+    const count = Math.min(Math.floor(Number(made.instruction.operands[0][0]) / 8), MOST_CELLS);
+    return Array.from({length: count}, (_, index) => this.bytes(Number(begin) + 8 * index, 8, move));
+  }
+
+  /** Where the innermost frame belongs to the runtime: the move by which the program calls it, and the function that it calls;
+      else the move itself. */
+  callInOwn(move) {
+    const {run} = this, {parent, begin} = run.frames;
+    let frame = run.frameAt[move], callee = -1;
+    while (frame >= 0 && !run.isOwnFrame(frame)) {
+      callee = frame;
+      frame = parent[frame];
+    }
+    return this.isInside || callee < 0 || frame < 0 ? [move, ""] : [begin[callee] - 1, run.funcOf(callee).name];
+  }
+
+  /** What the program's own instruction did by a call of the runtime, if a move was made there. */
+  ofCallee(move, told, wanted = null) {
+    const [call, callee] = this.callInOwn(move);
+    if (!callee) return null;
+    return call < 0 ? this.made(null, BEFORE, []) : this.executed(call, told(callee), wanted);
   }
 
   operands(position) {
@@ -97,7 +144,8 @@ export class Causes {
     }
     count = Math.min(count, MOST_BYTES);
     for (let at = 0; at < count; at++) if (this.memory.byte(address + at, move) === null) return [];
-    return count > 0 ? [this.bytes(address, count, move)] : [];
+    const width = instruction.result && this.program.widths[this.run.placeAt(move).func.ids.get(instruction.result)];
+    return count > 0 ? [this.bytes(address, count, move, undefined, width in FLOATS ? width : "")] : [];
   }
 
   of_temporary({name, position}) {
@@ -132,6 +180,8 @@ export class Causes {
 
   /** The ret that gave a value back, and the call: a wrong argument is as likely as a wrong body. */
   ofResult(move) {
+    const inOwn = this.ofCallee(move, () => "set by");
+    if (inOwn) return inOwn;
     const {run} = this, cause = this.executed(move, "given back by"), called = run.frames.begin[run.frameAt[move]] - 1;
     if (called < 0) return cause;
     const {instruction} = run.placeAt(called);
@@ -140,6 +190,8 @@ export class Causes {
   }
 
   ofParameter(name, move, func) {
+    const inOwn = this.ofCallee(move, callee => `given by ${callee}, called at`);
+    if (inOwn) return inOwn;
     const cause = this.executed(move, "argument of the call");
     const index = func.parameters.findLastIndex(([, parameter]) => parameter === name);
     const own = this.run.placeAt(move).instruction.operands[index + 1]?.[0];
@@ -213,15 +265,25 @@ export class Causes {
   of_call({position}) {
     const {run} = this, frame = run.frameAt[run.beforeEnd(position)], begin = run.frames.begin[frame];
     if (!begin) return this.made(null, run.base ? BEFORE : `the run begins with ${run.funcOf(frame).name}`, []);
-    return this.executed(begin - 1, `${run.funcOf(frame).name} was called by`);
+    const {name} = run.funcOf(frame);
+    return this.ofCallee(begin - 1, callee => `${name} was called by ${callee}, called at`)
+      ?? this.executed(begin - 1, `${name} was called by`);
   }
 
   of_end({position}) {
-    const {end} = this.run, move = this.run.beforeEnd(position), cause = this.executed(move, "comes of");
+    const {end} = this.run, move = this.run.beforeEnd(position);
+    const inOwn = this.ofCallee(move, callee => this.haltedAt(move) ? "comes of" : `in ${callee}, comes of`);
+    if (inOwn) return inOwn;
+    const cause = this.executed(move, "comes of");
     const address = /^fault dead address (\d+)$/.exec(end)?.[1];
     if (address) cause.note = this.deadNote(BigInt(address));
     else if (end === "fault stack full") cause.note = this.stackNote(move);
     return cause;
+  }
+
+  /** How the run ended in words, if it was halted in a function that isn't the program's own. */
+  haltedAt(move) {
+    return this.run.end === "fault halted" ? this.program.lowered?.halted[this.run.placeAt(move).func.name] : undefined;
   }
 
   /** What lies near an address without bytes. */
@@ -251,6 +313,8 @@ export class Causes {
 
   of_output({position, index}) {
     if (position < 0) return this.made(null, BEFORE, []);
+    const inOwn = this.ofCallee(position, callee => `written by ${callee}, called at`);
+    if (inOwn) return inOwn;
     const cause = this.executed(position, "written by"), text = this.memory.reads.texts?.get(position);
     if (text) {
       const address = text.address + index - text.from;
@@ -263,17 +327,27 @@ export class Causes {
   of_memory({address, count, position}) {
     const groups = new Map();
     for (let at = address; at < address + count; at++) {
-      const write = this.memory.isLive(at, position) ? this.memory.writes.last(at, position) : -1;
-      if (!groups.has(write)) groups.set(write, []);
-      groups.get(write).push(at);
+      const write = this.memory.isLive(at, position) ? this.memory.writes.last(at, position) : -1, key = this.callOf(write);
+      if (!groups.has(key)) groups.set(key, {write, found: []});
+      const group = groups.get(key);
+      group.write = Math.max(group.write, write);
+      group.found.push(at);
     }
-    const ordered = [...groups].sort(([one], [other]) => other - one);
-    if (ordered.length === 1) return this.writer(ordered[0][0], ordered[0][1], position);
-    const questions = ordered.map(([write, found]) => ({
+    const ordered = [...groups.values()].sort((one, other) => other.write - one.write);
+    if (ordered.length === 1) return this.writer(ordered[0].write, ordered[0].found, position);
+    const questions = ordered.map(({write, found}) => ({
       of: "writer", position, write, found,
         label: `byte${found.length > 1 ? "s" : ""} ${found.map(each => each - address).join(", ")}`,
       shown: found.map(each => String(this.memory.byte(each, position) ?? "not live")).join(" ")}));
     return this.made(null, `${ordered.length} writes`, questions);
+  }
+
+  /** What tells a write from others: those of one call of a function of the runtime are one. */
+  callOf(write) {
+    const {pos, kind} = this.memory.writes;
+    if (write < 0 || kind[write] === KINDS.poke) return write;
+    const [call, callee] = this.callInOwn(pos[write]);
+    return callee ? `${call} ${callee}` : write;
   }
 
   of_writer({write, found, position}) {
@@ -290,6 +364,9 @@ export class Causes {
     }
     const move = memory.writes.pos[write], kind = memory.writes.kind[write];
     if (kind === KINDS.poke) return this.made(move, "by hand", [], {note: run.pokes[move]});
+    const inOwn = this.ofCallee(move, callee => `stored by ${callee}, called at`,
+      {address: found[0], count: found.at(-1) - found[0] + 1});
+    if (inOwn) return inOwn;
     if (kind === KINDS.alloc) return this.executed(move, "made, as zeros, by");
     return this.executed(move, "stored by", {address: found[0], count: found.at(-1) - found[0] + 1});
   }

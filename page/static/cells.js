@@ -1,5 +1,5 @@
 // Memory by name: what is in each piece, which store wrote it, and how long ago.
-import {LOADED, STORED, numeral, sizeOf, spaced} from "./program.js";
+import {LOADED, STORED, WIDTHS, sizeOf, spaced} from "./program.js";
 import {KINDS} from "./memory.js";
 import {classes, element, signOf} from "./element.js";
 
@@ -44,6 +44,30 @@ export class Cells {
     return this.widths.get(name) ?? (this.app.program.data.find(data => data.name === name)?.size % 4 ? 1 : 4);
   }
 
+  /** In which pieces a slot is shown: as it was written last at its beginning, or read. */
+  widthOnStack({address, size}) {
+    const {memory: {writes, reads}, cursor} = this.app;
+    if (size <= 8) return size;
+    for (const accesses of [writes, reads]) {
+      const n = accesses.last(address, cursor), width = n < 0 || accesses.kind[n] === KINDS.alloc ? 0 : accesses.size[n];
+      if (width in WIDTHS && width > 1 && size % width === 0) return width;
+    }
+    return size % 4 ? 1 : 4;
+  }
+
+  /** The class of the float that bytes are: by the data, or by what was stored there or loaded from there last. */
+  floatAt(address, size) {
+    const {program, run, memory: {writes, reads}, cursor} = this.app, known = program.floatAt(address, size);
+    if (known || !program.lowered || !(size in WIDTHS)) return known;
+    for (const accesses of [writes, reads]) {
+      const n = accesses.last(address, cursor);
+      if (n < 0 || accesses.size[n] !== size || accesses.address[n] !== address || run.pokes[accesses.pos[n]] !== undefined) continue;
+      const {func, instruction} = run.placeAt(accesses.pos[n]), cls = program.floatBy(func, instruction);
+      if (cls) return cls;
+    }
+    return "";
+  }
+
   hueOf(place) {
     return Math.max(0, this.hues[place]);
   }
@@ -52,11 +76,11 @@ export class Cells {
     const {app} = this, {program, memory} = app;
     this.used = new Set();
     this.touched = this.touchedNow();
-    const shown = program.data.filter(data => data.size);
+    const shown = program.data.filter(data => data.size && !(this.app.isFolded && program.isOther(data.name)));
     const objects = shown.slice(0, MOST_OBJECTS).map(({name, address, size}) => this.object(name, ` ${size}`, address,
       size, this.widthOf(name)));
     const stack = memory.allocations(app.cursor, MOST_ALLOCATIONS).filter(each => each.size).map(each =>
-      this.object(each.name, each.func, each.address, each.size, each.size <= 8 ? each.size : each.size % 4 ? 1 : 4));
+      this.object(each.name, each.func, each.address, each.size, this.widthOnStack(each)));
     this.box.replaceChildren(element("div", {class: "objects"}, ...objects,
       shown.length > MOST_OBJECTS ? element("small", {class: "more"}, `${shown.length - MOST_OBJECTS} objects more`)
         : null,
@@ -123,19 +147,22 @@ export class Cells {
     const sign = isText && value !== null ? signOf(Number(value)) : null, {touched} = this,
       asked = app.walk.chosen?.question;
     const meets = (begin, count) => begin < address + size && address < begin + count;
+    const was = app.ghost && size <= 8 ? app.ghost.bytes(address, size, value, this.floatAt(address, size) || (size === 4 ? "w" : "l"), cursor)
+      : null;
     const name = classes("cell", !isSmall && "is-small", width === 1 && isText && "is-byte", sign?.length > 1
       && "is-sign",
       touched && meets(touched.address, touched.size) && `is-${touched.kind}`, asked?.of === "memory"
-        && meets(asked.address, asked.count) && "is-asked");
+        && meets(asked.address, asked.count) && "is-asked", was !== null && "is-other");
     const hue = isStore ? `var(--w${this.hueOf(place)})` : kind === KINDS.poke ? "var(--poke)" : "transparent";
     return element("button", {class: name, data: {address, size}, tabindex: "-1",
       css: {"--hue": hue, "--age": `${this.age(write)}%`}},
-      isSmall ? this.text(value, size, sign) : "", isSmall ? this.coming(address, size) : null);
+      isSmall && was !== null ? element("s", {class: "was"}, isText ? "" : `${was} `) : null,
+      isSmall ? this.text(value, address, size, sign) : "", isSmall ? this.coming(address, size) : null);
   }
 
-  text(value, size, sign) {
+  text(value, address, size, sign) {
     if (value === null) return "–";
-    return sign ?? this.app.causes.shown(value, size === 8 ? "l" : size === 4 ? "w" : "l", this.app.cursor);
+    return sign ?? this.app.causes.shown(value, this.floatAt(address, size) || (size === 4 ? "w" : "l"), this.app.cursor);
   }
 
   /** How strong a hue is: the fresher the write, the stronger. */
@@ -151,9 +178,8 @@ export class Cells {
     const {touched} = this;
     if (touched?.kind !== "write" || touched.address !== address || touched.size !== size
       || touched.value === null) return null;
-    const width = size === 8 ? "l" : {1: "b", 2: "h", 4: "w"}[size];
-    return element("span", {class: "next"},
-      ` → ${width === "l" ? this.app.causes.shown(touched.value, "l", this.app.cursor) : numeral(touched.value, width)}`);
+    const width = this.floatAt(address, size) || WIDTHS[size];
+    return element("span", {class: "next"}, ` → ${this.app.causes.shown(touched.value, width, this.app.cursor)}`);
   }
 
   told(address, size) {

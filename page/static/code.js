@@ -1,5 +1,5 @@
 // The program's text: how often each line ran in the moves that are shown, and beside it the value that it set last.
-import {STORED, lowerBound} from "./program.js";
+import {STORED, lowerBound, spaced} from "./program.js";
 import {byId, classes, element} from "./element.js";
 
 const TALL = 20, TAB = "    ";
@@ -20,6 +20,20 @@ function tokensOf(line) {
     else found.push(element("span", {class: `t-${kind}`, data: kind === "temp" ? {temp: token} : {}}, token));
   }
   return isLong ? [...found, ` … ${line.length - MOST_SIGNS} signs more`] : found;
+}
+
+/** Which lines are those of the runtime: its functions, its data, and what is empty between them. */
+function awayOf(program) {
+  const away = new Uint8Array(program.lines.length + 2);
+  for (const func of program.functions) if (!program.isOwn[func.index]) away.fill(1, func.line, func.lastLine + 2);
+  for (const {line, name} of program.data) if (program.isOther(name)) away[line] = 1;
+  for (let line = 1, begin = 0; line <= program.lines.length; line++) {
+    if (away[line]) {
+      if (begin) away.fill(1, begin, line);
+      begin = line + 1;
+    } else if (program.lines[line - 1].trim()) begin = 0;
+  }
+  return away;
 }
 
 /** How often each place was run in the moves that are shown. */
@@ -53,22 +67,50 @@ export class Code {
 
   build() {
     this.lines = this.app.program.lines;
-    this.first = 1;
-    this.rows = new Map();
-    this.counts = new Map();
-    this.render(1);
+    this.refold();
   }
 
-  /** Makes the lines around one elements: all of them, if they aren't too many. */
-  render(line) {
-    const {lines} = this, whole = lines.length <= MOST_LINES;
-    const first = whole ? 1 : Math.max(1, line - PART / 2), last = whole ? lines.length
-      : Math.min(lines.length, first + PART);
-    Object.assign(this, {first, last});
+  /** Takes what is shown: all lines, or one in place of the runtime's. */
+  refold() {
+    const away = this.app.isFolded ? awayOf(this.app.program) : null, count = this.lines.length;
+    // Each thing that is shown: the number of a line, or 0 in place of some; and where each line is found among these.
+    this.items = [];
+    this.indexOf = new Int32Array(count + 2);
+    this.left = new Map();
+    for (let line = 1; line <= count; line++) {
+      if (!away?.[line]) this.items.push(line);
+      else {
+        if (!away[line - 1]) this.items.push(0);
+        const index = this.items.length - 1;
+        this.left.set(index, (this.left.get(index) ?? 0) + 1);
+      }
+      this.indexOf[line] = this.items.length - 1;
+    }
+    this.scrolledLine = this.box.scrollTop = 0;
+    this.render(0);
+  }
+
+  /** Makes what is around one thing elements: all, if they aren't too many. */
+  render(index) {
+    const {items} = this, whole = items.length <= MOST_LINES;
+    const first = whole ? 0 : Math.max(0, index - PART / 2), end = whole ? items.length
+      : Math.min(items.length, first + PART);
+    Object.assign(this, {first, end});
     this.rows = new Map();
-    for (let number = first; number <= last; number++) this.rows.set(number, this.row(number));
+    const shown = [];
+    for (let at = first; at < end; at++) {
+      const row = items[at] ? this.row(items[at]) : this.folded(at);
+      if (items[at]) this.rows.set(items[at], row);
+      shown.push(row);
+    }
     const space = count => element("div", {css: {height: `${count * TALL}px`}});
-    this.box.replaceChildren(space(first - 1), ...this.rows.values(), space(lines.length - last));
+    this.box.replaceChildren(space(first), ...shown, space(items.length - end));
+  }
+
+  /** What stands in place of lines of the runtime. */
+  folded(at) {
+    return element("button", {class: "line is-folded", onclick: () => this.app.fold(),
+      title: "show the runtime (i)"}, `${spaced(this.left.get(at))} lines of the runtime`);
   }
 
   row(number) {
@@ -83,14 +125,14 @@ export class Code {
   }
 
   scrolled() {
-    const line = Math.floor(this.box.scrollTop / TALL), shown = line + this.box.clientHeight / TALL;
-    const isNear = (line > this.first + MARGIN || this.first === 1)
-      && (shown < this.last - MARGIN || this.last === this.lines.length);
-    if (this.lines.length > MOST_LINES && !isNear) this.redraw(line);
+    const index = Math.floor(this.box.scrollTop / TALL), shown = index + this.box.clientHeight / TALL;
+    const isNear = (index > this.first + MARGIN || this.first === 0)
+      && (shown < this.end - MARGIN || this.end === this.items.length);
+    if (this.items.length > MOST_LINES && !isNear) this.redraw(index);
   }
 
-  redraw(line) {
-    this.render(Math.max(1, line));
+  redraw(index) {
+    this.render(index);
     this.decorate();
     this.heat();
   }
@@ -99,8 +141,9 @@ export class Code {
     const {app} = this, {place} = app, {line} = place.instruction;
     byId("place").textContent = `${place.func.name} ${place.block.label} ${place.k}`;
     this.source(line);
-    if (!this.rows.has(line)) {
-      this.render(line);
+    const index = this.indexOf[line];
+    if (index < this.first || index >= this.end) {
+      this.render(index);
       this.heat();
     }
     this.decorate();
@@ -137,7 +180,7 @@ export class Code {
   scrollTo({func, instruction: {line}}) {
     if (this.scrolledLine === line) return;
     this.scrolledLine = line;
-    const top = (line - 1) * TALL, {scrollTop, clientHeight} = this.box, start = (func.line - 1) * TALL;
+    const top = this.indexOf[line] * TALL, {scrollTop, clientHeight} = this.box, start = this.indexOf[func.line] * TALL;
     if (top >= scrollTop + TALL && top <= scrollTop + clientHeight - 3 * TALL) return;
     const wanted = top - start < clientHeight - 4 * TALL ? start : top - clientHeight / 2;
     // No line is cut at the top.
@@ -192,7 +235,8 @@ export class Code {
   }
 
   storeTold({instruction}, move) {
-    const {run, memory, causes} = this.app, width = instruction.op === "storel" ? "l" : "w";
+    const {run, memory, causes, program} = this.app;
+    const width = program.floatBy(run.placeAt(move).func, instruction) || (instruction.op === "storel" ? "l" : "w");
     const [value, address] = instruction.operands.map(([text]) => run.operand(text, move));
     return address === null ? ""
       : `${memory.nameOf(address, move) ?? address} ← ${causes.shown(value, width, move)}`;

@@ -4,8 +4,8 @@ import {byId, element} from "./element.js";
 /** Each line: the keys, what they do in words, and for each key its act. */
 function table(app) {
   return [
-    ["← →", "one move back, forward", {ArrowLeft: shift => shift ? app.over(-1) : app.go(app.cursor - 1),
-      ArrowRight: shift => shift ? app.over(1) : app.go(app.cursor + 1)}],
+    ["← →", "one move back, forward", {ArrowLeft: shift => shift ? app.over(-1) : app.one(-1),
+      ArrowRight: shift => shift ? app.over(1) : app.one(1)}],
     ["⇧← ⇧→", "the same over calls", {}],
     ["[ ]", "the last, the next time that this line runs", {"[": () => app.again(-1), "]": () => app.again(1)}],
     ["{ }", "to the call of this frame, to its return", {"{": () => app.out(-1), "}": () => app.out(1)}],
@@ -13,6 +13,7 @@ function table(app) {
     ["g", "to a position", {g: () => byId("position").select()}],
     ["u d", "the frame that called, the frame that was called",
       {u: () => app.select(app.selected + 1), d: () => app.select(app.selected - 1)}],
+    ["i", "the runtime of a lowered text: folded away, or as it runs", {i: () => app.fold()}],
     ["x", "to the next suspicion", {x: () => app.toSuspicion()}],
     ["w", "why: the end, or the first operand", {w: () => app.ask(app.firstQuestion())}],
     ["↑ ↓ ⏎ ⌫", "walk the causes, open one, back to its effect",

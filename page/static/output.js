@@ -16,8 +16,16 @@ export class Output {
 
   build() {
     this.first = -1;
-    if (!this.app.run.out.length) this.box.replaceChildren(element("p", {class: "hint"},
-      "The program writes nothing."));
+    if (!this.app.run.out.length) this.box.replaceChildren(...[element("p", {class: "hint"},
+      "The program writes nothing."), this.was()].filter(Boolean));
+  }
+
+  /** What the run before a value by hand wrote, if that is something else. */
+  was() {
+    const out = this.app.ghost?.output;
+    if (!out) return null;
+    const text = Array.from(out.subarray(0, MOST_BYTES), byte => byte === 10 ? "⏎\n" : signOf(byte)).join("");
+    return element("pre", {class: "was", "aria-label": "written in the run before"}, element("s", {}, text || "nothing"));
   }
 
   /** The bytes around the cursor, where there are more than are shown. */
@@ -50,6 +58,6 @@ export class Output {
         byte === 10 ? "⏎\n" : signOf(byte)));
     const told = run.out.length > MOST_BYTES ? element("p", {class: "hint"},
       `bytes ${first} to ${first + this.bytes.length - 1} of ${run.out.length}`) : null;
-    this.box.replaceChildren(...[told, element("pre", {}, ...this.bytes)].filter(Boolean));
+    this.box.replaceChildren(...[told, element("pre", {}, ...this.bytes), this.was()].filter(Boolean));
   }
 }

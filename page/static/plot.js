@@ -1,5 +1,7 @@
 // Plots of a temporary over the moves that are shown: of all frames pale, of the chosen one strong.
 
+import {FLOATS, floatOf} from "./program.js";
+
 const BLOCK = 64;
 
 /** The least and the greatest of each 64 values that a temporary took, so that a plot of a million of them misses none. */
@@ -7,7 +9,8 @@ class Extremes {
   constructor(run, id) {
     this.run = run;
     this.sets = run.setsInTime(id);
-    this.isWide = run.program.widths[id] === "l";
+    this.width = run.program.widths[id];
+    this.isWide = this.width === "l";
     const blocks = Math.ceil(this.sets.length / BLOCK);
     this.least = new Float64Array(blocks).fill(Infinity);
     this.most = new Float64Array(blocks).fill(-Infinity);
@@ -22,6 +25,7 @@ class Extremes {
   number(set) {
     const {low, high, unset} = this.run;
     if (unset.size && unset.has(set)) return NaN;
+    if (this.width in FLOATS) return floatOf(this.run.value(set), this.width);
     return this.isWide ? (high[set] | 0) * 4294967296 + low[set] : low[set] | 0;
   }
 
@@ -70,11 +74,14 @@ export function extremesOf(run, id) {
 export function plot(context, app, id, box, color) {
   const {run} = app, [from, to] = app.view, values = extremesOf(run, id);
   const low = Math.max(0, values.index(from) - 1), high = values.index(to), own = values.own(id, app.frame, from, to);
-  const {least, most} = values.between(low, high);
+  const old = app.ghost && extremesOf(app.ghost.run, id), [begin, end] = old ? [old.index(from) - 1, old.index(to)] : [0, 0];
+  const both = [values.between(low, high), ...old ? [old.between(Math.max(0, begin), end)] : []];
+  const least = Math.min(...both.map(each => each.least)), most = Math.max(...both.map(each => each.most));
   if (!(least <= most)) return null;
   const scale = {x: position => box.left + (position - from) / (to - from) * box.wide,
     y: value => most === least ? box.top + box.tall / 2
       : box.top + box.tall - 3 - (value - least) / (most - least) * (box.tall - 6)};
+  if (old) stepLine(context, old, thinned(old.sets.subarray(Math.max(0, begin), end), 4 * box.wide), null, scale, app, color("poke"));
   const isDense = high - low > 3 * box.wide, isOwn = own.length > .9 * (high - low);
   if (isDense) columns(context, values, high, box, scale, app, color(isOwn ? "spark" : "spark-other"));
   else if (!isOwn) stepLine(context, values, values.sets.subarray(low, high), app.frame, scale, app,
@@ -106,7 +113,7 @@ function columns(context, values, high, box, scale, app, color) {
 
 /** Each value as a level, from the move that set it to the next one of its frame; those of one frame are left out. */
 function stepLine(context, values, sets, without, scale, app, color) {
-  const {run} = app;
+  const {run} = values;
   context.strokeStyle = color;
   context.lineWidth = 1.25;
   context.beginPath();

@@ -6,6 +6,8 @@ export const STORED = {storel: 8, storew: 4, storeh: 2, storeb: 1};
 export const ALLOCATIONS = new Set(["alloc4", "alloc8", "alloc16"]);
 export const WIDTHS = {1: "b", 2: "h", 4: "w", 8: "l"};
 export const BYTES = {b: 1, h: 2, w: 4, l: 8};
+// Floats, which are carried in words and long words, and how many bytes they have.
+export const FLOATS = {s: 4, d: 8};
 const NEAR_ZERO = 65536n;
 // A line of the command language has 256 bytes: the value of a temporary with a longer name can't be asked for.
 const MOST_NAME = 249;
@@ -36,6 +38,7 @@ export class Program {
     this.owners = [];
     this.byName = new Map();
     this.functions.forEach((func, index) => this.number(func, index));
+    this.readLowered();
     this.calls = new Map(told.calls);
     this.placesOf = new Map();
     for (const place of this.table) {
@@ -79,6 +82,39 @@ export class Program {
     if (instruction.op === "call" && there.id === func.entry) return ids(func.parameters.map(([, name]) => name));
     if (instruction.labels.length) return ids(block.phis.map(phi => phi.result).filter(Boolean));
     return ids([instruction.result].filter(Boolean));
+  }
+
+  /** What the names of a lowered text stand for: the functions that aren't the program's own, and which values are floats. */
+  readLowered() {
+    const {lowered} = this, others = new Set(lowered?.others ?? []);
+    this.isOwn = Uint8Array.from(this.functions, ({name}) => others.has(name) ? 0 : 1);
+    this.hasOthers = others.size > 0;
+    this.others = others;
+    for (const [id, cls] of Object.entries(lowered?.floats ?? {})) this.widths[id] = cls;
+    this.copying = new Set(lowered?.copying ?? []);
+    this.floatStores = lowered?.stores ?? {};
+  }
+
+  /** Whether a function, or data, isn't the program's own. */
+  isOther(name) {
+    return this.others.has(name);
+  }
+
+  /** The class of the float that an instruction stores or loads, or nothing. */
+  floatBy(func, {op, operands, result, line}) {
+    if (op in STORED && this.floatStores[line]) return this.floatStores[line];
+    const cls = this.widths[func.ids.get(op in STORED ? operands[0][0] : result ?? "")];
+    return cls in FLOATS ? cls : "";
+  }
+
+  /** The class of the float that so many bytes of the data are, or nothing. */
+  floatAt(address, count) {
+    const data = this.lowered && this.dataAt(address);
+    for (const [begin, cls, number] of (data && this.lowered.data[data.name]) || []) {
+      const size = FLOATS[cls], offset = address - data.address - begin;
+      if (count === size && offset >= 0 && offset < number * size && offset % size === 0) return cls;
+    }
+    return "";
   }
 
   /** The value of an operand that is no temporary, as 64 bits. */
@@ -172,6 +208,42 @@ function wayThrough(func) {
 export function numeral(value, width) {
   const signed = BigInt.asIntN(8 * BYTES[width], value);
   return signed < 0n && signed >= -NEAR_ZERO ? signed.toString() : BigInt.asUintN(8 * BYTES[width], value).toString();
+}
+
+const bits = new DataView(new ArrayBuffer(8));
+
+/** The float that bits are. */
+export function floatOf(value, cls) {
+  if (cls === "d") bits.setBigUint64(0, value); else bits.setUint32(0, Number(value & 0xffffffffn));
+  return cls === "d" ? bits.getFloat64(0) : bits.getFloat32(0);
+}
+
+/** A number with so many digits; of two that are as near the even one, as at the terminal. */
+function rounded(number, digits) {
+  const [mantissa, power] = Math.abs(number).toExponential(100).split("e"), all = mantissa.replace(".", "");
+  if (!/^50*$/.test(all.slice(digits))) return Number(number.toPrecision(digits));
+  const head = Number(all.slice(0, digits));
+  return Math.sign(number) * Number(`${head + head % 2}e${power - digits + 1}`);
+}
+
+/** The shortest decimal that is read as the same float, written as at the terminal. */
+export function floatText(value, cls) {
+  let number = floatOf(value, cls);
+  if (Number.isNaN(number)) return "nan";
+  if (!Number.isFinite(number)) return number < 0 ? "-inf" : "inf";
+  if (Object.is(number, -0)) return "-0.0";
+  for (let digits = 1; cls === "s" && digits < 10; digits++) {
+    const shorter = rounded(number, digits);
+    if (Math.fround(shorter) !== number) continue;
+    number = shorter;
+    break;
+  }
+  const [, sign, digits, tail = "", power] = /^(-?)(\d)(?:\.(\d+))?e([+-]\d+)$/.exec(number.toExponential());
+  const exponent = Number(power);
+  if (exponent < -4 || exponent >= 16) return `${sign}${digits}${tail && `.${tail}`}e${exponent < 0 ? "-" : "+"}`
+    + String(Math.abs(exponent)).padStart(2, "0");
+  const text = String(number);
+  return text.includes(".") ? text : text.includes("e") ? number.toFixed(1) : `${text}.0`;
 }
 
 export const spaced = number => String(number).replace(/\B(?=(\d{3})+$)/g, "\u202f");

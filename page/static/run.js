@@ -39,13 +39,13 @@ export class Run {
     this.program = program;
     this.grown = {places: new Growing(program.wide ? Uint32Array : Uint16Array), frameAt: new Growing(Int32Array),
       begin: new Growing(Int32Array), end: new Growing(Int32Array), depth: new Growing(Int32Array),
-      func: new Growing(Int32Array), parent: new Growing(Int32Array), setPos: new Growing(Int32Array),
+      func: new Growing(Int32Array), parent: new Growing(Int32Array), inner: new Growing(Uint8Array), setPos: new Growing(Int32Array),
       setTemp: new Growing(Uint32Array), low: new Growing(Uint32Array), high: new Growing(Uint32Array)};
     this.unset = new Set();
     this.pokes = {};
     this.end = "";
     this.isOver = this.isComplete = false;
-    this.maxDepth = 0;
+    this.maxDepth = this.maxShown = 0;
     this.setsBehind = new Map();
     this.kinds = Uint8Array.from(program.table, ({instruction: {op, labels}}) =>
       op === "call" ? CALL : op === "ret" ? RETURN : labels.length ? JUMP : OTHER);
@@ -69,12 +69,13 @@ export class Run {
 
   takeBegin(begin) {
     Object.assign(this, {base: begin.base, pokes: begin.pokes, total: begin.total, outBase: begin.written,
-      top: begin.top,
-      givenFrame: begin.begun.length - 1, maxDepth: begin.begun.length - 1});
+      top: begin.top, givenFrame: begin.begun.length - 1, maxDepth: begin.begun.length - 1,
+      maxShown: begin.begun.length - 1});
     const {grown} = this;
     begin.begun.forEach((name, index) => {
       for (const [list, value] of [["begin", 0], ["end", -1], ["depth", index], ["parent", index - 1],
-        ["func", this.program.byName.get(name).index]]) grown[list].push(value);
+        ["func", this.program.byName.get(name).index], ["inner", 0]]) grown[list].push(value);
+      this.noteOwn(index);
     });
     for (const id of begin.given) {
       grown.setPos.push(-1);
@@ -143,8 +144,19 @@ export class Run {
     grown.begin.push(move + 1);
     grown.end.push(-1);
     grown.func.push(this.program.table[there].func.index);
+    grown.inner.push(0);
     if (depth > this.maxDepth) this.maxDepth = depth;
+    this.noteOwn(index);
     return index;
+  }
+
+  /** Takes note of a frame of the program's own: those around it aren't folded away, and one that it calls is seen. */
+  noteOwn(frame) {
+    const {inner, func, parent, depth} = this.grown, {isOwn} = this.program;
+    if (isOwn[func.data[frame]]) {
+      for (let at = frame; at >= 0 && !inner.data[at]; at = parent.data[at]) inner.data[at] = 1;
+    } else if (parent.data[frame] >= 0 && !isOwn[func.data[parent.data[frame]]]) return;
+    this.maxShown = Math.max(this.maxShown, depth.data[frame]);
   }
 
   returned(frame, move) {
@@ -157,7 +169,7 @@ export class Run {
     const {grown} = this;
     for (const name of ["places", "frameAt", "setPos", "setTemp", "low", "high"]) this[name] = grown[name].all;
     this.frames = {begin: grown.begin.all, end: grown.end.all, depth: grown.depth.all, func: grown.func.all,
-      parent: grown.parent.all, count: grown.begin.length};
+      parent: grown.parent.all, inner: grown.inner.all, count: grown.begin.length};
     this.moves = this.places.length - 1;
   }
 
@@ -183,6 +195,22 @@ export class Run {
 
   funcOf(frame) {
     return this.program.functions[this.frames.func[frame]];
+  }
+
+  isOwnFrame(frame) {
+    return this.program.isOwn[this.frames.func[frame]] === 1;
+  }
+
+  /** Whether a frame is one of the runtime's inside another one of these, without any of the program's own in it. */
+  isInside(frame) {
+    const {inner, parent} = this.frames;
+    return !inner[frame] && parent[frame] >= 0 && !this.isOwnFrame(parent[frame]);
+  }
+
+  /** The innermost frame of the program's own at a state, or the innermost one of all. */
+  ownFrame(position) {
+    for (let at = this.frameAt[position]; at >= 0; at = this.frames.parent[at]) if (this.isOwnFrame(at)) return at;
+    return this.frameAt[position];
   }
 
   frameOfSet(set) {

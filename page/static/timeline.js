@@ -29,13 +29,22 @@ export class Timeline {
   }
 
   get rowTall() {
-    return Math.max(4, Math.min(20, Math.floor(ROWS_TALL / (this.app.run.maxDepth + 1))));
+    return Math.max(4, Math.min(20, Math.floor(ROWS_TALL / (this.deepest + 1))));
+  }
+
+  /** The greatest depth of calls that is shown. */
+  get deepest() {
+    return this.deepestOf(this.app.run);
+  }
+
+  deepestOf(run) {
+    return this.app.isFolded ? run.maxShown : run.maxDepth;
   }
 
   /** The tops of the parts, and the height of all of them. */
   measure() {
     const marks = this.overviewTall + AXIS, flames = marks + MARKS + GAP;
-    const bands = flames + Math.min(this.app.run.maxDepth + 1, MOST_ROWS) * this.rowTall + GAP;
+    const bands = flames + Math.min(this.deepest + 1, MOST_ROWS) * this.rowTall + GAP;
     this.rows = {marks, flames, bands};
     this.height = bands + this.bands.measure();
   }
@@ -140,11 +149,11 @@ export class Timeline {
 
   silhouette(run, moves) {
     const {context} = this, profile = this.profile(run, moves),
-      most = Math.max(run.maxDepth, this.app.ghost?.maxDepth ?? 0) + 1;
+      most = Math.max(this.deepest, this.app.ghost ? this.deepestOf(this.app.ghost.run) : 0) + 1;
     const tall = depth => depth / most * (this.overviewTall - 10), bottom = this.overviewTall - 6;
     context.fillStyle = this.color("silhouette");
     profile.forEach((depth, x) => depth && context.fillRect(SIDE + x, bottom - tall(depth), 1, tall(depth)));
-    if (this.app.ghost) this.ghost(this.profile(this.app.ghost, moves), tall, bottom);
+    if (this.app.ghost) this.ghost(this.profile(this.app.ghost.run, moves), tall, bottom);
   }
 
   /** The run before a value was set by hand, as a line. */
@@ -158,14 +167,19 @@ export class Timeline {
 
   /** The greatest depth of calls in each column. */
   profile(run, moves) {
-    const width = Math.floor(this.span), key = `${run.moves} ${moves} ${width}`;
+    const width = Math.floor(this.span), {isFolded} = this.app, key = `${run.moves} ${moves} ${width} ${isFolded}`;
     if (run.profile?.key === key) return run.profile.depths;
-    const depths = new Uint16Array(width), {depth} = run.frames;
+    const depths = new Uint16Array(width), {depth, parent} = run.frames;
+    const depthAt = at => {
+      let frame = run.frameAt[at];
+      while (isFolded && run.isInside(frame)) frame = parent[frame];
+      return depth[frame] + 1;
+    };
     for (let x = 0; x < width; x++) {
       const begin = Math.floor(x / width * moves),
         end = Math.min(run.moves + 1, Math.max(begin + 1, Math.floor((x + 1) / width * moves)));
       const stride = Math.max(1, Math.floor((end - begin) / 64));
-      for (let at = begin; at < end; at += stride) depths[x] = Math.max(depths[x], depth[run.frameAt[at]] + 1);
+      for (let at = begin; at < end; at += stride) depths[x] = Math.max(depths[x], depthAt(at));
     }
     run.profile = {key, depths};
     return depths;
@@ -260,12 +274,13 @@ export class Timeline {
   flames() {
     const {app} = this, {run} = app, {frames} = run, [from, to] = app.view, top = this.rows.flames, tall = this.rowTall;
     this.label("calls", top + Math.min(10, tall / 2 + 2));
-    const rows = Math.min(run.maxDepth + 1, MOST_ROWS), painted = new Float64Array(run.maxDepth + 2).fill(-1);
+    const rows = Math.min(this.deepest + 1, MOST_ROWS), painted = new Float64Array(run.maxDepth + 2).fill(-1);
     this.inside(SIDE, top - 1, this.span, rows * tall + 2, () => {
       const last = lowerBound(frames.begin, to + 1), shown = Math.min(frames.count, last);
       for (let frame = 0; frame < shown; frame++) {
         const depth = frames.depth[frame];
-        if (depth >= MOST_ROWS || frames.end[frame] >= 0 && frames.end[frame] <= from) continue;
+        if (depth >= MOST_ROWS || frames.end[frame] >= 0 && frames.end[frame] <= from
+          || app.isFolded && run.isInside(frame)) continue;
         const left = Math.max(SIDE, this.x(frames.begin[frame])),
           right = Math.min(SIDE + this.span, this.x(run.endOf(frame)));
         if (right <= painted[depth]) continue;
@@ -274,13 +289,13 @@ export class Timeline {
       }
       if (this.perMove > .35 && tall > 7) this.blocks(top, tall);
     });
-    if (run.maxDepth >= MOST_ROWS) this.label(`+${run.maxDepth + 1 - MOST_ROWS} deeper`, top + rows * tall - 6, "faint",
+    if (this.deepest >= MOST_ROWS) this.label(`+${this.deepest + 1 - MOST_ROWS} deeper`, top + rows * tall - 6, "faint",
       "sans", 10);
   }
 
   bar(frame, left, right, y, tall) {
     const {context, app} = this, {run} = app, func = run.frames.func[frame], wide = right - left;
-    context.fillStyle = this.color(`f${func % 8}`);
+    context.fillStyle = this.color(app.isFolded && !run.isOwnFrame(frame) ? "silhouette" : `f${func % 8}`);
     context.fillRect(left, y, Math.max(1, wide - (wide > 3 ? 1 : 0)), tall - 1);
     if (wide > 30 && tall > 11) {
       context.fillStyle = this.color("on-frame");
@@ -305,7 +320,7 @@ export class Timeline {
         && table[here].block === table[run.places[begin]].block
         && here >= run.places[at - 1]) continue;
       const place = table[run.places[begin]], depth = run.frames.depth[run.frameAt[begin]];
-      if (place && depth < MOST_ROWS) {
+      if (place && depth < MOST_ROWS && !app.isAway(begin)) {
         context.fillStyle = this.color(`b${place.block.order % 4}`);
         context.fillRect(this.x(begin), top + depth * tall + tall - 5,
           Math.max(.5, (at - begin) * perMove - (perMove > 2 ? 1 : 0)), 3);

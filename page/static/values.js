@@ -1,7 +1,7 @@
 // The temporaries of a frame: each with its value, and a plot of all that it was in the moves that are shown.
 import {classes, element} from "./element.js";
 import {plot} from "./plot.js";
-import {lowerBound} from "./program.js";
+import {FLOATS, floatText, lowerBound} from "./program.js";
 
 // Of more frames the outermost two and the innermost ones are shown.
 const MOST_FRAMES = 12, OUTERMOST = 2, MOST_TEMPORARIES = 120, MOST_SETS = 20000;
@@ -36,10 +36,10 @@ export class Values {
 
   /** The frames of the state, the outermost first: a click looks into one. */
   frames() {
-    const {app} = this, {run} = app, frames = run.framesOf(app.cursor), count = frames.length;
+    const {app} = this, {run} = app, frames = run.framesOf(app.cursor);
     const tab = (frame, index) => {
       const isKnown = run.innermostState(frame, app.cursor) >= 0, called = run.frames.begin[frame] - 1;
-      return element("button", {class: classes("frame", index === app.selected && "is-on"),
+      return element("button", {class: classes("frame", index === app.selected && "is-on", !run.isOwnFrame(frame) && "is-other"),
         "aria-pressed": String(index === app.selected),
         disabled: !isKnown, onclick: () => app.select(index),
         title: isKnown && called >= 0 ? `${run.funcOf(frame).name}, called at #${called + run.base}`
@@ -47,9 +47,11 @@ export class Values {
       element("i", {class: "swatch", css: {background: `var(--f${run.frames.func[frame] % 8})`}}),
         run.funcOf(frame).name);
     };
-    const tabs = frames.map((frame, index) => [frame, index]).filter(([, index]) => count <= MOST_FRAMES
-      || index < MOST_FRAMES - OUTERMOST
-      || index >= count - OUTERMOST || index === app.selected).map(([frame, index]) => tab(frame, index)).reverse();
+    const shown = frames.map((frame, index) => [frame, index]).filter(([frame, index]) => !app.isFolded
+      || index === app.selected || !run.isInside(frame)), count = shown.length;
+    const tabs = shown.filter(([, index], order) => count <= MOST_FRAMES
+      || order < MOST_FRAMES - OUTERMOST
+      || order >= count - OUTERMOST || index === app.selected).map(([frame, index]) => tab(frame, index)).reverse();
     const left = count - tabs.length;
     if (left) tabs.splice(OUTERMOST, 0, element("span", {class: "more"}, `${left} frames more`));
     return element("div", {class: "frames", role: "group", "aria-label": "frames"}, ...tabs);
@@ -60,13 +62,16 @@ export class Values {
       question = app.causes.temporary(name, app.state);
     const isRead = app.selected === 0 && !app.isAtEnd && app.place.instruction.operands.some(([text]) => text === name);
     const isFresh = set >= 0 && run.setPos[set] >= 0 && run.setPos[set] === app.state - 1;
+    const was = app.ghost?.temporary(id, question.value, app.state) ?? null;
     const chart = element("canvas", {class: "spark", "aria-hidden": "true"});
     const row = element("div", {class: classes("temp", question.value === null && "is-unset", isRead && "is-read",
       isFresh && "is-fresh",
       app.pins.includes(id) && "is-pinned"), role: "listitem"},
-    element("button", {class: "ask-temp", "aria-label": `${name} ${question.shown}: why`,
+    element("button", {class: classes("ask-temp", was !== null && "has-was"),
+      "aria-label": `${name} ${question.shown}${was === null ? "" : `, ${was} in the run before`}: why`,
       onclick: () => app.ask(question)},
       element("span", {class: "name", title: `${name}, class ${width}`}, name),
+      was === null ? null : element("s", {class: "was", title: `${was} in the run before`}, was),
       element("span", {class: "number", title: question.value === null ? "" : this.allOf(question.value, width)},
         question.shown)),
     element("button", {class: "keep", "aria-label": `plot of ${name} in the timeline`,
@@ -77,8 +82,8 @@ export class Values {
 
   /** A value in the ways in which numbers are written. */
   allOf(value, width) {
-    const bits = width === "l" ? 64 : 32, signed = BigInt.asIntN(bits, value);
-    return [value.toString(), ...(signed < 0n ? [signed.toString()] : []), `0x${value.toString(16)}`].join(" = ");
+    const bits = width === "l" || width === "d" ? 64 : 32, signed = BigInt.asIntN(bits, value);
+    return [...(width in FLOATS ? [floatText(value, width)] : []), value.toString(), ...(signed < 0n ? [signed.toString()] : []), `0x${value.toString(16)}`].join(" = ");
   }
 
   sparks() {

@@ -14,7 +14,7 @@ from terminal.answers import read_place
 from terminal.pipe import Pipe
 
 from .browser import Browser
-from .causes import TOP
+from .causes import COMPARER, TOP
 from .serving import MAIN, Serving
 
 EXAMPLES = TOP / "examples"
@@ -72,6 +72,7 @@ KEYS: list[tuple[list[str], str, object]] = [
     (["t"], "document.documentElement.dataset.theme", "dark"),
     (["t"], "document.documentElement.dataset.theme", "light"),
     (["p"], "document.getElementById('said').textContent", "the run is over here; go back into it first"),
+    (["i"], "[app.isFolded, document.getElementById('fold').hidden]", [False, True]),
     (["Home", "x"], "[app.cursor, document.getElementById('suspects').textContent]", [44, "▲ 1 suspicion"]),
     (["End"], "app.cursor", 88),
     (["ArrowLeft", "p"], "[document.getElementById('poking').open, document.getElementById('line').value]",
@@ -151,6 +152,14 @@ def by_hand(program: str) -> str | None:
             given = waited(browser, script, wanted)
             if given != wanted:
                 return f"{script} gives {given!r} and not {wanted!r}"
+        # What was otherwise in the run before is struck out beside what it is.
+        was = ("[...document.querySelectorAll('.temp')].filter(each => each.querySelector('.was')).map(each => "
+               "[...each.querySelectorAll('.name, .was, .number')].map(one => one.textContent))")
+        cells = "[...document.querySelectorAll('.cell.is-other')].map(each => [each.querySelector('.was').textContent, each.textContent])"
+        for position, wanted in ((46, [[], [["16 ", "16 0"]]]), (88, [[["%bias", "16", "0"], ["%total", "30", "14"]], [["16 ", "16 0"]]])):
+            given = browser.run(f"(app.go({position}), [{was}, {cells}])")
+            if given != wanted:
+                return f"at #{position} of the run before stand {given} and not {wanted}"
         browser.run("app.ask(app.causes.bytes(app.program.addresses['$bias'], 4, app.run.moves))")
         given = browser.run("[app.walk.root.cause.verb, app.walk.root.cause.move]")
         if given != ["by hand", 45]:
@@ -162,6 +171,19 @@ def by_hand(program: str) -> str | None:
         script = browser.run("document.getElementById('lines').textContent")
         place = played(program, SQUARES, str(script))
         return None if given == f"is-rightsession {place}" else f"the page shows {given} and its script leads to {place}"
+
+
+def other_way(program: str) -> str | None:
+    """Where a value by hand has the run go another way, each round of a loop is beside the same round of the run before."""
+    with opened(program, SQUARES) as browser:
+        browser.run("app.go(31)")
+        browser.run("app.make('set %i 1')")
+        waited(browser, "app.ghost !== null && app.run.isComplete", True)
+        # The states of the run before: the same place, in the same call, as often. The loop of $fill goes seven rounds and not five.
+        given = browser.run("[31, 32, 40, 49, 58, 68, 69, 70, 73, 107].map(each => app.ghost.stateOf(each))")
+        places = browser.run("[40, 49, 69, 70, 73].map(each => app.ghost.run.places[app.ghost.stateOf(each)] === app.run.places[each])")
+    wanted = [31, 31, 39, 48, -1, 49, 50, 51, 54, 88]
+    return None if given == wanted and all(places) else f"{given} and not {wanted}, {places}"
 
 
 def played(program: str, file: str, script: str) -> str:
@@ -294,7 +316,6 @@ def ended(program: str) -> str | None:
         browser.close()
 
 
-COMPARER = TOP / "release" / "qrev-compare-x86_64-linux"
 
 
 def side_by_side(program: str) -> str | None:
@@ -318,15 +339,91 @@ def side_by_side(program: str) -> str | None:
                 browser.run(f"{sides}.go(1))")
                 browser.click("#there")
                 again = browser.run(f"{sides}.cursor)")
+                led = stepped(browser, sides)
                 errors = browser.errors()
         finally:
             browser.close()
     if len(steps) != 2 or given != (steps, told.split("\n")[0]) or ends != ["done 14", "done 30"]:
         return f"the sides stand at {given} with {ends}, and the comparison says {told!r}"
-    return f"back there: {again} {errors}" if again != steps or errors else None
+    return f"back there: {again} {errors}" if again != steps or errors else led
 
 
-CASES = {"keys": keys, "pointer": pointer, "a value by hand and the script": by_hand, "export": export,
+def stepped(browser: Browser, sides: str) -> str | None:
+    """Both runs go together: by events from the first to the end, and where one is moved; not so where that is switched off."""
+    waited(browser, "document.documentElement.dataset.ready", "yes")
+    where = "document.getElementById('where').textContent"
+    events = browser.run("pair.events.map(each => Array.from(each))")
+    if not browser.run("pair.isAligned") or min(map(len, events)) < 4:
+        return f"the events are {events}"
+    both = lambda: browser.run(f"{sides}.cursor)")  # noqa: E731
+    browser.run(f"{sides}.go(0))")
+    for number, wanted in enumerate(zip(*events)):
+        browser.click("#next")
+        if both() != list(wanted) or browser.run(where) != f"behind {number} events":
+            return f"before event {number} both stand at {both()} and not at {wanted}, {browser.run(where)}"
+    browser.click("#before")
+    if both() != [events[0][-2], events[1][-2]] and len(events[0]) == len(events[1]):
+        return f"before the last event but one both stand at {both()}"
+    # A key in one run, in the middle between two events.
+    browser.run(f"pair.apps[1].go({events[1][1] + 2})")
+    if both() != [events[0][1] + 1, events[1][1] + 2]:
+        return f"the other run follows to {both()}"
+    browser.click("#together")
+    browser.run("pair.apps[1].go(0)")
+    return None if both() == [events[0][1] + 1, 0] else f"the other run follows though it must not: {both()}"
+
+
+FLOATY = TOP / "lower" / "test-data" / "real" / "floaty.ssa"
+# What stands in the page of a lowered text: the frames that are tabs, the temporaries, the cells on the stack, lines left out.
+LOOKED = """({cursor: app.cursor, place: document.getElementById("place").textContent,
+  tabs: [...document.querySelectorAll(".frame")].map(each => each.textContent),
+  values: Object.fromEntries([...document.querySelectorAll(".temp")].map(each =>
+    [each.querySelector(".name").textContent, each.querySelector(".number").textContent])),
+  cells: [...document.querySelectorAll(".object")].filter(each => each.querySelector(".name").textContent.startsWith("%object.12"))
+    .flatMap(each => [...each.querySelectorAll(".cell")].map(cell => cell.textContent)),
+  left: [...document.querySelectorAll(".is-folded")].map(each => each.textContent), rows: app.timeline.deepest,
+  sum: app.causes.of(app.causes.temporary(app.place.func.temporaries.find(([name]) => name === "%.36")?.[0] ?? "%.9", app.state)).verb})"""
+
+
+def lowered_text(program: str) -> str | None:
+    """A lowered text: floats are decimals, a function of the runtime is one move and one cause, and `i` shows what it does."""
+    with tempfile.TemporaryDirectory(prefix="page-") as folder:
+        file = f"{folder}/floaty.ssa"
+        subprocess.run([str(TOP / "lower" / "qrev-lower"), "--link", "--output", file, str(FLOATY)], check=True,
+                       capture_output=True, stdin=subprocess.DEVNULL)
+        browser = Browser(1280, 800)
+        try:
+            with Serving(program, file, options=("--lowered", str(FLOATY))) as serving:
+                browser.open(serving.address)
+                end = browser.run(LOOKED)
+                # The call of the sum is one move, forward and back, with or without shift.
+                call = browser.run("app.run.frames.begin[Array.from(app.run.frames.func).findIndex(func => "
+                                   "app.program.functions[func].name === '$float.add.d')] - 1")
+                browser.run(f"app.go({call})")
+                browser.key("ArrowRight")
+                behind = browser.run(LOOKED)
+                browser.key("ArrowLeft")
+                before = browser.run("app.cursor")
+                # In the middle of it the program's own frame is looked into.
+                browser.run(f"app.go({call + 20})")
+                inside = browser.run(LOOKED)
+                browser.key("i")
+                unfolded = browser.run(LOOKED)
+                browser.key("ArrowRight")
+                after = browser.run("app.cursor")
+                errors = browser.errors()
+        finally:
+            browser.close()
+    found = {"the end": end["values"].get("%.9") == "2.0" and end["cells"][:3] == ["1.0", "2.0", "3.0"] and len(end["left"]) == 2 and end["rows"] == 2,
+             "over the sum": behind["cursor"] > call + 20 and behind["values"]["%.36"] == "1.0" and behind["sum"] == "set by",
+             "back over it": before == call, "the own frame": inside["place"].startswith("$avg ") and inside["tabs"][-1] == "$float.add.d",
+             "the runtime": unfolded["place"].startswith("$float.") and not unfolded["left"] and unfolded["rows"] > 4,
+             "a move in it": after == call + 21}
+    wrong = [name for name, holds in found.items() if not holds]
+    return f"{', '.join(wrong)}: {[end, behind, before, inside, unfolded, after]}" if wrong else "; ".join(errors) or None
+
+
+CASES = {"keys": keys, "a lowered text": lowered_text, "pointer": pointer, "a value by hand and the script": by_hand, "another way by hand": other_way, "export": export,
          "export's size": size,
          "hostile texts": hostile, "the server ends": ended,
          "side by side": side_by_side}

@@ -108,6 +108,9 @@ class Browser:
         return told["result"].get("value")
 
     def open(self, address: str, wanted: str = READY, seconds: float = 30) -> None:
+        # What the page before still asks for, of a server that has ended, is no error of this one.
+        self.send("Page.navigate", url="about:blank")
+        self.run("1")
         self.events.clear()
         self.send("Page.navigate", url=address)
         end = time.monotonic() + seconds

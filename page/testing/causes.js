@@ -3,6 +3,8 @@
 
 /** A value as the terminal has it in a question: a number, unset, or bytes. */
 function valueOf(question) {
+  // Of a float the terminal has decimals, which are compared elsewhere.
+  if (question.value !== null && question.width in FLOATS) return "";
   if (question.of === "temporary") return question.value === null ? "unset" : question.value.toString();
   if (question.of === "memory" && [1, 2, 4, 8].includes(question.count)
     && question.value !== null) return question.value.toString();

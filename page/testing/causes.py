@@ -20,19 +20,22 @@ from typing import Any, Callable, Iterator, Sequence
 from terminal.answers import Place
 from terminal.causes import Cause, Causes, Question
 from terminal.frames import Frames
+from terminal.lowered import Lowered, lowered_of
 from terminal.scratch import Launch, Scratch
 from terminal.text import LOADED, STORED, Program
 from terminal.timeline import Poke, Timeline
-from terminal.values import Names
+from terminal.values import Names, as_float, bits_of
 from terminal.waiting import Waiting
 
 from ..exporting import joined
 from ..gathering import Gathering
+from ..lowering import Lowering
 from ..table import Table
 
 HERE = pathlib.Path(__file__).resolve().parent
 TOP = HERE.parent.parent
 CORE = ("program.js", "run.js", "memory.js", "causes.js")
+COMPARER = TOP / "release" / "qrev-compare-x86_64-linux"
 IN_NODE = """
 import {readFileSync, writeSync} from "node:fs";
 const found = JSON.parse(readFileSync(0, "utf8")).map(({told, stream, questions}) =>
@@ -64,11 +67,11 @@ class Case:
 class Terminal:
     """The terminal's `why`, asked about states of a run."""
 
-    def __init__(self, launch: Launch, program: Program, run: Timeline):
+    def __init__(self, launch: Launch, program: Program, run: Timeline, lowered: Lowered | None = None):
         self.program, self.scratch, self.run = program, Scratch(launch, Waiting()), run
         names = Names(program)
         self.frames = Frames(program, names, self.scratch)
-        self.causes = Causes(program, names, self.frames, self.scratch)
+        self.causes = Causes(program, names, self.frames, self.scratch, lowered=lowered)
 
     def answer(self, asked: Asked) -> Any:
         """What is wanted of the page, or None for a question that the terminal doesn't answer for sure."""
@@ -164,15 +167,17 @@ def case_of(program_path: str, name: str, file: str, words: Sequence[str], state
             pokes: tuple[Poke, ...] = ()) -> Case | None:
     """A run with questions and the terminal's answers; None of one that is refused or is too long."""
     launch = Launch(program_path, file, tuple(words))
-    program = Program(pathlib.Path(file).read_bytes())
-    table = Table(program)
+    source, lowered = pathlib.Path(file).read_bytes(), lowered_of(file)
+    lowering = Lowering(Program(source), source, launch, lowered)
+    program = lowering.program
+    table = Table(Program(source))
     gathering = Gathering(launch, table, most, pokes=pokes)
     gathering.gather()
     if not gathering.end:
         return None
-    case = Case(name, table.told(name), b"".join(gathering.parts))
+    case = Case(name, table.told(name, lowering=lowering), b"".join(gathering.parts))
     run = Timeline(len(gathering.places) - 1, pokes)
-    terminal = Terminal(launch, program, run)
+    terminal = Terminal(launch, program, run, lowered)
     try:
         for asked in questions_of(program, gathering, random.Random(seed), states, Live(terminal, gathering, run)):
             wanted = terminal.answer(asked)
@@ -228,7 +233,7 @@ def faults_of(case: Case, given: list[Any]) -> Iterator[str]:
 # Tests.
 
 EXAMPLES = [*sorted((TOP / "examples").glob("*.ssa")), *sorted((TOP / "terminal" / "testing").glob("*.ssa"))]
-STATES, RANDOM = 8, 500
+STATES, RANDOM, MOST_LOWERED = 8, 500, 60_000
 
 
 def faults(cases: list[Case]) -> str | None:
@@ -257,6 +262,83 @@ def of_examples(program: str) -> str | None:
     return faults([case for case in cases if case])
 
 
+LOWERED = [*sorted((TOP / "lower" / "test-data" / "real").glob("*.ssa")),
+           *(TOP / "lower" / "test-data" / "programs" / f"{name}.ssa" for name in ("sorted", "strings", "matrix"))]
+
+
+def of_lowered_texts(program: str) -> str | None:
+    """Texts that were lowered: a function of the runtime is one instruction, and what is read and set by it is asked about."""
+    with tempfile.TemporaryDirectory(prefix="page-") as folder:
+        cases = []
+        for text in LOWERED:
+            file = f"{folder}/{text.stem}.ssa"
+            subprocess.run([str(TOP / "lower" / "qrev-lower"), "--link", "--output", file, str(text)], capture_output=True,
+                           stdin=subprocess.DEVNULL)
+            cases.append(case_of(program, text.stem, file, (), STATES, 3, MOST_LOWERED))
+        return faults([case for case in cases if case])
+
+
+def float_texts(program: str) -> str | None:
+    """Floats are written as at the terminal: doubles and singles of random bits, and those at the edges."""
+    chosen = random.Random(4)
+    edges = [0, 1, 1 << 63, 0x3ff0000000000000, 0x7fefffffffffffff, 0x7ff0000000000000, 0xfff0000000000000, 0x7ff8000000000000,
+             0x4341c37937e08000, 0x4341c37937e07fff, 0x3f1a36e2eb1c432d, 0x3f1a36e2eb1c432c, 0x000fffffffffffff]
+    edges += [value >> 29 & 0xffffffff for value in edges] + [0x3dcccccd, 0x7f7fffff, 0x80000000, 0x7fc00000, 0x4b18967f]
+    asked = [[value, cls] for value in edges for cls in "ds"]
+    asked += [[chosen.getrandbits(64), "d"] for _ in range(2000)] + [[chosen.getrandbits(32), "s"] for _ in range(2000)]
+    asked += [[bits_of(chosen.randrange(-10 ** 9, 10 ** 9) / 10 ** chosen.randrange(12), cls), cls] for cls in "ds" for _ in range(1000)]
+    call = "given.map(([value, cls]) => floatText(BigInt(value), cls))"
+    found = evaluated(call, [[str(value), cls] for value, cls in asked])
+    wrong = [(value, cls, text, as_float(value, cls)) for (value, cls), text in zip(asked, found) if text != as_float(value, cls)]
+    return f"{wrong[0]} ({len(wrong)} of {len(asked)})" if wrong or len(found) != len(asked) else None
+
+
+def event_counts(program: str) -> str | None:
+    """A run has as many events of each kind, and of all, as qrev-compare counts of it beside itself."""
+    given, wanted = [], []
+    for file in EXAMPLES:
+        table = Table(Program(file.read_bytes()))
+        gathering = Gathering(Launch(program, str(file), ()), table, MOST_LOWERED)
+        gathering.gather()
+        if not gathering.end:
+            continue
+        stream = base64.b64encode(b"".join(gathering.parts)).decode()
+        for kinds in ("output", "writes", "calls", "end", "output,writes,calls,end"):
+            told = subprocess.run(["qrev-compare", str(file), str(file), "--events", kinds], executable=COMPARER,
+                                  stdin=subprocess.DEVNULL, capture_output=True, text=True).stdout
+            given.append({"told": table.told(file.stem), "stream": stream, "kinds": kinds.split(",")})
+            wanted.append([file.stem, kinds, int(told.split()[1])])
+    call = ("given.map(({told, stream, kinds}) => { const run = runOf(told, Uint8Array.from(atob(stream), sign => sign.charCodeAt(0)));"
+            " return eventsOf(run, new Memory(run), run.program, kinds).length; })")
+    found = evaluated(call, given, (*CORE, "events.js"))
+    wrong = [f"{name}, {kinds}: {count} events and not {number}" for (name, kinds, number), count in zip(wanted, found) if count != number]
+    return "; ".join(wrong[:3]) or (None if len(found) == len(wanted) > 20 else f"{len(found)} counts")
+
+
+def evaluated(call: str, given: Any, modules: tuple[str, ...] = CORE) -> Any:
+    """The value of an expression over what is given, in node or in a browser."""
+    if not has_node():
+        return in_browser(call, given, modules)
+    with tempfile.TemporaryDirectory(prefix="page-") as folder:
+        script = pathlib.Path(folder) / "asked.mjs"
+        script.write_text(joined(modules) + "import {readFileSync} from 'node:fs';\n"
+                          f"const given = JSON.parse(readFileSync(0, 'utf8'));\nconsole.log(JSON.stringify({call}));\n")
+        run = subprocess.run(["node", str(script)], input=json.dumps(given), capture_output=True, text=True, timeout=120)
+    if run.returncode:
+        raise RuntimeError(run.stderr[-1500:])
+    return json.loads(run.stdout)
+
+
+def in_browser(call: str, given: Any, modules: tuple[str, ...] = CORE) -> Any:
+    """The value of an expression over what is given, in a browser."""
+    from .browser import Browser
+    browser = Browser()
+    try:
+        return browser.run(f"(() => {{ {joined(modules)} const given = {json.dumps(given)}; return {call}; }})()")
+    finally:
+        browser.close()
+
+
 def of_random_programs(program: str) -> str | None:
     with tempfile.TemporaryDirectory(prefix="page-") as folder:
         return faults(list(random_cases(program, RANDOM, folder)))
@@ -265,22 +347,21 @@ def of_random_programs(program: str) -> str | None:
 # Values by hand, each at a position, with the number of frames there.
 POKES = {"squares": (Poke(45, "poke w $bias 0", 2), Poke(61, "set %sum 100", 1)),
          "account": (Poke(12, "poke w $balance 7", 2), Poke(14, "set %i 1", 1)),
-         "digits": (Poke(40, "set %rest 77", 2),)}
+         "digits": (Poke(40, "set %rest 77", 2),),
+         # The word is 0 there already, and a byte of the table 1.
+         "primes": (Poke(3, "poke w $sieve 0", 1),)}
 
 
 def of_pokes(program: str) -> str | None:
-    """The same where values were set by hand; of bytes that a poke wrote only what they are, since the terminal passes over a
-    poke that leaves a byte as it was."""
+    """The same where values were set by hand, also where one left a byte as it was."""
     cases = []
     for name, pokes in POKES.items():
         case = case_of(program, f"{name} with pokes", str(TOP / "examples" / f"{name}.ssa"), (), STATES, 2, pokes=pokes)
         if case:
-            kept = [index for index, asked in enumerate(case.questions) if asked[0] != "memory"]
-            case.questions = [case.questions[index] for index in kept]
-            case.wanted = [case.wanted[index] for index in kept]
             cases.append(case)
     return faults(cases)
 
 
 CASES: dict[str, Callable[[str], str | None]] = {"examples": of_examples, "random programs": of_random_programs,
-                                                 "values by hand": of_pokes}
+                                                 "values by hand": of_pokes, "lowered texts": of_lowered_texts,
+                                                 "floats": float_texts, "events": event_counts}

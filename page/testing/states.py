@@ -7,6 +7,7 @@ import random
 import subprocess
 import sys
 import tempfile
+import time
 from typing import Any, Iterator, Sequence
 
 from terminal.answers import read_bytes, read_output, read_place, read_value
@@ -124,13 +125,17 @@ def run_faults(program: str, browser: Browser, name: str, file: str, words: Sequ
     answers, chosen = Answers(program, file, words), random.Random(SEED)
     with Serving(program, file, *words) as serving:
         browser.open(serving.address)
+        # Every state is looked at, also those of the runtime.
+        browser.run("app.isFolded && app.fold()")
         moves = browser.run("app.run.moves")
         found = [] if moves == answers.length else [f"{moves} moves and not {answers.length}"]
         for position in chosen.sample(range(moves), min(states, moves)):
             shown = browser.run(f"{SHOWN}({position})")
             found += [f"{name} at #{position}: {fault}" for fault in state_faults(answers, shown, position)]
-        browser.run("app.go(Math.floor(app.run.moves / 2))")
-        browser.run("new Promise(done => setTimeout(done, 300))")
+        browser.run("agreed.className = ''; app.go(Math.floor(app.run.moves / 2))")
+        end = time.monotonic() + 30
+        while browser.run("agreed.className") != "is-right" and time.monotonic() < end:
+            time.sleep(.05)
         agreed = browser.run("[agreed.className, agreed.textContent]")
         if agreed[0] != "is-right":
             found.append(f"{name}: {agreed[1]}")

@@ -10,6 +10,7 @@ import re
 import shlex
 import signal
 import subprocess
+import sys
 import tempfile
 import time
 
@@ -233,7 +234,8 @@ def refused(program: str) -> str | None:
                     return f"{file}: another status than {status}"
             finally:
                 terminal.close()
-        for more in (["--limit", "0"], ["--history", "x"], ["--replay", "0"], ["--replay", "--history", "9"], ["--nothing"],
+        for more in (["--limit", "0"], ["--history", "x"], ["--memory", "0"], ["--memory", "1", "--history", "9"],
+                     ["--replay", "0"], ["--replay", "--history", "9"], ["--nothing"],
                      [str(SQUARES), "7", "8"]):
             run = subprocess.run([*words, *more], capture_output=True, text=True, stdin=subprocess.DEVNULL, timeout=20)
             if run.returncode not in (1, 64) or "Traceback" in run.stderr:
@@ -322,7 +324,7 @@ def wrapped(program: str) -> str | None:
 def memory_told(program: str) -> str | None:
     session = Held(program, str(SQUARES), memory=1)
     try:
-        return missing(session.do("c") + session.told, " MB", "--history 1000000", "--replay") or session.replayed_fault()
+        return missing(session.do("c") + session.told, " MB", "without --history") or session.replayed_fault()
     finally:
         session.close()
 
@@ -361,6 +363,42 @@ def fast(program: str) -> str | None:
                         return fault or f"{line} takes {taken:.2f} seconds behind {moves} moves"
             finally:
                 session.close()
+    return None
+
+
+def followed(program: str) -> str | None:
+    """The process for questions keeps up with a long run at a terminal, and answers as one that goes there when it is asked."""
+    lines = ["step 20000000", "why", "why l %sum", "set %old 7", "step 10000000", "why l %sum", "back 25000000", "why l %sum",
+             "step 24000000", "why l %sum", "goto 100", "why l %sum"]
+    with tempfile.TemporaryDirectory(prefix="long-") as folder:
+        file = written(folder, "long.ssa", LONG.format(rounds=10_000_000))
+        run = subprocess.run([sys.executable, str(TOP / "terminal" / "main"), "--debugger", program, "--", file],
+                             input="\n".join(lines), capture_output=True, text=True, timeout=100)
+        session = Held(program, file)
+        try:
+            told = session.do(lines[0])
+            if len(children_of(session.child)) != 2:
+                return "no process follows a run of 20,000,000 moves"
+            for line in lines[1:]:
+                told = session.do(line).rpartition("\r\x1b[K")[2]
+                if told not in run.stdout:
+                    return f"{line} is answered {told!r}, and without following otherwise"
+            return session.replayed_fault()
+        finally:
+            session.close()
+
+
+def suspected(program: str) -> str | None:
+    """The end of a run tells of suspicions on the way, of the program's own run alone."""
+    for file, lines, is_told in ((SQUARES, ["c"], True), (TOP / "examples" / "sum.ssa", ["c"], False),
+                                 (SQUARES, ["step 10", "set %i 3", "c"], False)):
+        session = Held(program, str(file), has_lookout=True)
+        try:
+            told = [session.do(line) for line in lines][-1]
+            if (told.split("\n")[-2] == "1 suspicion on the way: `suspects` tells it") != is_told:
+                return f"{file.stem}, {lines}: {told!r}"
+        finally:
+            session.close()
     return None
 
 
@@ -529,7 +567,7 @@ def stops_kept(program: str) -> str | None:
 
 HABITS = {call.__name__.replace("_", " "): call for call in (
     interrupted, interrupted_at_the_prompt, left, completed, bad_lines, refused, broken, narrow, without_readline, wrapped,
-    memory_told, bounded, fast, deep, saved_and_compared, stops_kept, mapped, lowered, bare)}
+    memory_told, bounded, fast, followed, suspected, deep, saved_and_compared, stops_kept, mapped, lowered, bare)}
 
 
 def tried(call, program: str) -> str | None:

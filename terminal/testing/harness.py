@@ -21,6 +21,8 @@ from terminal.shell import FAULT
 FOLDER = pathlib.Path(__file__).resolve().parent.parent
 TOP = FOLDER.parent
 PROMPT = "(qrev) "
+# What the command line of the check beside a session has.
+CHECK = b"/check/main"
 PLACE = re.compile(r"#\d+ (?:[$]\S+ @\S+ \d+|done.*|exit.*|fault.*|halted in .*|ended by a signal)")
 # How the front end tells an end that the debugger calls a fault.
 HALTED = re.compile(r" halted in .*| ended by a signal")
@@ -39,13 +41,14 @@ class NoTerminal(Exception):
 class Terminal:
     """A command at a terminal of its own."""
 
-    def __init__(self, words: list[str], columns: int = 200, seconds: float = 30, folder: str = ".", **environment: str):
+    def __init__(self, words: list[str], columns: int = 200, seconds: float = 30, folder: str = ".", rows: int = 40,
+                 **environment: str):
         self.seconds, self.shown = seconds, ""
         self.home = tempfile.TemporaryDirectory(prefix="terminal-")
         variables = {**os.environ, "HOME": self.home.name, "TERM": "dumb", "INPUTRC": "/dev/null",
                      "PYTHONDONTWRITEBYTECODE": "1", **environment}
         variables.pop("COLUMNS", None)
-        size = struct.pack("HHHH", 40, columns, 0, 0)
+        size = struct.pack("HHHH", rows, columns, 0, 0)
         # Tests run in threads: behind the fork nothing is done that could wait for one.
         try:
             self.child, self.device = pty.fork()
@@ -105,8 +108,9 @@ class Held(Terminal):
     """A session of the front end: lines are typed, and what each shows is kept."""
 
     def __init__(self, program: str, *words: str, columns: int = 200, memory: int = 512, folder: str = ".",
-                 lowered: tuple[str, ...] = (), **environment: str):
+                 lowered: tuple[str, ...] = (), has_lookout: bool = False, **environment: str):
         own = [sys.executable, str(FOLDER / "main"), "--debugger", program, "--memory", str(memory)]
+        own += ["--lookout"] * has_lookout
         super().__init__([*own, *(f"--lowered={file}" for file in lowered), "--", *words], columns, folder=folder,
                          **environment)
         self.program, self.words, self.folder = program, words, folder
@@ -114,6 +118,16 @@ class Held(Terminal):
         self.read: Callable[[str], str] = str
         self.told = self.wait_for(PROMPT)
         self.place = last_place(self.told)
+        end = time.monotonic() + self.seconds
+        while has_lookout and self.is_checking() and time.monotonic() < end:
+            # What it finds is told if it is known in time; on a busy machine that may take longer than it is waited for.
+            time.sleep(0.02)
+
+    def is_checking(self) -> bool:
+        """Whether the run is still being checked beside the session."""
+        children = pathlib.Path(f"/proc/{self.child}/task/{self.child}/children").read_text().split()
+        return any(CHECK in pathlib.Path(f"/proc/{child}/cmdline").read_bytes() for child in children
+                   if pathlib.Path(f"/proc/{child}/cmdline").exists())
 
     def do(self, line: str) -> str:
         """What a line shows."""

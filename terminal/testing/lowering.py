@@ -337,7 +337,25 @@ def session_fault(program: str, text: str, lines: Lines) -> str | None:
             session.close()
 
 
-SESSIONS = {"absent": (ABSENT, ABSENT_LINES), "freed": (FREED, FREED_LINES), "nowhere": (NOWHERE, NOWHERE_LINES), "signal": (SIGNAL, SIGNAL_LINES),
+# Constants that are stored are floats where the text says so.
+CONSTANTS = """
+export function w $main() {
+@start
+	%p =l alloc8 8
+	%q =l alloc4 4
+	stored d_2.5, %p
+	stores s_0.1, %q
+	%v =d loadd %p
+	%i =w dtosi %v
+	ret %i
+}
+"""
+CONSTANTS_LINES: Lines = [
+    ("c", ["done 2"]), ("why", ["[1] %i = 2"]), ("why 1", ["%i =w dtosi %v", "[1] %v = 2.5"]), ("why 1", ["%v =d loadd %p"]),
+    ("why 1", ["stored d_2.5, %p"]), ("back", []), ("why w %q", ["stores s_0.1, %q"]),
+]
+
+SESSIONS = {"constants": (CONSTANTS, CONSTANTS_LINES), "absent": (ABSENT, ABSENT_LINES), "freed": (FREED, FREED_LINES), "nowhere": (NOWHERE, NOWHERE_LINES), "signal": (SIGNAL, SIGNAL_LINES),
             "floats": (FLOATS, FLOATS_LINES), "singles": (SINGLES, SINGLES_LINES), "called": (CALLED, CALLED_LINES),
             "chain of floats": (chain(OPERATIONS), CHAIN_LINES), "short names": (large(), LARGE_LINES),
             "places": (PLACES, PLACES_LINES)}

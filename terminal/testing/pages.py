@@ -41,7 +41,7 @@ def lowered_session_fault(program: str, lines: list[str]) -> str | None:
 
 def session_fault(program: str, lines: list[str], words: tuple[str, ...], lowered: tuple[str, ...] = ()) -> str | None:
     """What a session shows otherwise than the page says, or None."""
-    session = Held(program, *words, folder=str(TOP), columns=100, lowered=lowered)
+    session = Held(program, *words, folder=str(TOP), columns=100, lowered=lowered, has_lookout=True)
     try:
         shown = [lines[0], *session.told.split("\n")[:-1]]
         for line in lines:

@@ -272,6 +272,18 @@ CAUSES: dict[pathlib.Path, Lines] = {
         ("why 1", ["line 8: %t1 =w mul %b, %b", "[3] %t1 = 9  before #3, when it was set again"]),
         ("why 3", ["line 7: %t1 =w mul %a, %a"]),
     ],
+    # The address of a variable outlasts its frame, and the bytes there are another variable's.
+    OWN / "dangling.ssa": [
+        ("goto 10", ["%p=%slot+0 of $make, which is over"]),
+        ("p %p", ["($make alloc %slot+0, of a frame that is over since #5; now frame 0 $use alloc %loc+0)"]),
+        ("p %loc", ["%loc = 16777216 (frame 0 $use alloc %loc+0)"]),
+        ("p %next", ["($make alloc %slot+4, of a frame that is over since #5)"]),
+        ("x/1la $kept", ["$make alloc %slot+0, of a frame that is over since #5; now frame 0 $use alloc %loc+0"]),
+        ("up", []), ("p %p", ["($make alloc %slot+0, of a frame that is over since #5; now frame 0 $use alloc %loc+0)"]),
+        ("goto 2", []), ("p %slot", ["%slot = 16777216 (frame 0 $make alloc %slot+0)"]),
+        ("c", ["fault dead address 16777216", "%p=%slot+0 of $make, which is over"]),
+        ("why", ["16777216 is $make alloc %slot+0, of a frame that is over since #5", "[1] %p = 16777216 ($make alloc"]),
+    ],
     # The two arguments stand in each other's place.
     OWN / "order.ssa": [
         ("c", ["done 0"]), ("why out 0", ['byte 0 of the output, 40 ("("), was written by', "[1] %digit = 40"]),

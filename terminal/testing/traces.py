@@ -8,6 +8,7 @@ from __future__ import annotations
 import random
 from dataclasses import dataclass
 
+from check.shadow import Object
 from terminal.answers import Place, read_place, read_value
 from terminal.asking import held_spans
 from terminal.causes import Question
@@ -15,8 +16,10 @@ from terminal.expressions import parse
 from terminal.pipe import Pipe
 from terminal.scratch import SLICE, Launch, frames_of
 from terminal.shell import Shell
+from terminal.suspecting import followed
 from terminal.text import ALLOCATIONS, DATA, JUMPS, LOADED, STORED, Instruction, Program
 from terminal.timeline import Timeline
+from terminal.values import is_stack
 from terminal.waiting import Waiting
 
 from .soak import QuietShell
@@ -151,11 +154,42 @@ def memory_fault(shell: Shell, trace: Trace, position: int) -> str | None:
         return None
     text = instruction.operands[0].text
     address = state.values[text] if text in state.values else shell.session.program.addresses[text]
+    if None in shell.session.scratch.go(Timeline(position)).memory(address, size):
+        # The load is a fault, and nothing has set dead bytes.
+        return None
     cause = shell.causes.of(Question("memory", Timeline(position), "it", address=address, count=size))
     wanted = max(trace.writer(address + offset, state) for offset in range(size))
     if wanted < 0:
         return None if "so since the start" in cause.lines[-1] else f"{address} at #{position}: {cause.lines}"
     return None if cause.at.position == wanted else f"{address} at #{position}: #{cause.at.position} and not #{wanted}"
+
+
+def origin_faults(debugger: str, file: str, seed: int, questions: int) -> list[str]:
+    """Where an address on the stack isn't told to be of a frame that is over, with its slot and its end, as the shadow of the run
+    says that it is (check/following.py), which follows each address from its alloc on."""
+    shell, trace, chosen = begun(debugger, file, seed)
+    try:
+        return [fault for _ in range(questions) for fault in origins_at(shell, trace, chosen.randrange(len(trace.states)))]
+    finally:
+        shell.session.close()
+
+
+def origins_at(shell: Shell, trace: Trace, position: int) -> list[str]:
+    state, at = trace.states[position], Timeline(position)
+    on_stack = {name: value for name, value in state.values.items() if value is not None and is_stack(value)}
+    if not on_stack:
+        return []
+    shadows, found = followed(shell, at, position, frozenset())[0].frames[-1].shadows, []
+    for name, value in on_stack.items():
+        made = shadows[name].made
+        is_over = isinstance(made, Object) and made.kind == "slot" and made.died is not None
+        # A move from the position at which a frame returned makes the next state, in which it is over.
+        wanted = (made.name, value - made.address, made.died + 1) if is_over else None
+        over = shell.causes.origins.over(value, at, name)
+        given = (f"{over.function} {over.name}", over.offset, over.position) if over else None
+        if wanted != given:
+            found.append(f"{name} at #{position}: {given} and not {wanted}")
+    return found
 
 
 def access_faults(debugger: str, file: str, seed: int, questions: int) -> list[str]:

@@ -178,7 +178,7 @@ class Counting:
 
     def __init__(self, running, made, text, history):
         self.running, self.made, self.text = running, made, text
-        self.words = [] if history is None else ["--history", str(history)]
+        self.words = ["--history", "all" if history is None else str(history)]
 
     def run(self, script):
         with tempfile.NamedTemporaryFile(prefix="counts-", suffix=".ssa") as file:
@@ -310,13 +310,13 @@ def records(running):
 def cases():
     for name in QUIET:
         for history in (None, 3):
-            yield Case(f"{name} takes no memory, --history {history}", quiet, (name, history))
+            yield Case(f"{name} takes no memory, --history {history or 'all'}", quiet, (name, history))
     for history in (None, 3):
-        yield Case(f"what each kind of move takes, --history {history}", of_each_move, (MOVES, history))
-        yield Case(f"what jumps with phis take, --history {history}", of_each_move, (PHIS, history))
+        yield Case(f"what each kind of move takes, --history {history or 'all'}", of_each_move, (MOVES, history))
+        yield Case(f"what jumps with phis take, --history {history or 'all'}", of_each_move, (PHIS, history))
     for name in OWN:
         for history in (None, 3):
-            yield Case(f"what the moves of {name} take, --history {history}", of_own, (name, history))
+            yield Case(f"what the moves of {name} take, --history {history or 'all'}", of_own, (name, history))
     yield Case("growths of the list of records", growths)
     yield Case("3,000 moves take few allocations", long_run, (None, 20))
     yield Case("3,000 moves with --history 3 take none", long_run, (3, 0))

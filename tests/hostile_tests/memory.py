@@ -168,19 +168,19 @@ def moves_made(session, line, place):
     return made
 
 
-# What a session keeps: all moves, so many, or copies of states.
-REPLAY = "replay"
+# What a session keeps: an undo record of each move, of so many, or copies of states, as it does by default.
+COPIES = "copies"
 
 
 def words_of(history):
-    return [] if history is None else ["--replay", "1"] if history == REPLAY else ["--history", str(history)]
+    return ["--memory", "1"] if history == COPIES else ["--history", "all" if history is None else str(history)]
 
 
 def session_refused(running, text, script, history, limit, must_want):
     """A session whose allocations are refused: nothing is written, or it goes on and says where memory was wanting.
 
     `must_want` are commands of which some run must have said so, behind moves if it is said with a `+`."""
-    options = {"history": None if history == REPLAY else history, "limit": limit}
+    options = {"history": None if history == COPIES else history, "limit": limit}
     words = ["--limit", str(limit)] + words_of(history)
     ample, status = reference.transcript(text, script, **options)
     start, loaded = reference.load(text, **options)
@@ -248,7 +248,7 @@ def as_stated(running, name, history):
     is set."""
     text, script, plain, wants = STATED[name]
     words = words_of(history)
-    may_want = not script.startswith(b"step") if history == REPLAY else history is None or text == HELLO
+    may_want = not script.startswith(b"step") if history == COPIES else history is None or text == HELLO
     wants = wants if may_want else []
     seen = set()
 
@@ -300,19 +300,19 @@ def cases():
     yield Case("pokes, each allocation refused", session_refused,
                (PROGRAM, b"set %v 1\nset %v 2\npoke w $d 1\npoke b $d 2\nback 9\nmem $d 4\n" * 3, None, 1000, ("set",)))
     yield Case("pokes among copies of states, each allocation refused", session_refused,
-               (PROGRAM, b"set %v 1\nset %v 2\npoke w $d 1\npoke b $d 2\nback 9\nmem $d 4\n" * 3, REPLAY, 1000, ("set",)))
+               (PROGRAM, b"set %v 1\nset %v 2\npoke w $d 1\npoke b $d 2\nback 9\nmem $d 4\n" * 3, COPIES, 1000, ("set",)))
     yield Case("a session over copies of states wants memory only while loading", session_refused,
                (PROGRAM, b"".join(line for line in SCRIPT.splitlines(True) if line.split()[:1] not in ([b"set"], [b"poke"])),
-                REPLAY, 1_000_000, ()))
+                COPIES, 1_000_000, ()))
     yield Case("a loop over copies of states wants memory only while loading", session_refused,
-               (LOOP, b"continue\nback\ncontinue\nreverse\nstep 5\n", REPLAY, 1000, ()))
+               (LOOP, b"continue\nback\ncontinue\nreverse\nstep 5\n", COPIES, 1000, ()))
     for name, (moves, own) in counts.OWN.items():
-        for history in (None, 3, REPLAY):
-            yield Case(f"the moves of {name}, {' '.join(words_of(history)) or 'all kept'}, each allocation refused", session_refused,
+        for history in (None, 3, COPIES):
+            yield Case(f"the moves of {name}, {' '.join(words_of(history))}, each allocation refused", session_refused,
                        (counts.own_text(name), b"step\ntemps\nout\n" * moves + b"back 99\nstep 99\n", history, 1000,
-                        () if history == REPLAY else ("step",) if own or history is None else ()))
+                        () if history == COPIES else ("step",) if own or history is None else ()))
     for name in STATED:
-        for history in (None, 3, REPLAY):
+        for history in (None, 3, COPIES):
             yield Case(" ".join([name, *words_of(history)]) + ", each allocation refused", as_stated, (name, history))
     yield Case("a refused program, each allocation refused", answer_refused,
                (PROGRAM + b"data $d = { }\n", [], (b"refused: C1 line 33\n", 1)))

@@ -25,4 +25,5 @@ def back_is_near(running, words):
 
 def cases():
     yield Case("steps back after a long run", back_is_near, ([],))
+    yield Case("steps back after a long run, over all undo records", back_is_near, (["--history", "all"],))
     yield Case("steps back after a long run, with a bound", back_is_near, (["--history", "1000"],))

@@ -1,4 +1,4 @@
-"""Long runs under `--replay`, at the edges of the parts between the copies of states, which are made every 2^14 moves and kept at
+"""Long runs over copies of states, at the edges of the parts between the copies of states, which are made every 2^14 moves and kept at
 2^21 far away: forward, back, over copies behind the present state, pokes and watches there. Places and values are worked out from the position alone; what stops say is asked of a session
 without the option besides, whose transcript it must be."""
 from harness.running import Case
@@ -20,7 +20,7 @@ TEXT = b"""export function w $main() {
 }
 """
 
-# One megabyte of data, and as much of the stack, so that a copy takes more than all copies may under `--replay 1`.
+# One megabyte of data, and as much of the stack, so that a copy takes more than all copies may under `--memory 1`.
 WIDE = b"""data $d = { z 1048576 }
 export function w $main() {
 @start
@@ -179,7 +179,7 @@ def computed(running, made, edge, most):
     asked = made(edge)
     head = "loaded 1 functions 0 data bytes ssa no $main %i\n" + START.line()
     script, wanted = "".join(f"{line}\n" for line in asked.lines), head + "".join(asked.answers)
-    return running.fault(TEXT, script.encode(), ["--replay", most], wanted.encode(), 0)
+    return running.fault(TEXT, script.encode(), ["--memory", most], wanted.encode(), 0)
 
 
 def stops_there(edge):
@@ -193,20 +193,20 @@ def stops_there(edge):
 
 
 def as_without(running, text, script, most, limit):
-    """The transcript under `--replay` is that of a session without it."""
-    plain = running.run(text, script, ["--limit", limit])
+    """The transcript over copies of states is that over undo records."""
+    plain = running.run(text, script, ["--limit", limit, "--history", "all"])
     if plain is None or plain[2] != 0:
         return "no session without the option"
-    return running.fault(text, script, ["--limit", limit, "--replay", most], plain[0], 0)
+    return running.fault(text, script, ["--limit", limit, "--memory", most], plain[0], 0)
 
 
 def cases():
     for edge in EDGES:
         for most in ("1", "64"):
-            yield Case(f"to and fro over {edge}, --replay {most}", computed, (to_and_fro, edge, most))
-            yield Case(f"pokes at {edge}, --replay {most}", computed, (poked_there, edge, most))
-            yield Case(f"over copies behind {edge}, --replay {most}", computed, (ahead, edge, most))
-            yield Case(f"stops around {edge}, --replay {most}", as_without, (TEXT, stops_there(edge), most, "5000000"))
+            yield Case(f"to and fro over {edge}, --memory {most}", computed, (to_and_fro, edge, most))
+            yield Case(f"pokes at {edge}, --memory {most}", computed, (poked_there, edge, most))
+            yield Case(f"over copies behind {edge}, --memory {most}", computed, (ahead, edge, most))
+            yield Case(f"stops around {edge}, --memory {most}", as_without, (TEXT, stops_there(edge), most, "5000000"))
     wide = b"step 1048580\nmem 65528 16\nprint %i\nstep 1048576\nback 1048577\nprint %i\nwatch %i\nreverse\nwhere\nreverse\nback 100000\nprint %i\nback 948575\nwhere\n"
     for most in ("1", "2", "64"):
-        yield Case(f"copies of 2 MB, --replay {most}", as_without, (WIDE, wide, most, "3000000"))
+        yield Case(f"copies of 2 MB, --memory {most}", as_without, (WIDE, wide, most, "3000000"))

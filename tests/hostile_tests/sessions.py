@@ -58,18 +58,14 @@ def unbounded(text, arguments, script, limit):
 
 
 def bound_not_met(running, seed, lines=LINES):
-    """With a bound of as many moves as a session makes, and over copies of states, it is that without a bound."""
+    """Over copies of states, over all undo records, and over as many as a session makes moves, it is the same."""
     text, arguments, script, options = seeded(seed, lines)
     limit = options["limit"]
     wanted, status, moves = unbounded(text, arguments, script, limit)
-    for bound in (None, moves):
-        fault = running.fault(text, script, words_of(arguments, limit, bound), wanted, status)
+    for kept in ([], ["--memory", "1"], ["--history", "all"], ["--history", str(moves)]):
+        fault = running.fault(text, script, words_of(arguments, limit, None) + kept, wanted, status)
         if fault:
-            return f"with {'no bound' if bound is None else f'a bound of {bound}'}: {fault}"
-    for most in ("1", "64"):
-        fault = running.fault(text, script, words_of(arguments, limit, None) + ["--replay", most], wanted, status)
-        if fault:
-            return f"with --replay {most}: {fault}"
+            return f"with {' '.join(kept) or 'no option'}: {fault}"
     return None
 
 

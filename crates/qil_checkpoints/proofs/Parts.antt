@@ -1,12 +1,15 @@
 -- Pokes at rising positions: which is found where, and the parts of such a list.
-use Rattle.std.proofs.Common.{◌≡◌, refl, sym, ap, ◌∙◌, subst, ℕ, suc, ◌+◌, ◌<◌, ◌≤◌, Bool, true, false, cond, List, [], ◌∷◌, ◌++◌, length, get_or, take, drop, Option, Some, None, inl, inr, eq-eqb, arith}
+use Rattle.std.proofs.Common.{◌≡◌, refl, sym, ap, ◌∙◌, subst, ℕ, zero, suc, ◌+◌, ◌<◌, ◌≤◌, Bool, true, false, cond, List, [], ◌∷◌, ◌++◌, length, get_or, take, drop, Option, Some, None, inl, inr, eq-eqb, arith}
 use Rattle.std.proofs.lemmas.Bool.{ne_eqb, cases_lt}
 use Rattle.std.proofs.lemmas.List.{drop_more, drop_all}
+use Rattle.std.proofs.lemmas.List.Sums.{prefix_len_is}
 use Rattle.std.proofs.lemmas.Bool.Decides.{nat_tests, Decides-eqb}
 use Rattle.std.specs.Prelude.{◌==◌, nat_lt, slice_get}
+use Rattle.std.specs.List.Sorted.{IsPartitionedBy, IsPartitionPoint}
 use Rattle.qil_checkpoints.specs.declared.poked.KeptPoke.{KeptPoke}
+use Rattle.qil_checkpoints.specs.declared.poked.KeptPoke.TheVariants.{Bytes}
 use Rattle.qil_checkpoints.specs.declared.poked.Poked.{Poked}
-use Rattle.qil_checkpoints.specs.Walk.{HasWidth, poke_at, ArePoked, count_before, part_of, IsPart}
+use Rattle.qil_checkpoints.specs.Walk.{HasWidth, poke_at, ArePoked, AreRising, is_before, count_before, part_of, IsPart}
 use Rattle.qil_checkpoints.specs.Hits.{IsNextStand}
 
 -- ---- one poke
@@ -281,3 +284,35 @@ stand-some (r ∷ rs) q at to e poked none =
 pub poked-lower : (low less : ℕ) (pokes : List Poked) (high : ℕ) → ArePoked low pokes high → less ≤ low → ArePoked less pokes high
 poked-lower low less [] high le under = omega (arith, le, under)
 poked-lower low less (q ∷ qs) high poked under = (let first : low ≤ q.position = poked.0 in omega (arith, first, under), poked.1, poked.2)
+
+-- ---- the pokes rise, so a binary search finds how many come before a position
+
+-- none was made before low
+no_earlier : (low : ℕ) (pokes : List Poked) (high i : ℕ) (d : Poked) → ArePoked low pokes high → i < length pokes → low ≤ (get_or pokes i d).position
+no_earlier low [] high i d poked lt = absurd (omega arith)
+no_earlier low (q ∷ qs) high zero d poked lt = poked.0
+no_earlier low (q ∷ qs) high (suc i) d poked lt =
+    let deep : q.position + 1 ≤ (get_or qs i d).position = no_earlier (q.position + 1) qs high i d poked.2 (omega arith) in
+    let first = poked.0 in
+    omega (arith, deep, first)
+
+pub are_rising : (low : ℕ) (pokes : List Poked) (high : ℕ) → ArePoked low pokes high → AreRising pokes
+are_rising low [] high poked i j d le lt = absurd (omega arith)
+are_rising low (q ∷ qs) high poked zero zero d le lt = omega arith
+are_rising low (q ∷ qs) high poked zero (suc j) d le lt =
+    let deep : q.position + 1 ≤ (get_or qs j d).position = no_earlier (q.position + 1) qs high j d poked.2 (omega arith) in omega (arith, deep)
+are_rising low (q ∷ qs) high poked (suc i) zero d le lt = absurd (omega (arith, le))
+are_rising low (q ∷ qs) high poked (suc i) (suc j) d le lt = are_rising (q.position + 1) qs high poked.2 i j d (omega (arith, le)) (omega (arith, lt))
+
+-- none that was made before a position comes after one that wasn't
+pub are_parted : (pokes : List Poked) (n : ℕ) → AreRising pokes → IsPartitionedBy (is_before n) pokes
+are_parted pokes n rising i j d le lt before =
+    let order : (get_or pokes i d).position ≤ (get_or pokes j d).position = rising i j d le lt in
+    grind (arith, nat_tests, before, order)
+
+nowhere_poked : Poked
+nowhere_poked = record { position = 0; poke = Bytes 0 1 0 }
+
+pub found_count : (pokes : List Poked) (n r : ℕ) → r ≤ length pokes → IsPartitionPoint (λ q. is_before n q ≡ true) (λ q. is_before n q ≡ false) pokes r → r ≡ count_before n pokes
+found_count pokes n r bound point =
+    sym (prefix_len_is (is_before n) pokes r nowhere_poked bound (λ k l. point.0 k nowhere_poked (omega arith) l) (λ l. point.1 r nowhere_poked (omega arith) l))

@@ -1,6 +1,7 @@
 -- The walk of a run: the states at its positions, by the steps and by the pokes that were made in it.
 use Rattle.std.specs.Prelude.{◌≡◌, ℕ, zero, suc, ◌+◌, ◌<◌, ◌≤◌, ◌==◌, nat_lt, Bool, false, cond, List, [], ◌∷◌, length, take, drop, Option, Some, None, Result, Ok, Err}
 use Rattle.std.specs.List.{prefix_len}
+use Rattle.std.specs.List.Sorted.{IsNonDecreasingBy}
 use Rattle.qil_tree.specs.declared.tree.Program.{Program}
 use Rattle.qil_memory.specs.Calls.{IsWidth}
 use Rattle.qil_meaning.specs.State.{State, is_final}
@@ -33,6 +34,10 @@ poke_at (q ∷ qs) n = cond (q.position == n) (Some q.poke) (poke_at qs n)
 abbrev pub ArePoked : ℕ → List Poked → ℕ → Type 0
 ArePoked low [] high = low ≤ high
 ArePoked low (q ∷ qs) high = (low ≤ q.position) × HasWidth q.poke × ArePoked (q.position + 1) qs high
+
+-- each was made where the one before it was, or later
+abbrev pub AreRising : List Poked → Type 0
+AreRising pokes = IsNonDecreasingBy (λ q. q.position) pokes
 
 -- how many were made before position n
 abbrev pub is_before : ℕ → Poked → Bool

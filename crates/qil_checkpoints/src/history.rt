@@ -24,16 +24,9 @@ impl<A: Allocator + Copy, C: HasProgram<A>, M: Restorable<A, C>> Runs<A, C> for 
 
     ghost timeline = { λ history. held_timeline M.present M.kept history };
 
-    // It is never out of memory. The other clauses are those of the trait, which these stand in place of.
-    fn forward_by(&mut self, count: u32) -> Result<(), u32>
-        requires { position (held_timeline M.present M.kept self.old) + count ≤ 2 ^ 62 }
-        ensures spared { result ≡ Ok tt }
-        ensures program { (M.present self.new.machine).program ≡ (M.present self.old.machine).program }
-        ensures near { position (held_timeline M.present M.kept self.new) ≤ position (held_timeline M.present M.kept self.old) + count }
-        ensures moved { MatchResult result
-            (λ _. held_timeline M.present M.kept self.new ≡ forward_by (M.present self.old.machine).program count (held_timeline M.present M.kept self.old))
-            (λ k. (k < count) × (held_timeline M.present M.kept self.new ≡ forward_by (M.present self.old.machine).program k (held_timeline M.present M.kept self.old)) × (at_end (held_timeline M.present M.kept self.new) ≡ false)) }
-    {
+    ghost wants_memory = { false };
+
+    fn forward_by(&mut self, count: u32) -> Result<(), u32> {
         let _ = self.run_on(count as u64);
         Ok(())
     }
@@ -42,16 +35,7 @@ impl<A: Allocator + Copy, C: HasProgram<A>, M: Restorable<A, C>> Runs<A, C> for 
         self.go_to(self.moves().saturating_sub(count as u64));
     }
 
-    // Nor is this.
-    fn run(&mut self, stops: &[NumberedStop], limit: u64) -> (Reason, u64)
-        requires near { position (held_timeline M.present M.kept self.old) + limit ≤ 2 ^ 62 }
-        requires few { length stops.now ≤ 64 }
-        requires readable { AreReadable stops.now }
-        ensures spared { result.0 ≢ Reason.Memory }
-        ensures program { (M.present self.new.machine).program ≡ (M.present self.old.machine).program }
-        ensures run { RunsOn (M.present self.old.machine).program (named_stops (M.present self.old.machine).program stops.now) limit (held_timeline M.present M.kept self.old) result.0 result.1 (held_timeline M.present M.kept self.new) }
-        ensures near { position (held_timeline M.present M.kept self.new) ≤ position (held_timeline M.present M.kept self.old) + limit }
-    {
+    fn run(&mut self, stops: &[NumberedStop], limit: u64) -> (Reason, u64) {
         if stops.is_empty() {
             self.run_freely(limit)
         } else {

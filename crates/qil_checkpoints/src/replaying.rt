@@ -6,7 +6,7 @@ ghost use Rattle.qil_meaning.specs.Timeline.{gone};
 ghost use Rattle.qil_state.specs.State.{state_of};
 ghost use Rattle.qil_history.specs.Pokes.{Explains};
 ghost use Rattle.qil_checkpoints.specs.declared.poked.Poked.{Poked};
-ghost use Rattle.qil_checkpoints.specs.Walk.{after_poke, HasWidth, poke_at, ArePoked, count_before, part_of, IsPart, walk, timeline_at, AreMoves};
+ghost use Rattle.qil_checkpoints.specs.Walk.{after_poke, HasWidth, poke_at, ArePoked, AreRising, is_before, count_before, part_of, IsPart, walk, timeline_at, AreMoves};
 ghost use Rattle.qil_checkpoints.specs.Held.{first_of, FromStart, IsKept, Holds, StillKept, Reaches};
 
 use crate::keeping::{forget_later, keep_copy};
@@ -17,19 +17,22 @@ use qil_machine::PokeError;
 use qil_stops::Restorable;
 use std::alloc::Allocator;
 
-/// How many of the pokes were made before a position.
+/// How many of the pokes were made before a position. It takes some twenty looks at most, whatever their number.
 pub(crate) fn count_before(pokes: &[Poked], position: u64) -> usize
+    requires { AreRising pokes.now }
     ensures count { result ≡ count_before position pokes.now }
     ensures within { result ≤ length pokes.now }
 {
-    pokes
-        .iter()
-        .take_while(|made| made.position < position)
-        .count()
+    pokes.partition_point(
+        |made: &Poked| -> bool
+            ensures { result ≡ is_before position made.now }
+        { made.position < position },
+    )
 }
 
 /// The pokes that were made from one position on and before another.
 pub(crate) fn part_of(pokes: &[Poked], from: u64, to: u64) -> &[Poked]
+    requires { AreRising pokes.now }
     ensures { result.now ≡ part_of pokes.now from to }
 {
     let rest = &pokes[count_before(pokes, from)..];
@@ -271,7 +274,8 @@ fn cut<A: Allocator + Copy, C: HasProgram<A>, M: Restorable<A, C>>(
     pokes: &mut Vec<Poked, A>,
     position: u64,
 )
-    requires { length (M.kept machine.old) ≡ length positions.old.items }
+    requires length { length (M.kept machine.old) ≡ length positions.old.items }
+    requires rising { AreRising pokes.old.items }
     ensures length { length (M.kept machine.new) ≡ length positions.new.items }
     ensures whole { M.present machine.new ≡ M.present machine.old }
     ensures pokes { pokes.new.items ≡ take (count_before position pokes.old.items) pokes.old.items }

@@ -101,7 +101,7 @@ front_of : {A : Type 0} (r : Run A) (k : ℕ) (common : List Event) (found : Fou
 front_of r k common (founds.Event e) stands = record { steps = k; runs = stands.runs; others = event_at r.program (state_after r k) e ∷ stands.has.0; has = stands.has.1 }
 front_of r k common founds.Over stands = record { steps = k; runs = stands.runs; others = []; has = stands.has.0 ∙ sym (append-nil common) }
 front_of r k common founds.Limit stands = record { steps = k; runs = stands.runs; others = stands.has.0; has = stands.has.1 }
-front_of r k common founds.OutOfMemory stands = record { steps = k; runs = stands.runs; others = []; has = stands.has ∙ sym (append-nil common) }
+front_of r k common founds.OutOfMemory stands = record { steps = k; runs = stands.runs; others = []; has = stands.has.0 ∙ sym (append-nil common) }
 
 -- ---- a front of both that is longer
 
@@ -154,13 +154,13 @@ all_of {A} r k common found is stands =
     let over : Stands r k common founds.Over = subst (λ (f : Found). Stands r k common f) is stands in
     record { steps = k; runs = over.runs; over = over.has.1; all = over.has.0 }
 
-pub answer_part : {A : Type 0} (kinds : Kinds) (p q : Program A) (t u w v : Timeline) (answer : Answer) → IsAnswered kinds p q t u w v answer → answer.verdict ≡ verdicts.Part → HaveLongest (run_of kinds p q t) (run_of kinds q p w) answer.events
-answer_part kinds p q t u w v answer answered is =
+pub answer_part : {A : Type 0} (kinds : Kinds) (limit : ℕ) (p q : Program A) (t u w v : Timeline) (answer : Answer) → IsAnswered kinds limit p q t u w v answer → answer.verdict ≡ verdicts.Part → HaveLongest (run_of kinds p q t) (run_of kinds q p w) answer.events
+answer_part kinds limit p q t u w v answer answered is =
     judged_part kinds p q t u w v answer.events answered.good_moves answered.bad_moves answer.good answer.bad answered.good_is answered.bad_is answered.stand
     (subst (λ (verdict : Verdict). IsJudged p q u.now v.now answer.good answer.bad verdict) is answered.judged)
 
-pub answer_same : {A : Type 0} (kinds : Kinds) (p q : Program A) (t u w v : Timeline) (answer : Answer) → IsAnswered kinds p q t u w v answer → answer.verdict ≡ verdicts.Same → HaveSame (run_of kinds p q t) (run_of kinds q p w) answer.events
-answer_same {A} kinds p q t u w v answer answered is =
+pub answer_same : {A : Type 0} (kinds : Kinds) (limit : ℕ) (p q : Program A) (t u w v : Timeline) (answer : Answer) → IsAnswered kinds limit p q t u w v answer → answer.verdict ≡ verdicts.Same → HaveSame (run_of kinds p q t) (run_of kinds q p w) answer.events
+answer_same {A} kinds limit p q t u w v answer answered is =
     let over : IsJudged p q u.now v.now answer.good answer.bad verdicts.Same = subst (λ (verdict : Verdict). IsJudged p q u.now v.now answer.good answer.bad verdict) is answered.judged in
     record {
       events = answered.stand.common;
@@ -169,8 +169,8 @@ answer_same {A} kinds p q t u w v answer answered is =
       of_bad = all_of (run_of kinds q p w) answered.bad_moves answered.stand.common answer.bad over.1 answered.stand.bad_side;
     }
 
-pub answer_front : {A : Type 0} (kinds : Kinds) (p q : Program A) (t u w v : Timeline) (answer : Answer) → IsAnswered kinds p q t u w v answer → AgreeSoFar (run_of kinds p q t) (run_of kinds q p w) answer.events
-answer_front kinds p q t u w v answer answered = record {
+pub answer_front : {A : Type 0} (kinds : Kinds) (limit : ℕ) (p q : Program A) (t u w v : Timeline) (answer : Answer) → IsAnswered kinds limit p q t u w v answer → AgreeSoFar (run_of kinds p q t) (run_of kinds q p w) answer.events
+answer_front kinds limit p q t u w v answer answered = record {
   front = answered.stand.common;
   count = answered.stand.count;
   of_good = front_of (run_of kinds p q t) answered.good_moves answered.stand.common answer.good answered.stand.good_side;

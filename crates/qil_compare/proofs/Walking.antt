@@ -113,28 +113,28 @@ run_over p other kinds limit k t now new n way over same le e = record {
   ends = (way.silent, ap (λ (x : Timeline). at_end x) same ∙ over, all_told kinds n new.now (e ∙ ap (λ (x : Timeline). length x.now.output) (sym same)));
 }
 
-pub run_memory : {A : Type 0} (p other : Program A) (kinds : Kinds) (limit k : ℕ) (t now new : Timeline) (n : ℕ) → IsSilent p other kinds t k now → new ≡ now → k < limit → n ≡ length now.now.output
+pub run_memory : {A : Type 0} (p other : Program A) (kinds : Kinds) (limit k : ℕ) (t now new : Timeline) (n : ℕ) → IsSilent p other kinds t k now → at_end now ≡ false → new ≡ now → k < limit → n ≡ length now.now.output
     → RunsToEvent p other kinds limit t new n founds.OutOfMemory
-run_memory p other kinds limit k t now new n way same lt e = record {
+run_memory p other kinds limit k t now new n way goes same lt e = record {
   count = k;
   moves = same ∙ way.moves;
   few = omega (arith, lt);
-  ends = (way.silent, lt, all_told kinds n new.now (e ∙ ap (λ (x : Timeline). length x.now.output) (sym same)));
+  ends = (way.silent, lt, ap (λ (x : Timeline). at_end x) same ∙ goes, all_told kinds n new.now (e ∙ ap (λ (x : Timeline). length x.now.output) (sym same)));
 }
 
-run_limit : {A : Type 0} (p other : Program A) (kinds : Kinds) (limit k : ℕ) (t now : Timeline) (n : ℕ) → IsSilent p other kinds t k now → k ≡ limit → n ≡ length now.now.output → RunsToEvent p other kinds limit t now n founds.Limit
-run_limit p other kinds limit k t now n way e at = record {
+run_limit : {A : Type 0} (p other : Program A) (kinds : Kinds) (limit k : ℕ) (t now : Timeline) (n : ℕ) → IsSilent p other kinds t k now → at_end now ≡ false → k ≡ limit → n ≡ length now.now.output → RunsToEvent p other kinds limit t now n founds.Limit
+run_limit p other kinds limit k t now n way goes e at = record {
   count = k;
   moves = way.moves;
   few = omega (arith, e);
-  ends = (way.silent, e, all_told kinds n now.now at);
+  ends = (way.silent, e, goes, all_told kinds n now.now at);
 }
 
 -- at the limit: the end, if the run is over
 pub run_last : {A : Type 0} (p other : Program A) (kinds : Kinds) (limit k : ℕ) (t now : Timeline) (n : ℕ) (b : Bool) → IsSilent p other kinds t k now → at_end now ≡ b → k ≡ limit → n ≡ length now.now.output
     → RunsToEvent p other kinds limit t now n (cond b founds.Over founds.Limit)
 run_last p other kinds limit k t now n true way is e at = run_over p other kinds limit k t now now n way is refl (omega (arith, e)) at
-run_last p other kinds limit k t now n false way is e at = run_limit p other kinds limit k t now n way e at
+run_last p other kinds limit k t now n false way is e at = run_limit p other kinds limit k t now n way is e at
 
 pub run_near : {A : Type 0} (p other : Program A) (kinds : Kinds) (limit : ℕ) (t u : Timeline) (n : ℕ) (found : Found) → RunsToEvent p other kinds limit t u n found → position u ≤ position t + limit
 run_near p other kinds limit t u n found runs = let few = runs.few in let at = position_at p runs.count t u runs.moves in omega (arith, few, at)

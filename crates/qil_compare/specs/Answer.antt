@@ -1,9 +1,9 @@
 -- What is answered of two runs: how many events are the same from the start on, and what comes next on each side.
-use Rattle.std.specs.Prelude.{◌≡◌, ◌⊎◌, ℕ, ◌<◌, ◌≤◌, true, false, List, ◌∷◌, ◌++◌, length, Option, Some, None}
+use Rattle.std.specs.Prelude.{◌≡◌, ◌⊎◌, ℕ, ◌+◌, ◌^◌, ◌<◌, ◌≤◌, true, false, List, ◌∷◌, ◌++◌, length, Option, Some, None}
 use Rattle.qil_tree.specs.declared.tree.Program.{Program}
 use Rattle.qil_meaning.specs.State.{State, is_final}
 use Rattle.qil_meaning.specs.Targets.{after}
-use Rattle.qil_meaning.specs.Timeline.{Timeline, moved}
+use Rattle.qil_meaning.specs.Timeline.{Timeline, moved, position}
 use Rattle.qil_compare.specs.declared.event.Kinds.{Kinds}
 use Rattle.qil_compare.specs.declared.event.Found.{Found}
 use Rattle.qil_compare.specs.declared.event.Found.TheVariants as founds
@@ -38,7 +38,7 @@ abbrev pub Has : {A : Type 0} → Run A → ℕ → List Event → Found → Typ
 Has r k common (founds.Event e) = (others : List Event) × (first_events r k ≡ common ++ (event_at r.program (state_after r k) e ∷ others))
 Has r k common founds.Over = (first_events r k ≡ common) × (is_final (state_after r k).status ≡ true)
 Has r k common founds.Limit = (others : List Event) × (first_events r k ≡ common ++ others)
-Has r k common founds.OutOfMemory = first_events r k ≡ common
+Has r k common founds.OutOfMemory = (first_events r k ≡ common) × (is_final (state_after r k).status ≡ false)
 
 -- A side stands after k moves, each from a state whose run goes on: the least number after which it has more events than
 -- these; or it has no more.
@@ -53,6 +53,25 @@ pub record StandBehind {A : Type 0} (r q : Run A) (n k j : ℕ) (good bad : Foun
   pub count : length common ≡ n
   pub good_side : Stands r k common good
   pub bad_side : Stands q j common bad
+
+-- ---- at a limit
+
+-- a side made so many moves since its last event, or since its start if it had none; no further event came, and its run goes on
+pub record IsSpent {A : Type 0} (r : Run A) (limit k : ℕ) (common : List Event) : Type 0 where
+  pub last : ℕ
+  pub moves : k ≡ last + limit
+  pub has_all : first_events r last ≡ common
+  pub least : (j : ℕ) → j < last → length (first_events r j) < length common
+  pub none : first_events r k ≡ common
+  pub goes_on : is_final (state_after r k).status ≡ false
+
+-- a side has made more moves than after which a further event is looked for; or there is no number for a further event
+abbrev pub IsFar : ℕ → Timeline → Timeline → Type 0
+IsFar n u v = (10 ^ 18 < position u) ⊎ ((10 ^ 18 < position v) ⊎ (2 ^ 64 ≤ n + 1))
+
+-- the one or the other, where it is told of a side that it came to the limit
+abbrev pub IsLimited : {A : Type 0} → Run A → ℕ → ℕ → List Event → ℕ → Timeline → Timeline → Found → Type 0
+IsLimited r limit k common n u v found = found ≡ founds.Limit → IsSpent r limit k common ⊎ IsFar n u v
 
 -- ---- what comes of that
 
@@ -86,11 +105,14 @@ Judges p q s t good bad (Some verdict) = IsJudged p q s t good bad verdict
 
 -- ---- the answer
 
--- Two runs, of p from t and of q from w, are compared. They went on to u and v, each by moves forward alone.
-pub record IsAnswered {A : Type 0} (kinds : Kinds) (p q : Program A) (t u w v : Timeline) (answer : Answer) : Type 0 where
+-- Two runs, of p from t and of q from w, are compared, with so many moves at most from one event to the next. They went on to
+-- u and v, each by moves forward alone.
+pub record IsAnswered {A : Type 0} (kinds : Kinds) (limit : ℕ) (p q : Program A) (t u w v : Timeline) (answer : Answer) : Type 0 where
   pub good_moves : ℕ
   pub good_is : u ≡ moved p good_moves t
   pub bad_moves : ℕ
   pub bad_is : v ≡ moved q bad_moves w
   pub stand : StandBehind (run_of kinds p q t) (run_of kinds q p w) answer.events good_moves bad_moves answer.good answer.bad
+  pub good_limit : IsLimited (run_of kinds p q t) limit good_moves stand.common answer.events u v answer.good
+  pub bad_limit : IsLimited (run_of kinds q p w) limit bad_moves stand.common answer.events u v answer.bad
   pub judged : IsJudged p q u.now v.now answer.good answer.bad answer.verdict

@@ -1,6 +1,6 @@
 //! Two runs, event by event, to the first in which they differ.
 
-ghost use Rattle.std.specs.Prelude.{◌≡◌, ◌↔◌, ◌<◌, ◌≤◌, ◌^◌, IsTrue, false};
+ghost use Rattle.std.specs.Prelude.{◌≡◌, ◌↔◌, ◌⊎◌, ◌<◌, ◌≤◌, ◌^◌, IsTrue, true, false};
 ghost use Rattle.qil_meaning.specs.Timeline.{position};
 ghost use Rattle.qil_state.specs.State.{state_of};
 ghost use Rattle.qil_compare.specs.declared.event.Found.TheVariants as founds;
@@ -161,6 +161,7 @@ fn is_far<
     K: History<A, Machine<'c, A>>,
 >(good: &'s H, bad: &'s K) -> bool
     ensures near { result ≡ false → (position (H.timeline good.now) ≤ 1000000000000000000) × (position (K.timeline bad.now) ≤ 1000000000000000000) }
+    ensures far { result ≡ true → (10 ^ 18 < position (H.timeline good.now)) ⊎ (10 ^ 18 < position (K.timeline bad.now)) }
 {
     good.position() > MOST_MOVES || bad.position() > MOST_MOVES
 }
@@ -205,7 +206,7 @@ fn compare_coded<
     ensures good_program { H.program good.new ≡ H.program good.old }
     ensures bad_program { K.program bad.new ≡ K.program bad.old }
     ensures near { (position (H.timeline good.new) < 2 ^ 60) × (position (K.timeline bad.new) < 2 ^ 60) }
-    ensures answer { IsAnswered kinds (H.program good.old) (K.program bad.old) (H.timeline good.old) (H.timeline good.new) (K.timeline bad.old) (K.timeline bad.new) result }
+    ensures answer { IsAnswered kinds limit (H.program good.old) (K.program bad.old) (H.timeline good.old) (H.timeline good.new) (K.timeline bad.old) (K.timeline bad.new) result }
 {
     let alike = names_alike(good, bad);
     let mut good_told = written(good);
@@ -247,7 +248,7 @@ pub fn compare<
     ensures good_program { H.program good.new ≡ H.program good.old }
     ensures bad_program { K.program bad.new ≡ K.program bad.old }
     ensures near { (position (H.timeline good.new) < 2 ^ 60) × (position (K.timeline bad.new) < 2 ^ 60) }
-    ensures answer { IsAnswered kinds (H.program good.old) (K.program bad.old) (H.timeline good.old) (H.timeline good.new) (K.timeline bad.old) (K.timeline bad.new) result }
+    ensures answer { IsAnswered kinds limit (H.program good.old) (K.program bad.old) (H.timeline good.old) (H.timeline good.new) (K.timeline bad.old) (K.timeline bad.new) result }
 {
     let good_code = code_in(good);
     let bad_code = code_in(bad);

@@ -1,6 +1,6 @@
 //! What an answer says of all events of two runs.
 
-ghost use Rattle.std.specs.Prelude.{◌≡◌};
+ghost use Rattle.std.specs.Prelude.{◌≡◌, ℕ};
 ghost use Rattle.qil_tree.specs.declared.tree.Program.{Program};
 ghost use Rattle.qil_meaning.specs.Timeline.{Timeline};
 ghost use Rattle.qil_compare.specs.declared.event.Kinds.{Kinds};
@@ -15,9 +15,9 @@ use std::alloc::Allocator;
 /// they are the same, both have so many events, the same ones; and where a limit was met, the events of both begin with the
 /// same ones, so many. It does nothing.
 pub fn number_is_of_longest_front<A: Allocator>()
-    ensures part { (kinds : Kinds) (p q : Program A) (t u w v : Timeline) (answer : Answer) → IsAnswered kinds p q t u w v answer → answer.verdict ≡ verdicts.Part
+    ensures part { (kinds : Kinds) (limit : ℕ) (p q : Program A) (t u w v : Timeline) (answer : Answer) → IsAnswered kinds limit p q t u w v answer → answer.verdict ≡ verdicts.Part
         → HaveLongest (run_of kinds p q t) (run_of kinds q p w) answer.events }
-    ensures same { (kinds : Kinds) (p q : Program A) (t u w v : Timeline) (answer : Answer) → IsAnswered kinds p q t u w v answer → answer.verdict ≡ verdicts.Same
+    ensures same { (kinds : Kinds) (limit : ℕ) (p q : Program A) (t u w v : Timeline) (answer : Answer) → IsAnswered kinds limit p q t u w v answer → answer.verdict ≡ verdicts.Same
         → HaveSame (run_of kinds p q t) (run_of kinds q p w) answer.events }
-    ensures limit { (kinds : Kinds) (p q : Program A) (t u w v : Timeline) (answer : Answer) → IsAnswered kinds p q t u w v answer → AgreeSoFar (run_of kinds p q t) (run_of kinds q p w) answer.events }
+    ensures limit { (kinds : Kinds) (limit : ℕ) (p q : Program A) (t u w v : Timeline) (answer : Answer) → IsAnswered kinds limit p q t u w v answer → AgreeSoFar (run_of kinds p q t) (run_of kinds q p w) answer.events }
 {}

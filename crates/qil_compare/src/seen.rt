@@ -8,13 +8,12 @@ ghost use Rattle.qil_compare.specs.Seen.{start_of, starts_by, is_stack, callee_n
 ghost use Rattle.qil_compare.specs.Coded.{offset_of, value_of};
 
 use qil_layout::{Callee, DATA_BASE, FuncId, Image};
+use qil_memory::{CAPACITY, STACK_BASE};
 use qil_tree::{AbiType, Data, Program};
 use std::alloc::Allocator;
 
-/// The first address of the stack, and the one after its last.
-const STACK_BASE: u64 = 16_777_216;
-
-const STACK_END: u64 = 17_825_792;
+/// The address after the last of the stack.
+const STACK_END: u64 = STACK_BASE + CAPACITY;
 
 /// How far an address lies after the start of a data object.
 #[derive(Clone, Copy)]

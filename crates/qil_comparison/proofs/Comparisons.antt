@@ -1,7 +1,7 @@
 -- From what comes of two runs to what is written of them.
 use Rattle.std.proofs.Common.{◌≡◌, ◌≢◌, refl, sym, ap, ◌∙◌, subst, ℕ, ◌^◌, inr, List, [], ◌++◌, take, append_assoc, arith}
 use Rattle.std.proofs.lemmas.List.{append-nil}
-use Rattle.std.specs.Prelude.{Option, Some, None, Result, Ok, Err, IfSome}
+use Rattle.std.specs.Prelude.{true, Option, Some, None, Result, Ok, Err, IfSome}
 use Rattle.std.specs.Io.KnownBytes.{Appends}
 use Rattle.qil_tree.specs.declared.tree.Program.{Program}
 use Rattle.qil_rules.specs.Verdict as accepted
@@ -39,28 +39,28 @@ pub record Came {A : Type 0} (s : Setup) (p q : accepted.Verdict A) (u v : Timel
   pub first : State
   pub second : State
   pub begin : Begin s p q first second
-  pub answered : IsAnswered s.request.kinds p.program q.program (good_begun s first) u (bad_begun s second) v answer
+  pub answered : IsAnswered s.request.kinds s.request.limit p.program q.program (good_begun s first) u (bad_begun s second) v answer
 
 -- what was answered of histories is so of the programs that they began with
 pub came : {A : Type 0} (s : Setup) (P Q : accepted.Verdict A) (first second : State) (p q : Program A) (t u w v : Timeline) (answer : Answer) → Begin s P Q first second
-    → p ≡ P.program → q ≡ Q.program → t ≡ good_begun s first → w ≡ bad_begun s second → IsAnswered s.request.kinds p q t u w v answer → Came s P Q u v answer
+    → p ≡ P.program → q ≡ Q.program → t ≡ good_begun s first → w ≡ bad_begun s second → IsAnswered s.request.kinds s.request.limit p q t u w v answer → Came s P Q u v answer
 came {A} s P Q first second p q t u w v answer begin ep eq et ew answered = record {
   first = first;
   second = second;
   begin = begin;
   answered =
-      subst (λ (x : Program A). IsAnswered s.request.kinds x Q.program (good_begun s first) u (bad_begun s second) v answer) ep
-      (subst (λ (x : Program A). IsAnswered s.request.kinds p x (good_begun s first) u (bad_begun s second) v answer) eq
-      (subst (λ (x : Timeline). IsAnswered s.request.kinds p q x u (bad_begun s second) v answer) et
-      (subst (λ (x : Timeline). IsAnswered s.request.kinds p q t u x v answer) ew answered)));
+      subst (λ (x : Program A). IsAnswered s.request.kinds s.request.limit x Q.program (good_begun s first) u (bad_begun s second) v answer) ep
+      (subst (λ (x : Program A). IsAnswered s.request.kinds s.request.limit p x (good_begun s first) u (bad_begun s second) v answer) eq
+      (subst (λ (x : Timeline). IsAnswered s.request.kinds s.request.limit p q x u (bad_begun s second) v answer) et
+      (subst (λ (x : Timeline). IsAnswered s.request.kinds s.request.limit p q t u x v answer) ew answered)));
 }
 
-number_is : {A : Type 0} (kinds : Kinds) (p q : Program A) (t u w v : Timeline) (answer : Answer) (verdict : Verdict) → IsAnswered kinds p q t u w v answer → answer.verdict ≡ verdict
+number_is : {A : Type 0} (kinds : Kinds) (limit : ℕ) (p q : Program A) (t u w v : Timeline) (answer : Answer) (verdict : Verdict) → IsAnswered kinds limit p q t u w v answer → answer.verdict ≡ verdict
     → NumberIs (run_of kinds p q t) (run_of kinds q p w) verdict answer.events
-number_is kinds p q t u w v answer verdicts.Same answered is = answer_same kinds p q t u w v answer answered is
-number_is kinds p q t u w v answer verdicts.Part answered is = answer_part kinds p q t u w v answer answered is
-number_is kinds p q t u w v answer verdicts.Limit answered is = answer_front kinds p q t u w v answer answered
-number_is kinds p q t u w v answer verdicts.OutOfMemory answered is = answer_front kinds p q t u w v answer answered
+number_is kinds limit p q t u w v answer verdicts.Same answered is = answer_same kinds limit p q t u w v answer answered is
+number_is kinds limit p q t u w v answer verdicts.Part answered is = answer_part kinds limit p q t u w v answer answered is
+number_is kinds limit p q t u w v answer verdicts.Limit answered is = answer_front kinds limit p q t u w v answer answered
+number_is kinds limit p q t u w v answer verdicts.OutOfMemory answered is = answer_front kinds limit p q t u w v answer answered
 
 abbrev pub told : {A : Type 0} → accepted.Verdict A → accepted.Verdict A → Timeline → Timeline → Answer → List ℕ
 told P Q u v answer = told_text P.program Q.program u v answer
@@ -81,7 +81,7 @@ comparison s P Q u v answer verdict lines answers c is are = record {
   answer = answer;
   answered = c.answered;
   verdict_is = is;
-  number = number_is s.request.kinds P.program Q.program (good_begun s c.first) u (bad_begun s c.second) v answer verdict c.answered is;
+  number = number_is s.request.kinds s.request.limit P.program Q.program (good_begun s c.first) u (bad_begun s c.second) v answer verdict c.answered is;
   answers = answers;
   answers_are = are;
   written_is = refl;
@@ -147,7 +147,7 @@ Written-told s P Q u v answer (Some script) left w0 w1 c none wrote = (
 -- ---- a script was served
 
 abbrev pub unstopped : {A : Type 0} → Program A → Timeline → ℕ → SessionState A
-unstopped p t limit = session_at p t (record { given = 0; kept = [] }) limit
+unstopped p t limit = session_at true p t (record { given = 0; kept = [] }) limit
 
 served_by : {A T : Type 0} (r : Result T IoFault) (verdict : Verdict) (first : SessionState A) (script : List ℕ) (left : Option (List ℕ)) (text : List ℕ) (now : SessionState A)
     → IsServed r first script left text now → IsServedBy (served_outcome r verdict) verdict first script left text
@@ -159,14 +159,14 @@ served_by (Err TooLong) verdict first script left text now (answered, long) = ((
 -- what was served of a session that was made of a history
 pub served_at : {A H T : Type 0} (program : H → Program A) (timeline : H → Timeline) (k : Kept H) (h : H) (limit : ℕ) (r : Result T IoFault) (verdict : Verdict) (outcome : Outcome) (known left w0 w1 : Option (List ℕ)) (now : SessionState A)
     → k ≡ record { history = h; stops = record { given = 0; kept = [] }; limit = limit } → outcome ≡ served_outcome r verdict
-    → IfSome known (λ script. (text : List ℕ) × Appends w0 w1 text × IsServed r (session_state program timeline k) script left text now)
+    → IfSome known (λ script. (text : List ℕ) × Appends w0 w1 text × IsServed r (session_state true program timeline k) script left text now)
     → IfSome known (λ script. (text : List ℕ) × Appends w0 w1 text × IsServedBy outcome verdict (unstopped (program h) (timeline h) limit) script left text)
 served_at program timeline k h limit r verdict outcome None left w0 w1 now e is p = tt
 served_at {A} {H} program timeline k h limit r verdict outcome (Some script) left w0 w1 now e is p = (
   p.0,
   p.1,
-  subst (λ (x : Kept H). IsServedBy outcome verdict (session_state program timeline x) script left p.0) e
-      (subst (λ (x : Outcome). IsServedBy x verdict (session_state program timeline k) script left p.0) (sym is) (served_by r verdict (session_state program timeline k) script left p.0 now p.2)),
+  subst (λ (x : Kept H). IsServedBy outcome verdict (session_state true program timeline x) script left p.0) e
+      (subst (λ (x : Outcome). IsServedBy x verdict (session_state true program timeline k) script left p.0) (sym is) (served_by r verdict (session_state true program timeline k) script left p.0 now p.2)),
 )
 
 untouched_served : {S T : Type 0} (r : Result T IoFault) (verdict : Verdict) (old new : S) → IsUntouched (served_outcome r verdict) old new

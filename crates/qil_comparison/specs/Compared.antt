@@ -1,6 +1,6 @@
 -- What is written of two texts: the refusal of one of them; or what is told of where their runs part, and what a script is
 -- answered there.
-use Rattle.std.specs.Prelude.{◌≡◌, ℕ, ◌+◌, ◌^◌, ◌⊎◌, false, List, [], ◌∷◌, ◌++◌, take, codes, Option, Some, None, IfSome}
+use Rattle.std.specs.Prelude.{◌≡◌, ℕ, ◌+◌, ◌^◌, ◌⊎◌, true, false, List, [], ◌∷◌, ◌++◌, take, codes, Option, Some, None, IfSome}
 use Rattle.std.specs.Io.KnownBytes.{Appends, Consumes}
 use Rattle.qil_tree.specs.declared.tree.Program.{Program}
 use Rattle.qil_rules.specs.Verdict as accepted
@@ -51,7 +51,7 @@ keeps None session side = Some 0
 
 -- a text as `debug` is given it
 abbrev pub opened_as : Text → Request → SideName → scripts.Setup
-opened_as text r side = record { text = text.bytes.now; entry = r.func.now; args = r.args.now; limit = r.limit; keeps = keeps r.bound r.session side }
+opened_as text r side = record { text = text.bytes.now; entry = r.func.now; args = r.args.now; limit = r.limit; keeps = keeps r.bound r.session side; moves_want_memory = true }
 
 abbrev pub good_setup : Setup → scripts.Setup
 good_setup s = opened_as s.good s.request Good
@@ -82,8 +82,8 @@ NumberIs r q verdict n = AgreeSoFar r q n
 -- the session on the side that one is asked of, where its run came to
 abbrev pub session_there : {A : Type 0} → Request → Option SideName → Program A → Program A → Timeline → Timeline → Option (SessionState A)
 session_there r None p q t u = None
-session_there r (Some Good) p q t u = Some (session_at p t (record { given = 0; kept = [] }) r.limit)
-session_there r (Some Bad) p q t u = Some (session_at q u (record { given = 0; kept = [] }) r.limit)
+session_there r (Some Good) p q t u = Some (session_at true p t (record { given = 0; kept = [] }) r.limit)
+session_there r (Some Bad) p q t u = Some (session_at true q u (record { given = 0; kept = [] }) r.limit)
 
 -- what the lines of a script may be answered there; nothing without a session
 abbrev pub AreAnswers : {A : Type 0} → Option (SessionState A) → List (List ℕ) → List ℕ → Type 0
@@ -101,7 +101,7 @@ pub record IsComparison (A : Type 0) (s : Setup) (verdict : Verdict) (lines : Li
   pub good_now : Timeline
   pub bad_now : Timeline
   pub answer : Answer
-  pub answered : IsAnswered s.request.kinds good.program bad.program (good_begun s good_start) good_now (bad_begun s bad_start) bad_now answer
+  pub answered : IsAnswered s.request.kinds s.request.limit good.program bad.program (good_begun s good_start) good_now (bad_begun s bad_start) bad_now answer
   pub verdict_is : answer.verdict ≡ verdict
   pub number : NumberIs (run_of s.request.kinds good.program bad.program (good_begun s good_start)) (run_of s.request.kinds bad.program good.program (bad_begun s bad_start)) verdict answer.events
   pub answers : List ℕ

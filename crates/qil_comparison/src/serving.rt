@@ -1,6 +1,6 @@
 //! A script is served on the side that it is asked of.
 
-ghost use Rattle.std.specs.Prelude.{◌≡◌, ◌≢◌, [], ℕ, ◌-◌, ◌^◌, ◌<◌, ◌≤◌, List, IfSome};
+ghost use Rattle.std.specs.Prelude.{◌≡◌, ◌≢◌, [], ℕ, ◌-◌, ◌^◌, ◌<◌, ◌≤◌, true, List, IfSome};
 ghost use Rattle.std.specs.Io.KnownBytes.{Appends};
 ghost use Rattle.qil_meaning.specs.Timeline.{position};
 ghost use Rattle.qil_replies.specs.SessionState.{session_at};
@@ -41,7 +41,7 @@ pub fn serve_at<
     requires before { position (H.timeline history) < 2 ^ 60 }
     requires limit { limit ≤ 4294967295 }
     ensures served { IfSome (S.remaining source.old) (λ script. (text : List ℕ) × Appends (W.contents sink.old) (W.contents sink.new) text
-        × IsServedBy result told (session_at (H.program history) (H.timeline history) (record { given = 0; kept = [] }) limit) script (S.remaining source.new) text) }
+        × IsServedBy result told (session_at true (H.program history) (H.timeline history) (record { given = 0; kept = [] }) limit) script (S.remaining source.new) text) }
     ensures ran { result ≢ Outcome.Refused }
     ensures few { IfSome (S.remaining source.old) (λ script. TakesFew script (S.remaining source.new)) }
     ensures untouched { IsUntouched result source.old source.new }

@@ -1,6 +1,6 @@
 //! What a session asks of the states of a run: to go along them, to replace a value, and to be read.
 
-ghost use Rattle.std.specs.Prelude.{◌≡◌, ◌≢◌, ◌+◌, ◌<◌, ◌≤◌, ◌^◌, ◌↔◌, true, false, length, Ok, Err, OnOk, OnErr, MatchResult};
+ghost use Rattle.std.specs.Prelude.{◌≡◌, ◌≢◌, ◌+◌, ◌<◌, ◌≤◌, ◌^◌, ◌↔◌, Bool, true, false, length, Ok, Err, OnOk, OnErr, MatchResult};
 ghost use Rattle.qil_tree.specs.declared.tree.Program.{Program};
 ghost use Rattle.qil_memory.specs.Calls.{IsWidth};
 ghost use Rattle.qil_meaning.specs.Poke.{poke_temp, poke_memory, no_frame, unknown_temporary, dead_bytes};
@@ -29,6 +29,9 @@ pub trait Runs<A: Allocator, C: HasProgram<A>> {
 
     ghost timeline: { Self → Timeline };
 
+    /// Whether a move may want memory. Where none does, only a poke can find none.
+    ghost wants_memory: { Bool };
+
     /// Moves forward up to so many times, and not past the end.
     ///
     /// # Errors
@@ -36,6 +39,7 @@ pub trait Runs<A: Allocator, C: HasProgram<A>> {
     /// How many moves were made, where there was no memory for the next one.
     fn forward_by(&mut self, count: u32) -> Result<(), u32>
         requires { position (timeline self.old) + count ≤ 2 ^ 62 }
+        ensures spared { wants_memory ≡ false → result ≡ Ok tt }
         ensures program { program self.new ≡ program self.old }
         ensures near { position (timeline self.new) ≤ position (timeline self.old) + count }
         ensures moved { MatchResult result
@@ -55,6 +59,7 @@ pub trait Runs<A: Allocator, C: HasProgram<A>> {
         requires near { position (timeline self.old) + limit ≤ 2 ^ 62 }
         requires few { length stops.now ≤ 64 }
         requires readable { AreReadable stops.now }
+        ensures spared { wants_memory ≡ false → result.0 ≢ Reason.Memory }
         ensures program { program self.new ≡ program self.old }
         ensures run { RunsOn (program self.old) (named_stops (program self.old) stops.now) limit (timeline self.old) result.0 result.1 (timeline self.new) }
         ensures near { position (timeline self.new) ≤ position (timeline self.old) + limit };

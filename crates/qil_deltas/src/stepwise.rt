@@ -1,6 +1,6 @@
 //! A history of a machine runs by its single moves.
 
-ghost use Rattle.std.specs.Prelude.{◌≡◌, ◌≢◌, ◌+◌, ◌<◌, ◌≤◌, ◌^◌, ◌↔◌};
+ghost use Rattle.std.specs.Prelude.{◌≡◌, ◌≢◌, ◌+◌, ◌<◌, ◌≤◌, ◌^◌, ◌↔◌, true};
 
 use crate::runs::Runs;
 use crate::walk::{back_by, forward_by};
@@ -25,6 +25,8 @@ impl<'c, A: Allocator + Copy + 'c, H: History<A, Machine<'c, A>> + Stepwise> Run
     ghost program = { λ history. H.program history };
 
     ghost timeline = { λ history. H.timeline history };
+
+    ghost wants_memory = { true };
 
     fn forward_by(&mut self, count: u32) -> Result<(), u32> {
         forward_by(self, count)

@@ -11,7 +11,5 @@ pub mod Entered
 pub mod Placed
 pub mod Outward
 pub mod Sameness
-pub mod ReadFrom
-pub mod WriteFrom
 pub mod SameBytes
 pub mod DataLength

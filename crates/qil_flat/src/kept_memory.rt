@@ -4,7 +4,7 @@ ghost use Rattle.std.specs.Prelude.{◌≡◌, ◌+◌, ◌-◌, length, IfOk};
 ghost use Rattle.qil_memory.specs.Buffers.{stack_base};
 ghost use Rattle.qil_memory.specs.Live.{live};
 
-use crate::bytes::{data_length, read_from, write_from};
+use crate::bytes::{read_from, write_from};
 use qil_memory::{DATA_BASE, Memory, STACK_BASE};
 use std::alloc::{AllocError, Allocator};
 use std::marker::Model;
@@ -37,7 +37,7 @@ impl<A: Allocator + Copy> KeptMemory<A> {
         ensures count { IfOk result (λ kept. length kept.data_bytes ≡ length memory.now.data_bytes) }
     {
         let depth = (memory.top() - STACK_BASE) as usize;
-        let count = data_length(memory);
+        let count = memory.data_length();
         let data_bytes = read_from(memory, DATA_BASE, count, alloc)?;
         let stack_bytes = read_from(memory, STACK_BASE, depth, alloc)?;
         Ok(KeptMemory {

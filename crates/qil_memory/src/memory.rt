@@ -166,28 +166,6 @@ impl<A: Allocator + Copy> Memory<A> {
         }
     }
 
-    /// Writes the `n` low bytes of a number from an address on, the least significant first. It takes no memory.
-    ///
-    /// # Errors
-    ///
-    /// The bytes aren't all live; nothing is changed.
-    #[inline(always)]
-    pub fn store(&mut self, address: u64, n: u64, v: u64) -> Result<Saved<A>, Dead>
-        requires { IsWidth n }
-        ensures ok { OnOk result (stored (live self.old) address n v ≡ Ok (live self.new)) }
-        ensures dead { IfErr result (λ e. stored (live self.old) address n v ≡ Err e) }
-        ensures top { self.new.top ≡ self.old.top }
-        ensures kept { IfOk result (λ saved. length saved.bytes ≡ n) }
-        ensures fits { IfOk result (λ saved. Fits saved self.new) }
-        ensures undo { IfOk result (λ saved. undone saved self.new ≡ self.old) }
-        ensures err { OnErr result (self.new ≡ self.old) }
-    {
-        match self.exchange(address, n, v) {
-            Ok(old) => Ok(Saved::new(address, KeptBytes::Few(n as u8, old), self.top())),
-            Err(dead) => Err(dead),
-        }
-    }
-
     /// Copies `n` bytes from one address to another (QBE IL, Memory). No bytes are copied from and to anywhere, live or
     /// not. Up to 32 bytes take no memory.
     ///
@@ -247,21 +225,6 @@ impl<A: Allocator + Copy> Memory<A> {
         Ok((address, Saved::new(top, kept, top)))
     }
 
-    /// Takes the stack back down to a floor. The bytes from there on are dead, and kept. It takes no memory.
-    pub fn release(&mut self, floor: u64) -> Saved<A>
-        requires low { STACK_BASE ≤ floor }
-        requires high { floor ≤ self.old.top }
-        ensures bytes { live self.new ≡ below (live self.old) floor }
-        ensures top { self.new.top ≡ floor }
-        ensures kept { result.bytes ≡ [] }
-        ensures fits { Fits result self.new }
-        ensures undo { undone result self.new ≡ self.old }
-    {
-        let top = self.top();
-        self.set_top(floor);
-        Saved::new(floor, KeptBytes::Few(0, 0), top)
-    }
-
     /// Moves the top, to which `undo` and a second call move it back. The bytes of the stack stay, live or dead. It takes
     /// no memory.
     #[inline(always)]
@@ -308,6 +271,13 @@ impl<A: Allocator + Copy> Memory<A> {
             STACK_END
         };
         is_between(address, n as u64, end)
+    }
+
+    /// How many bytes the data has.
+    pub fn data_length(&self) -> usize
+        ensures { result ≡ length self.now.data_bytes }
+    {
+        self.data_bytes.len()
     }
 
     /// The place among the bytes of the stack from which on `n` live bytes have their addresses from this one on.
@@ -430,7 +400,8 @@ impl<A: Allocator + Copy> Memory<A> {
         Some(address)
     }
 
-    fn bytes_at(&self, address: u64, n: usize) -> &[u8]
+    /// The `n` bytes from an address on, be they live or dead.
+    pub fn bytes_at(&self, address: u64, n: usize) -> &[u8]
         requires { HasBytes self.now address n }
         ensures { result.now ≡ bytes_at self.now address n }
     {
@@ -456,7 +427,8 @@ impl<A: Allocator + Copy> Memory<A> {
         }
     }
 
-    fn put(&mut self, address: u64, bytes: &[u8])
+    /// Writes bytes over those from an address on, be they live or dead. It takes no memory.
+    pub fn put(&mut self, address: u64, bytes: &[u8])
         requires { HasBytes self.old address (length bytes.now) }
         ensures { self.new ≡ with_bytes self.old address bytes.now }
     {

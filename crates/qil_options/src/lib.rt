@@ -9,6 +9,6 @@ mod text;
 
 pub use command_line::{NO_TEXT, parse_words, refuse_words, words};
 pub use failure::Failure;
-pub use program::{Given, read_given, read_words};
+pub use program::{Given, Kept, bound_of, budget_of, read_given, read_words};
 pub use run::{RunOptions, args_arg, entry_arg, file_arg, history_arg, limit_arg, read_run};
 pub use text::read_text;

@@ -173,12 +173,13 @@ answer s (Err refused) shortage = refuses s (refusals.Line refused)
 
 -- ---- out of memory
 
--- Memory may run out after k moves of a `step` that were not all, and from which another move could be made; after k
--- moves of a `continue`, none of which led to a stop; and for a poke that isn't refused.
+-- Memory may run out, where a move may want some, after k moves of a `step` that were not all, and from which another move could
+-- be made, and after k moves of a `continue`, none of which led to a stop; and for a poke that isn't refused.
 unfoldable pub IsValid : {A : Type 0} → SessionState A → Result (Option Command) Refused → Option ℕ → Type 0
 IsValid s said None = Unit {0}
-IsValid s (Ok (Some (commands.Step n))) (Some k) = (k < n) × (at_end (forward_by s.program k s.timeline) ≡ false)
-IsValid s (Ok (Some commands.Continue)) (Some k) = (k < s.limit) × IsLeast (stop_on s.program (named_stops s.program s.stops.kept) s.timeline) s.limit k Memory
+IsValid s (Ok (Some (commands.Step n))) (Some k) = (s.moves_want_memory ≡ true) × (k < n) × (at_end (forward_by s.program k s.timeline) ≡ false)
+IsValid s (Ok (Some commands.Continue)) (Some k) =
+    (s.moves_want_memory ≡ true) × (k < s.limit) × IsLeast (stop_on s.program (named_stops s.program s.stops.kept) s.timeline) s.limit k Memory
 IsValid s (Ok (Some (commands.Set x v))) (Some k) = (k ≡ 0) × IsOk (poke_temp s.program s.timeline.now x v)
 IsValid s (Ok (Some (commands.Poke w at v))) (Some k) =
     (k ≡ 0) × (a : ℕ) × (resolved_address s.program at ≡ Some a) × IsOk (poke_memory s.timeline.now a (width_bytes w) v)

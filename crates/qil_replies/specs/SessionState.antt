@@ -21,15 +21,17 @@ use Rattle.qil_stops.specs.Named.{has_place, has_watched}
 use Rattle.qil_replies.specs.declared.reply.Reply.{Reply}
 use Rattle.qil_replies.specs.Reply.{reply_text}
 
--- The program, the timeline of its run, the stops by number, and how many moves `continue` and `reverse` make at most.
+-- The program, the timeline of its run, the stops by number, how many moves `continue` and `reverse` make at most, and whether
+-- a move may want memory: where none does, only a poke can find none.
 pub record SessionState (A : Type 0) : Type 0 where
   pub program : Program A
   pub timeline : Timeline
   pub stops : Listed
   pub limit : ℕ
+  pub moves_want_memory : Bool
 
-abbrev pub session_at : {A : Type 0} → Program A → Timeline → Listed → ℕ → SessionState A
-session_at p t stops limit = record { program = p; timeline = t; stops = stops; limit = limit }
+abbrev pub session_at : {A : Type 0} → Bool → Program A → Timeline → Listed → ℕ → SessionState A
+session_at wants p t stops limit = record { program = p; timeline = t; stops = stops; limit = limit; moves_want_memory = wants }
 
 -- the text of a reply that leaves this situation
 abbrev pub text_in : {A : Type 0} → SessionState A → Reply → List ℕ

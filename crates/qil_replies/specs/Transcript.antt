@@ -1,5 +1,5 @@
 -- What the transcript of a session is.
-use Rattle.std.specs.Prelude.{◌≡◌, ℕ, List, [], ◌++◌, length, Option, Ok}
+use Rattle.std.specs.Prelude.{◌≡◌, ℕ, Bool, List, [], ◌++◌, length, Option, Ok}
 use Rattle.qil_tree.specs.declared.tree.Program.{Program}
 use Rattle.qil_rules.specs.Verdict.{Verdict}
 use Rattle.qil_rules.specs.declared.form.Form.{Form}
@@ -22,13 +22,14 @@ load_lines p form t = loaded_line (length p.funcs) (length (bytes_of p)) form ++
 -- ---- transcripts
 
 -- What a session is opened with: a text; the function that is run, and its arguments; how many moves `continue` and `reverse`
--- make at most; and how many moves the history keeps, if there is a bound.
+-- make at most; how many moves the history keeps, if there is a bound; and whether a move may want memory.
 pub record Setup : Type 0 where
   pub text : List ℕ
   pub entry : List ℕ
   pub args : List ℕ
   pub limit : ℕ
   pub keeps : Option ℕ
+  pub moves_want_memory : Bool
 
 -- the text is a program, which starts in this state
 pub record Begins {A : Type 0} (s : Setup) (verdict : Verdict A) (start : State) : Type 0 where
@@ -37,7 +38,7 @@ pub record Begins {A : Type 0} (s : Setup) (verdict : Verdict A) (start : State)
 
 -- a session at the start of a program: no move was made, and there are no stops
 abbrev pub opened : {A : Type 0} → Setup → Program A → State → SessionState A
-opened s p start = session_at p (begun s.keeps start) (record { given = 0; kept = [] }) s.limit
+opened s p start = session_at s.moves_want_memory p (begun s.keeps start) (record { given = 0; kept = [] }) s.limit
 
 -- the load lines of an accepted text, and the answers to the lines of a script
 pub record IsSession (A : Type 0) (s : Setup) (lines : List (List ℕ)) (written : List ℕ) : Type 0 where

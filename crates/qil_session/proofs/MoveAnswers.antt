@@ -1,6 +1,6 @@
 -- The replies to `step`, `back`, `continue` and `reverse`, by where the timeline was left.
-use Rattle.std.proofs.Common.{◌≡◌, refl, sym, ap, ◌∙◌, subst, inl, inr, ◌⊎◌, ℕ, ◌<◌, ◌≤◌, Bool, true, false, cond, length, Option, Some, None, Ok, eq-eqb, arith}
-use Rattle.std.specs.Prelude.{◌==◌, is_some}
+use Rattle.std.proofs.Common.{◌≡◌, refl, sym, ap, ◌∙◌, subst, inl, inr, ◌⊎◌, ℕ, ◌<◌, ◌≤◌, Bool, true, false, cond, length, Option, Some, None, Result, Ok, Err, eq-eqb, arith}
+use Rattle.std.specs.Prelude.{◌≢◌, ◌==◌, is_some}
 use Rattle.std.proofs.lemmas.Bool.{ne_eqb, cases_lt}
 use Rattle.qil_tree.specs.declared.tree.Program.{Program}
 use Rattle.qil_commands.specs.declared.command.Command.TheVariants.{Step, Back, Continue, Reverse}
@@ -20,22 +20,31 @@ use Rattle.qil_replies.specs.SessionState.{SessionState, session_at}
 use Rattle.qil_replies.specs.Answers.{Answer, Replies, answer, refuses, goes_to, if_back, back_refusal, stopped_for, reversed, IsValid}
 use Rattle.qil_stops.proofs.Walks.{least-is}
 
+-- ---- a move that found no memory is one that wanted some
+
+wants_if : (wants : Bool) → (wants ≡ false → ⊥) → wants ≡ true
+wants_if true never = refl
+wants_if false never = absurd (never refl)
+
+pub step_wants : {A B : Type 0} (wants : Bool) (result : Result A B) (x : A) (e : B) → (wants ≡ false → result ≡ Ok x) → result ≡ Err e → wants ≡ true
+step_wants wants result x e spared is = wants_if wants (λ never. let ok : Ok x ≡ Err e = sym (spared never) ∙ is in cc)
+
 -- ---- `step N`
 
-pub replies_end : {A : Type 0} (p : Program A) (t : Timeline) (stops : Listed) (limit n : ℕ) →
-    at_end t ≡ true → Replies (session_at p t stops limit) (session_at p t stops limit) (Ok (Some (Step n))) (Refused AtEnd)
+pub replies_end : {A : Type 0} {wants : Bool} (p : Program A) (t : Timeline) (stops : Listed) (limit n : ℕ) →
+    at_end t ≡ true → Replies (session_at wants p t stops limit) (session_at wants p t stops limit) (Ok (Some (Step n))) (Refused AtEnd)
 unfolding answer IsValid
 replies_end p t stops limit n over = record { shortage = None; valid = tt; reply = rw over refl; left = rw over refl }
 
-pub replies_step : {A : Type 0} (p : Program A) (t u : Timeline) (stops : Listed) (limit n : ℕ) →
-    at_end t ≡ false → u ≡ forward_by p n t → Replies (session_at p t stops limit) (session_at p u stops limit) (Ok (Some (Step n))) Place
+pub replies_step : {A : Type 0} {wants : Bool} (p : Program A) (t u : Timeline) (stops : Listed) (limit n : ℕ) →
+    at_end t ≡ false → u ≡ forward_by p n t → Replies (session_at wants p t stops limit) (session_at wants p u stops limit) (Ok (Some (Step n))) Place
 unfolding answer IsValid
 replies_step p t u stops limit n goes moves = record { shortage = None; valid = tt; reply = rw goes refl; left = rw (goes, moves) refl }
 
-pub replies_step_wants : {A : Type 0} (p : Program A) (t u : Timeline) (stops : Listed) (limit n k : ℕ) →
-    k < n → u ≡ forward_by p k t → at_end u ≡ false → Replies (session_at p t stops limit) (session_at p u stops limit) (Ok (Some (Step n))) (Stopped Memory)
+pub replies_step_wants : {A : Type 0} {wants : Bool} (p : Program A) (t u : Timeline) (stops : Listed) (limit n k : ℕ) →
+    wants ≡ true → k < n → u ≡ forward_by p k t → at_end u ≡ false → Replies (session_at wants p t stops limit) (session_at wants p u stops limit) (Ok (Some (Step n))) (Stopped Memory)
 unfolding answer IsValid
-replies_step_wants p t u stops limit n k lt moves goes = record { shortage = Some k; valid = (lt, rw moves at goes); reply = refl; left = rw moves refl }
+replies_step_wants p t u stops limit n k wanted lt moves goes = record { shortage = Some k; valid = (wanted, lt, rw moves at goes); reply = refl; left = rw moves refl }
 
 -- ---- whether there is a way back
 
@@ -89,22 +98,22 @@ said_instead {A} after one other reported e h = record {
 
 -- ---- `back N`
 
-pub replies_no_back : {A : Type 0} (p : Program A) (t : Timeline) (stops : Listed) (limit n : ℕ) (why : CommandRefusal) →
-    no_way t ≡ Some why → Replies (session_at p t stops limit) (session_at p t stops limit) (Ok (Some (Back n))) (Refused why)
+pub replies_no_back : {A : Type 0} {wants : Bool} (p : Program A) (t : Timeline) (stops : Listed) (limit n : ℕ) (why : CommandRefusal) →
+    no_way t ≡ Some why → Replies (session_at wants p t stops limit) (session_at wants p t stops limit) (Ok (Some (Back n))) (Refused why)
 unfolding answer IsValid
-replies_no_back p t stops limit n why ends =
-    let s = session_at p t stops limit in
+replies_no_back {A} {wants} p t stops limit n why ends =
+    let s = session_at wants p t stops limit in
     let one = goes_to s Place (back_by n t) in
     let said = said_instead s (if_back s one) (refuses s why) (Refused why) (refused_back s one why ends) (record { reply = refl; left = refl }) in
     record { shortage = None; valid = tt; reply = said.reply; left = said.left }
 
-pub replies_back : {A : Type 0} (p : Program A) (t u : Timeline) (stops : Listed) (limit n : ℕ) →
-    no_way t ≡ None → u ≡ back_by n t → Replies (session_at p t stops limit) (session_at p u stops limit) (Ok (Some (Back n))) Place
+pub replies_back : {A : Type 0} {wants : Bool} (p : Program A) (t u : Timeline) (stops : Listed) (limit n : ℕ) →
+    no_way t ≡ None → u ≡ back_by n t → Replies (session_at wants p t stops limit) (session_at wants p u stops limit) (Ok (Some (Back n))) Place
 unfolding answer IsValid
-replies_back p t u stops limit n way moves =
-    let s = session_at p t stops limit in
+replies_back {A} {wants} p t u stops limit n way moves =
+    let s = session_at wants p t stops limit in
     let one = goes_to s Place (back_by n t) in
-    let said = said_instead (session_at p u stops limit) (if_back s one) one Place (goes_back s one way) (record { reply = refl; left = rw moves refl }) in
+    let said = said_instead (session_at wants p u stops limit) (if_back s one) one Place (goes_back s one way) (record { reply = refl; left = rw moves refl }) in
     record { shortage = None; valid = tt; reply = said.reply; left = said.left }
 
 -- ---- the target of a run
@@ -136,14 +145,14 @@ below_limit stop limit k h = elim (cases_lt k limit) [
 
 -- ---- `continue`
 
-pub replies_run_end : {A : Type 0} (p : Program A) (t : Timeline) (stops : Listed) (limit : ℕ) →
-    at_end t ≡ true → Replies (session_at p t stops limit) (session_at p t stops limit) (Ok (Some Continue)) (Refused AtEnd)
+pub replies_run_end : {A : Type 0} {wants : Bool} (p : Program A) (t : Timeline) (stops : Listed) (limit : ℕ) →
+    at_end t ≡ true → Replies (session_at wants p t stops limit) (session_at wants p t stops limit) (Ok (Some Continue)) (Refused AtEnd)
 unfolding answer IsValid
 replies_run_end p t stops limit over = record { shortage = None; valid = tt; reply = rw over refl; left = rw over refl }
 
-run_stops : {A : Type 0} (p : Program A) (t u : Timeline) (stops : Listed) (limit k : ℕ) (why : Reason) →
+run_stops : {A : Type 0} {wants : Bool} (p : Program A) (t u : Timeline) (stops : Listed) (limit k : ℕ) (why : Reason) →
     at_end t ≡ false → u ≡ moved p k t → target (stop_on p (named_stops p stops.kept) t) limit ≡ k → within limit k (stop_on p (named_stops p stops.kept) t k) ≡ Some why →
-    Replies (session_at p t stops limit) (session_at p u stops limit) (Ok (Some Continue)) (Stopped why)
+    Replies (session_at wants p t stops limit) (session_at wants p u stops limit) (Ok (Some Continue)) (Stopped why)
 unfolding answer IsValid
 run_stops p t u stops limit k why goes moves at reported = record {
   shortage = None;
@@ -152,49 +161,49 @@ run_stops p t u stops limit k why goes moves at reported = record {
   left = rw (goes, at, moves) refl;
 }
 
-run_wants : {A : Type 0} (p : Program A) (t u : Timeline) (stops : Listed) (limit k : ℕ) (why : Reason) →
-    why ≡ Memory → RunsOn p (named_stops p stops.kept) limit t why k u → Replies (session_at p t stops limit) (session_at p u stops limit) (Ok (Some Continue)) (Stopped why)
+run_wants : {A : Type 0} {wants : Bool} (p : Program A) (t u : Timeline) (stops : Listed) (limit k : ℕ) (why : Reason) →
+    wants ≡ true → why ≡ Memory → RunsOn p (named_stops p stops.kept) limit t why k u → Replies (session_at wants p t stops limit) (session_at wants p u stops limit) (Ok (Some Continue)) (Stopped why)
 unfolding answer IsValid
-run_wants p t u stops limit k why shortages run =
+run_wants p t u stops limit k why wanted shortages run =
     let l : IsLeast (stop_on p (named_stops p stops.kept) t) limit k Memory = subst (λ (x : Reason). IsLeast (stop_on p (named_stops p stops.kept) t) limit k x) shortages run.least in
     record {
       shortage = Some k;
-      valid = (below_limit (stop_on p (named_stops p stops.kept) t) limit k l, l);
+      valid = (wanted, below_limit (stop_on p (named_stops p stops.kept) t) limit k l, l);
       reply = ap (λ (x : Reason). Stopped x) shortages;
       left = rw run.moves refl;
     }
 
-pub replies_run : {A : Type 0} (p : Program A) (t u : Timeline) (stops : Listed) (limit k : ℕ) (why : Reason) →
-    at_end t ≡ false → RunsOn p (named_stops p stops.kept) limit t why k u → Replies (session_at p t stops limit) (session_at p u stops limit) (Ok (Some Continue)) (Stopped why)
-replies_run p t u stops limit k why goes run = elim (known why) [
+pub replies_run : {A : Type 0} {wants : Bool} (p : Program A) (t u : Timeline) (stops : Listed) (limit k : ℕ) (why : Reason) →
+    at_end t ≡ false → (wants ≡ false → why ≢ Memory) → RunsOn p (named_stops p stops.kept) limit t why k u → Replies (session_at wants p t stops limit) (session_at wants p u stops limit) (Ok (Some Continue)) (Stopped why)
+replies_run {A} {wants} p t u stops limit k why goes spared run = elim (known why) [
   | inl plain ↦ run_stops p t u stops limit k why goes run.moves (target_is (stop_on p (named_stops p stops.kept) t) limit k why run.least plain) (run.least.reached ∙ plain)
-  | inr shortages ↦ run_wants p t u stops limit k why shortages run
+  | inr shortages ↦ run_wants p t u stops limit k why (wants_if wants (λ never. spared never shortages)) shortages run
 ]
 
 -- ---- `reverse`
 
-pub replies_no_reverse : {A : Type 0} (p : Program A) (t : Timeline) (stops : Listed) (limit : ℕ) (why : CommandRefusal) →
-    no_way t ≡ Some why → Replies (session_at p t stops limit) (session_at p t stops limit) (Ok (Some Reverse)) (Refused why)
+pub replies_no_reverse : {A : Type 0} {wants : Bool} (p : Program A) (t : Timeline) (stops : Listed) (limit : ℕ) (why : CommandRefusal) →
+    no_way t ≡ Some why → Replies (session_at wants p t stops limit) (session_at wants p t stops limit) (Ok (Some Reverse)) (Refused why)
 unfolding answer IsValid
-replies_no_reverse p t stops limit why ends =
-    let s = session_at p t stops limit in
+replies_no_reverse {A} {wants} p t stops limit why ends =
+    let s = session_at wants p t stops limit in
     let one = reversed s (target (stop_back (named_stops p stops.kept) t) limit) in
     let said = said_instead s (if_back s one) (refuses s why) (Refused why) (refused_back s one why ends) (record { reply = refl; left = refl }) in
     record { shortage = None; valid = tt; reply = said.reply; left = said.left }
 
-reverse_stops : {A : Type 0} (p : Program A) (t u : Timeline) (stops : Listed) (limit k : ℕ) (why : Reason) →
+reverse_stops : {A : Type 0} {wants : Bool} (p : Program A) (t u : Timeline) (stops : Listed) (limit k : ℕ) (why : Reason) →
     no_way t ≡ None → u ≡ gone k t → target (stop_back (named_stops p stops.kept) t) limit ≡ k → within limit k (stop_back (named_stops p stops.kept) t k) ≡ Some why →
-    Replies (session_at p t stops limit) (session_at p u stops limit) (Ok (Some Reverse)) (Stopped why)
+    Replies (session_at wants p t stops limit) (session_at wants p u stops limit) (Ok (Some Reverse)) (Stopped why)
 unfolding answer IsValid
-reverse_stops p t u stops limit k why way moves at reported =
-    let s = session_at p t stops limit in
+reverse_stops {A} {wants} p t u stops limit k why way moves at reported =
+    let s = session_at wants p t stops limit in
     let one = reversed s (target (stop_back (named_stops p stops.kept) t) limit) in
-    let said = said_instead (session_at p u stops limit) (if_back s one) one (Stopped why) (goes_back s one way) (record { reply = rw (at, reported) refl; left = rw (at, moves) refl }) in
+    let said = said_instead (session_at wants p u stops limit) (if_back s one) one (Stopped why) (goes_back s one way) (record { reply = rw (at, reported) refl; left = rw (at, moves) refl }) in
     record { shortage = None; valid = tt; reply = said.reply; left = said.left }
 
 -- going back takes no memory, so it never wants it
-pub replies_reverse : {A : Type 0} (p : Program A) (t u : Timeline) (stops : Listed) (limit k : ℕ) (why : Reason) →
-    no_way t ≡ None → RunsBack (named_stops p stops.kept) limit t why k u → Replies (session_at p t stops limit) (session_at p u stops limit) (Ok (Some Reverse)) (Stopped why)
+pub replies_reverse : {A : Type 0} {wants : Bool} (p : Program A) (t u : Timeline) (stops : Listed) (limit k : ℕ) (why : Reason) →
+    no_way t ≡ None → RunsBack (named_stops p stops.kept) limit t why k u → Replies (session_at wants p t stops limit) (session_at wants p u stops limit) (Ok (Some Reverse)) (Stopped why)
 replies_reverse p t u stops limit k why way run =
     reverse_stops p t u stops limit k why way run.moves
     (target_is (stop_back (named_stops p stops.kept) t) limit k why run.least run.no_memory) (run.least.reached ∙ run.no_memory)

@@ -1,5 +1,5 @@
 -- The replies to `set` and `poke`, by where the timeline was left.
-use Rattle.std.proofs.Common.{◌≡◌, refl, sym, ap, ◌∙◌, subst, ℕ, ◌+◌, ◌<◌, ◌^◌, List, [], ◌∷◌, Option, Some, None, Result, Ok, Err, arith}
+use Rattle.std.proofs.Common.{◌≡◌, refl, sym, ap, ◌∙◌, subst, ℕ, ◌+◌, ◌<◌, ◌^◌, Bool, List, [], ◌∷◌, Option, Some, None, Result, Ok, Err, arith}
 use Rattle.std.specs.Prelude.{◌↔◌, IsOk}
 use Rattle.qil_tree.specs.declared.ops.Class.{Class}
 use Rattle.qil_tree.specs.declared.ops.Width.{Width}
@@ -29,22 +29,22 @@ use Rattle.qil_replies.specs.Answers.{Replies, answer, IsValid, poke_answer, pok
 -- ---- what comes of a poke
 
 -- the reply and the session that is left are those of a poke with this outcome
-record IsPoke {A : Type 0} (p : Program A) (t u : Timeline) (stops : Listed) (limit : ℕ) (outcome : Result State PokeFault) (reported : Reply) : Type 0 where
-  reply : reported ≡ (poke_answer (session_at p t stops limit) outcome).reply
-  left : session_at p u stops limit ≡ (poke_answer (session_at p t stops limit) outcome).left
+record IsPoke {A : Type 0} (wants : Bool) (p : Program A) (t u : Timeline) (stops : Listed) (limit : ℕ) (outcome : Result State PokeFault) (reported : Reply) : Type 0 where
+  reply : reported ≡ (poke_answer (session_at wants p t stops limit) outcome).reply
+  left : session_at wants p u stops limit ≡ (poke_answer (session_at wants p t stops limit) outcome).left
 
-poke_moves : {A : Type 0} (p : Program A) (t u : Timeline) (stops : Listed) (limit : ℕ) (outcome : Result State PokeFault) → poked t outcome ≡ Ok u → IsPoke p t u stops limit outcome Place
-poke_moves {A} p t u stops limit (Ok s) e =
+poke_moves : {A : Type 0} {wants : Bool} (p : Program A) (t u : Timeline) (stops : Listed) (limit : ℕ) (outcome : Result State PokeFault) → poked t outcome ≡ Ok u → IsPoke wants p t u stops limit outcome Place
+poke_moves {A} {wants} p t u stops limit (Ok s) e =
     let same : to s t ≡ u = cc in
-    record { reply = refl; left = ap (λ (v : Timeline). session_at p v stops limit) (sym same) }
+    record { reply = refl; left = ap (λ (v : Timeline). session_at wants p v stops limit) (sym same) }
 poke_moves p t u stops limit (Err why) e = absurd cc
 
-poke_refused : {A : Type 0} (p : Program A) (t u : Timeline) (stops : Listed) (limit : ℕ) (outcome : Result State PokeFault) (why : PokeFault) →
-    outcome ≡ Err why → u ≡ t → IsPoke p t u stops limit outcome (Refused (poke_refusal why))
+poke_refused : {A : Type 0} {wants : Bool} (p : Program A) (t u : Timeline) (stops : Listed) (limit : ℕ) (outcome : Result State PokeFault) (why : PokeFault) →
+    outcome ≡ Err why → u ≡ t → IsPoke wants p t u stops limit outcome (Refused (poke_refusal why))
 poke_refused p t u stops limit (Ok s) why e same = absurd cc
-poke_refused p t u stops limit (Err other) why e same =
+poke_refused {A} {wants} p t u stops limit (Err other) why e same =
     let here : other ≡ why = cc in
-    record { reply = ap (λ (x : PokeFault). Refused (poke_refusal x)) (sym here); left = ap (λ (v : Timeline). session_at p v stops limit) same }
+    record { reply = ap (λ (x : PokeFault). Refused (poke_refusal x)) (sym here); left = ap (λ (v : Timeline). session_at wants p v stops limit) same }
 
 poked_position : (t u : Timeline) (outcome : Result State PokeFault) → poked t outcome ≡ Ok u → position u ≡ position t + 1
 poked_position t u (Ok s) e = let same : to s t ≡ u = cc in sym (ap position same) ∙ position-to t s
@@ -76,66 +76,66 @@ memory_by s (Err why) r e dead = let other = dead.1 refl in absurd cc
 
 -- ---- `set %x N`
 
-pub replies_set : {A : Type 0} (p : Program A) (t u : Timeline) (stops : Listed) (limit : ℕ) (x : Name) (v : ℕ) →
-    poked t (poke_temp p t.now x v) ≡ Ok u → Replies (session_at p t stops limit) (session_at p u stops limit) (Ok (Some (Set x v))) Place
+pub replies_set : {A : Type 0} {wants : Bool} (p : Program A) (t u : Timeline) (stops : Listed) (limit : ℕ) (x : Name) (v : ℕ) →
+    poked t (poke_temp p t.now x v) ≡ Ok u → Replies (session_at wants p t stops limit) (session_at wants p u stops limit) (Ok (Some (Set x v))) Place
 unfolding answer IsValid
 replies_set p t u stops limit x v moved =
     let made = poke_moves p t u stops limit (poke_temp p t.now x v) moved in
     record { shortage = None; valid = tt; reply = made.reply; left = made.left }
 
-pub replies_set_refused : {A : Type 0} (p : Program A) (t u : Timeline) (stops : Listed) (limit : ℕ) (x : Name) (v : ℕ) (why : PokeFault) →
-    poke_temp p t.now x v ≡ Err why → u ≡ t → Replies (session_at p t stops limit) (session_at p u stops limit) (Ok (Some (Set x v))) (Refused (poke_refusal why))
+pub replies_set_refused : {A : Type 0} {wants : Bool} (p : Program A) (t u : Timeline) (stops : Listed) (limit : ℕ) (x : Name) (v : ℕ) (why : PokeFault) →
+    poke_temp p t.now x v ≡ Err why → u ≡ t → Replies (session_at wants p t stops limit) (session_at wants p u stops limit) (Ok (Some (Set x v))) (Refused (poke_refusal why))
 unfolding answer IsValid
 replies_set_refused p t u stops limit x v why refused same =
     let made = poke_refused p t u stops limit (poke_temp p t.now x v) why refused same in
     record { shortage = None; valid = tt; reply = made.reply; left = made.left }
 
-pub replies_set_wants : {A : Type 0} (p : Program A) (t u : Timeline) (stops : Listed) (limit : ℕ) (x : Name) (v : ℕ) (reported : Result (Unit {0}) PokeError) →
+pub replies_set_wants : {A : Type 0} {wants : Bool} (p : Program A) (t u : Timeline) (stops : Listed) (limit : ℕ) (x : Name) (v : ℕ) (reported : Result (Unit {0}) PokeError) →
     reported ≡ Err OutOfMemory → (reported ≡ Err NoFrame) ↔ (poke_temp p t.now x v ≡ Err no_frame) → (reported ≡ Err UnknownTemporary) ↔ (poke_temp p t.now x v ≡ Err unknown_temporary) →
-    u ≡ t → Replies (session_at p t stops limit) (session_at p u stops limit) (Ok (Some (Set x v))) (Stopped Memory)
+    u ≡ t → Replies (session_at wants p t stops limit) (session_at wants p u stops limit) (Ok (Some (Set x v))) (Stopped Memory)
 unfolding answer IsValid
-replies_set_wants p t u stops limit x v reported is frame unknown same = record {
+replies_set_wants {A} {wants} p t u stops limit x v reported is frame unknown same = record {
   shortage = Some 0;
   valid = (refl, temp_by (poke_temp p t.now x v) reported is frame unknown (frames_plain p t.now t.now.frames x v));
   reply = refl;
-  left = ap (λ (w : Timeline). session_at p w stops limit) same;
+  left = ap (λ (w : Timeline). session_at wants p w stops limit) same;
 }
 
 -- ---- `poke W ADDR N`
 
-pub replies_nowhere : {A : Type 0} (p : Program A) (t : Timeline) (stops : Listed) (limit : ℕ) (w : Width) (at : Address) (v : ℕ) →
-    resolved_address p at ≡ None → Replies (session_at p t stops limit) (session_at p t stops limit) (Ok (Some (Poke w at v))) (Refused UnknownPlace)
+pub replies_nowhere : {A : Type 0} {wants : Bool} (p : Program A) (t : Timeline) (stops : Listed) (limit : ℕ) (w : Width) (at : Address) (v : ℕ) →
+    resolved_address p at ≡ None → Replies (session_at wants p t stops limit) (session_at wants p t stops limit) (Ok (Some (Poke w at v))) (Refused UnknownPlace)
 unfolding answer IsValid
 replies_nowhere p t stops limit w at v is = record { shortage = None; valid = tt; reply = rw is refl; left = rw is refl }
 
-pub replies_poke : {A : Type 0} (p : Program A) (t u : Timeline) (stops : Listed) (limit : ℕ) (w : Width) (at : Address) (v start n : ℕ) →
+pub replies_poke : {A : Type 0} {wants : Bool} (p : Program A) (t u : Timeline) (stops : Listed) (limit : ℕ) (w : Width) (at : Address) (v start n : ℕ) →
     resolved_address p at ≡ Some start → n ≡ width_bytes w →
-    poked t (poke_memory t.now start n v) ≡ Ok u → Replies (session_at p t stops limit) (session_at p u stops limit) (Ok (Some (Poke w at v))) Place
+    poked t (poke_memory t.now start n v) ≡ Ok u → Replies (session_at wants p t stops limit) (session_at wants p u stops limit) (Ok (Some (Poke w at v))) Place
 unfolding answer IsValid
 replies_poke p t u stops limit w at v start n is wide moved =
     let there = subst (λ i. poked t (poke_memory t.now start i v) ≡ Ok u) wide moved in
     let made = poke_moves p t u stops limit (poke_memory t.now start (width_bytes w) v) there in
     record { shortage = None; valid = tt; reply = rw is made.reply; left = rw is made.left }
 
-pub replies_poke_dead : {A : Type 0} (p : Program A) (t u : Timeline) (stops : Listed) (limit : ℕ) (w : Width) (at : Address) (v start n : ℕ) →
+pub replies_poke_dead : {A : Type 0} {wants : Bool} (p : Program A) (t u : Timeline) (stops : Listed) (limit : ℕ) (w : Width) (at : Address) (v start n : ℕ) →
     resolved_address p at ≡ Some start → n ≡ width_bytes w →
-    poke_memory t.now start n v ≡ Err dead_bytes → u ≡ t → Replies (session_at p t stops limit) (session_at p u stops limit) (Ok (Some (Poke w at v))) (Refused (poke_refusal dead_bytes))
+    poke_memory t.now start n v ≡ Err dead_bytes → u ≡ t → Replies (session_at wants p t stops limit) (session_at wants p u stops limit) (Ok (Some (Poke w at v))) (Refused (poke_refusal dead_bytes))
 unfolding answer IsValid
 replies_poke_dead p t u stops limit w at v start n is wide refused same =
     let there = subst (λ i. poke_memory t.now start i v ≡ Err dead_bytes) wide refused in
     let made = poke_refused p t u stops limit (poke_memory t.now start (width_bytes w) v) dead_bytes there same in
     record { shortage = None; valid = tt; reply = rw is made.reply; left = rw is made.left }
 
-pub replies_poke_wants : {A : Type 0} (p : Program A) (t u : Timeline) (stops : Listed) (limit : ℕ) (w : Width) (at : Address) (v start n : ℕ) (reported : Result (Unit {0}) PokeError) →
+pub replies_poke_wants : {A : Type 0} {wants : Bool} (p : Program A) (t u : Timeline) (stops : Listed) (limit : ℕ) (w : Width) (at : Address) (v start n : ℕ) (reported : Result (Unit {0}) PokeError) →
     resolved_address p at ≡ Some start → n ≡ width_bytes w →
     reported ≡ Err OutOfMemory → (reported ≡ Err DeadAddress) ↔ (poke_memory t.now start n v ≡ Err dead_bytes) → u ≡ t →
-    Replies (session_at p t stops limit) (session_at p u stops limit) (Ok (Some (Poke w at v))) (Stopped Memory)
+    Replies (session_at wants p t stops limit) (session_at wants p u stops limit) (Ok (Some (Poke w at v))) (Stopped Memory)
 unfolding answer IsValid
-replies_poke_wants p t u stops limit w at v start n reported is wide shortages dead same =
+replies_poke_wants {A} {wants} p t u stops limit w at v start n reported is wide shortages dead same =
     let there = subst (λ i. (reported ≡ Err DeadAddress) ↔ (poke_memory t.now start i v ≡ Err dead_bytes)) wide dead in
     record {
       shortage = Some 0;
       valid = (refl, start, is, memory_by t.now (stored t.now.memory start (width_bytes w) v) reported shortages there);
       reply = refl;
-      left = ap (λ (w : Timeline). session_at p w stops limit) same;
+      left = ap (λ (w : Timeline). session_at wants p w stops limit) same;
     }

@@ -51,35 +51,35 @@ pub record IsMade {A : Type 0} (p : Program A) (old new : Listed) (kind : StopKi
   pub err : OnErr made (new ≡ old)
 
 -- the reply and the session that is left are those of a stop that is wanted
-record IsAdded {A : Type 0} (p : Program A) (t : Timeline) (old new : Listed) (limit : ℕ) (kind : StopKind) (reported : Reply) : Type 0 where
-  reply : reported ≡ (stop_answer (session_at p t old limit) (Some kind)).reply
-  left : session_at p t new limit ≡ (stop_answer (session_at p t old limit) (Some kind)).left
+record IsAdded {A : Type 0} (wants : Bool) (p : Program A) (t : Timeline) (old new : Listed) (limit : ℕ) (kind : StopKind) (reported : Reply) : Type 0 where
+  reply : reported ≡ (stop_answer (session_at wants p t old limit) (Some kind)).reply
+  left : session_at wants p t new limit ≡ (stop_answer (session_at wants p t old limit) (Some kind)).left
 
-stop_made : {A : Type 0} (p : Program A) (t : Timeline) (old new : Listed) (limit : ℕ) (kind : StopKind) (made : Result ℕ StopError) →
-    IsMade p old new kind made → IsAdded p t old new limit kind (made_reply made kind)
-stop_made p t old new limit kind (Ok n) is =
+stop_made : {A : Type 0} {wants : Bool} (p : Program A) (t : Timeline) (old new : Listed) (limit : ℕ) (kind : StopKind) (made : Result ℕ StopError) →
+    IsMade p old new kind made → IsAdded wants p t old new limit kind (made_reply made kind)
+stop_made {A} {wants} p t old new limit kind (Ok n) is =
     let has : has_kind p kind ≡ true = not_false (has_kind p kind) (λ e. let other = is.unknown.1 e in absurd cc) in
     let room : is_full old ≡ false = none_is (length old.kept) old.given 64 (2 ^ 62) (λ f. let other = is.many.1 (has, f) in absurd cc) in
-    record { reply = rw (has, room) (ap (λ i. Added i kind) is.number); left = rw (has, room) (ap (λ (stops : Listed). session_at p t stops limit) is.ok) }
-stop_made p t old new limit kind (Err UnknownPlace) is =
+    record { reply = rw (has, room) (ap (λ i. Added i kind) is.number); left = rw (has, room) (ap (λ (stops : Listed). session_at wants p t stops limit) is.ok) }
+stop_made {A} {wants} p t old new limit kind (Err UnknownPlace) is =
     let has : has_kind p kind ≡ false = is.unknown.0 refl in
-    record { reply = rw has refl; left = rw has (ap (λ (stops : Listed). session_at p t stops limit) is.err) }
-stop_made p t old new limit kind (Err TooMany) is =
+    record { reply = rw has refl; left = rw has (ap (λ (stops : Listed). session_at wants p t stops limit) is.err) }
+stop_made {A} {wants} p t old new limit kind (Err TooMany) is =
     let has : has_kind p kind ≡ true = (is.many.0 refl).0 in
     let room : is_full old ≡ true = one_is (length old.kept) old.given 64 (2 ^ 62) (is.many.0 refl).1 in
-    record { reply = rw (has, room) refl; left = rw (has, room) (ap (λ (stops : Listed). session_at p t stops limit) is.err) }
+    record { reply = rw (has, room) refl; left = rw (has, room) (ap (λ (stops : Listed). session_at wants p t stops limit) is.err) }
 stop_made p t old new limit kind (Err NoSuchStop) is = absurd (is.only refl)
 
 -- ---- `break $f @b K`
 
-pub replies_no_place : {A : Type 0} (p : Program A) (t : Timeline) (old : Listed) (limit : ℕ) (func : Name) (at : Option BreakPlace) →
-    resolved_place p func at ≡ None → Replies (session_at p t old limit) (session_at p t old limit) (Ok (Some (Break func at))) (Refused refusals.UnknownPlace)
+pub replies_no_place : {A : Type 0} {wants : Bool} (p : Program A) (t : Timeline) (old : Listed) (limit : ℕ) (func : Name) (at : Option BreakPlace) →
+    resolved_place p func at ≡ None → Replies (session_at wants p t old limit) (session_at wants p t old limit) (Ok (Some (Break func at))) (Refused refusals.UnknownPlace)
 unfolding answer IsValid
 replies_no_place p t old limit func at is = record { shortage = None; valid = tt; reply = rw is refl; left = rw is refl }
 
-pub replies_break : {A : Type 0} (p : Program A) (t : Timeline) (old new : Listed) (limit : ℕ) (func : Name) (at : Option BreakPlace) (place : Place) (made : Result ℕ StopError) (reported : Reply) →
+pub replies_break : {A : Type 0} {wants : Bool} (p : Program A) (t : Timeline) (old new : Listed) (limit : ℕ) (func : Name) (at : Option BreakPlace) (place : Place) (made : Result ℕ StopError) (reported : Reply) →
     resolved_place p func at ≡ Some place → IsMade p old new (kinds.Break place) made → reported ≡ made_reply made (kinds.Break place) →
-    Replies (session_at p t old limit) (session_at p t new limit) (Ok (Some (Break func at))) reported
+    Replies (session_at wants p t old limit) (session_at wants p t new limit) (Ok (Some (Break func at))) reported
 unfolding answer IsValid
 replies_break p t old new limit func at place made reported is how so =
     let one = stop_made p t old new limit (kinds.Break place) made how in
@@ -87,14 +87,14 @@ replies_break p t old new limit func at place made reported is how so =
 
 -- ---- `watch W ADDR`
 
-pub replies_no_bytes : {A : Type 0} (p : Program A) (t : Timeline) (old : Listed) (limit : ℕ) (w : Width) (at : Address) →
-    resolved_address p at ≡ None → Replies (session_at p t old limit) (session_at p t old limit) (Ok (Some (WatchBytes w at))) (Refused refusals.UnknownPlace)
+pub replies_no_bytes : {A : Type 0} {wants : Bool} (p : Program A) (t : Timeline) (old : Listed) (limit : ℕ) (w : Width) (at : Address) →
+    resolved_address p at ≡ None → Replies (session_at wants p t old limit) (session_at wants p t old limit) (Ok (Some (WatchBytes w at))) (Refused refusals.UnknownPlace)
 unfolding answer IsValid
 replies_no_bytes p t old limit w at is = record { shortage = None; valid = tt; reply = rw is refl; left = rw is refl }
 
-pub replies_watch_bytes : {A : Type 0} (p : Program A) (t : Timeline) (old new : Listed) (limit : ℕ) (w : Width) (at : Address) (start n : ℕ) (made : Result ℕ StopError) (reported : Reply) →
+pub replies_watch_bytes : {A : Type 0} {wants : Bool} (p : Program A) (t : Timeline) (old new : Listed) (limit : ℕ) (w : Width) (at : Address) (start n : ℕ) (made : Result ℕ StopError) (reported : Reply) →
     resolved_address p at ≡ Some start → n ≡ width_bytes w → IsMade p old new (kinds.Watch (watches.Bytes start n)) made → reported ≡ made_reply made (kinds.Watch (watches.Bytes start n)) →
-    Replies (session_at p t old limit) (session_at p t new limit) (Ok (Some (WatchBytes w at))) reported
+    Replies (session_at wants p t old limit) (session_at wants p t new limit) (Ok (Some (WatchBytes w at))) reported
 unfolding answer IsValid
 replies_watch_bytes p t old new limit w at start n made reported is wide how so =
     let there = subst (λ i. IsMade p old new (kinds.Watch (watches.Bytes start i)) made) wide how in
@@ -104,14 +104,14 @@ replies_watch_bytes p t old new limit w at start n made reported is wide how so 
 
 -- ---- `watch $f %x`
 
-pub replies_no_temp : {A : Type 0} (p : Program A) (t : Timeline) (old : Listed) (limit : ℕ) (func x : Name) →
-    resolved_temp p func x ≡ None → Replies (session_at p t old limit) (session_at p t old limit) (Ok (Some (WatchTemp func x))) (Refused refusals.UnknownPlace)
+pub replies_no_temp : {A : Type 0} {wants : Bool} (p : Program A) (t : Timeline) (old : Listed) (limit : ℕ) (func x : Name) →
+    resolved_temp p func x ≡ None → Replies (session_at wants p t old limit) (session_at wants p t old limit) (Ok (Some (WatchTemp func x))) (Refused refusals.UnknownPlace)
 unfolding answer IsValid
 replies_no_temp p t old limit func x is = record { shortage = None; valid = tt; reply = rw is refl; left = rw is refl }
 
-pub replies_watch_temp : {A : Type 0} (p : Program A) (t : Timeline) (old new : Listed) (limit : ℕ) (func x : Name) (watched : Watched) (made : Result ℕ StopError) (reported : Reply) →
+pub replies_watch_temp : {A : Type 0} {wants : Bool} (p : Program A) (t : Timeline) (old new : Listed) (limit : ℕ) (func x : Name) (watched : Watched) (made : Result ℕ StopError) (reported : Reply) →
     resolved_temp p func x ≡ Some watched → IsMade p old new (kinds.Watch watched) made → reported ≡ made_reply made (kinds.Watch watched) →
-    Replies (session_at p t old limit) (session_at p t new limit) (Ok (Some (WatchTemp func x))) reported
+    Replies (session_at wants p t old limit) (session_at wants p t new limit) (Ok (Some (WatchTemp func x))) reported
 unfolding answer IsValid
 replies_watch_temp p t old new limit func x watched made reported is how so =
     let one = stop_made p t old new limit (kinds.Watch watched) made how in
@@ -119,12 +119,12 @@ replies_watch_temp p t old new limit func x watched made reported is how so =
 
 -- ---- `delete N`
 
-pub replies_deleted : {A : Type 0} (p : Program A) (t : Timeline) (old new : Listed) (limit n : ℕ) →
-    is_listed n old.kept ≡ true → new ≡ record old { kept = without n old.kept } → Replies (session_at p t old limit) (session_at p t new limit) (Ok (Some (Delete n))) (Deleted n)
+pub replies_deleted : {A : Type 0} {wants : Bool} (p : Program A) (t : Timeline) (old new : Listed) (limit n : ℕ) →
+    is_listed n old.kept ≡ true → new ≡ record old { kept = without n old.kept } → Replies (session_at wants p t old limit) (session_at wants p t new limit) (Ok (Some (Delete n))) (Deleted n)
 unfolding answer IsValid
-replies_deleted p t old new limit n is less = record { shortage = None; valid = tt; reply = rw is refl; left = rw is (ap (λ (stops : Listed). session_at p t stops limit) less) }
+replies_deleted {A} {wants} p t old new limit n is less = record { shortage = None; valid = tt; reply = rw is refl; left = rw is (ap (λ (stops : Listed). session_at wants p t stops limit) less) }
 
-pub replies_unlisted : {A : Type 0} (p : Program A) (t : Timeline) (old new : Listed) (limit n : ℕ) →
-    is_listed n old.kept ≡ false → new ≡ old → Replies (session_at p t old limit) (session_at p t new limit) (Ok (Some (Delete n))) (Refused refusals.NoSuchStop)
+pub replies_unlisted : {A : Type 0} {wants : Bool} (p : Program A) (t : Timeline) (old new : Listed) (limit n : ℕ) →
+    is_listed n old.kept ≡ false → new ≡ old → Replies (session_at wants p t old limit) (session_at wants p t new limit) (Ok (Some (Delete n))) (Refused refusals.NoSuchStop)
 unfolding answer IsValid
-replies_unlisted p t old new limit n is same = record { shortage = None; valid = tt; reply = rw is refl; left = rw is (ap (λ (stops : Listed). session_at p t stops limit) same) }
+replies_unlisted {A} {wants} p t old new limit n is same = record { shortage = None; valid = tt; reply = rw is refl; left = rw is (ap (λ (stops : Listed). session_at wants p t stops limit) same) }

@@ -1,5 +1,5 @@
 -- What a session keeps.
-use Rattle.std.specs.Prelude.{ℕ}
+use Rattle.std.specs.Prelude.{ℕ, Bool}
 use Rattle.qil_tree.specs.declared.tree.Program.{Program}
 use Rattle.qil_meaning.specs.Timeline.{Timeline}
 use Rattle.qil_stops.specs.Listed.{Listed}
@@ -10,6 +10,6 @@ pub record Kept (H : Type 0) : Type 0 where
   pub stops : Listed
   pub limit : ℕ
 
--- the situation of what is kept, by the program and the timeline of its history
-abbrev pub session_state : {A H : Type 0} → (H → Program A) → (H → Timeline) → Kept H → SessionState A
-session_state program timeline k = session_at (program k.history) (timeline k.history) k.stops k.limit
+-- the situation of what is kept, by whether a move of its history may want memory, and by its program and timeline
+abbrev pub session_state : {A H : Type 0} → Bool → (H → Program A) → (H → Timeline) → Kept H → SessionState A
+session_state wants program timeline k = session_at wants (program k.history) (timeline k.history) k.stops k.limit

@@ -25,7 +25,7 @@ pub fn answer_line<'c, A: Allocator + Copy + 'c, H: Runs<A, Code<'c, A>>, P: Put
     requires limit { session.old.limit ≤ 4294967295 }
     ensures near { position (H.timeline session.new.history) < position (H.timeline session.old.history) + 2 ^ 32 }
     ensures limit { session.new.limit ≡ session.old.limit }
-    ensures answered { AnswersLine result (session_state H.program H.timeline session.old) (session_state H.program H.timeline session.new) (command_of kept.now) (P.written out.old) (P.written out.new) }
+    ensures answered { AnswersLine result (session_state H.wants_memory H.program H.timeline session.old) (session_state H.wants_memory H.program H.timeline session.new) (command_of kept.now) (P.written out.old) (P.written out.new) }
     ensures counted { Counts result (P.stops out.old) (P.stops out.new) }
     ensures device { P.device out.new ≡ P.device out.old }
 {

@@ -31,7 +31,7 @@ pub fn step<'c, 'r, A: Allocator + Copy + 'c, H: Runs<A, Code<'c, A>>>(
     requires { position (H.timeline history.old) < 2 ^ 61 }
     ensures program { H.program history.new ≡ H.program history.old }
     ensures near { position (H.timeline history.new) < position (H.timeline history.old) + 2 ^ 32 }
-    ensures replied { (stops : Listed) (limit : ℕ) → Replies (session_at (H.program history.old) (H.timeline history.old) stops limit) (session_at (H.program history.old) (H.timeline history.new) stops limit)
+    ensures replied { (stops : Listed) (limit : ℕ) → Replies (session_at H.wants_memory (H.program history.old) (H.timeline history.old) stops limit) (session_at H.wants_memory (H.program history.old) (H.timeline history.new) stops limit)
         (Ok (Some (commands.Step count))) result }
 {
     if is_over(history.machine()) {
@@ -63,7 +63,7 @@ pub fn back<'c, 'r, A: Allocator + Copy + 'c, H: Runs<A, Code<'c, A>>>(
 ) -> Reply<'r>
     ensures program { H.program history.new ≡ H.program history.old }
     ensures near { position (H.timeline history.new) < position (H.timeline history.old) + 2 ^ 32 }
-    ensures replied { (stops : Listed) (limit : ℕ) → Replies (session_at (H.program history.old) (H.timeline history.old) stops limit) (session_at (H.program history.old) (H.timeline history.new) stops limit)
+    ensures replied { (stops : Listed) (limit : ℕ) → Replies (session_at H.wants_memory (H.program history.old) (H.timeline history.old) stops limit) (session_at H.wants_memory (H.program history.old) (H.timeline history.new) stops limit)
         (Ok (Some (commands.Back count))) result }
 {
     if let Some(refusal) = no_way_back(history.position(), history.oldest()) {
@@ -83,7 +83,7 @@ pub fn answer_continue<'c, 'r, A: Allocator + Copy + 'c, H: Runs<A, Code<'c, A>>
     requires limit { limit ≤ 4294967295 }
     ensures program { H.program history.new ≡ H.program history.old }
     ensures near { position (H.timeline history.new) < position (H.timeline history.old) + 2 ^ 32 }
-    ensures replied { Replies (session_at (H.program history.old) (H.timeline history.old) stops.now limit) (session_at (H.program history.old) (H.timeline history.new) stops.now limit)
+    ensures replied { Replies (session_at H.wants_memory (H.program history.old) (H.timeline history.old) stops.now limit) (session_at H.wants_memory (H.program history.old) (H.timeline history.new) stops.now limit)
         (Ok (Some commands.Continue)) result }
 {
     if is_over(history.machine()) {
@@ -101,7 +101,7 @@ pub fn answer_reverse<'c, 'r, A: Allocator + Copy + 'c, H: Runs<A, Code<'c, A>>>
 ) -> Reply<'r>
     ensures program { H.program history.new ≡ H.program history.old }
     ensures near { position (H.timeline history.new) < position (H.timeline history.old) + 2 ^ 32 }
-    ensures replied { Replies (session_at (H.program history.old) (H.timeline history.old) stops.now limit) (session_at (H.program history.old) (H.timeline history.new) stops.now limit)
+    ensures replied { Replies (session_at H.wants_memory (H.program history.old) (H.timeline history.old) stops.now limit) (session_at H.wants_memory (H.program history.old) (H.timeline history.new) stops.now limit)
         (Ok (Some commands.Reverse)) result }
 {
     if let Some(refusal) = no_way_back(history.position(), history.oldest()) {

@@ -26,7 +26,7 @@ pub fn set<'c, 'r, A: Allocator + Copy + 'c, H: Runs<A, Code<'c, A>>>(
     requires { position (H.timeline history.old) < 2 ^ 61 }
     ensures program { H.program history.new ≡ H.program history.old }
     ensures near { position (H.timeline history.new) < position (H.timeline history.old) + 2 ^ 32 }
-    ensures replied { (stops : Listed) (limit : ℕ) → Replies (session_at (H.program history.old) (H.timeline history.old) stops limit) (session_at (H.program history.old) (H.timeline history.new) stops limit)
+    ensures replied { (stops : Listed) (limit : ℕ) → Replies (session_at H.wants_memory (H.program history.old) (H.timeline history.old) stops limit) (session_at H.wants_memory (H.program history.old) (H.timeline history.new) stops limit)
         (Ok (Some (commands.Set name.now value))) result }
 {
     match history.poke_named(name, value) {
@@ -59,7 +59,7 @@ pub fn poke<'c, 'r, A: Allocator + Copy + 'c, H: Runs<A, Code<'c, A>>>(
     requires { position (H.timeline history.old) < 2 ^ 61 }
     ensures program { H.program history.new ≡ H.program history.old }
     ensures near { position (H.timeline history.new) < position (H.timeline history.old) + 2 ^ 32 }
-    ensures replied { (stops : Listed) (limit : ℕ) → Replies (session_at (H.program history.old) (H.timeline history.old) stops limit) (session_at (H.program history.old) (H.timeline history.new) stops limit)
+    ensures replied { (stops : Listed) (limit : ℕ) → Replies (session_at H.wants_memory (H.program history.old) (H.timeline history.old) stops limit) (session_at H.wants_memory (H.program history.old) (H.timeline history.new) stops limit)
         (Ok (Some (commands.Poke width address.entry value))) result }
 {
     let Some(start) = start_of(history, &address) else {

@@ -34,7 +34,7 @@ pub fn serve_lines<'c, A: Allocator + Copy + 'c, H: Runs<A, Code<'c, A>>, S: Sou
     requires limit { session.old.limit ≤ 4294967295 }
     ensures served { IfSome (S.remaining source.old) (λ script. (text : List ℕ)
         × Appends (P.written out.old) (P.written out.new) text
-        × IsServed result (session_state H.program H.timeline session.old) script (S.remaining source.new) text (session_state H.program H.timeline session.new)) }
+        × IsServed result (session_state H.wants_memory H.program H.timeline session.old) script (S.remaining source.new) text (session_state H.wants_memory H.program H.timeline session.new)) }
     ensures few { IfSome (S.remaining source.old) (λ script. TakesFew script (S.remaining source.new)) }
     ensures counted { CountsServe result (S.failures source.old) (S.failures source.new) (P.stops out.old) (P.stops out.new) }
     ensures near { position (H.timeline session.new.history) ≤ position (H.timeline session.old.history) + 2 ^ 57 }
@@ -81,7 +81,7 @@ pub fn serve<'c, A: Allocator + Copy + 'c, H: Runs<A, Code<'c, A>>, S: Source, W
     requires limit { session.old.limit ≤ 4294967295 }
     ensures served { IfSome (S.remaining source.old) (λ script. (text : List ℕ)
         × Appends (W.contents sink.old) (W.contents sink.new) text
-        × IsServed result (session_state H.program H.timeline session.old) script (S.remaining source.new) text (session_state H.program H.timeline session.new)) }
+        × IsServed result (session_state H.wants_memory H.program H.timeline session.old) script (S.remaining source.new) text (session_state H.wants_memory H.program H.timeline session.new)) }
     ensures few { IfSome (S.remaining source.old) (λ script. TakesFew script (S.remaining source.new)) }
     ensures read_fault { (result ≡ Err IoFault.Read) ↔ (S.failures source.old < S.failures source.new) }
     ensures write_fault { (result ≡ Err IoFault.Write) ↔ (W.failures sink.old < W.failures sink.new) }
@@ -116,7 +116,7 @@ pub fn serve_in_turn<
     requires limit { session.old.limit ≤ 4294967295 }
     ensures served { OnOk result (IfSome (S.remaining first.old) (λ one. IfSome (T.remaining second.old) (λ two. (text : List ℕ)
         × Appends (W.contents sink.old) (W.contents sink.new) text
-        × AreServed (session_state H.program H.timeline session.old) one two text (session_state H.program H.timeline session.new)))) }
+        × AreServed (session_state H.wants_memory H.program H.timeline session.old) one two text (session_state H.wants_memory H.program H.timeline session.new)))) }
     ensures read_fault { (result ≡ Err IoFault.Read) ↔ ((S.failures first.old < S.failures first.new) ⊎ (T.failures second.old < T.failures second.new)) }
     ensures write_fault { (result ≡ Err IoFault.Write) ↔ (W.failures sink.old < W.failures sink.new) }
     ensures too_long { result ≡ Err IoFault.TooLong → IfSome (S.remaining first.old) (λ one. IfSome (T.remaining second.old) (λ two. IsTooLong one ⊎ IsTooLong two)) }

@@ -91,7 +91,7 @@ impl<'c, A: Allocator + Copy + 'c, H: Runs<A, Code<'c, A>>> Session<A, H> {
     /// Puts the line of the place where the session stands.
     pub fn put_now<'s, P: Put>(&'s self, out: &'s mut P) -> Result<(), PutError>
         requires { P.stops out.old < 2 ^ 64 - 1 }
-        ensures { HasPut P.written P.stops P.device result out.old out.new (place_line (session_state H.program H.timeline self.now).timeline) }
+        ensures { HasPut P.written P.stops P.device result out.old out.new (place_line (session_state H.wants_memory H.program H.timeline self.now).timeline) }
     {
         let machine = self.history.machine();
         put_place(out, self.history.position(), machine)
@@ -103,7 +103,7 @@ impl<'c, A: Allocator + Copy + 'c, H: Runs<A, Code<'c, A>>> Session<A, H> {
         requires limit { self.old.limit ≤ 4294967295 }
         ensures near { position (H.timeline self.new.history) < position (H.timeline self.old.history) + 2 ^ 32 }
         ensures limit { self.new.limit ≡ self.old.limit }
-        ensures replied { Replies (session_state H.program H.timeline self.old) (session_state H.program H.timeline self.new) (Ok (Some command.entry)) result }
+        ensures replied { Replies (session_state H.wants_memory H.program H.timeline self.old) (session_state H.wants_memory H.program H.timeline self.new) (Ok (Some command.entry)) result }
     {
         match command {
             Command::Step(count) => step(&mut self.history, count),
@@ -146,7 +146,7 @@ impl<'c, A: Allocator + Copy + 'c, H: Runs<A, Code<'c, A>>> Session<A, H> {
         requires limit { self.old.limit ≤ 4294967295 }
         ensures near { position (H.timeline self.new.history) < position (H.timeline self.old.history) + 2 ^ 32 }
         ensures limit { self.new.limit ≡ self.old.limit }
-        ensures replied { Replies (session_state H.program H.timeline self.old) (session_state H.program H.timeline self.new) said.entry result }
+        ensures replied { Replies (session_state H.wants_memory H.program H.timeline self.old) (session_state H.wants_memory H.program H.timeline self.new) said.entry result }
     {
         match said {
             Ok(Some(command)) => self.reply_command(command),
@@ -162,7 +162,7 @@ impl<'c, A: Allocator + Copy + 'c, H: Runs<A, Code<'c, A>>> Session<A, H> {
     /// `PutError` where `out` stopped. Then a prefix of the text was put.
     pub fn put_reply<P: Put>(&self, reply: Reply<'_>, out: &mut P) -> Result<(), PutError>
         requires { P.stops out.old < 2 ^ 64 - 1 }
-        ensures { HasPut P.written P.stops P.device result out.old out.new (text_in (session_state H.program H.timeline self.now) reply.entry) }
+        ensures { HasPut P.written P.stops P.device result out.old out.new (text_in (session_state H.wants_memory H.program H.timeline self.now) reply.entry) }
     {
         let position = self.history.position();
         let machine = self.history.machine();
@@ -181,7 +181,7 @@ impl<'c, A: Allocator + Copy + 'c, H: Runs<A, Code<'c, A>>> Session<A, H> {
         requires limit { self.old.limit ≤ 4294967295 }
         ensures near { position (H.timeline self.new.history) < position (H.timeline self.old.history) + 2 ^ 32 }
         ensures limit { self.new.limit ≡ self.old.limit }
-        ensures answered { Answers (session_state H.program H.timeline self.old) (session_state H.program H.timeline self.new) said.entry result (P.written out.old) (P.written out.new) }
+        ensures answered { Answers (session_state H.wants_memory H.program H.timeline self.old) (session_state H.wants_memory H.program H.timeline self.new) said.entry result (P.written out.old) (P.written out.new) }
         ensures counted { Counts result (P.stops out.old) (P.stops out.new) }
         ensures device { P.device out.new ≡ P.device out.old }
     {

@@ -1,6 +1,6 @@
 //! The replies to commands about stops: `break`, `watch`, `delete`.
 
-ghost use Rattle.std.specs.Prelude.{◌≡◌, ℕ, Ok, Some};
+ghost use Rattle.std.specs.Prelude.{◌≡◌, ℕ, Bool, Ok, Some};
 ghost use Rattle.qil_commands.specs.declared.command.Command.TheVariants as commands;
 ghost use Rattle.qil_meaning.specs.Timeline.{Timeline};
 ghost use Rattle.qil_tree.specs.declared.tree.Program.{Program};
@@ -34,7 +34,7 @@ pub fn add_break<'c, 'r, A: Allocator + Copy>(
     func: &[u8],
     at: Option<BreakPlace<'_>>,
 ) -> Reply<'r>
-    ensures { (t : Timeline) (limit : ℕ) → Replies (session_at code.now t stops.old limit) (session_at code.now t stops.new limit)
+    ensures { (wants : Bool) (t : Timeline) (limit : ℕ) → Replies (session_at wants code.now t stops.old limit) (session_at wants code.now t stops.new limit)
         (Ok (Some (commands.Break func.now at.entry))) result }
 {
     let Some(place) = resolved_place(code, func, &at) else {
@@ -51,7 +51,7 @@ pub fn watch_bytes<'c, 'r, A: Allocator + Copy>(
     width: Width,
     address: Address<'_>,
 ) -> Reply<'r>
-    ensures { (t : Timeline) (limit : ℕ) → Replies (session_at code.now t stops.old limit) (session_at code.now t stops.new limit)
+    ensures { (wants : Bool) (t : Timeline) (limit : ℕ) → Replies (session_at wants code.now t stops.old limit) (session_at wants code.now t stops.new limit)
         (Ok (Some (commands.WatchBytes width address.entry))) result }
 {
     let Some(address) = resolved_address(code, &address) else {
@@ -70,7 +70,7 @@ pub fn watch_temp<'c, 'r, A: Allocator + Copy>(
     func: &[u8],
     name: &[u8],
 ) -> Reply<'r>
-    ensures { (t : Timeline) (limit : ℕ) → Replies (session_at code.now t stops.old limit) (session_at code.now t stops.new limit)
+    ensures { (wants : Bool) (t : Timeline) (limit : ℕ) → Replies (session_at wants code.now t stops.old limit) (session_at wants code.now t stops.new limit)
         (Ok (Some (commands.WatchTemp func.now name.now))) result }
 {
     let Some(watched) = resolved_temp(code, func, name) else {
@@ -82,7 +82,7 @@ pub fn watch_temp<'c, 'r, A: Allocator + Copy>(
 
 /// Replies to `delete N`.
 pub fn delete<'r, A: Allocator + Copy>(stops: &mut Stops<A>, number: u64) -> Reply<'r>
-    ensures { (p : Program A) (t : Timeline) (limit : ℕ) → Replies (session_at p t stops.old limit) (session_at p t stops.new limit)
+    ensures { (wants : Bool) (p : Program A) (t : Timeline) (limit : ℕ) → Replies (session_at wants p t stops.old limit) (session_at wants p t stops.new limit)
         (Ok (Some (commands.Delete number))) result }
 {
     match stops.delete(number) {

@@ -1,5 +1,5 @@
 -- What the parts of `debug` hand to one another.
-use Rattle.std.specs.Prelude.{◌≡◌, ℕ, List, Option}
+use Rattle.std.specs.Prelude.{◌≡◌, ℕ, Bool, true, false, List, Option, Some, None}
 use Rattle.std.specs.Io.KnownBytes.{Appends}
 use Rattle.qil_streams.specs.Device.{IsPrefixOf}
 use Rattle.qil_meaning.specs.declared.start.StartFault.TheVariants as faults
@@ -14,9 +14,14 @@ use Rattle.qil_transcript.specs.declared.outcome.Outcome.{Outcome}
 use Rattle.qil_transcript.specs.declared.outcome.Outcome.TheVariants as outcomes
 use Rattle.qil_replies.specs.Transcript.{Setup}
 
+-- where copies are kept, in so many bytes, no move wants memory; undo records want some
+abbrev pub moves_want_memory : Option ℕ → Bool
+moves_want_memory None = true
+moves_want_memory (Some budget) = false
+
 -- a text with a request
 abbrev pub setup_of : List ℕ → Request → Setup
-setup_of text r = record { text = text; entry = r.func.now; args = r.args.now; limit = r.limit; keeps = r.bound }
+setup_of text r = record { text = text; entry = r.func.now; args = r.args.now; limit = r.limit; keeps = r.bound; moves_want_memory = moves_want_memory r.replay }
 
 -- what a start that failed is to the load
 abbrev pub of_start : StartError → LoadError

@@ -1,6 +1,6 @@
 //! `debug`: from the bytes of a program and a script to the bytes of the transcript.
 
-ghost use Rattle.std.specs.Prelude.{◌≡◌, ◌≢◌, ℕ, ◌-◌, ◌^◌, ◌<◌, ◌≤◌, ◌↔◌, List, Some, None, Ok, Err, IfSome};
+ghost use Rattle.std.specs.Prelude.{◌≡◌, ◌≢◌, ℕ, ◌-◌, ◌^◌, ◌<◌, ◌≤◌, ◌↔◌, true, false, List, Some, None, Ok, Err, IfSome};
 ghost use Rattle.qil_rules.specs.Verdict.{Verdict};
 ghost use Rattle.qil_layout.specs.Layout.{fault_of};
 ghost use Rattle.qil_layout.specs.declared.error.LayoutCode.{LayoutCode};
@@ -108,7 +108,7 @@ fn run<'c, A: Allocator + Copy + 'c, H: Runs<A, Code<'c, A>> + Drop, S: Source, 
     requires before { position (H.timeline session.history) < 2 ^ 60 }
     requires limit { session.limit ≤ 4294967295 }
     ensures written { (s : Setup) (verdict : Verdict A) (start : State) → Begins s verdict start → IsLoaded loaded.now verdict
-        → session_state H.program H.timeline session ≡ opened s verdict.program start
+        → session_state H.wants_memory H.program H.timeline session ≡ opened s verdict.program start
         → Written A result s (S.remaining source.old) (S.remaining source.new) (P.written out.old) (P.written out.new) }
     ensures served { result ≢ Outcome.Refused }
     ensures untouched { IsUntouched result source.old source.new }
@@ -143,7 +143,7 @@ fn debug_runs<'c, A: Allocator + Copy + 'c, H: Runs<A, Code<'c, A>> + Drop, K, S
     requires writes { P.stops out.old < 2 ^ 64 - 1 }
     requires before { position (H.timeline history) < 2 ^ 60 }
     requires limit { limit ≤ 4294967295 }
-    ensures written { (s : Setup) (verdict : Verdict A) (start : State) → Begins s verdict start → IsLoaded loaded.now verdict → s.limit ≡ limit
+    ensures written { (s : Setup) (verdict : Verdict A) (start : State) → Begins s verdict start → IsLoaded loaded.now verdict → s.limit ≡ limit → s.moves_want_memory ≡ H.wants_memory
         → H.program history ≡ verdict.program → H.timeline history ≡ begun s.keeps start
         → Written A result s (S.remaining source.old) (S.remaining source.new) (P.written out.old) (P.written out.new) }
     ensures served { result ≢ Outcome.Refused }
@@ -170,7 +170,7 @@ fn debug_history<
     requires writes { P.stops out.old < 2 ^ 64 - 1 }
     requires before { position (H.timeline history) < 2 ^ 60 }
     requires limit { limit ≤ 4294967295 }
-    ensures written { (s : Setup) (verdict : Verdict A) (start : State) → Begins s verdict start → IsLoaded loaded.now verdict → s.limit ≡ limit
+    ensures written { (s : Setup) (verdict : Verdict A) (start : State) → Begins s verdict start → IsLoaded loaded.now verdict → s.limit ≡ limit → s.moves_want_memory ≡ true
         → H.program history ≡ verdict.program → H.timeline history ≡ begun s.keeps start
         → Written A result s (S.remaining source.old) (S.remaining source.new) (P.written out.old) (P.written out.new) }
     ensures served { result ≢ Outcome.Refused }
@@ -195,6 +195,7 @@ fn debug_machine<'c, A: Allocator + Copy + 'c, S: Source, P: Put>(
     requires writes { P.stops out.old < 2 ^ 64 - 1 }
     requires limit { request.now.limit ≤ 4294967295 }
     requires bound { IfSome request.now.bound (λ n. (1 ≤ n) × (n ≤ 1000000)) }
+    requires records { request.now.replay ≡ None }
     ensures written { (text : List ℕ) (verdict : Verdict A) → Begins (setup_of text request.now) verdict (state_of machine.entry)
         → IsLoaded loaded.now verdict → machine.entry.program ≡ verdict.program
         → Written A result (setup_of text request.now) (S.remaining source.old) (S.remaining source.new) (P.written out.old) (P.written out.new) }
@@ -238,6 +239,7 @@ fn debug_restorable<
     requires writes { P.stops out.old < 2 ^ 64 - 1 }
     requires limit { request.now.limit ≤ 4294967295 }
     requires bound { request.now.bound ≡ None }
+    requires replay { request.now.replay ≡ Some budget }
     ensures written { (text : List ℕ) (verdict : Verdict A) → Begins (setup_of text request.now) verdict (state_of (M.present machine))
         → IsLoaded loaded.now verdict → (M.present machine).program ≡ verdict.program
         → Written A result (setup_of text request.now) (S.remaining source.old) (S.remaining source.new) (P.written out.old) (P.written out.new) }
@@ -275,6 +277,7 @@ fn debug_copies<
     requires writes { P.stops out.old < 2 ^ 64 - 1 }
     requires limit { request.now.limit ≤ 4294967295 }
     requires bound { request.now.bound ≡ None }
+    requires replay { request.now.replay ≡ Some budget }
     ensures written { (text : List ℕ) (verdict : Verdict A) → Begins (setup_of text request.now) verdict (state_of (M.present machine))
         → IsLoaded loaded.now verdict → (M.present machine).program ≡ verdict.program
         → Written A result (setup_of text request.now) (S.remaining source.old) (S.remaining source.new) (P.written out.old) (P.written out.new) }
@@ -303,6 +306,7 @@ fn debug_flat<'c, 't, A: Allocator + Copy + 'c, S: Source, P: Put>(
     requires writes { P.stops out.old < 2 ^ 64 - 1 }
     requires limit { request.now.limit ≤ 4294967295 }
     requires bound { request.now.bound ≡ None }
+    requires replay { request.now.replay ≡ Some budget }
     ensures written { (text : List ℕ) (verdict : Verdict A) → Accepts text verdict → IsLoaded loaded.now verdict → code.entry.now.program ≡ verdict.program
         → Written A result (setup_of text request.now) (S.remaining source.old) (S.remaining source.new) (P.written out.old) (P.written out.new) }
     ensures only_started { (start : State) → start_of code.entry.now.program request.now.func.now request.now.args.now ≡ Ok start → result ≢ Outcome.Refused }
@@ -334,6 +338,7 @@ fn debug_records<'c, 't, A: Allocator + Copy + 'c, S: Source, P: Put>(
     requires writes { P.stops out.old < 2 ^ 64 - 1 }
     requires limit { request.now.limit ≤ 4294967295 }
     requires bound { IfSome request.now.bound (λ n. (1 ≤ n) × (n ≤ 1000000)) }
+    requires records { request.now.replay ≡ None }
     ensures written { (text : List ℕ) (verdict : Verdict A) → Accepts text verdict → IsLoaded loaded.now verdict → code.entry.now ≡ verdict.program
         → Written A result (setup_of text request.now) (S.remaining source.old) (S.remaining source.new) (P.written out.old) (P.written out.new) }
     ensures only_started { (start : State) → start_of code.entry.now request.now.func.now request.now.args.now ≡ Ok start → result ≢ Outcome.Refused }
@@ -502,12 +507,12 @@ pub fn debug<A: Allocator + Copy, S: Source, W: Sink>(
     requires history { IfSome history (λ n. (1 ≤ n) × (n ≤ 1000000)) }
 
     // Where the source tells its bytes, what was written is the transcript, up to what stopped it.
-    ensures written { Written A result (record { text = text.now; entry = entry.now; args = args.now; limit = limit; keeps = history })
+    ensures written { Written A result (record { text = text.now; entry = entry.now; args = args.now; limit = limit; keeps = history; moves_want_memory = true })
         (S.remaining source.old) (S.remaining source.new) (W.contents sink.old) (W.contents sink.new) }
 
     // An accepted text is not refused, and a refused one has no session.
     ensures only_begun { (verdict : Verdict A) (start : State)
-        → Begins (record { text = text.now; entry = entry.now; args = args.now; limit = limit; keeps = history }) verdict start → result ≢ Outcome.Refused }
+        → Begins (record { text = text.now; entry = entry.now; args = args.now; limit = limit; keeps = history; moves_want_memory = true }) verdict start → result ≢ Outcome.Refused }
     ensures only_refused { (refusal : Refusal) → Refuses A text.now entry.now args.now refusal → IsNoSession result }
 
     // Without a session the source is as it was; else at most 2^24 + 1 bytes are taken of it.
@@ -537,7 +542,7 @@ pub fn debug<A: Allocator + Copy, S: Source, W: Sink>(
 /// long as more than the first is there; with less it goes slower.
 ///
 /// Loading takes memory, and more than `debug` does, since all that a run may want is taken at its start: the answer is
-/// `Memory` then. No move is ever refused memory; a poke may be.
+/// `Memory` then. No move is ever refused memory, so no answer but that to a poke says that it ran out.
 pub fn debug_replaying<A: Allocator + Copy, S: Source, W: Sink>(
     alloc: A,
     keys: RandomState,
@@ -554,12 +559,12 @@ pub fn debug_replaying<A: Allocator + Copy, S: Source, W: Sink>(
     requires limit { limit ≤ 4294967295 }
 
     // Where the source tells its bytes, what was written is the transcript, up to what stopped it.
-    ensures written { Written A result (record { text = text.now; entry = entry.now; args = args.now; limit = limit; keeps = None })
+    ensures written { Written A result (record { text = text.now; entry = entry.now; args = args.now; limit = limit; keeps = None; moves_want_memory = false })
         (S.remaining source.old) (S.remaining source.new) (W.contents sink.old) (W.contents sink.new) }
 
     // An accepted text is not refused, and a refused one has no session.
     ensures only_begun { (verdict : Verdict A) (start : State)
-        → Begins (record { text = text.now; entry = entry.now; args = args.now; limit = limit; keeps = None }) verdict start → result ≢ Outcome.Refused }
+        → Begins (record { text = text.now; entry = entry.now; args = args.now; limit = limit; keeps = None; moves_want_memory = false }) verdict start → result ≢ Outcome.Refused }
     ensures only_refused { (refusal : Refusal) → Refuses A text.now entry.now args.now refusal → IsNoSession result }
 
     // Without a session the source is as it was; else at most 2^24 + 1 bytes are taken of it.

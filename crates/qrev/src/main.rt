@@ -4,7 +4,7 @@
 ghost use Rattle.std.specs.Prelude.{◌≡◌, ◌<◌, ◌-◌, ◌^◌};
 ghost use Rattle.qrev.specs.Status.{outcome_status};
 
-use qil_options::{Failure, Given, read_given, read_words};
+use qil_options::{Failure, Given, Kept, bound_of, budget_of, read_given, read_words};
 use qil_streams::{FromReader, IntoWriter, Sink, Source};
 use qil_transcript::{Outcome, debug, debug_replaying};
 use std::alloc::{Allocator, Global};
@@ -33,7 +33,7 @@ fn run_session<R: Input + Print + RandomSource>(
     Ok(debug_given(alloc, keys, given, &mut source, &mut sink))
 }
 
-/// Debugs what is given: over copies of states where that was asked for, and else over undo records.
+/// Debugs what is given: over copies of states, or over undo records if those are asked for.
 // In any memory: with one that is known each call would compare all that it promises.
 fn debug_given<A: Allocator + Copy, S: Source, W: Sink>(
     alloc: A,
@@ -49,22 +49,15 @@ fn debug_given<A: Allocator + Copy, S: Source, W: Sink>(
     let entry = given.run.entry.as_bytes();
     let args = given.run.args.as_slice();
     let limit = u64::from(given.run.limit);
-    match given.budget() {
-        Some(budget) => {
-            debug_replaying(alloc, keys, text, entry, args, limit, budget, source, sink)
+    let bound = match given.kept {
+        Kept::Copies(mebibytes) => {
+            let budget = budget_of(mebibytes);
+            return debug_replaying(alloc, keys, text, entry, args, limit, budget, source, sink);
         }
-        None => debug(
-            alloc,
-            keys,
-            text,
-            entry,
-            args,
-            limit,
-            given.run.bound(),
-            source,
-            sink,
-        ),
-    }
+        Kept::Newest(moves) => Some(bound_of(moves)),
+        Kept::All => None,
+    };
+    debug(alloc, keys, text, entry, args, limit, bound, source, sink)
 }
 
 /// What the words ask for.

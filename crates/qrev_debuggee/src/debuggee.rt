@@ -1,5 +1,12 @@
 //! What an editor drives: a session that is recorded, and what the editor was told of it.
 
+ghost use Rattle.std.specs.Prelude.{◌≡◌, [], length, IfOk, IfErr};
+ghost use Rattle.qil_commands.specs.Command.{command_of};
+ghost use Rattle.qil_machine.specs.qil_state.State.{state_of};
+ghost use Rattle.qil_meaning.specs.Timeline.{position, oldest};
+ghost use Rattle.qrev_recorder.specs.qil_replies.qil_stops.Depths.{depth};
+ghost use Rattle.qrev_debuggee.specs.Moves.{Lined, RanTo, RanBack, RanBackTo, LineFails, RunFails};
+
 use crate::failure::{Cause, Failure};
 use qil_machine::Machine;
 use qil_meaning::Reason;
@@ -45,6 +52,11 @@ pub struct Debuggee<'c, A: Allocator, L: Debugged<A>> {
 }
 
 impl From<LineError> for Failure {
+    ghost use Rattle.std.specs.Prelude.{◌≡◌};
+    ghost use Rattle.qrev_debuggee.specs.Moves.{failure_of};
+
+    ghost from_gives = { λ error failure. failure ≡ failure_of error };
+
     fn from(error: LineError) -> Self {
         match error {
             LineError::Newline => Failure::Because(Cause::NewlineInValue),
@@ -56,31 +68,44 @@ impl From<LineError> for Failure {
 }
 
 impl<'c, A: Allocator + Copy + 'c, L: HasMachine<A, Machine<'c, A>>> Debuggee<'c, A, L> {
-    pub fn machine(&self) -> &Machine<'c, A> {
+    pub fn machine(&self) -> &Machine<'c, A>
+        ensures now { state_of result.now ≡ (L.state self.now.recorder.live).timeline.now }
+        ensures program { result.now.program ≡ (L.state self.now.recorder.live).program }
+    {
         self.recorder.live().machine()
     }
 
     /// The tree of its program.
-    pub fn program(&self) -> &'c Program<'c, A> {
+    pub fn program(&self) -> &'c Program<'c, A>
+        ensures { result.now ≡ (L.state self.now.recorder.live).program }
+    {
         self.machine().code().program()
     }
 
     /// How many calls are open.
-    pub fn depth(&self) -> usize {
+    pub fn depth(&self) -> usize
+        ensures { result ≡ depth (L.state self.now.recorder.live).timeline }
+    {
         self.machine().frames().len()
     }
 
-    pub fn position(&self) -> u64 {
+    pub fn position(&self) -> u64
+        ensures { result ≡ position (L.state self.now.recorder.live).timeline }
+    {
         self.recorder.live().position()
     }
 
     /// The position of the oldest state that is kept.
-    pub fn oldest(&self) -> u64 {
+    pub fn oldest(&self) -> u64
+        ensures { result ≡ oldest (L.state self.now.recorder.live).timeline }
+    {
         self.recorder.live().oldest()
     }
 
     /// How many bytes the transcript has.
-    pub fn answered(&self) -> usize {
+    pub fn answered(&self) -> usize
+        ensures { result ≡ length self.now.recorder.transcript.items }
+    {
         self.recorder.transcript().len()
     }
 
@@ -95,7 +120,10 @@ impl<'c, A: Allocator + Copy + 'c, L: HasMachine<A, Machine<'c, A>>> Debuggee<'c
     }
 
     /// Answers a line.
-    pub fn line(&mut self, line: &[u8]) -> Result<Done, Failure> {
+    pub fn line(&mut self, line: &[u8]) -> Result<Done, Failure>
+        ensures done { IfOk result (Lined (record { session = L.state self.old.recorder.live; script = self.old.recorder.script.items; transcript = self.old.recorder.transcript.items }) (record { session = L.state self.new.recorder.live; script = self.new.recorder.script.items; transcript = self.new.recorder.transcript.items }) (command_of line.now)) }
+        ensures failed { IfErr result (LineFails (record { session = L.state self.old.recorder.live; script = self.old.recorder.script.items; transcript = self.old.recorder.transcript.items }) (record { session = L.state self.new.recorder.live; script = self.new.recorder.script.items; transcript = self.new.recorder.transcript.items }) line.now) }
+    {
         Ok(self.recorder.line(line)?)
     }
 
@@ -114,17 +142,26 @@ impl<'c, A: Allocator + Copy + 'c, L: HasMachine<A, Machine<'c, A>>> Debuggee<'c
     }
 
     /// Runs forward until no more calls are open than a number says, or to a stop.
-    pub fn run_to_depth(&mut self, most: usize) -> Result<DepthEnd, Failure> {
+    pub fn run_to_depth(&mut self, most: usize) -> Result<DepthEnd, Failure>
+        ensures run { IfOk result (RanTo (record { session = L.state self.old.recorder.live; script = self.old.recorder.script.items; transcript = self.old.recorder.transcript.items }) (record { session = L.state self.new.recorder.live; script = self.new.recorder.script.items; transcript = self.new.recorder.transcript.items }) most) }
+        ensures failed { IfErr result (RunFails (record { session = L.state self.old.recorder.live; script = self.old.recorder.script.items; transcript = self.old.recorder.transcript.items }) (record { session = L.state self.new.recorder.live; script = self.new.recorder.script.items; transcript = self.new.recorder.transcript.items })) }
+    {
         Ok(self.recorder.run_to_depth(most)?)
     }
 
     /// The same backward.
-    pub fn run_back_to_depth(&mut self, most: usize) -> Result<DepthEnd, Failure> {
+    pub fn run_back_to_depth(&mut self, most: usize) -> Result<DepthEnd, Failure>
+        ensures run { IfOk result (RanBack (record { session = L.state self.old.recorder.live; script = self.old.recorder.script.items; transcript = self.old.recorder.transcript.items }) (record { session = L.state self.new.recorder.live; script = self.new.recorder.script.items; transcript = self.new.recorder.transcript.items }) most) }
+        ensures failed { IfErr result (RunFails (record { session = L.state self.old.recorder.live; script = self.old.recorder.script.items; transcript = self.old.recorder.transcript.items }) (record { session = L.state self.new.recorder.live; script = self.new.recorder.script.items; transcript = self.new.recorder.transcript.items })) }
+    {
         Ok(self.recorder.run_back_to_depth(most)?)
     }
 
     /// As `run_back_to_depth`, and no stop ends it.
-    pub fn run_back_past_stops(&mut self, most: usize) -> Result<DepthEnd, Failure> {
+    pub fn run_back_past_stops(&mut self, most: usize) -> Result<DepthEnd, Failure>
+        ensures run { IfOk result (RanBackTo (record { session = L.state self.old.recorder.live; script = self.old.recorder.script.items; transcript = self.old.recorder.transcript.items }) (record { session = L.state self.new.recorder.live; script = self.new.recorder.script.items; transcript = self.new.recorder.transcript.items }) [] most) }
+        ensures failed { IfErr result (RunFails (record { session = L.state self.old.recorder.live; script = self.old.recorder.script.items; transcript = self.old.recorder.transcript.items }) (record { session = L.state self.new.recorder.live; script = self.new.recorder.script.items; transcript = self.new.recorder.transcript.items })) }
+    {
         Ok(self.recorder.run_back_past_stops(most)?)
     }
 }

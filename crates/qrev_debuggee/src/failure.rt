@@ -61,6 +61,11 @@ pub enum Failure {
 }
 
 impl From<AllocError> for Failure {
+    ghost use Rattle.std.specs.Prelude.{◌≡◌};
+    ghost use Rattle.qrev_debuggee.specs.declared.failure.Failure.TheVariants.{OutOfMemory};
+
+    ghost from_gives = { λ _ failure. failure ≡ OutOfMemory };
+
     fn from(_refused: AllocError) -> Self {
         Failure::OutOfMemory
     }

@@ -1,5 +1,8 @@
 //! The moves that an editor asks for, and why the run stands after one.
 
+ghost use Rattle.std.specs.Prelude.{◌≡◌, IfOk, IfErr};
+ghost use Rattle.qrev_debuggee.specs.Moves.{Moves, MoveFails, WentToBeginning, why_after, why_at};
+
 use crate::debuggee::Debuggee;
 use crate::failure::Failure;
 use qil_machine::Machine;
@@ -31,7 +34,9 @@ pub enum Why {
 }
 
 /// Why the run stands after a line.
-fn why_after(done: Done) -> Why {
+fn why_after(done: Done) -> Why
+    ensures { result ≡ why_after done }
+{
     match done {
         Done::Stopped(reason) => Why::Run(reason),
         Done::Refused(CommandRefusal::AtStart) => Why::Run(Reason::Start),
@@ -42,7 +47,9 @@ fn why_after(done: Done) -> Why {
 }
 
 /// Why the run stands after a run over calls.
-fn why_at(end: DepthEnd) -> Why {
+fn why_at(end: DepthEnd) -> Why
+    ensures { result ≡ why_at end }
+{
     match end {
         DepthEnd::Depth => Why::Step,
         DepthEnd::Stopped(reason) => Why::Run(reason),
@@ -53,7 +60,11 @@ fn why_at(end: DepthEnd) -> Why {
 fn go_to_beginning<'c, A: Allocator + Copy + 'c, L: HasMachine<A, Machine<'c, A>>>(
     debuggee: &mut Debuggee<'c, A, L>,
     depth: usize,
-) -> Result<Why, Failure> {
+) -> Result<Why, Failure>
+    ensures moved { IfOk result (WentToBeginning (record { session = L.state debuggee.old.recorder.live; script = debuggee.old.recorder.script.items; transcript = debuggee.old.recorder.transcript.items })
+        (record { session = L.state debuggee.new.recorder.live; script = debuggee.new.recorder.script.items; transcript = debuggee.new.recorder.transcript.items }) depth) }
+    ensures failed { IfErr result (MoveFails (record { session = L.state debuggee.new.recorder.live; script = debuggee.new.recorder.script.items; transcript = debuggee.new.recorder.transcript.items })) }
+{
     let mut end = debuggee.run_back_past_stops(depth)?;
     for _ in 0..u64::MAX {
         // One line makes no more moves than the limit, and the call may be further back.
@@ -73,7 +84,11 @@ fn go_to_beginning<'c, A: Allocator + Copy + 'c, L: HasMachine<A, Machine<'c, A>
 pub fn make_move<'c, A: Allocator + Copy + 'c, L: HasMachine<A, Machine<'c, A>>>(
     debuggee: &mut Debuggee<'c, A, L>,
     motion: Motion,
-) -> Result<Why, Failure> {
+) -> Result<Why, Failure>
+    ensures moved { IfOk result (Moves motion (record { session = L.state debuggee.old.recorder.live; script = debuggee.old.recorder.script.items; transcript = debuggee.old.recorder.transcript.items })
+        (record { session = L.state debuggee.new.recorder.live; script = debuggee.new.recorder.script.items; transcript = debuggee.new.recorder.transcript.items })) }
+    ensures failed { IfErr result (MoveFails (record { session = L.state debuggee.new.recorder.live; script = debuggee.new.recorder.script.items; transcript = debuggee.new.recorder.transcript.items })) }
+{
     match motion {
         Motion::Step => Ok(why_after(debuggee.line(b"step")?)),
         Motion::Back => Ok(why_after(debuggee.line(b"back")?)),

@@ -1,10 +1,14 @@
 -- Runs over calls as the `step` or the `back` that makes the same moves.
-use Rattle.std.proofs.Common.{◌≡◌, refl, sym, ap, ◌∙◌, subst, ℕ, zero, suc, ◌+◌, ◌<◌, ◌≤◌, Bool, true, false, cond, List, [], length, Option, Some, None, Ok, min, arith}
+use Rattle.std.proofs.Common.{◌≡◌, refl, sym, ap, ◌∙◌, subst, ℕ, zero, suc, ◌+◌, ◌<◌, ◌≤◌, Bool, true, false, cond, List, [], ◌++◌, length, Option, Some, None, Ok, inl, min, arith}
 use Rattle.std.specs.Prelude.{◌==◌}
 use Rattle.std.specs.Option.{option_or}
 use Rattle.std.proofs.lemmas.Bool.{true≢false}
+use Rattle.std.proofs.lemmas.List.{append-nil}
 use Rattle.std.proofs.lemmas.Bool.Decides.{nat_tests}
 use Rattle.qil_tree.specs.declared.tree.Program.{Program}
+use Rattle.std.specs.Prelude.{Result}
+use Rattle.qil_commands.specs.declared.command.Command.{Command}
+use Rattle.qil_commands.specs.declared.command.Refused.{Refused}
 use Rattle.qil_commands.specs.declared.command.Command.TheVariants as commands
 use Rattle.qil_meaning.specs.Timeline.{Timeline, position, oldest, at_end, moved, gone}
 use Rattle.qil_meaning.specs.Moves.{forward_by, back_by}
@@ -13,14 +17,17 @@ use Rattle.qil_meaning.specs.Runs.{if_holds, bottom, stop_on, stop_back}
 use Rattle.qil_meaning.specs.declared.reason.Reason.{Reason}
 use Rattle.qil_meaning.specs.declared.reason.Reason.TheVariants.{End, Start, Oldest}
 use Rattle.qil_replies.specs.declared.reply.Reply.TheVariants as replies
-use Rattle.qil_replies.specs.SessionState.{SessionState}
+use Rattle.qil_replies.specs.SessionState.{SessionState, text_in}
 use Rattle.qil_replies.specs.Answers.{Answer, Replies, answer, IsValid, if_back, goes_to, refuses}
 use Rattle.qil_replies.specs.Transcript.{Setup}
 use Rattle.qil_stops.proofs.Walks.{IsWalked, walked-all}
 use Rattle.qil_replies.proofs.ReachedLemmas.{none_valid}
 use Rattle.qil_stops.specs.Depths.{RunsToDepth, RunsBackToDepth}
+use Rattle.qil_stops.specs.Named.{named_stops}
 use Rattle.qil_stops.specs.declared.depth_end.DepthEnd.{DepthEnd}
+use Rattle.qil_stops.specs.declared.depth_end.DepthEnd.TheVariants.{Stopped}
 use Rattle.qrev_recorder.specs.Record.{IsRecording, KeepsMoves}
+use Rattle.qrev_recorder.specs.Done.{place_told, HasRunTo, HasRunBack}
 use Rattle.qrev_recorder.proofs.Recording.{moves_kept}
 
 -- ---- forward
@@ -129,3 +136,51 @@ pub run_back_kept : {A : Type 0} (s : Setup) (old new : SessionState A) (stops :
 run_back_kept {A} s old new stops n limit k end script script' transcript transcript' r run rest some kept =
     moves_kept s old new (Ok (Some (commands.Back k))) script script' transcript transcript' r refl
     (subst (λ (there : SessionState A). Replies old there (Ok (Some (commands.Back k))) replies.Place) (sym rest) (backs_replied old stops n limit k new.timeline end run (positive k some))) kept
+
+-- ---- what a run tells
+
+none_told : {A : Type 0} (new : SessionState A) (k : ℕ) (transcript : List ℕ) → k ≡ 0 → transcript ≡ transcript ++ place_told k new
+none_told new k transcript none = sym (append-nil transcript) ∙ ap (λ n. transcript ++ place_told n new) (sym none)
+
+place_is_told : {A : Type 0} (new : SessionState A) (k : ℕ) → (k ≡ 0 → ⊥) → text_in new replies.Place ≡ place_told k new
+place_is_told new zero some = absurd (some refl)
+place_is_told new (suc k) some = refl
+
+-- nothing is done at the end
+pub ran_at_end : {A : Type 0} (s : SessionState A) (transcript : List ℕ) (n : ℕ) → at_end s.timeline ≡ true → HasRunTo s s transcript transcript n (Stopped End)
+unfolding stop_on moved
+ran_at_end s transcript n over = record {
+  moves = 0;
+  run = record {
+    moves = refl;
+    few = omega arith;
+    passed = record { unstopped = λ j lt. absurd (omega (arith, lt)); deep = λ j lt some. absurd (omega (arith, lt)) };
+    ends = inl (ap (λ b. if_holds b End) over);
+  };
+  rest = refl;
+  told = sym (append-nil transcript);
+}
+
+pub ran_nowhere : {A : Type 0} (old new : SessionState A) (transcript : List ℕ) (n k : ℕ) (end : DepthEnd) → RunsToDepth old.program (named_stops old.program old.stops.kept) n old.limit old.timeline end k new.timeline
+    → new ≡ record old { timeline = new.timeline } → k ≡ 0 → HasRunTo old new transcript transcript n end
+ran_nowhere old new transcript n k end run rest none = record { moves = k; run = run; rest = rest; told = none_told new k transcript none }
+
+pub ran_on : {A : Type 0} (old new : SessionState A) (said : Result (Option Command) Refused) (script script' transcript transcript' : List ℕ) (n k : ℕ) (end : DepthEnd)
+    → RunsToDepth old.program (named_stops old.program old.stops.kept) n old.limit old.timeline end k new.timeline → new ≡ record old { timeline = new.timeline } → (k ≡ 0 → ⊥)
+    → KeepsMoves said new script script' transcript transcript' → HasRunTo old new transcript transcript' n end
+ran_on old new said script script' transcript transcript' n k end run rest some kept =
+    record { moves = k; run = run; rest = rest; told = kept.told ∙ ap (λ (text : List ℕ). transcript ++ text) (place_is_told new k some) }
+
+pub none_named : {A : Type 0} (p : Program A) → named_stops p [] ≡ []
+unfolding named_stops
+none_named p = refl
+
+pub ran_back_nowhere : {A : Type 0} (old new : SessionState A) (stops : List Numbered) (transcript : List ℕ) (n k : ℕ) (end : DepthEnd) → RunsBackToDepth stops n old.limit old.timeline end k new.timeline
+    → new ≡ record old { timeline = new.timeline } → k ≡ 0 → HasRunBack old new transcript transcript stops n end
+ran_back_nowhere old new stops transcript n k end run rest none = record { moves = k; run = run; rest = rest; told = none_told new k transcript none }
+
+pub ran_back : {A : Type 0} (old new : SessionState A) (stops : List Numbered) (said : Result (Option Command) Refused) (script script' transcript transcript' : List ℕ) (n k : ℕ) (end : DepthEnd)
+    → RunsBackToDepth stops n old.limit old.timeline end k new.timeline → new ≡ record old { timeline = new.timeline } → (k ≡ 0 → ⊥)
+    → KeepsMoves said new script script' transcript transcript' → HasRunBack old new transcript transcript' stops n end
+ran_back old new stops said script script' transcript transcript' n k end run rest some kept =
+    record { moves = k; run = run; rest = rest; told = kept.told ∙ ap (λ (text : List ℕ). transcript ++ text) (place_is_told new k some) }

@@ -1,5 +1,5 @@
 -- What a recorder keeps: a script of lines that were answered, and the transcript that it has.
-use Rattle.std.specs.Prelude.{◌≡◌, ℕ, List, [], ◌∷◌, ◌++◌, Option, Result}
+use Rattle.std.specs.Prelude.{◌≡◌, ℕ, true, List, [], ◌∷◌, ◌++◌, Option, Result}
 use Rattle.qil_rules.specs.Verdict.{Verdict}
 use Rattle.qil_meaning.specs.State.{State}
 use Rattle.qil_meaning.specs.Timeline.{begun}
@@ -17,7 +17,7 @@ use Rattle.qrev_recorder.specs.declared.recorder.Opening.{Opening}
 
 -- what `debug` is given for the same session
 abbrev pub setup_of : Opening → Setup
-setup_of o = record { text = o.text.now; entry = o.entry.now; args = o.args.now; limit = o.limit; keeps = o.bound }
+setup_of o = record { text = o.text.now; entry = o.entry.now; args = o.args.now; limit = o.limit; keeps = o.bound; moves_want_memory = true }
 
 -- a session at the start of an accepted text
 pub record IsBeginning {A : Type 0} (s : Setup) (loaded : Loaded) (state : SessionState A) : Type 0 where

@@ -3,6 +3,7 @@
 ghost use Rattle.std.specs.Prelude.{◌≡◌, ℕ, ◌≤◌, ◌-◌, ◌<◌, ◌^◌};
 ghost use Rattle.qil_streams.specs.Device.{Puts};
 ghost use Rattle.qil_meaning.specs.Timeline.{position, oldest, at_end};
+ghost use Rattle.qil_stops.specs.qil_state.State.{state_of};
 ghost use Rattle.qil_stops.specs.Named.{named_stops};
 ghost use Rattle.qil_stops.specs.Depths.{RunsToDepth, RunsBackToDepth};
 ghost use Rattle.qil_replies.specs.SessionState.{SessionState, text_in};
@@ -67,5 +68,7 @@ pub trait Debugged<A: Allocator> {
 /// A session whose machine can be looked at.
 pub trait HasMachine<A: Allocator, M: HasState<A>>: Debugged<A> {
     /// The machine now.
-    fn machine(&self) -> &M;
+    fn machine(&self) -> &M
+        ensures now { state_of (M.whole result.now) ≡ (Self.state self.now).timeline.now }
+        ensures program { (M.whole result.now).program ≡ (Self.state self.now).program };
 }

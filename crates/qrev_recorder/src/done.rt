@@ -1,5 +1,8 @@
 //! What a line did, and why one isn't answered.
 
+ghost use Rattle.std.specs.Prelude.{◌≡◌};
+ghost use Rattle.qrev_recorder.specs.Done.{done_of};
+
 use qil_meaning::Reason;
 use qil_replies::{CommandRefusal, Reply};
 use std::alloc::AllocError;
@@ -33,13 +36,20 @@ pub enum LineError {
 }
 
 impl From<AllocError> for LineError {
+    ghost use Rattle.std.specs.Prelude.{◌≡◌};
+    ghost use Rattle.qrev_recorder.specs.declared.done.LineError.TheVariants.{OutOfMemory};
+
+    ghost from_gives = { λ _ error. error ≡ OutOfMemory };
+
     fn from(_refused: AllocError) -> Self {
         LineError::OutOfMemory
     }
 }
 
 /// What a reply says that its line did.
-pub fn done_by(reply: &Reply<'_>) -> Done {
+pub fn done_by(reply: &Reply<'_>) -> Done
+    ensures { result ≡ done_of reply.now }
+{
     match reply {
         Reply::Refused(refusal) => Done::Refused(*refusal),
         Reply::Place => Done::Moved,

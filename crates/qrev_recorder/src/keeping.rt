@@ -1,6 +1,6 @@
 //! What is kept of a line: the line, and its answer.
 
-ghost use Rattle.std.specs.Prelude.{◌≡◌, ℕ, ◌∷◌, [], ◌++◌, Ok, Some, IfOk, OnOk, IsTrue};
+ghost use Rattle.std.specs.Prelude.{◌≡◌, ◌↔◌, ℕ, ◌∷◌, [], ◌++◌, Ok, Some, IfOk, OnOk, IsTrue};
 ghost use Rattle.qil_rules.specs.Verdict.{Verdict};
 ghost use Rattle.qil_commands.specs.Command.{command_of};
 ghost use Rattle.qil_commands.specs.declared.command.Command.TheVariants as commands;
@@ -75,7 +75,7 @@ pub fn is_quit(said: &Result<Option<Command<'_>>, Refused>) -> bool
 
 /// Whether bytes are a line: there is no newline in them.
 pub fn is_line(bytes: &[u8]) -> bool
-    ensures { IsTrue result → IsLine bytes.now }
+    ensures { IsTrue result ↔ IsLine bytes.now }
 {
     !bytes.contains(&b'\n')
 }

@@ -1,10 +1,13 @@
 //! The recorder.
 
-ghost use Rattle.std.specs.Prelude.{◌≡◌, ◌<◌, ◌≤◌, ◌^◌, true, IfOk, IfSome, IfNone};
+ghost use Rattle.std.specs.Prelude.{◌≡◌, ◌<◌, ◌≤◌, ◌^◌, true, false, [], IfOk, IfErr, IfSome, IfNone};
 ghost use Rattle.qil_meaning.specs.Timeline.{position};
 ghost use Rattle.qil_streams.specs.Script.{lines_of};
+ghost use Rattle.qil_commands.specs.Command.{command_of};
+ghost use Rattle.qil_stops.specs.Named.{named_stops};
 ghost use Rattle.qil_replies.specs.Transcript.{IsSession};
 ghost use Rattle.qrev_recorder.specs.Record.{setup_of, IsBeginning, IsRecording};
+ghost use Rattle.qrev_recorder.specs.Done.{IsDone, HasNoRoom, IsUnanswered, Stays, HasRunTo, HasRunBack};
 
 use crate::debugged::Debugged;
 use crate::done::{Done, LineError, done_by};
@@ -68,7 +71,8 @@ impl<'c, A: Allocator + Copy, L: Debugged<A>> Recorder<'c, A, L> {
         L: Drop,
         requires limit { opening.limit ≤ 4294967295 }
         requires begins { IsBeginning (setup_of opening) loaded.now (L.state live) }
-        ensures { IfOk result (λ r. r.opening ≡ opening.entry) }
+        ensures opening { IfOk result (λ r. r.opening ≡ opening.entry) }
+        ensures live { IfOk result (λ r. r.live ≡ live) }
     {
         let text = loaded_text(alloc, &live, loaded)?;
         let transcript = Vec::from_slice(alloc, text.bytes())?;
@@ -96,14 +100,19 @@ impl<'c, A: Allocator + Copy, L: Debugged<A>> Recorder<'c, A, L> {
         &self.live
     }
 
-    /// The answers so far, after the load lines.
-    pub fn transcript(&self) -> &[u8] {
+    /// The load lines, and the answers so far.
+    pub fn transcript(&self) -> &[u8]
+        ensures value { result.now ≡ self.now.transcript.items }
+        ensures recorded { self.now.is_whole ≡ true → ∥ IsRecording (setup_of self.now.opening) (L.state self.now.live) self.now.script.items result.now ∥₁ }
+    {
         self.transcript.as_slice()
     }
 
     /// What was done so far, if memory was found to keep it: a script, and the transcript that it has.
     pub fn record(&self) -> Option<Record<'_>>
-        ensures { IfSome result (λ kept. ∥ IsSession A (setup_of self.now.opening) (lines_of kept.script.now) kept.transcript.now ∥₁) }
+        ensures session { IfSome result (λ kept. ∥ IsSession A (setup_of self.now.opening) (lines_of kept.script.now) kept.transcript.now ∥₁) }
+        ensures kept { IfSome result (λ kept. (kept.script.now ≡ self.now.script.items) × (kept.transcript.now ≡ self.now.transcript.items)) }
+        ensures none { IfNone result (self.now.is_whole ≡ false) }
     {
         if !self.is_whole {
             return None;
@@ -118,6 +127,7 @@ impl<'c, A: Allocator + Copy, L: Debugged<A>> Recorder<'c, A, L> {
     fn refusal(&self, length: usize) -> Option<LineError>
         ensures whole { IfNone result (self.now.is_whole ≡ true) }
         ensures before { IfNone result (position (L.state self.now.live).timeline < 2 ^ 61) }
+        ensures room { IfSome result (HasNoRoom (L.state self.now.live) self.now.script.items length) }
     {
         if !self.is_whole {
             return Some(LineError::OutOfMemory);
@@ -133,7 +143,12 @@ impl<'c, A: Allocator + Copy, L: Debugged<A>> Recorder<'c, A, L> {
     }
 
     /// Answers a line, and keeps both.
-    pub fn line(&mut self, line: &[u8]) -> Result<Done, LineError> {
+    pub fn line(&mut self, line: &[u8]) -> Result<Done, LineError>
+        ensures opening { self.new.opening ≡ self.old.opening }
+        ensures done { IfOk result (IsDone (L.state self.old.live) (L.state self.new.live) self.old.transcript.items self.new.transcript.items (command_of line.now)) }
+        ensures unanswered { IfErr result (IsUnanswered (L.state self.old.live) self.old.script.items line.now) }
+        ensures stays { IfErr result (Stays self.old self.new) }
+    {
         if !is_line(line) {
             return Err(LineError::Newline);
         }
@@ -156,7 +171,12 @@ impl<'c, A: Allocator + Copy, L: Debugged<A>> Recorder<'c, A, L> {
 
     /// Runs forward to the first place, after a move, where no more calls are open than a number says, or to a stop, the end, the
     /// limit, or where there is no memory for a move. It is kept as one `step`.
-    pub fn run_to_depth(&mut self, most: usize) -> Result<DepthEnd, LineError> {
+    pub fn run_to_depth(&mut self, most: usize) -> Result<DepthEnd, LineError>
+        ensures opening { self.new.opening ≡ self.old.opening }
+        ensures run { IfOk result (HasRunTo (L.state self.old.live) (L.state self.new.live) self.old.transcript.items self.new.transcript.items most) }
+        ensures undone { IfErr result (HasNoRoom (L.state self.old.live) self.old.script.items 32) }
+        ensures stays { IfErr result (Stays self.old self.new) }
+    {
         if let Some(error) = self.refusal(32) {
             return Err(error);
         }
@@ -181,7 +201,12 @@ impl<'c, A: Allocator + Copy, L: Debugged<A>> Recorder<'c, A, L> {
     }
 
     /// The same backward, to a stop, the oldest state that is kept, or the limit. It is kept as one `back`.
-    pub fn run_back_to_depth(&mut self, most: usize) -> Result<DepthEnd, LineError> {
+    pub fn run_back_to_depth(&mut self, most: usize) -> Result<DepthEnd, LineError>
+        ensures opening { self.new.opening ≡ self.old.opening }
+        ensures run { IfOk result (HasRunBack (L.state self.old.live) (L.state self.new.live) self.old.transcript.items self.new.transcript.items (named_stops (L.state self.old.live).program (L.state self.old.live).stops.kept) most) }
+        ensures undone { IfErr result (HasNoRoom (L.state self.old.live) self.old.script.items 32) }
+        ensures stays { IfErr result (Stays self.old self.new) }
+    {
         if let Some(error) = self.refusal(32) {
             return Err(error);
         }
@@ -203,7 +228,12 @@ impl<'c, A: Allocator + Copy, L: Debugged<A>> Recorder<'c, A, L> {
     }
 
     /// As `run_back_to_depth`, and no stop of the session ends it.
-    pub fn run_back_past_stops(&mut self, most: usize) -> Result<DepthEnd, LineError> {
+    pub fn run_back_past_stops(&mut self, most: usize) -> Result<DepthEnd, LineError>
+        ensures opening { self.new.opening ≡ self.old.opening }
+        ensures run { IfOk result (HasRunBack (L.state self.old.live) (L.state self.new.live) self.old.transcript.items self.new.transcript.items [] most) }
+        ensures undone { IfErr result (HasNoRoom (L.state self.old.live) self.old.script.items 32) }
+        ensures stays { IfErr result (Stays self.old self.new) }
+    {
         if let Some(error) = self.refusal(32) {
             return Err(error);
         }

@@ -1,6 +1,6 @@
 //! A session that keeps the newest moves, as a recorder drives it.
 
-ghost use Rattle.std.specs.Prelude.{◌≡◌, ◌^◌, ◌<◌, ◌≤◌, [], IfOk};
+ghost use Rattle.std.specs.Prelude.{◌≡◌, ◌^◌, ◌<◌, ◌≤◌, true, [], IfOk};
 ghost use Rattle.qil_deltas.specs.Kept.{recent_timeline};
 ghost use Rattle.qil_session.specs.qil_replies.SessionState.{session_at};
 ghost use Rattle.qil_session.specs.Kept.{session_state};
@@ -29,8 +29,8 @@ pub struct BoundedSession<'c, A: Allocator> {
 impl<'c, A: Allocator + Copy + 'c> BoundedSession<'c, A> {
     /// A session without stops.
     pub fn new(alloc: A, history: Ring<'c, A>, limit: u64) -> Result<Self, AllocError>
-        ensures { IfOk result (λ s. session_state (λ h. h.machine.program) recent_timeline s.session
-            ≡ session_at history.entry.machine.program (recent_timeline history.entry) (record { given = 0; kept = [] }) limit) }
+        ensures { IfOk result (λ s. session_state true (λ h. h.machine.program) recent_timeline s.session
+            ≡ session_at true history.entry.machine.program (recent_timeline history.entry) (record { given = 0; kept = [] }) limit) }
     {
         match Session::new(alloc, history, limit) {
             Ok(session) => Ok(BoundedSession { session }),
@@ -42,15 +42,15 @@ impl<'c, A: Allocator + Copy + 'c> BoundedSession<'c, A> {
     fn run(&mut self, way: Way<'_, A>, most: usize) -> (DepthEnd, u64)
         requires before { way ≡ Forward → position (recent_timeline self.old.session.history) < 2 ^ 61 }
         requires limit { way ≡ Forward → self.old.session.limit ≤ 4294967295 }
-        ensures rest { session_state (λ h. h.machine.program) recent_timeline self.new.session ≡ record (session_state (λ h. h.machine.program) recent_timeline self.old.session) { timeline = recent_timeline self.new.session.history } }
-        ensures run { RunsBy way.entry (session_state (λ h. h.machine.program) recent_timeline self.old.session) most result.0 result.1 (recent_timeline self.new.session.history) }
+        ensures rest { session_state true (λ h. h.machine.program) recent_timeline self.new.session ≡ record (session_state true (λ h. h.machine.program) recent_timeline self.old.session) { timeline = recent_timeline self.new.session.history } }
+        ensures run { RunsBy way.entry (session_state true (λ h. h.machine.program) recent_timeline self.old.session) most result.0 result.1 (recent_timeline self.new.session.history) }
     {
         run(&mut self.session, way, most)
     }
 }
 
 impl<'c, A: Allocator + Copy + 'c> Debugged<A> for BoundedSession<'c, A> {
-    ghost state = { λ s. session_state (λ h. h.machine.program) recent_timeline s.session };
+    ghost state = { λ s. session_state true (λ h. h.machine.program) recent_timeline s.session };
 
     fn reply<'t>(&mut self, said: Result<Option<Command<'t>>, Refused>) -> Reply<'t> {
         reply(&mut self.session, said)

@@ -3,7 +3,7 @@
 //! A session asks that its history have runs. Where the history is known, all that runs promise is compared at such a call with all
 //! that is so of that history; here it is any `History`, of which less is asked.
 
-ghost use Rattle.std.specs.Prelude.{◌≡◌, ◌-◌, ◌^◌, ◌<◌, ◌≤◌};
+ghost use Rattle.std.specs.Prelude.{◌≡◌, ◌-◌, ◌^◌, ◌<◌, ◌≤◌, true};
 ghost use Rattle.qil_streams.specs.Device.{Puts};
 ghost use Rattle.qil_session.specs.Kept.{session_state};
 ghost use Rattle.qil_session.specs.qil_replies.Answers.{Replies};
@@ -27,7 +27,7 @@ pub fn reply<'c, 't, A: Allocator + Copy + 'c, H: History<A, Machine<'c, A>> + S
     requires before { position (H.timeline session.old.history) < 2 ^ 61 }
     requires limit { session.old.limit ≤ 4294967295 }
     ensures limit { session.new.limit ≡ session.old.limit }
-    ensures replied { Replies (session_state H.program H.timeline session.old) (session_state H.program H.timeline session.new) said.entry result }
+    ensures replied { Replies (session_state true H.program H.timeline session.old) (session_state true H.program H.timeline session.new) said.entry result }
 {
     session.reply(said)
 }

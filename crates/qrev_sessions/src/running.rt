@@ -2,7 +2,7 @@
 //!
 //! One function runs each way: that a history is one is compared at each call at which it is known, and that is dear.
 
-ghost use Rattle.std.specs.Prelude.{◌≡◌, ◌^◌, ◌<◌, ◌≤◌};
+ghost use Rattle.std.specs.Prelude.{◌≡◌, ◌^◌, ◌<◌, ◌≤◌, true};
 ghost use Rattle.qil_session.specs.Kept.{session_state};
 ghost use Rattle.qil_meaning.specs.Timeline.{position};
 ghost use Rattle.qrev_sessions.specs.Ways.{RunsBy};
@@ -29,8 +29,8 @@ pub fn run<'c, A: Allocator + Copy + 'c, H: History<A, Machine<'c, A>>>(
 ) -> (DepthEnd, u64)
     requires before { way ≡ Forward → position (H.timeline session.old.history) < 2 ^ 61 }
     requires limit { way ≡ Forward → session.old.limit ≤ 4294967295 }
-    ensures rest { session_state H.program H.timeline session.new ≡ record (session_state H.program H.timeline session.old) { timeline = H.timeline session.new.history } }
-    ensures run { RunsBy way.entry (session_state H.program H.timeline session.old) most result.0 result.1 (H.timeline session.new.history) }
+    ensures rest { session_state true H.program H.timeline session.new ≡ record (session_state true H.program H.timeline session.old) { timeline = H.timeline session.new.history } }
+    ensures run { RunsBy way.entry (session_state true H.program H.timeline session.old) most result.0 result.1 (H.timeline session.new.history) }
 {
     match way {
         Way::Forward => session.run_to_depth(most),

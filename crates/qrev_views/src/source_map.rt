@@ -6,7 +6,11 @@ ghost use Rattle.qrev_map.specs.Spans.{origins_of};
 
 use crate::texts::as_text;
 use qrev_map::Map;
+use smallvec::SmallVec;
 use std::alloc::{AllocError, Allocator};
+
+/// The parts of a path. Few paths have more than 16, and those alone take an allocation for them.
+type Parts<'r, 'x, A> = SmallVec<&'x str, 16, &'r A>;
 
 /// A map of places, and the path of its file, to whose folder the relative paths in it refer.
 #[derive(Drop)]
@@ -116,7 +120,7 @@ fn ends_in(long: &str, short: &str) -> bool {
 }
 
 /// Goes up to the folder that a path of these parts is in.
-fn go_up<A: Allocator>(parts: &mut Vec<&str, A>) -> Result<(), AllocError> {
+fn go_up<A: Allocator>(parts: &mut Parts<'_, '_, A>) -> Result<(), AllocError> {
     match parts.as_slice().last() {
         None | Some(&"..") => parts.push("..")?,
         Some(_) => {
@@ -128,7 +132,7 @@ fn go_up<A: Allocator>(parts: &mut Vec<&str, A>) -> Result<(), AllocError> {
 
 /// Adds the parts of a path: `.` and empty ones are left out, and `..` goes up.
 fn add_parts<'x, A: Allocator>(
-    parts: &mut Vec<&'x str, A>,
+    parts: &mut Parts<'_, 'x, A>,
     path: &'x str,
 ) -> Result<(), AllocError> {
     for part in path.split('/') {
@@ -166,7 +170,7 @@ fn resolved<A: Allocator + Copy>(
     file: &str,
     path: &str,
 ) -> Result<String<A>, AllocError> {
-    let mut parts = Vec::new(alloc);
+    let mut parts: Parts<'_, '_, A> = SmallVec::new(&alloc);
     if path.starts_with('/') {
         add_parts(&mut parts, path)?;
         return joined_parts(alloc, true, parts.as_slice());

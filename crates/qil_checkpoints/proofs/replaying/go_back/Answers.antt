@@ -6,12 +6,16 @@ use Rattle.qil_checkpoints.specs.declared.poked.Poked.{Poked}
 use Rattle.qil_checkpoints.specs.Walk.{walk}
 use Rattle.qil_checkpoints.specs.Held.{first_of, IsKept, StillKept}
 use Rattle.qil_checkpoints.proofs.Choices.{kept-by}
+use Rattle.qil_checkpoints.proofs.Parts.{are_rising}
 use Rattle.qil_checkpoints.proofs.HeldLemmas.{reaches-as, held-cut, timeline-cut}
 use Rattle.qil_checkpoints.proofs.replaying.go_back.Goals as goal
 
 pub come_to-requires : goal.come_to-requires
 come_to-requires g c = reaches-as (g.M.HasCopies.present c.args.machine.now).program (g.M.HasCopies.kept c.args.machine.now) c.args.positions.now.items c.args.positions.now.items c.args.pokes.now.items c.as_slice.result.now c.args.position
     refl c.as_slice.ensures.value c.requires
+
+pub cut-requires-clause-rising : goal.cut-requires-clause-rising
+cut-requires-clause-rising g c = are_rising 0 c.args.pokes.now.items c.requires.0 c.requires.2.poked
 
 pub returns-clause-holds : goal.returns-clause-holds
 returns-clause-holds g c =

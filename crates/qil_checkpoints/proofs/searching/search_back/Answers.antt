@@ -7,7 +7,7 @@ use Rattle.qil_checkpoints.specs.declared.poked.Poked.{Poked}
 use Rattle.qil_checkpoints.specs.Walk.{ArePoked, IsPart}
 use Rattle.qil_checkpoints.specs.Held.{first_of}
 use Rattle.qil_checkpoints.specs.Hits.{stop_at}
-use Rattle.qil_checkpoints.proofs.Parts.{part-poked, part-is}
+use Rattle.qil_checkpoints.proofs.Parts.{are_rising, part-poked, part-is}
 use Rattle.qil_checkpoints.proofs.AlongWalks.{moves-below}
 use Rattle.qil_checkpoints.proofs.HeldLemmas.{walk-as}
 use Rattle.qil_checkpoints.proofs.Hitting.{hit-unwatched, hit-by, hit-done, hit-passed}
@@ -18,6 +18,9 @@ returns-then-is_empty-clause-hit g c =
     let p = (g.M.HasCopies.present c.args.machine.now).program in
     hit-unwatched p (first_of (g.M.HasCopies.kept c.args.machine.now)) c.args.pokes.now (named_stops p c.args.stops.now) c.args.lowest c.args.now
     (named-none p c.args.stops.now (no_length c.args.stops.now c.is_empty.result c.is_empty.ensures c.if-is_empty.true))
+
+pub part_of-requires : goal.part_of-requires
+part_of-requires g c = are_rising 0 c.args.pokes.now c.requires.kept.0 c.requires.kept.2.poked
 
 pub last_hit-found-requires : goal.last_hit-found-requires
 last_hit-found-requires g c =

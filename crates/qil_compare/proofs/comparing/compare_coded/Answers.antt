@@ -1,7 +1,7 @@
 -- Both sides go on to their next events, which are judged.
-use Rattle.std.proofs.Common.{◌∙◌, refl, sym, arith, Some, None}
+use Rattle.std.proofs.Common.{◌≡◌, ◌∙◌, refl, sym, subst, inl, inr, arith, Some, None}
 use Rattle.qil_compare.proofs.Likeness.{alike_as, alike_swapped}
-use Rattle.qil_compare.proofs.Fronts.{alike_begun, both_found, alike_more, answered, next_as, judges_as}
+use Rattle.qil_compare.proofs.Fronts.{AreAlike, alike_begun, both_found, alike_more, answered, limited, next_as, judges_as}
 use Rattle.qil_compare.proofs.comparing.compare_coded.Goals as goal
 
 pub loop-events-init : goal.loop-events-init
@@ -67,7 +67,7 @@ returns-in-Some-clause-answer g c =
     i.good_program c.requires.bad refl c.next_event-one.ensures.next in
     let other = next_as q (g.K.History.program c.loop-events.bad) p c.args.good_code.now kinds c.args.kinds c.args.limit (g.K.History.timeline c.loop-events.bad) v c.loop-events.bad_told c.next_event-other.new.told c.next_event-other.result
     i.bad_program c.requires.good refl c.next_event-other.ensures.next in
-    rw c.told_of.ensures (answered kinds p q (g.H.History.timeline c.args.good.now) u (g.K.History.timeline c.args.bad.now) v c.loop-events.events c.next_event-one.new.told c.next_event-other.new.told c.next_event-one.result c.next_event-other.result c.in-Some.verdict
+    rw c.told_of.ensures (answered kinds c.args.limit p q (g.H.History.timeline c.args.good.now) u (g.K.History.timeline c.args.bad.now) v c.loop-events.events c.next_event-one.new.told c.next_event-other.new.told c.next_event-one.result c.next_event-other.result c.in-Some.verdict
     (both_found kinds p q c.args.limit (g.H.History.timeline c.args.good.now) (g.H.History.timeline c.loop-events.good) u (g.K.History.timeline c.args.bad.now) (g.K.History.timeline c.loop-events.bad) v c.loop-events.events
     c.loop-events.good_told c.loop-events.bad_told c.next_event-one.new.told c.next_event-other.new.told c.next_event-one.result c.next_event-other.result i.alike one other)
     (judges_as p (g.H.History.program c.next_event-one.new.history) q (g.K.History.program c.next_event-other.new.history) u.now v.now c.next_event-one.result c.next_event-other.result (Some c.in-Some.verdict) (Some c.in-Some.verdict)
@@ -91,9 +91,32 @@ loop-events-preserved g c =
       bad_program = c.next_event-other.ensures.program ∙ i.bad_program;
       good_near = (let at = c.next_event-one.ensures.near in let before = near.0 in let limit = c.requires.limit in omega (arith, at, before, limit));
       bad_near = (let at = c.next_event-other.ensures.near in let before = near.1 in let limit = c.requires.limit in omega (arith, at, before, limit));
-      alike = alike_more kinds p q (g.H.History.timeline c.args.good.now) u (g.K.History.timeline c.args.bad.now) v c.loop-events.events c.next_event-one.new.told c.next_event-other.new.told c.next_event-one.result c.next_event-other.result
+      alike = alike_more kinds c.args.limit p q (g.H.History.timeline c.args.good.now) u (g.K.History.timeline c.args.bad.now) v c.loop-events.events c.next_event-one.new.told c.next_event-other.new.told c.next_event-one.result c.next_event-other.result
           (both_found kinds p q c.args.limit (g.H.History.timeline c.args.good.now) (g.H.History.timeline c.loop-events.good) u (g.K.History.timeline c.args.bad.now) (g.K.History.timeline c.loop-events.bad) v c.loop-events.events
           c.loop-events.good_told c.loop-events.bad_told c.next_event-one.new.told c.next_event-other.new.told c.next_event-one.result c.next_event-other.result i.alike one other)
           (judges_as p (g.H.History.program c.next_event-one.new.history) q (g.K.History.program c.next_event-other.new.history) u.now v.now c.next_event-one.result c.next_event-other.result None None
           (c.next_event-one.ensures.program ∙ i.good_program) (c.next_event-other.ensures.program ∙ i.bad_program) refl c.in_default.ensures);
     }
+
+pub returns-then-is_far-clause-answer : goal.returns-then-is_far-clause-answer
+returns-then-is_far-clause-answer g c =
+    let p = g.H.History.program c.args.good.now in
+    let q = g.K.History.program c.args.bad.now in
+    limited c.args.kinds c.args.limit p q (g.H.History.timeline c.args.good.now) (g.H.History.timeline c.loop-events.good) (g.K.History.timeline c.args.bad.now) (g.K.History.timeline c.loop-events.bad) c.loop-events.events
+    c.loop-events.good_told c.loop-events.bad_told c.limited.result c.loop-events.invariant.alike (elim (c.is_far.ensures.far c.if-is_far.true) [
+      | inl good ↦ inl good
+      | inr bad ↦ inr (inl bad)
+    ]) c.limited.ensures
+
+pub returns-clause-answer : goal.returns-clause-answer
+returns-clause-answer g c =
+    let p = g.H.History.program c.args.good.now in
+    let q = g.K.History.program c.args.bad.now in
+    let t = g.H.History.timeline c.args.good.now in
+    let u = g.H.History.timeline c.loop-events.good in
+    let w = g.K.History.timeline c.args.bad.now in
+    let v = g.K.History.timeline c.loop-events.bad in
+    let last : c.loop-events.events ≡ 18446744073709551615 = omega (arith, c.loop-events-test.false, c.loop-events.auto.events-end) in
+    let alike : AreAlike c.args.kinds p q t u w v 18446744073709551615 c.loop-events.good_told c.loop-events.bad_told =
+    subst (λ n. AreAlike c.args.kinds p q t u w v n c.loop-events.good_told c.loop-events.bad_told) last c.loop-events.invariant.alike in
+    limited c.args.kinds c.args.limit p q t u w v 18446744073709551615 c.loop-events.good_told c.loop-events.bad_told c.limited-2.result alike (inr (inr (omega arith))) c.limited-2.ensures

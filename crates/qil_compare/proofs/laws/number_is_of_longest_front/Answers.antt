@@ -3,10 +3,10 @@ use Rattle.qil_compare.proofs.Longest.{answer_part, answer_same, answer_front}
 use Rattle.qil_compare.proofs.laws.number_is_of_longest_front.Goals as goal
 
 pub returns-clause-part : goal.returns-clause-part
-returns-clause-part g c = λ kinds p q t u w v answer answered is. answer_part kinds p q t u w v answer answered is
+returns-clause-part g c = λ kinds limit p q t u w v answer answered is. answer_part kinds limit p q t u w v answer answered is
 
 pub returns-clause-same : goal.returns-clause-same
-returns-clause-same g c = λ kinds p q t u w v answer answered is. answer_same kinds p q t u w v answer answered is
+returns-clause-same g c = λ kinds limit p q t u w v answer answered is. answer_same kinds limit p q t u w v answer answered is
 
 pub returns-clause-limit : goal.returns-clause-limit
-returns-clause-limit g c = λ kinds p q t u w v answer answered. answer_front kinds p q t u w v answer answered
+returns-clause-limit g c = λ kinds limit p q t u w v answer answered. answer_front kinds limit p q t u w v answer answered

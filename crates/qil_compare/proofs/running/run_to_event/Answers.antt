@@ -44,7 +44,7 @@ returns-in-Err-OutOfMemory-clause-run g c =
     let i = c.loop.invariant in
     let now = g.H.History.timeline c.loop.history in
     run_memory (g.H.History.program c.args.history.now) c.args.other.now c.args.kinds c.args.limit c.loop.counter (g.H.History.timeline c.args.history.now) now (g.H.History.timeline c.forward.new.self) c.before_move-before.result.written
-    i.way c.in-Err-OutOfMemory.ensures.err c.loop-test.true c.before_move-before.ensures.output
+    i.way (sym c.is_at_end.ensures ∙ c.if-is_at_end.false) c.in-Err-OutOfMemory.ensures.err c.loop-test.true c.before_move-before.ensures.output
 
 pub happened_now-requires : goal.happened_now-requires
 happened_now-requires g c = λ lifetimes.

@@ -1,7 +1,7 @@
 -- Answers to the goals of `step`.
 use Rattle.std.proofs.Common.{sym, ◌∙◌, ap}
 use Rattle.qil_meaning.specs.State.{State, is_final}
-use Rattle.qil_session.proofs.MoveAnswers.{replies_end, replies_step, replies_step_wants}
+use Rattle.qil_session.proofs.MoveAnswers.{replies_end, replies_step, replies_step_wants, step_wants}
 use Rattle.qil_session.proofs.moves.step.Goals as goal
 
 pub returns-then-is_over-clause-replied : goal.returns-then-is_over-clause-replied
@@ -18,4 +18,4 @@ pub returns-in-Err-clause-replied : goal.returns-in-Err-clause-replied
 returns-in-Err-clause-replied g c = λ stops limit.
     let m = c.in-Err.ensures.moved in
     replies_step_wants (g.H.Runs.program c.args.history.now) (g.H.Runs.timeline c.args.history.now) (g.H.Runs.timeline c.forward_by.new.self) stops limit c.args.count c.in-Err._made
-    m.0 m.1 m.2
+    (step_wants g.H.Runs.wants_memory c.forward_by.result tt c.in-Err._made c.forward_by.ensures.spared c.in-Err.is) m.0 m.1 m.2

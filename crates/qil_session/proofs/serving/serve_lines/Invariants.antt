@@ -10,7 +10,7 @@ abbrev pub invariant-loop-end : goal.invariant-loop-end
 invariant-loop-end g l =
     let remaining = g.S.Source.remaining in
     let written = g.P.Put.written in
-    let seen = session_state g.H.Runs.program g.H.Runs.timeline in
+    let seen = session_state g.H.Runs.wants_memory g.H.Runs.program g.H.Runs.timeline in
     record {
       standing : Standing (seen l.fn.session) (remaining l.fn.source) (rest_of l.reader.bytes (remaining l.source)) (written l.fn.out) (written l.out) (seen l.session) l.reader.bytes.given;
       reads : Reads (record { pending = []; given = 0 }) l.reader.bytes (remaining l.fn.source) (remaining l.source);

@@ -4,11 +4,11 @@ use Rattle.qil_session.proofs.StopAnswers.{replies_no_temp, replies_watch_temp}
 use Rattle.qil_session.proofs.stopping.watch_temp.Goals as goal
 
 pub returns-in_default : goal.returns-in_default
-returns-in_default g c = λ t limit.
+returns-in_default g c = λ wants t limit.
     replies_no_temp c.args.code.now t c.args.stops.now limit c.args.func.now c.args.name.now (sym c.resolved_temp.ensures ∙ c.in_default.is)
 
 pub returns : goal.returns
-returns g c = λ t limit.
+returns g c = λ wants t limit.
     replies_watch_temp c.args.code.now t c.args.stops.now c.add_watch-made.new.self limit c.args.func.now c.args.name.now c.in-Some.watched c.add_watch-made.result c.made_reply.result
     (sym c.resolved_temp.ensures ∙ c.in-Some.is)
     (record { number = c.add_watch-made.ensures.number; ok = c.add_watch-made.ensures.ok; unknown = c.add_watch-made.ensures.unknown; many = c.add_watch-made.ensures.many; only = c.add_watch-made.ensures.only; err = c.add_watch-made.ensures.err })

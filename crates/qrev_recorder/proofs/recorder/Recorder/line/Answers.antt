@@ -11,7 +11,7 @@ invariant_of-self-2 g c =
     record {
       bounded = rw c.reply-reply.ensures.limit c.args.self.now.bounded;
       recorded = λ whole. ∥∥₁_elim (c.args.self.now.recorded c.in_default.ensures.whole) ∥∥₁_prop
-          (λ r. ∣ line_more _ _ _ c.args.line.now _ _ _ _ _ r (c.if-not-is_line.ensures refl)
+          (λ r. ∣ line_more _ _ _ c.args.line.now _ _ _ _ _ r (c.if-not-is_line.ensures.0 refl)
           (ap is_quit (sym c.read_command-said.ensures) ∙ sym c.is_quit.ensures ∙ c.if-is_quit.false)
           (rw c.read_command-said.ensures at c.reply-reply.ensures.replied)
           c.in_ok-add_line.ensures

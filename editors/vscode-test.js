@@ -1,0 +1,203 @@
+// Runs the extension for VS Code under Node, with a stand-in for the module `vscode`, and with the real adapter.
+//
+//     node editors/vscode-test.js FOLDER TEXT
+//
+// FOLDER is the extension as it was unpacked, TEXT is examples/squares.ssa. A line for each fault; the last line is
+// `N passed, M failed`.
+"use strict";
+
+const assert = require("assert");
+const fs = require("fs");
+const path = require("path");
+const { spawn } = require("child_process");
+const Module = require("module");
+
+const [folder, text] = process.argv.slice(2).map((each) => path.resolve(each));
+const registered = { commands: {}, providers: [], factory: undefined, trackers: undefined };
+const told = { executed: [], started: [], asked: [], informed: [] };
+const items = [];
+const settings = {};
+const session = { type: "qrev" };
+
+const vscode = {
+  StatusBarAlignment: { Left: 1 },
+  DebugConfigurationProviderTriggerKind: { Initial: 1, Dynamic: 2 },
+  DebugAdapterExecutable: class {
+    constructor(command, args) {
+      Object.assign(this, { command, args });
+    }
+  },
+  window: {
+    activeTextEditor: undefined,
+    createStatusBarItem: (alignment, priority) => {
+      const item = { alignment, priority, text: "", isShown: false };
+      Object.assign(item, { show: () => { item.isShown = true; }, hide: () => { item.isShown = false; }, dispose: () => {} });
+      items.push(item);
+      return item;
+    },
+    showInformationMessage: async (said) => { told.informed.push(said); },
+    showInputBox: async (options) => { told.asked.push(options); return vscode.window.typed; },
+  },
+  workspace: { getConfiguration: () => ({ get: (name) => settings[name] }) },
+  commands: {
+    registerCommand: (name, call) => { registered.commands[name] = call; return { dispose() {} }; },
+    executeCommand: async (name) => { told.executed.push(name); },
+  },
+  debug: {
+    activeDebugSession: undefined,
+    registerDebugConfigurationProvider: (type, provider, kind) => { registered.providers.push({ type, provider, kind }); return {}; },
+    registerDebugAdapterDescriptorFactory: (type, factory) => { registered.factory = { type, factory }; return {}; },
+    registerDebugAdapterTrackerFactory: (type, factory) => { registered.trackers = { type, factory }; return {}; },
+    startDebugging: async (where, launch) => { told.started.push(launch); return true; },
+  },
+};
+
+const load = Module._load;
+Module._load = (name, ...rest) => (name === "vscode" ? vscode : load(name, ...rest));
+const extension = require(path.join(folder, "extension.js"));
+const made = JSON.parse(fs.readFileSync(path.join(folder, "package.json"), "utf8"));
+const context = { extensionPath: folder, subscriptions: [] };
+const editor = (languageId) => ({ document: { languageId } });
+
+// The adapter as a process, to which requests are sent; its messages go to the extension too.
+class Adapter {
+  constructor(command, follower) {
+    this.process = spawn(command, [], { stdio: ["pipe", "pipe", "inherit"] });
+    this.left = Buffer.alloc(0);
+    this.sequence = 0;
+    this.waiting = [];
+    this.messages = [];
+    this.process.stdout.on("data", (piece) => {
+      this.left = Buffer.concat([this.left, piece]);
+      for (let found = /^Content-Length: (\d+)\r\n\r\n/.exec(this.left.toString("latin1")); found;
+        found = /^Content-Length: (\d+)\r\n\r\n/.exec(this.left.toString("latin1"))) {
+        const end = found[0].length + Number(found[1]);
+        if (this.left.length < end) return;
+        const message = JSON.parse(this.left.subarray(found[0].length, end).toString());
+        this.left = this.left.subarray(end);
+        follower.onDidSendMessage(message);
+        this.messages.push(message);
+        this.waiting = this.waiting.filter((waits) => !waits(message));
+      }
+    });
+  }
+
+  // The message for which something holds, which came or will.
+  until(holds) {
+    const found = this.messages.find(holds);
+    if (found) return Promise.resolve(found);
+    return new Promise((done, failed) => {
+      const timer = setTimeout(() => failed(new Error(`nothing came: ${JSON.stringify(this.messages.slice(-3))}`)), 20000);
+      this.waiting.push((message) => holds(message) && (clearTimeout(timer), done(message), true));
+    });
+  }
+
+  async request(command, given) {
+    const seq = ++this.sequence;
+    const body = Buffer.from(JSON.stringify({ seq, type: "request", command, arguments: given }));
+    this.process.stdin.write(`Content-Length: ${body.length}\r\n\r\n`);
+    this.process.stdin.write(body);
+    return this.until((message) => message.type === "response" && message.request_seq === seq);
+  }
+
+  stopped(place) {
+    return this.until((message) => message.event === "stopped" && message.body.description === place);
+  }
+}
+
+const tests = {
+  "F5 in a text of QBE launches it, without a launch.json": async () => {
+    const { provider } = registered.providers[0];
+    vscode.window.activeTextEditor = editor("qbe");
+    const launch = await provider.resolveDebugConfiguration(undefined, {});
+    assert.deepStrictEqual(launch, { type: "qrev", request: "launch", name: "qrev: this text", program: "${file}", stopOnEntry: true });
+    const given = { type: "qrev", request: "launch", name: "mine", program: "/a.ssa", entry: "f" };
+    assert.deepStrictEqual(await provider.resolveDebugConfiguration(undefined, { ...given }), given);
+  },
+  "F5 elsewhere says what is missing, and launches nothing": async () => {
+    vscode.window.activeTextEditor = editor("markdown");
+    assert.strictEqual(await registered.providers[0].provider.resolveDebugConfiguration(undefined, {}), undefined);
+    assert.match(told.informed[0], /\.ssa/);
+  },
+  "the list of launches has this text": async () => {
+    const dynamic = registered.providers.find((each) => each.kind === vscode.DebugConfigurationProviderTriggerKind.Dynamic);
+    assert.deepStrictEqual(dynamic.provider.provideDebugConfigurations().map((each) => [each.type, each.program]), [["qrev", "${file}"]]);
+  },
+  "every command is registered, and has an entry": async () => {
+    const entries = made.contributes.commands.map((each) => each.command).sort();
+    assert.deepStrictEqual(Object.keys(registered.commands).sort(), entries);
+    const used = [...Object.values(made.contributes.menus).flat(), ...made.contributes.keybindings].map((each) => each.command);
+    assert.deepStrictEqual(used.filter((each) => !entries.includes(each)), []);
+    assert.deepStrictEqual(items.map((each) => each.command).filter((each) => !entries.includes(each)), []);
+  },
+  "the buttons step back and reverse": async () => {
+    await registered.commands["qrev.stepBack"]();
+    await registered.commands["qrev.reverse"]();
+    assert.deepStrictEqual(told.executed, ["workbench.action.debug.stepBack", "workbench.action.debug.reverseContinue"]);
+  },
+  "the button over a text debugs it": async () => {
+    await registered.commands["qrev.debug"]({ fsPath: "/a/b.ssa" });
+    assert.strictEqual(told.started[0].program, "/a/b.ssa");
+  },
+  "the adapter of the package is started, also where the right to run it is lost; or that of the setting": async () => {
+    const program = path.join(folder, "qrev-dap");
+    fs.chmodSync(program, 0o644);
+    const started = registered.factory.factory.createDebugAdapterDescriptor(session, undefined);
+    assert.strictEqual(started.command, program);
+    fs.accessSync(program, fs.constants.X_OK);
+    settings.adapter = process.execPath;
+    assert.strictEqual(registered.factory.factory.createDebugAdapterDescriptor(session, undefined).command, process.execPath);
+    settings.adapter = path.join(folder, "nowhere");
+    assert.throws(() => registered.factory.factory.createDebugAdapterDescriptor(session, undefined), /qrev\.adapter/);
+    settings.adapter = "";
+  },
+  "the status bar follows a session, and goes to another position": async () => {
+    const follower = registered.trackers.factory.createDebugAdapterTracker(session);
+    const adapter = new Adapter(registered.factory.factory.createDebugAdapterDescriptor(session, undefined).command, follower);
+    try {
+      const first = await adapter.request("initialize", { adapterID: "qrev" });
+      assert.ok(first.success && first.body.supportsStepBack);
+      await adapter.request("launch", { program: text, stopOnEntry: true });
+      await adapter.request("configurationDone", {});
+      await adapter.stopped("#0 $main @start 0");
+      assert.deepStrictEqual(items.map((each) => [each.text, each.isShown]), [["$(location) #0 $main @start 0", true],
+        ["$(debug-step-back)", true], ["$(debug-reverse-continue)", true]]);
+      session.customRequest = (command, given) => adapter.request(command, given);
+      vscode.debug.activeDebugSession = session;
+      vscode.window.typed = "44";
+      await registered.commands["qrev.goto"]();
+      await adapter.stopped("#44 $fill @body 4");
+      assert.strictEqual(items[0].text, "$(location) #44 $fill @body 4");
+      vscode.window.typed = "#41";
+      await registered.commands["qrev.goto"]();
+      await adapter.stopped("#41 $fill @body 1");
+      assert.strictEqual(told.asked[1].value, "44");
+      assert.strictEqual(told.asked[0].validateInput("x"), "a number was expected");
+      assert.strictEqual(told.asked[0].validateInput("#7"), undefined);
+      follower.onWillStopSession();
+      assert.deepStrictEqual(items.map((each) => each.isShown), [false, false, false]);
+    } finally {
+      adapter.process.kill();
+    }
+  },
+};
+
+async function main() {
+  let passed = 0;
+  let failed = 0;
+  extension.activate(context);
+  for (const [name, call] of Object.entries(tests)) {
+    try {
+      await call();
+      passed += 1;
+    } catch (error) {
+      failed += 1;
+      console.log(`${name}: ${error.message}`);
+    }
+  }
+  extension.deactivate();
+  console.log(`${passed} passed, ${failed} failed`);
+  process.exit(failed ? 1 : 0);
+}
+
+main();
