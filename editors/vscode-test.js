@@ -8,13 +8,16 @@
 
 const assert = require("assert");
 const fs = require("fs");
+const os = require("os");
 const path = require("path");
 const { spawn } = require("child_process");
 const Module = require("module");
 
 const [folder, text] = process.argv.slice(2).map((each) => path.resolve(each));
 const registered = { commands: {}, providers: [], factory: undefined, trackers: undefined };
-const told = { executed: [], started: [], asked: [], informed: [] };
+const told = { executed: [], started: [], asked: [], informed: [], warned: [], failed: [], terminals: [] };
+const marks = new Map();
+const listeners = {};
 const items = [];
 const settings = {};
 const session = { type: "qrev" };
@@ -36,9 +39,39 @@ const vscode = {
       return item;
     },
     showInformationMessage: async (said) => { told.informed.push(said); },
+    showWarningMessage: async (said) => { told.warned.push(said); },
+    showErrorMessage: async (said) => { told.failed.push(said); },
+    setStatusBarMessage: () => ({}),
+    withProgress: async (options, call) => call(),
+    createTerminal: (options) => {
+      const terminal = { ...options, sent: [], show() {}, sendText: (line) => terminal.sent.push(line) };
+      told.terminals.push(terminal);
+      return terminal;
+    },
     showInputBox: async (options) => { told.asked.push(options); return vscode.window.typed; },
   },
-  workspace: { getConfiguration: () => ({ get: (name) => settings[name] }) },
+  workspace: {
+    getConfiguration: () => ({ get: (name) => settings[name] }),
+    textDocuments: [],
+    onDidOpenTextDocument: (call) => { listeners.opened = call; return {}; },
+    onDidSaveTextDocument: (call) => { listeners.saved = call; return {}; },
+  },
+  languages: {
+    createDiagnosticCollection: () => ({ set: (uri, list) => marks.set(uri.fsPath, list), delete: (uri) => marks.delete(uri.fsPath), dispose() {} }),
+  },
+  Uri: { file: (fsPath) => ({ fsPath, scheme: "file" }) },
+  Range: class {
+    constructor(...at) {
+      this.line = at[0];
+    }
+  },
+  Diagnostic: class {
+    constructor(range, message, severity) {
+      Object.assign(this, { range, message, severity });
+    }
+  },
+  DiagnosticSeverity: { Error: 0, Warning: 1 },
+  ProgressLocation: { Notification: 15 },
   commands: {
     registerCommand: (name, call) => { registered.commands[name] = call; return { dispose() {} }; },
     executeCommand: async (name) => { told.executed.push(name); },
@@ -58,6 +91,15 @@ const extension = require(path.join(folder, "extension.js"));
 const made = JSON.parse(fs.readFileSync(path.join(folder, "package.json"), "utf8"));
 const context = { extensionPath: folder, subscriptions: [] };
 const editor = (languageId) => ({ document: { languageId } });
+const place = fs.mkdtempSync(path.join(os.tmpdir(), "vscode-test-"));
+// A text in a file of its own, as a document of VS Code.
+const written = (name, lines) => {
+  const file = path.join(place, name);
+  fs.writeFileSync(file, lines);
+  return { languageId: "qbe", uri: vscode.Uri.file(file) };
+};
+const WHOLE = "export function w $main() {\n@start\n\t%x =d add d_1, d_2\n\t%y =w dtosi %x\n\tret %y\n}\n";
+const shown = (file) => (marks.get(file) || []).map((each) => [each.range.line, each.severity, each.code, each.message]);
 
 // The adapter as a process, to which requests are sent; its messages go to the extension too.
 class Adapter {
@@ -151,6 +193,69 @@ const tests = {
     assert.throws(() => registered.factory.factory.createDebugAdapterDescriptor(session, undefined), /qrev\.adapter/);
     settings.adapter = "";
   },
+  "a check marks a suspicion at its line, and says how many there are": async () => {
+    const file = path.join(place, "squares.ssa");
+    fs.copyFileSync(text, file);
+    // What unpacks a package may leave the right to run its programs out.
+    fs.chmodSync(path.join(folder, "qrev", "qrev"), 0o644);
+    await registered.commands["qrev.check"]({ fsPath: file });
+    assert.deepStrictEqual(shown(file), [[17, 1, "bounds",
+      "bounds: storew at the end of $squares (16 bytes), into $bias+0 (first at #44 $fill @body 4)"]]);
+    assert.deepStrictEqual(told.warned, ["qrev: 1 suspicion"]);
+    fs.writeFileSync(file, fs.readFileSync(file, "utf8").replace("cslew", "csltw"));
+    await registered.commands["qrev.check"]({ fsPath: file });
+    assert.deepStrictEqual(shown(file), []);
+    assert.strictEqual(told.informed.pop(), "qrev: no suspicion");
+  },
+  "a refused text is marked when it is saved, until it is mended; by default without a run": async () => {
+    const bad = written("bad.ssa", "function w $main() {\n@start\n\tret %y\n}\n");
+    await listeners.saved(bad);
+    assert.deepStrictEqual(shown(bad.uri.fsPath), [[2, 0, "C6", "a temporary that is nowhere defined"]]);
+    await listeners.saved(written("bad.ssa", "function w $main() {\n@start\n\tret 3\n}\n"));
+    assert.deepStrictEqual(shown(bad.uri.fsPath), []);
+    const wrong = written("wrong.ssa", fs.readFileSync(text, "utf8"));
+    await listeners.opened(wrong);
+    assert.deepStrictEqual(shown(wrong.uri.fsPath), []);
+    settings.checkOnSave = "suspicions";
+    await listeners.opened(wrong);
+    assert.deepStrictEqual(shown(wrong.uri.fsPath).map((each) => each[2]), ["bounds"]);
+    settings.checkOnSave = "off";
+    await listeners.saved(written("bad.ssa", "nothing\n"));
+    assert.deepStrictEqual(shown(bad.uri.fsPath), []);
+    settings.checkOnSave = undefined;
+    await listeners.saved({ languageId: "markdown", uri: bad.uri });
+    assert.deepStrictEqual(shown(bad.uri.fsPath), []);
+  },
+  "a text of whole QBE is checked, and lowered before it is launched": async () => {
+    const whole = written("whole.ssa", WHOLE);
+    await registered.commands["qrev.check"](whole.uri);
+    assert.strictEqual(told.informed.pop(), "qrev: no suspicion");
+    const { provider } = registered.providers[0];
+    const launch = { type: "qrev", request: "launch", name: "mine", program: whole.uri.fsPath };
+    const changed = await provider.resolveDebugConfigurationWithSubstitutedVariables(undefined, launch);
+    assert.notStrictEqual(changed.program, launch.program);
+    assert.ok(fs.readFileSync(changed.program, "utf8").includes("$main") && fs.existsSync(`${changed.program}.map`));
+    const plain = { ...launch, program: text };
+    assert.deepStrictEqual(await provider.resolveDebugConfigurationWithSubstitutedVariables(undefined, plain), plain);
+    fs.writeFileSync(whole.uri.fsPath, WHOLE.replace("w dtosi", "q dtosi"));
+    assert.strictEqual(await provider.resolveDebugConfigurationWithSubstitutedVariables(undefined, { ...launch, lower: true }), undefined);
+    assert.match(told.failed.pop(), /whole\.ssa:4: /);
+  },
+  "the page and the prompt run in a terminal, the prompt at the position that is debugged": async () => {
+    await registered.commands["qrev.page"]({ fsPath: text });
+    const [page] = told.terminals;
+    assert.deepStrictEqual([page.shellPath, page.shellArgs], [path.join(folder, "qrev", "qrev"), ["--page", text]]);
+    const whole = written("whole.ssa", WHOLE);
+    await registered.commands["qrev.prompt"](whole.uri);
+    assert.deepStrictEqual([told.terminals[1].shellArgs, told.terminals[1].sent], [["--prompt", "--lower", whole.uri.fsPath], []]);
+    const follower = registered.trackers.factory.createDebugAdapterTracker(session);
+    vscode.debug.activeDebugSession = { ...session, configuration: { program: text } };
+    follower.onDidSendMessage({ type: "event", event: "stopped", body: { description: "#44 $fill @body 4" } });
+    await registered.commands["qrev.prompt"]();
+    assert.deepStrictEqual([told.terminals[2].shellArgs, told.terminals[2].sent], [["--prompt", text], ["goto 44"]]);
+    follower.onExit();
+    vscode.debug.activeDebugSession = undefined;
+  },
   "the status bar follows a session, and goes to another position": async () => {
     const follower = registered.trackers.factory.createDebugAdapterTracker(session);
     const adapter = new Adapter(registered.factory.factory.createDebugAdapterDescriptor(session, undefined).command, follower);
@@ -196,6 +301,7 @@ async function main() {
     }
   }
   extension.deactivate();
+  fs.rmSync(place, { recursive: true });
   console.log(`${passed} passed, ${failed} failed`);
   process.exit(failed ? 1 : 0);
 }

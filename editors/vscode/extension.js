@@ -1,11 +1,12 @@
 // The extension's own code: F5 without a launch.json, the adapter's program, where the run stands, and ways back.
 //
-// It asks nothing of the adapter but requests of the protocol, and needs nothing but VS Code.
+// It asks nothing of the adapter but requests of the protocol. What it asks of qrev besides is in tools.js.
 "use strict";
 
 const fs = require("fs");
 const path = require("path");
 const vscode = require("vscode");
+const { Marks, inTerminal, withLowering } = require("./tools");
 
 const TYPE = "qrev";
 const LANGUAGE = "qbe";
@@ -21,6 +22,10 @@ function launchOfEditor() {
 }
 
 class Configurations {
+  constructor(context) {
+    this.context = context;
+  }
+
   // Launches that are offered where there is no launch.json, and in the list of those that it could have.
   provideDebugConfigurations() {
     return [launchOfEditor() || { type: TYPE, request: "launch", name: NAME, program: "${file}", stopOnEntry: true }];
@@ -31,6 +36,11 @@ class Configurations {
     const asked = !given.type && !given.request && !given.name ? launchOfEditor() || given : given;
     if (asked.program) return asked;
     return vscode.window.showInformationMessage("qrev: open a text of QBE (.ssa), or name one as `program`").then(() => undefined);
+  }
+
+  // A text of whole QBE is lowered by itself.
+  resolveDebugConfigurationWithSubstitutedVariables(folder, launch) {
+    return withLowering(this.context, launch);
   }
 }
 
@@ -132,13 +142,25 @@ async function goTo(status) {
   if (away) await session.customRequest("evaluate", { expression: `${away > 0 ? "step" : "back"} ${Math.abs(away)}`, context: "repl" });
 }
 
+// The prompt, with `why` and all else of the terminal: at the position of the session that is debugged, or at the start.
+function openPrompt(context, status, given) {
+  const session = vscode.debug.activeDebugSession;
+  const isDebugged = session && session.type === TYPE && !given && status.position !== undefined;
+  const text = isDebugged ? vscode.Uri.file(session.configuration.program) : given;
+  return inTerminal(context, "qrev", ["--prompt"], text, isDebugged && status.position ? [`goto ${status.position}`] : []);
+}
+
 function activate(context) {
   const status = new Status();
-  const configurations = new Configurations();
+  const configurations = new Configurations(context);
+  const marks = new Marks(context);
   const does = (name, call) => vscode.commands.registerCommand(name, call);
   const workbench = (name) => () => vscode.commands.executeCommand(`workbench.action.debug.${name}`);
   context.subscriptions.push(
     status,
+    marks,
+    vscode.workspace.onDidOpenTextDocument((document) => marks.saved(document)),
+    vscode.workspace.onDidSaveTextDocument((document) => marks.saved(document)),
     vscode.debug.registerDebugConfigurationProvider(TYPE, configurations),
     vscode.debug.registerDebugConfigurationProvider(TYPE, { provideDebugConfigurations: () => configurations.provideDebugConfigurations() },
       vscode.DebugConfigurationProviderTriggerKind.Dynamic),
@@ -150,7 +172,11 @@ function activate(context) {
     does("qrev.stepBack", workbench("stepBack")),
     does("qrev.reverse", workbench("reverseContinue")),
     does("qrev.goto", () => goTo(status)),
+    does("qrev.check", (file) => marks.command(file)),
+    does("qrev.page", (file) => inTerminal(context, "qrev: the page", ["--page"], file, [])),
+    does("qrev.prompt", (file) => openPrompt(context, status, file)),
   );
+  vscode.workspace.textDocuments.forEach((document) => marks.saved(document));
 }
 
 function deactivate() {}

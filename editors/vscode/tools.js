@@ -1,0 +1,199 @@
+// What the extension asks of qrev beside the adapter: refusals and suspicions next to their lines, the page of a run, the
+// prompt, and texts of whole QBE brought into the language that the debugger runs.
+//
+// All of it is the script `qrev`, which came with the extension or stands in the clone that the setting names.
+"use strict";
+
+const fs = require("fs");
+const os = require("os");
+const path = require("path");
+const { spawn } = require("child_process");
+const vscode = require("vscode");
+
+const LANGUAGE = "qbe";
+// A line of a refusal: `FILE:4: C6: what is wrong`, behind it the line itself.
+const REFUSED = /^(.*?):(\d+): (.*)$/;
+// What a refusal says of a text of whole QBE.
+const NEEDS_LOWERING = "--lower` takes it";
+// Up to this a check of a text that was saved runs, so that it ends in about a second.
+const MOVES_AT_SAVE = 100000;
+const ENDS = { 0: "no suspicion", 4: "no suspicion, but the run ends by a fault", 5: "no suspicion up to the limit of moves" };
+
+// What is run below the folder of qrev.
+const PROGRAMS = ["qrev", "release/program", "release/fits", "release/qrev-x86_64-linux", "lower/qrev-lower"];
+
+// The clone of the setting, what came with the extension, or the clone that the extension is a link into.
+function folderOf(context) {
+  const clone = vscode.workspace.getConfiguration("qrev").get("clone");
+  if (clone) return clone;
+  const folder = path.join(context.extensionPath, "qrev");
+  if (!fs.existsSync(folder)) return path.resolve(fs.realpathSync(context.extensionPath), "..", "..");
+  // What unpacks the extension may have left the right to run out.
+  PROGRAMS.map((name) => path.join(folder, name)).filter((file) => fs.existsSync(file) && !(fs.statSync(file).mode & 0o100))
+    .forEach((file) => fs.chmodSync(file, 0o755));
+  return folder;
+}
+
+function scriptOf(context) {
+  return path.join(folderOf(context), "qrev");
+}
+
+// What a program wrote, and its status; a status of -1 if it couldn't be started.
+function run(program, words, folder) {
+  return new Promise((done) => {
+    const written = { status: -1, out: "", error: "" };
+    const child = spawn(program, words, { cwd: folder, stdio: ["ignore", "pipe", "pipe"] });
+    child.stdout.on("data", (piece) => { written.out += piece; });
+    child.stderr.on("data", (piece) => { written.error += piece; });
+    child.on("error", (error) => done(Object.assign(written, { error: error.message })));
+    child.on("close", (status) => done(Object.assign(written, { status: status === null ? -1 : status })));
+  });
+}
+
+// Checks a text, and once more lowered if it is of whole QBE.
+async function check(context, file, limit) {
+  const words = ["--format", "json", ...(limit ? ["--limit", String(limit)] : [])];
+  const ask = (before) => run(scriptOf(context), ["--check", ...before, file, ...words], path.dirname(file));
+  const plain = await ask([]);
+  return plain.status === 1 && (plain.out + plain.error).includes(NEEDS_LOWERING) ? ask(["--lower"]) : plain;
+}
+
+function marked(line, message, severity, code) {
+  const made = new vscode.Diagnostic(new vscode.Range(line - 1, 0, line - 1, Number.MAX_SAFE_INTEGER), message, severity);
+  return Object.assign(made, { source: "qrev", code });
+}
+
+// The marks of a refusal, by file; nothing if what was written names no line.
+function refusalsOf(answer, file) {
+  const found = new Map();
+  for (const line of `${answer.out}\n${answer.error}`.split("\n")) {
+    const [, name, at, said] = REFUSED.exec(line) || [];
+    if (name === undefined || /^\s/.test(line)) continue;
+    const code = /^([A-Z]\d+): /.exec(said);
+    const place = path.resolve(path.dirname(file), name);
+    found.set(place, [...(found.get(place) || []),
+      marked(Number(at), code ? said.slice(code[0].length) : said, vscode.DiagnosticSeverity.Error, code ? code[1] : undefined)]);
+  }
+  return found;
+}
+
+// The marks of suspicions, by file, of what `--check --format json` writes (SARIF).
+function suspicionsOf(answer, file) {
+  const found = new Map();
+  for (const result of JSON.parse(answer.out).runs[0].results) {
+    const where = result.locations[0];
+    const place = path.resolve(path.dirname(file), where.physicalLocation.artifactLocation.uri);
+    const times = result.occurrenceCount > 1 ? `, ${result.occurrenceCount} times` : "";
+    const first = `first at #${result.properties.position} ${where.logicalLocations[0].fullyQualifiedName}${times}`;
+    found.set(place, [...(found.get(place) || []),
+      marked(where.physicalLocation.region.startLine, `${result.message.text} (${first})`, vscode.DiagnosticSeverity.Warning,
+        result.ruleId)]);
+  }
+  return found;
+}
+
+// The marks that stand in the texts, and which text each came of.
+class Marks {
+  constructor(context) {
+    this.context = context;
+    this.collection = vscode.languages.createDiagnosticCollection("qrev");
+    this.files = new Map();
+    this.asked = new Map();
+  }
+
+  show(file, found) {
+    (this.files.get(file) || []).forEach((each) => this.collection.delete(vscode.Uri.file(each)));
+    this.files.set(file, [...found.keys()]);
+    found.forEach((marks, each) => this.collection.set(vscode.Uri.file(each), marks));
+  }
+
+  // Checks a text and marks what it says. An answer that a later question has overtaken is left.
+  async look(file, limit) {
+    const number = (this.asked.get(file) || 0) + 1;
+    this.asked.set(file, number);
+    const answer = await check(this.context, file, limit);
+    if (this.asked.get(file) !== number) return answer;
+    const isChecked = [0, 3, 4, 5].includes(answer.status);
+    this.show(file, isChecked ? suspicionsOf(answer, file) : refusalsOf(answer, file));
+    return answer;
+  }
+
+  // What is looked at if a text is opened or saved: refusals alone, suspicions too, or nothing.
+  async saved(document) {
+    const wanted = vscode.workspace.getConfiguration("qrev").get("checkOnSave") || "refusals";
+    if (document.languageId !== LANGUAGE || document.uri.scheme !== "file" || wanted === "off") return;
+    await this.look(document.uri.fsPath, wanted === "refusals" ? 1 : MOVES_AT_SAVE);
+  }
+
+  // As the command: with a word on what came of it.
+  async command(given) {
+    const file = textOf(given);
+    if (!file) return;
+    const answer = await vscode.window.withProgress({ location: vscode.ProgressLocation.Notification,
+      title: `qrev checks ${path.basename(file)}` }, () => this.look(file));
+    if (answer.status === 3) {
+      const count = JSON.parse(answer.out).runs[0].results.length;
+      await vscode.window.showWarningMessage(`qrev: ${count} ${count === 1 ? "suspicion" : "suspicions"}`);
+    } else if (ENDS[answer.status]) {
+      await vscode.window.showInformationMessage(`qrev: ${ENDS[answer.status]}`);
+    } else {
+      await vscode.window.showErrorMessage(`qrev: ${(answer.out || answer.error).trim().split("\n")[0] || "the check can't be run"}`);
+    }
+  }
+
+  dispose() {
+    this.collection.dispose();
+  }
+}
+
+// The text that a command is for: the one that it was given, or the one that is shown.
+function textOf(given) {
+  if (given && given.fsPath) return given.fsPath;
+  const editor = vscode.window.activeTextEditor;
+  if (editor && editor.document.languageId === LANGUAGE) return editor.document.uri.fsPath;
+  vscode.window.showInformationMessage("qrev: open a text of QBE (.ssa) first");
+  return undefined;
+}
+
+// Whether a text is of whole QBE, so that it has to be lowered first.
+async function needsLowering(context, file) {
+  const answer = await run(scriptOf(context), ["--check", file, "--limit", "1"], path.dirname(file));
+  return answer.status === 1 && (answer.out + answer.error).includes(NEEDS_LOWERING);
+}
+
+// Runs qrev in a terminal of VS Code, which stays open as long as it runs.
+async function inTerminal(context, name, before, given, lines) {
+  const file = textOf(given);
+  if (!file) return;
+  const lower = await needsLowering(context, file) ? ["--lower"] : [];
+  const terminal = vscode.window.createTerminal({ name, cwd: path.dirname(file), shellPath: scriptOf(context),
+    shellArgs: [...before, ...lower, file] });
+  terminal.show();
+  lines.forEach((line) => terminal.sendText(line));
+}
+
+// Lowers a text of whole QBE into a folder of its own; its map of places stands beside what comes of it. The path of that,
+// or nothing if it is refused.
+async function lowered(context, file, entry) {
+  const folder = fs.mkdtempSync(path.join(os.tmpdir(), "qrev-"));
+  const to = path.join(folder, path.basename(file));
+  const words = ["--link", ...(entry ? ["--entry", entry] : []), "--output", to, file];
+  const answer = await run(path.join(folderOf(context), "lower", "qrev-lower"), words, path.dirname(file));
+  // It may write a text and tell what in it would halt.
+  if (fs.existsSync(to) && fs.statSync(to).size > 0) return to;
+  await vscode.window.showErrorMessage(`qrev: ${(answer.error || answer.out).trim().split("\n")[0]}`);
+  return undefined;
+}
+
+// A launch of a text of whole QBE becomes one of what it is lowered to.
+async function withLowering(context, given) {
+  const { lower, ...launch } = given;
+  if (lower === false || !launch.program || !fs.existsSync(launch.program)) return launch;
+  if (lower !== true && !(await needsLowering(context, launch.program))) return launch;
+  const program = await lowered(context, launch.program, launch.entry);
+  if (!program) return undefined;
+  vscode.window.setStatusBarMessage(`qrev: ${path.basename(launch.program)} is of whole QBE, and was lowered`, 8000);
+  return { ...launch, program };
+}
+
+module.exports = { Marks, inTerminal, withLowering };
