@@ -174,4 +174,34 @@ data $b = { w 2 }
       (should-error (qrev-watch) :type 'user-error))
     (delete-process (get-buffer-process session))))
 
+(defconst qrev-test-clone (expand-file-name "../qrev" (file-name-directory load-file-name)))
+
+(defun qrev-test-checked (file)
+  "The buffer of a check of FILE that has ended."
+  (let ((qrev-command qrev-test-clone) (compilation-always-kill t))
+    (let ((buffer (qrev-check file)))
+      (while (get-buffer-process buffer) (accept-process-output nil 0.1))
+      buffer)))
+
+(ert-deftest qrev-test-check-goes-to-the-suspicious-line ()
+  (with-current-buffer (qrev-test-checked (expand-file-name "squares.ssa" qrev-test-folder))
+    (goto-char (point-min))
+    (compilation-next-error 1)
+    (let ((next-error-last-buffer (current-buffer)) (next-error-highlight nil))
+      (compile-goto-error))
+    (with-current-buffer "squares.ssa"
+      (should (equal (line-number-at-pos) 18))
+      (should (looking-at "[ \t]*storew %square, %place")))))
+
+(ert-deftest qrev-test-check-goes-to-a-refusal ()
+  (let ((file (make-temp-file "refused" nil ".ssa" "function w $main() {\n@start\n\tret %y\n}\n")))
+    (with-current-buffer (qrev-test-checked file)
+      (goto-char (point-min))
+      (compilation-next-error 1)
+      (compile-goto-error))
+    (with-current-buffer (file-name-nondirectory file)
+      (should (equal (line-number-at-pos) 3))
+      (kill-buffer))
+    (delete-file file)))
+
 ;;; qrev-test.el ends here

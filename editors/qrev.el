@@ -13,7 +13,10 @@
 ;;   C-c C-w  watch of the temporary or the data at point
 ;;   C-c C-s  where         C-c C-v  temps          C-c C-y  why, of the temporary at point or of where the run stands
 ;;
-;; Where the run is over there is no arrow.  The session is that of the front end (docs/TERMINAL.md), which alone knows
+;; M-x qrev-check (C-c C-k) runs a text, and goes to the lines of what is suspicious in it (docs/CHECKING.md), or to that of
+;; a refusal.
+;;
+;; If the run is over there is no arrow.  The session is that of the front end (docs/TERMINAL.md), which alone knows
 ;; `why'; where `qrev-options' is nil it is the plain one.
 ;;
 ;; Labels, phis, instructions and jumps have a line each, as the language wants it.  A label behind the `{' of its function,
@@ -22,6 +25,7 @@
 ;;; Code:
 
 (require 'comint)
+(require 'compile)
 (require 'subr-x)
 
 (defgroup qrev nil "The debugger qrev." :group 'tools)
@@ -195,6 +199,31 @@ With a prefix argument NUMBER ask on about that operand of the last cause."
                      (name (concat "why " name))
                      (t "why")))))
 
+(defun qrev-check-this () "Check the text of this buffer." (interactive) (qrev-check buffer-file-name))
+
+;;; What a run does that no right compiler's output does
+
+(defvar-local qrev-checked nil "The text that this buffer is a check of.")
+
+(defun qrev-checked-file () "The text that is checked here." qrev-checked)
+
+(define-compilation-mode qrev-check-mode "qrev check"
+  "What a check of a text says: `next-error' goes from line to line."
+  (setq-local compilation-error-regexp-alist
+              '(("^#[0-9]+ [^\n]*?  line \\([0-9]+\\): " qrev-checked-file 1 nil 1) gnu)))
+
+;;;###autoload
+(defun qrev-check (file)
+  "Run the text in FILE, and show what it does that no right compiler's output does."
+  (interactive (list (or buffer-file-name (read-file-name "Program: " nil nil t))))
+  (save-some-buffers nil (lambda () (equal buffer-file-name file)))
+  (let* ((file (expand-file-name file))
+         ;; To a pipe no progress is written.
+         (process-connection-type nil)
+         (buffer (compilation-start (mapconcat #'shell-quote-argument (list qrev-command "--check" file) " ") #'qrev-check-mode)))
+    (with-current-buffer buffer (setq qrev-checked file))
+    buffer))
+
 (defvar qrev-source-mode-map
   (let ((map (make-sparse-keymap)))
     (define-key map (kbd "C-c C-n") #'qrev-step)
@@ -207,6 +236,7 @@ With a prefix argument NUMBER ask on about that operand of the last cause."
     (define-key map (kbd "C-c C-s") #'qrev-where)
     (define-key map (kbd "C-c C-v") #'qrev-temps)
     (define-key map (kbd "C-c C-y") #'qrev-why)
+    (define-key map (kbd "C-c C-k") #'qrev-check-this)
     map))
 
 (define-minor-mode qrev-source-mode
