@@ -5,7 +5,7 @@ import pathlib
 import re
 import sys
 from dataclasses import dataclass, field
-from typing import TextIO
+from typing import Callable, TextIO
 
 from page.gathering import Gathering
 from page.table import Table
@@ -19,7 +19,7 @@ from .following import Excepted, Follower
 from .heap import WrongHeap, roles_of
 from .kinds import ALL, WrongKind, chosen
 from .states import TooLong, table_of
-from .telling import as_sarif, summary
+from .telling import as_gnu, as_sarif, gnu_place, summary
 
 TOP = pathlib.Path(__file__).resolve().parent.parent
 # How many moves are looked at if nothing is said: some 20 seconds.
@@ -40,7 +40,7 @@ Options:
                              memalign, give and look
       --no-heap              An allocator is code like any other
       --except KIND:$NAME    Not this kind for this object or function; may be given more than once
-      --format text|json     json is SARIF [default: text]
+      --format FORM          text, gnu (a line of warning for each, as compilers write it) or json (SARIF) [default: text]
 
 The status is {NONE} if there is no suspicion, {SOME} if there are some, {FAULT} if there is none but the run ends by a
 fault, {TOO_LONG} if there is none up to the limit, {REFUSED} if the program is refused, {UNREAD} if it can't be read, 64 for a
@@ -115,8 +115,8 @@ class Asked:
             raise BadCommand(str(error)) from None
         self.heap, self.has_no_heap = given["--heap"][-1] if "--heap" in given else None, "--no-heap" in given
         self.format = given.get("--format", ["text"])[-1]
-        if self.format not in ("text", "json"):
-            raise BadCommand(f"--format {self.format}: text or json was expected")
+        if self.format not in ("text", "gnu", "json"):
+            raise BadCommand(f"--format {self.format}: text, gnu or json was expected")
         self.excepted = Excepted({pair_of(word) for word in given.get("--except", [])})
         return self
 
@@ -186,6 +186,13 @@ def part_of(gathered: Gathering, letter: bytes) -> bytes:
     return next((part[5:] for part in gathered.parts if part[:1] == letter), b"")
 
 
+def fault_line(table: Table, gathered: Gathering, file: str, source: Callable[[int], str]) -> str:
+    """The instruction that ended the run by a fault, as an error."""
+    position = max(at for at, place in enumerate(gathered.places) if place != table.end)
+    function, label, index, instruction = table.places[gathered.places[position]]
+    return f"{gnu_place(source, file, instruction.line)}: error: {gathered.end} [#{position} {function} {label} {index}]"
+
+
 def told(follower: Follower, gathered: Gathering, moves: int, asked: Asked, out: TextIO) -> int:
     found = follower.suspicions()
     source = SourceMap.beside(asked.file).place
@@ -193,6 +200,11 @@ def told(follower: Follower, gathered: Gathering, moves: int, asked: Asked, out:
     end = gathered.end if is_over else f"limit at {follower.table.places[gathered.places[-1]][0]}"
     if asked.format == "json":
         print(as_sarif(found, asked.file, version(), source), file=out)
+    elif asked.format == "gnu":
+        for line in as_gnu(found, asked.file, source):
+            print(line, file=out)
+        if end.startswith("fault"):
+            print(fault_line(follower.table, gathered, asked.file, source), file=out)
     else:
         for each in found:
             print("\n".join(each.lines(source(each.instruction.line))), file=out)

@@ -1,9 +1,9 @@
-"""What is told of a suspicion: the lines for a reader, and the same for machines (SARIF)."""
+"""What is told of a suspicion: the lines for a reader, and the same for editors (as gcc writes it) and machines (SARIF)."""
 from __future__ import annotations
 
 import json
 from dataclasses import dataclass
-from typing import Any, Callable, Sequence
+from typing import Any, Callable, Iterator, Sequence
 
 from terminal.text import Instruction
 
@@ -89,6 +89,22 @@ def as_sarif(suspicions: Sequence[Suspicion], file: str, version: str, source: C
     rules = [{"id": kind} for kind in sorted({each.kind for each in suspicions})]
     tool = {"driver": {"name": "qrev", "version": version, "rules": rules}}
     return json.dumps({"$schema": SARIF, "version": "2.1.0", "runs": [{"tool": tool, "results": results}]}, indent=1)
+
+
+def as_gnu(suspicions: Sequence[Suspicion], file: str, source: Callable[[int], str]) -> Iterator[str]:
+    """The same in the form in which editors find the places of warnings."""
+    for each in suspicions:
+        times = f", {each.count} times" if each.count > 1 else ""
+        place = f"#{each.position} {each.function} {each.label} {each.index}{times}"
+        yield f"{gnu_place(source, file, each.instruction.line)}: warning: {each.kind}: {each.text} [{place}]"
+
+
+def gnu_place(source: Callable[[int], str], file: str, line: int) -> str:
+    """A line as `FILE:LINE` or `FILE:LINE:COLUMN`."""
+    place = place_of(source(line), file, line)
+    region = place["region"]
+    column = f":{region['startColumn']}" if "startColumn" in region else ""
+    return f"{place['artifactLocation']['uri']}:{region['startLine']}{column}"
 
 
 def place_of(told: str, file: str, line: int) -> dict[str, Any]:

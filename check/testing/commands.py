@@ -17,6 +17,7 @@ FIRST = ("#44 $fill @body 4  line 18: storew %square, %place\n"
          "  bounds: storew at the end of $squares (16 bytes), into $bias+0\n1 suspicion in 88 moves, done 30\n")
 ENDLESS = "export function w $main() {\n@start\n@loop\n\tjmp @loop\n}\n"
 FAULT = "export function w $main() {\n@start\n\thlt\n}\n"
+DIVISION = str(TOP / "rows" / "fault-division-by-zero" / "program.ssa")
 # A store past the end, in every round of ten.
 ROUNDS = """data $a = align 4 { z 4 }
 data $b = align 4 { z 4 }
@@ -48,7 +49,12 @@ COMMANDS: list[tuple[str, list[str], int, str, str]] = [
     ("no file", ["/nowhere/at-all.ssa"], 2, "", "qrev: /nowhere/at-all.ssa: No such file or directory\n"),
     ("no words", [], 64, "", "qrev: a program was expected: ./qrev --check FILE [ARGS..]\n"),
     ("unknown kind", [SQUARES, "--kinds", "bonds"], 64, "", "qrev: bonds: no kind of suspicion; the kinds are "),
-    ("unknown form", [SQUARES, "--format", "xml"], 64, "", "qrev: --format xml: text or json was expected\n"),
+    ("unknown form", [SQUARES, "--format", "xml"], 64, "", "qrev: --format xml: text, gnu or json was expected\n"),
+    ("gnu", [SQUARES, "--format", "gnu"], 3, f"{SQUARES}:18: warning: bounds: storew at the end of $squares (16 bytes), into $bias+0 "
+     "[#44 $fill @body 4]\n", ""),
+    ("gnu, a fault", [DIVISION, "--format=gnu"], 4,
+     f"{DIVISION}:3: error: fault division by zero [#0 $main @start 0]\n", ""),
+    ("gnu, none", [str(EXAMPLES / "sum.ssa"), "--format", "gnu"], 0, "", ""),
     ("no limit", [SQUARES, "--limit", "0"], 64, "", "qrev: --limit 0: a number from 1 to "),
     ("heap of no function", [SQUARES, "--heap", "take=nothing"], 64, "", "qrev: take=nothing: the program has no function nothing\n"),
     ("heap of another shape", [SQUARES, "--heap", "take=fill"], 64, "", "qrev: take=fill: a function (l) that gives l was expected\n"),
