@@ -6,13 +6,14 @@ besides (a condition, a count, a depth) the scratch process looks for the positi
 from __future__ import annotations
 
 from dataclasses import dataclass
+from typing import Callable
 
 from .answers import Place
 from .frames import Frames
 from .levels import MOST_STOPS, CodePlace, Levels, stop_line
 from .scratch import MOST_AT_ONCE, Hit, Refused
 from .session import Session
-from .stops import FRAME_OVER, Answered, Filter, FrameWatch, Stop
+from .stops import FRAME_OVER, Answered, Filter, FrameWatch, Stop, SuspicionStop
 from .text import Program
 from .waiting import Interrupted
 
@@ -96,24 +97,41 @@ class Outcome:
     refusal: str = ""
 
 
+@dataclass(frozen=True)
+class Suspicious:
+    """A position ahead of a run at which a suspicious move comes next, with the stop, and what is said of it."""
+    position: int
+    stop: SuspicionStop
+    said: str
+
+
 class Runs:
     def __init__(self, session: Session, frames: Frames, budget: int | None):
         self.session, self.frames, self.budget = session, frames, budget
         self.scratch, self.waiting = session.scratch, session.waiting
         self.stops: list[Stop] = []
+        # Finds the suspicious move that a run would come to first, forward or back, if there is one.
+        self.find_suspicious: Callable[[SuspicionStop, bool], Suspicious | None] = lambda _stop, _is_forward: None
 
     def run(self, is_forward: bool, target: Target | Places | None = None) -> Outcome:
         """Runs to a stop, or to the target where there is one."""
-        if target is None and all(stop.is_plain for stop in self.active):
+        suspicious = self.suspicious_ahead(is_forward)
+        if target is None and not suspicious and all(stop.is_plain for stop in self.active):
             outcome = self.run_plainly("continue" if is_forward else "reverse")
         else:
-            outcome = self.run_filtered(is_forward, target)
+            outcome = self.run_filtered(is_forward, target, suspicious)
         stop = outcome.stop
         if stop:
             stop.hits += 1
             if stop.is_once or outcome.reason.endswith(FRAME_OVER):
                 self.delete(stop)
         return outcome
+
+    def suspicious_ahead(self, is_forward: bool) -> Suspicious | None:
+        """The suspicious move that comes first in a run from here, of those that are stopped at."""
+        wanted = [stop for stop in self.active if isinstance(stop, SuspicionStop)]
+        found = [each for each in (self.find_suspicious(stop, is_forward) for stop in wanted) if each]
+        return (min if is_forward else max)(found, key=lambda each: each.position, default=None)
 
     def run_plainly(self, command: str) -> Outcome:
         begun = self.session.place.position
@@ -143,17 +161,21 @@ class Runs:
             said = ": " + told.memory_change(stop.memory.value, now, stop.memory.width)
         return Outcome(f"{kind} {stop.number}, {stop.what}{said}", stop)
 
-    def run_filtered(self, is_forward: bool, target: Target | Places | None) -> Outcome:
+    def run_filtered(self, is_forward: bool, target: Target | Places | None, suspicious: Suspicious | None = None) -> Outcome:
         here = self.session.timeline
-        filter = Filter(self.active, self.session.program, is_forward)
+        filter = Filter([stop for stop in self.active if stop.lines], self.session.program, is_forward)
         self.look_at_watches()
         lines = filter.lines + (target.begin(self.session, is_forward, filter.lines) if target else [])
         questions, is_known = filter.questions(target.questions if target else [])
         last = here.position + (self.budget if is_forward else -self.budget) if self.budget else None
+        if suspicious and (last is None or abs(suspicious.position - here.position) <= abs(last - here.position)):
+            last = suspicious.position
         position, outcome = here.position, None
         try:
             hits = self.scratch.go(here).hits(is_forward, lines, questions, MOST_AT_ONCE if is_known else 1, last)
             for hit in hits:
+                if suspicious and last is not None and (hit.position > last if is_forward else hit.position < last):
+                    break
                 outcome = self.outcome_at(hit, filter, questions, target, is_forward)
                 position = hit.position
                 if outcome:
@@ -163,8 +185,10 @@ class Runs:
             position, outcome = (max if is_forward else min)(position, reached), Outcome(STOPPED)
             self.waiting.begin()
         for stop in self.active:
-            stop.ignored = filter.left[id(stop)]
-        if not outcome and last is not None and not self.session.place.end:
+            stop.ignored = filter.left.get(id(stop), stop.ignored)
+        if not outcome and suspicious and last == suspicious.position:
+            position, outcome = last, Outcome(suspicious.said, suspicious.stop)
+        elif not outcome and last is not None and not self.session.place.end:
             position, outcome = max(last, 0), Outcome("limit")
         if outcome:
             self.session.go(here.at(position))
@@ -213,12 +237,14 @@ class Runs:
     def add(self, stop: Stop) -> Stop:
         """Sets a stop: its lines go to the session, and the number of the first is its own."""
         self.switch_on(stop)
-        stop.number = stop.numbers[0]
+        stop.number = stop.numbers[0] if stop.numbers else stop.number
         self.stops.append(stop)
         return stop
 
     def switch_on(self, stop: Stop) -> None:
         """Has the session stop there, unless it does."""
+        if isinstance(stop, SuspicionStop):
+            stop.is_set = True
         for line in stop.lines[len(stop.numbers):]:
             answer = self.session.change(line)[0]
             if answer.startswith("no: "):
@@ -228,6 +254,8 @@ class Runs:
 
     def switch_off(self, stop: Stop) -> None:
         """Has the session pass it over; the stop keeps its number."""
+        if isinstance(stop, SuspicionStop):
+            stop.is_set = False
         for number in stop.numbers:
             self.session.change(f"delete {number}")
         stop.numbers.clear()

@@ -6,7 +6,8 @@ from .moving import address_word
 from .scratch import Refused
 from .shell import Shell, command
 from .sources import place_in_source
-from .stops import FrameWatch, MemoryWatch, Stop
+from .stops import FrameWatch, MemoryWatch, Stop, SuspicionStop
+from .suspecting import add_suspicion_stop
 from .values import BITS, FLOATS
 
 PIECES = (("l", 8), ("w", 4), ("h", 2), ("b", 1))
@@ -76,10 +77,15 @@ def add_breakpoint(shell: Shell, rest: str, is_once: bool) -> None:
     shell.say(f"break {shell.runs.add(stop)}")
 
 
-@command("break b br", "break [LINE | FILE:LINE | $f | @b | $f @b [K]] [if CONDITION]", "place", is_repeated=False)
+@command("break b br", "break [LINE | FILE:LINE | $f | @b | $f @b [K] | suspect [KINDS]] [if CONDITION]", "place", is_repeated=False)
 def break_(shell: Shell, rest: str) -> None:
     """A breakpoint at a line of the text or of a source, a function, a label, or the K-th instruction behind a label.
-    With a condition it stops only where that holds: `b @loop if %i > 3`, also `if depth == 2` for one depth of frames."""
+    With a condition it stops only where that holds: `b @loop if %i > 3`, also `if depth == 2` for one depth of frames.
+    `break suspect` stops before each move that no right compiler's output makes, forward and back."""
+    first, _, kinds = rest.partition(" ")
+    if first in ("suspect", "suspects"):
+        add_suspicion_stop(shell, kinds.strip())
+        return
     add_breakpoint(shell, rest, False)
 
 
@@ -150,6 +156,14 @@ def memory_watch(shell: Shell, width: str, text: str) -> Stop:
                 memory=MemoryWatch(address, count, width=width))
 
 
+def conditional(shell: Shell, text: str) -> Stop:
+    """A stop that may have a condition or a count."""
+    stop = stop_named(shell, text)
+    if isinstance(stop, SuspicionStop):
+        raise Refused(f"stop {stop.number} has no condition and no count: it stops before each suspicious move")
+    return stop
+
+
 def stop_named(shell: Shell, text: str) -> Stop:
     known = {str(stop.number): stop for stop in shell.runs.stops}
     if text == "last" and known:
@@ -178,7 +192,7 @@ def stops(shell: Shell, rest: str) -> None:
 def ignore(shell: Shell, rest: str) -> None:
     """Passes a stop over the next COUNT times that it would stop."""
     number, _, count = rest.partition(" ")
-    stop = stop_named(shell, number)
+    stop = conditional(shell, number)
     value = shell.whole(count)
     if not 0 <= value < 1 << 32:
         raise Wrong(f"{count}: a number from 0 was expected")
@@ -190,7 +204,7 @@ def ignore(shell: Shell, rest: str) -> None:
 def condition(shell: Shell, rest: str) -> None:
     """Gives a stop a condition, or takes it away."""
     number, _, text = rest.partition(" ")
-    stop = stop_named(shell, number)
+    stop = conditional(shell, number)
     stop.condition = shell.parsed(text) if text.strip() else None
     stop.condition_text = text.strip()
     if stop.typed:

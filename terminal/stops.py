@@ -30,7 +30,7 @@ class Stop:
     memory: MemoryWatch | None = None
     frame: FrameWatch | None = None
     hits: int = 0
-    number: int = 0
+    number: int | str = 0
     typed: str = ""
     commands: list[str] = field(default_factory=list)
 
@@ -58,6 +58,18 @@ class Stop:
         if self.hits:
             parts.append(f"stopped {self.hits} times" if self.hits > 1 else "stopped once")
         return ", ".join(parts)
+
+
+@dataclass
+class SuspicionStop(Stop):
+    """A stop before each move that is suspicious, of these kinds. The debugger knows nothing of it: which moves these are is found
+    out by a check of the run (suspecting.py)."""
+    kinds: frozenset[str] = frozenset()
+    is_set: bool = True
+
+    @property
+    def is_on(self) -> bool:
+        return self.is_set
 
 
 @dataclass

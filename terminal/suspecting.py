@@ -10,8 +10,10 @@ from check.telling import bits_told, object_told, origin_told, summary
 from page.gathering import Gathering
 
 from .expressions import Wrong
+from .runs import Suspicious
 from .scratch import Refused
 from .shell import Shell, command
+from .stops import SuspicionStop
 from .timeline import Timeline
 
 # How many moves are looked at.
@@ -33,6 +35,47 @@ def followed(shell: Shell, at: Timeline, most: int, kinds: frozenset[str]) -> tu
     data = next(part[5:] for part in gathered.parts if part[:1] == b"D")
     follower = Follower(table, data, kinds, roles_of(program, None), pokes={poke.position: poke.line for poke in at.pokes})
     return follower, gathered, follower.follow(list(gathered.places), iter(gathered.values))
+
+
+class Suspicions:
+    """The suspicious moves of the session's run, which are found out once for each list of pokes."""
+
+    def __init__(self, shell: Shell):
+        self.shell = shell
+        self.known: dict[tuple[object, frozenset[str]], list[tuple[int, str]]] = {}
+
+    def found(self, kinds: frozenset[str]) -> list[tuple[int, str]]:
+        """The positions before which a suspicious move comes, in order, and what is said of each."""
+        at = self.shell.session.timeline
+        key = (tuple(at.pokes), kinds)
+        if key not in self.known:
+            follower, _, _ = followed(self.shell, at, MOST, kinds)
+            self.known = {key: sorted((each.position, f"{each.kind}: {each.text}") for each in follower.suspicions())}
+        return self.known[key]
+
+    def ahead(self, stop: SuspicionStop, is_forward: bool) -> Suspicious | None:
+        here = self.shell.session.timeline.position
+        found = [each for each in self.found(stop.kinds) if (each[0] > here if is_forward else each[0] < here)]
+        if not found:
+            return None
+        position, text = found[0 if is_forward else -1]
+        return Suspicious(position, stop, f"suspicion {stop.number}, {text}")
+
+
+def add_suspicion_stop(shell: Shell, rest: str) -> None:
+    """`break suspect [KINDS]`: there is one at most."""
+    try:
+        kinds = chosen(rest or None)
+    except WrongKind as error:
+        raise Wrong(str(error)) from None
+    suspicions = Suspicions(shell)
+    count = len(suspicions.found(kinds))
+    for stop in [stop for stop in shell.runs.stops if isinstance(stop, SuspicionStop)]:
+        shell.runs.delete(stop)
+    shell.runs.find_suspicious = suspicions.ahead
+    what = "suspicious moves" + (f" ({rest})" if rest else "")
+    stop = SuspicionStop(what, [], [], number="s", typed=f"break suspect {rest}".rstrip(), kinds=kinds)
+    shell.say(f"break {shell.runs.add(stop)}", f"the run as it is now has {count or 'none'}")
 
 
 @command("suspects suspicions", "suspects [strict | KIND,..]", is_repeated=False)

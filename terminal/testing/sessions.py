@@ -74,6 +74,24 @@ GDB: Lines = [
     ("suspects bonds", ["bonds: no kind of suspicion"]), ("goto 88", ["#88 done 30"]), ("source /nowhere/at-all", ["/nowhere/at-all: No such file"]),
 ]
 
+# Of strays.ssa: moves 1, 4 and 6 are suspicious, by what docs/CHECKING.md says of each kind.
+SUSPICIOUS: Lines = [
+    ("break suspect", ["break s: suspicious moves", "the run as it is now has 3"]),
+    ("c", ["stop: suspicion s, bounds: storew at the end of $a (4 bytes), into $b+0", "#1 $main @start 1"]),
+    ("c", ["stop: suspicion s, undef: ", "#4 $main @start 4"]), ("c", ["stop: suspicion s, bounds: ", "#6 $main @two 1"]),
+    ("c", ["stop: end", "#8 done 0"]), ("reverse", ["stop: suspicion s, bounds: ", "#6 $main @two 1"]),
+    ("reverse 2", ["stop: suspicion s, bounds: ", "#1 $main @start 1"]), ("reverse", ["stop: start", "#0 $main @start 0"]),
+    ("b @two", ["break 1"]), ("c 2", ["#4 $main @start 4"]), ("c", ["stop: break 1", "#5 $main @two 0"]),
+    ("reverse", ["stop: suspicion s, undef: ", "#4 $main @start 4"]), ("stops", ["s: suspicious moves, stopped", "1: $main @two 0"]),
+    ("ignore s 1", ["stop s has no condition and no count"]), ("condition s 1", ["stop s has no condition and no count"]),
+    ("disable s", ["s: suspicious moves, switched off"]), ("run", ["stop: break 1", "#5 $main @two 0"]),
+    ("enable s", ["s: suspicious moves"]), ("break suspect undef", ["the run as it is now has 1"]),
+    ("stops", ["s: suspicious moves (undef)"]), ("run", ["stop: suspicion s, undef: ", "#4 $main @start 4"]),
+    ("set %unset 1", ["#5 $main @start 4"]), ("break suspect", ["the run as it is now has 1"]),
+    ("c", ["stop: end", "#7 done 1"]), ("reverse", ["stop: suspicion s, bounds: ", "#1 $main @start 1"]), ("d s", ["deleted s"]),
+    ("reverse", ["stop: start"]), ("break suspect bonds", ["bonds: no kind of suspicion"]),
+]
+
 # On the stack of examples/digits.ssa after 101 moves: docs/LANGUAGE.md has the picture.
 VALUES: Lines = [
     ("goto 101", ["#101 $number @digit 3", "%t2=49, %at.next=frame 1 $main alloc %count+3"]),
