@@ -15,7 +15,7 @@ const Module = require("module");
 
 const [folder, text] = process.argv.slice(2).map((each) => path.resolve(each));
 const registered = { commands: {}, providers: [], factory: undefined, trackers: undefined };
-const told = { executed: [], started: [], asked: [], informed: [], warned: [], failed: [], terminals: [] };
+const told = { executed: [], started: [], asked: [], informed: [], warned: [], failed: [], terminals: [], lists: [], picks: [] };
 const marks = new Map();
 const listeners = {};
 const items = [];
@@ -39,6 +39,7 @@ const vscode = {
       return item;
     },
     showInformationMessage: async (said) => { told.informed.push(said); },
+    showQuickPick: async (entries, options) => { told.lists.push({ entries, options }); return told.picks.shift()(entries); },
     showWarningMessage: async (said) => { told.warned.push(said); },
     showErrorMessage: async (said) => { told.failed.push(said); },
     setStatusBarMessage: () => ({}),
@@ -279,6 +280,29 @@ const tests = {
       assert.strictEqual(told.asked[1].value, "44");
       assert.strictEqual(told.asked[0].validateInput("x"), "a number was expected");
       assert.strictEqual(told.asked[0].validateInput("#7"), undefined);
+      // Why, by three questions: what $bias holds, then what led to that store; the last pick goes there.
+      const lookup = (start) => (entries) => entries.find((each) => each.label.includes(start));
+      vscode.debug.activeDebugSession = { ...session, configuration: { program: text }, customRequest: session.customRequest };
+      vscode.window.typed = "88";
+      await registered.commands["qrev.goto"]();
+      await adapter.stopped("#88 done 30");
+      told.picks.push(lookup("the way to @body"), lookup("#39 $fill @loop 1"));
+      await registered.commands["qrev.why"]({ variable: { name: "$bias", value: "16" } });
+      assert.deepStrictEqual(told.lists.map((each) => each.options.title), ["w $bias+0 = 16: stored by", "control came to @body by"]);
+      assert.deepStrictEqual(told.lists[0].entries.map((each) => each.label), ["$(location) #44 $fill @body 4",
+        "$(question) %square = 16", "$(question) %place = 65552 ($bias+0)", "$(question) the way to @body"]);
+      await adapter.stopped("#39 $fill @loop 1");
+      // Behind a change by hand the causes are those of the changed run.
+      const change = { expression: "set %more 0", context: "repl" };
+      follower.onWillReceiveMessage({ command: "evaluate", arguments: change });
+      await adapter.request("evaluate", change);
+      await adapter.stopped("#40 $fill @loop 1");
+      vscode.window.activeTextEditor = { selection: { active: {} },
+        document: { getWordRangeAtPosition: () => ({}), getText: () => "%more" } };
+      told.picks.push(() => undefined);
+      await registered.commands["qrev.why"]();
+      assert.strictEqual(told.lists[2].options.title, "%more = 0 was set by hand: #39 set %more 0");
+      vscode.window.activeTextEditor = undefined;
       follower.onWillStopSession();
       assert.deepStrictEqual(items.map((each) => each.isShown), [false, false, false]);
     } finally {

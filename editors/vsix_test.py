@@ -27,7 +27,7 @@ CONTRIBUTED = {"languages": {"id", "aliases", "extensions", "configuration"}, "g
                "keybindings": {"command", "key", "when"},
                "debuggers": {"type", "label", "languages", "program", "configurationAttributes", "initialConfigurations",
                              "configurationSnippets"}}
-MENUS = {"editor/title/run", "editor/title", "debug/toolBar", "commandPalette"}
+MENUS = {"editor/title/run", "editor/title", "editor/context", "debug/toolBar", "debug/variables/context", "commandPalette"}
 
 
 def made(folder: str, name: str) -> bytes:

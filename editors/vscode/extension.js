@@ -7,6 +7,7 @@ const fs = require("fs");
 const path = require("path");
 const vscode = require("vscode");
 const { Marks, inTerminal, withLowering } = require("./tools");
+const { Changes, why } = require("./why");
 
 const TYPE = "qrev";
 const LANGUAGE = "qbe";
@@ -83,11 +84,13 @@ class Status {
     this.items = [this.place, item(102, "$(debug-step-back)", "qrev: Step Back", "qrev.stepBack"),
       item(101, "$(debug-reverse-continue)", "qrev: Reverse", "qrev.reverse")];
     this.position = undefined;
+    this.changes = new Changes();
   }
 
   show(line) {
     const found = PLACE.exec(line || "");
     this.position = found ? Number(found[1]) : undefined;
+    if (found) this.changes.stopped(this.position);
     this.place.text = found ? `$(location) ${line}` : "$(location) qrev";
     this.items.forEach((item) => item.show());
   }
@@ -98,6 +101,7 @@ class Status {
 
   hide() {
     this.position = undefined;
+    this.changes = new Changes();
     this.items.forEach((item) => item.hide());
   }
 
@@ -111,6 +115,10 @@ class Follower {
   constructor(status, session) {
     this.status = status;
     this.session = session;
+  }
+
+  onWillReceiveMessage(message) {
+    if (this.status.position !== undefined) this.status.changes.asked(message, this.status.position);
   }
 
   onDidSendMessage(message) {
@@ -138,8 +146,19 @@ async function goTo(status) {
     validateInput: (given) => (/^#?\d{1,10}$/.test(given.trim()) ? undefined : "a number was expected"),
   });
   if (text === undefined) return;
-  const away = Number(text.trim().replace("#", "")) - status.position;
+  await moveTo(session, status, Number(text.trim().replace("#", "")));
+}
+
+async function moveTo(session, status, position) {
+  const away = position - status.position;
   if (away) await session.customRequest("evaluate", { expression: `${away > 0 ? "step" : "back"} ${Math.abs(away)}`, context: "repl" });
+}
+
+// Asks why a value is what it is: the one that was clicked, or the one at the cursor.
+async function askWhy(context, status, given) {
+  const session = vscode.debug.activeDebugSession;
+  if (!session || session.type !== TYPE || status.position === undefined) return;
+  await why(context, session, status.position, status.changes, given, (position) => moveTo(session, status, position));
 }
 
 // The prompt, with `why` and all else of the terminal: at the position of the session that is debugged, or at the start.
@@ -174,6 +193,7 @@ function activate(context) {
     does("qrev.goto", () => goTo(status)),
     does("qrev.check", (file) => marks.command(file)),
     does("qrev.page", (file) => inTerminal(context, "qrev: the page", ["--page"], file, [])),
+    does("qrev.why", (given) => askWhy(context, status, given)),
     does("qrev.prompt", (file) => openPrompt(context, status, file)),
   );
   vscode.workspace.textDocuments.forEach((document) => marks.saved(document));

@@ -38,11 +38,13 @@ function scriptOf(context) {
   return path.join(folderOf(context), "qrev");
 }
 
-// What a program wrote, and its status; a status of -1 if it couldn't be started.
-function run(program, words, folder) {
+// What a program wrote when it read a text, and its status; a status of -1 if it couldn't be started.
+function run(program, words, folder, text = "") {
   return new Promise((done) => {
     const written = { status: -1, out: "", error: "" };
-    const child = spawn(program, words, { cwd: folder, stdio: ["ignore", "pipe", "pipe"] });
+    const child = spawn(program, words, { cwd: folder, stdio: "pipe" });
+    child.stdin.on("error", () => {});
+    child.stdin.end(text);
     child.stdout.on("data", (piece) => { written.out += piece; });
     child.stderr.on("data", (piece) => { written.error += piece; });
     child.on("error", (error) => done(Object.assign(written, { error: error.message })));
@@ -196,4 +198,4 @@ async function withLowering(context, given) {
   return { ...launch, program };
 }
 
-module.exports = { Marks, inTerminal, withLowering };
+module.exports = { Marks, inTerminal, run, scriptOf, withLowering };
