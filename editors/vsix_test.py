@@ -98,6 +98,6 @@ def code_fault(folder: str, seconds: float) -> object:
     if not shutil.which("node"):
         return Skipped("node")
     run = subprocess.run(["node", str(TOP / "editors" / "vscode-test.js"), folder, str(SQUARES)], capture_output=True, text=True,
-                         timeout=seconds)
+                         timeout=4 * seconds)
     return None if run.returncode == 0 and re.search(r"^[1-9]\d* passed, 0 failed$", run.stdout, re.MULTILINE) else \
         f"vsix: {run.stdout}{run.stderr}"
