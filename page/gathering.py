@@ -42,7 +42,7 @@ AT_END, NO_MEMORY = "at end", "memory"
 STEP = "step"
 
 
-class Asked(dict):
+class Asked(dict[tuple[int, int], str]):
     """What is sent for the move between two places: the step, and the values that it sets."""
 
     def __init__(self, table: Table):

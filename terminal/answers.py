@@ -61,6 +61,12 @@ def read_bytes(line: str) -> list[int | None]:
     return [None if word == "--" else int(word, 16) for word in line.split()]
 
 
+def live(found: list[int | None]) -> bytes | None:
+    """The bytes of memory, if all of them are live."""
+    bytes_ = [byte for byte in found if byte is not None]
+    return bytes(bytes_) if len(bytes_) == len(found) else None
+
+
 def read_output(line: str) -> bytes:
     """The bytes that `out` shows."""
     text = line[line.index('"') + 1:-1]

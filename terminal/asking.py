@@ -7,12 +7,13 @@ from itertools import zip_longest
 from .accesses import Access
 from .answers import COMMANDS as LANGUAGE, Place, read_place
 from .causes import MOST_BYTES_ASKED, Cause, Question
-from .expressions import Unset, Wrong, evaluate, parts_of, temporaries_of, whole
+from .expressions import Node, Unset, Wrong, evaluate, parts_of, temporaries_of, whole
 from .pipe import Pipe
 from .scratch import Refused, frames_of
 from .session import MOVES
 from .shell import Shell, command
 from .stops import Answered, FixedState, questions_of
+from .text import Operand, Program
 from .timeline import Timeline, common
 from .values import BITS, FLOATS, brief
 from .ways import why_not
@@ -132,7 +133,7 @@ def access_told(shell: Shell, access: Access, run: Timeline) -> str:
     names = [operand.text for operand in instruction.operands if operand.is_temporary]
     values = dict(zip(names, shell.session.scratch.go(run.at(access.position)).values(*names)))
 
-    def shown(operand) -> str:
+    def shown(operand: Operand) -> str:
         if not operand.is_temporary:
             return operand.text
         value, width = values[operand.text], classes[operand.text]
@@ -181,11 +182,11 @@ def when(shell: Shell, rest: str) -> None:
     shell.say(f"{counted(len(spans), 'time')} {told_bounds(shell, run)}")
 
 
-def fixed_address(part, program) -> int:
+def fixed_address(part: Node, program: Program) -> int:
     return whole(evaluate(part.parts[0], FixedState(program))) % (1 << 64)
 
 
-def held_spans(shell: Shell, run: Timeline, stops: list[str], questions: list[str], node,
+def held_spans(shell: Shell, run: Timeline, stops: list[str], questions: list[str], node: Node,
                function: str) -> list[tuple[int, int | None]]:
     """The spans of positions in which a condition holds, by going back along the changes of what it is about."""
     scratch = shell.session.scratch.go(run)
@@ -209,11 +210,11 @@ class Readings:
     """Whether a condition holds at the changes of what it is about: a temporary of a function reads what it is in the
     innermost frame of that function, which needn't be the innermost frame of all."""
 
-    def __init__(self, shell: Shell, node, questions: list[str], function: str, run: Timeline):
+    def __init__(self, shell: Shell, node: Node, questions: list[str], function: str, run: Timeline):
         self.shell, self.node, self.questions, self.function, self.run = shell, node, questions, function, run
         self.scratch, self.program = shell.session.scratch, shell.session.program
 
-    def holds(self, place, answers: list[list[str]]) -> bool | None:
+    def holds(self, place: Place, answers: list[list[str]]) -> bool | None:
         """Of a state whose answers are known; None where the frame that is meant isn't the innermost one."""
         known = dict(zip(self.questions, answers))
         if self.function and place.function != self.function:

@@ -7,14 +7,15 @@ from __future__ import annotations
 
 from collections import Counter
 from dataclasses import dataclass, field
+from typing import Callable
 
 from .accesses import MOST_STOPS, Accesses, Site, size_of
-from .answers import Place, read_output
+from .answers import Place, live, read_output
 from .frames import Frames, allocations_of, steps_begun
 from .levels import own_hits
 from .lowered import Lowered
 from .origins import Origins
-from .scratch import Scratch
+from .scratch import Refused, Scratch
 from .text import ALLOCATIONS, BUILT_IN, LOADED, STORED, Instruction, Program
 from .timeline import Timeline
 from .values import BYTES, FLOATS, Names, as_float, is_stack, remarks, shown_bytes, signed
@@ -72,13 +73,20 @@ class Setter:
     instruction: Instruction | None = None
 
 
+# Stores, each by its position with the bytes that it wrote.
+Writers = list[tuple[int, set[int]]]
+# At which places of a function, by label and index, a temporary is just going to be set or has just been, and how.
+Roles = dict[tuple[str, int], dict[str, Instruction]]
+
+
 def distance(number: int, begin: int, size: int) -> int:
     """How far a number is from a span."""
     return max(begin - number, number - (begin + size), 0)
 
 
 class Causes:
-    def __init__(self, program: Program, names: Names, frames: Frames, scratch: Scratch, source=lambda line: "",
+    def __init__(self, program: Program, names: Names, frames: Frames, scratch: Scratch,
+                 source: Callable[[int], str] = lambda line: "",
                  lowered: Lowered | None = None):
         self.program, self.names, self.frames, self.scratch = program, names, frames, scratch
         self.lowered = lowered or Lowered()
@@ -139,16 +147,17 @@ class Causes:
         found = self.scratch.go(at).memory(address, count)
         width = width or self.lowered.float_at(self.program.object_at(address), address, count) or WIDTHS.get(count, "")
         head = f"{width or f'{count} bytes at'} {self.frames.name(address, 'l', at) or address}"
-        if None in found:
+        known = live(found)
+        if known is None:
             return f"{head}, which aren't live"
         if not width:
-            return f"{head} = {shown_bytes(bytes(found))}"
-        value = int.from_bytes(bytes(found), "little")
+            return f"{head} = {shown_bytes(known)}"
+        value = int.from_bytes(known, "little")
         if width in FLOATS:
             return f"{head} = {as_float(value, width)}"
         said = remarks(value, width, self.address_told(value, width, at, address=address))
         if width == "b" and 32 <= value < 127:
-            said = [shown_bytes(bytes(found))]
+            said = [shown_bytes(known)]
         return f"{head} = {value}" + (f" ({', '.join(said)})" if said else "")
 
     def executed(self, at: Timeline, head: str, wanted: tuple[int, int] | None = None) -> Cause:
@@ -224,8 +233,12 @@ class Causes:
         index = next((index for index, frame in enumerate(frames) if self.lowered.is_own(frame.function)), 0)
         return (self.frames.frame(at, index), frames[index - 1].function) if index else (at, "")
 
-    def operand_value(self, text: str, at: Timeline) -> int | None:
-        return self.scratch.go(at).values(text)[0] if text.startswith("%") else self.accesses.constant(text)
+    def operand_value(self, text: str, at: Timeline) -> int:
+        """The value of an operand that a move from there has read, so that it is set."""
+        value = self.scratch.go(at).values(text)[0] if text.startswith("%") else self.accesses.constant(text)
+        if value is None:
+            raise Refused(f"{text} is unset at #{at.position}")
+        return value
 
     def control(self, at: Timeline, place: Place) -> Question:
         first = self.program.functions[place.function].first
@@ -242,19 +255,20 @@ class Causes:
         there = at.at(setter.position)
         if setter.kind == "unset":
             return self.unset(name, function, at)
-        if setter.kind == "poke":
-            line = at.poke_at(setter.position).line
-            return Cause(there, [f"{question.text} was set by hand: #{setter.position} {line}"])
+        poke = at.poke_at(setter.position)
+        if setter.kind == "poke" and poke:
+            return Cause(there, [f"{question.text} was set by hand: #{setter.position} {poke.line}"])
         if setter.kind == "given":
             return Cause(there, [f"{question.text} is an argument of the command line"])
-        if setter.kind == "phi":
+        if setter.kind == "phi" and setter.instruction:
             return self.of_phi(question, there, setter.instruction)
         if setter.kind == "parameter":
             return self.of_parameter(question, there, function)
         if setter.kind == "result":
             return self.of_result(question, there)
         cause = self.executed(there, f"{question.text} was set by")
-        self.add_stale(cause, at, setter.instruction)
+        if setter.instruction:
+            self.add_stale(cause, at, setter.instruction)
         self.add_before(cause, name, function)
         return cause
 
@@ -272,10 +286,10 @@ class Causes:
                  and poke.position >= found.position]
         return Setter("poke", pokes[-1].position) if pokes else found
 
-    def roles(self, name: str, function: str) -> tuple[dict, str]:
+    def roles(self, name: str, function: str) -> tuple[Roles, str]:
         """At which places a temporary is just going to be set, or has just been set by what led there."""
         code = self.program.functions[function]
-        roles: dict[tuple[str, int], dict[str, Instruction]] = {}
+        roles: Roles = {}
         for label, index, instruction in code.definitions(name):
             if instruction.operation == "phi":
                 roles.setdefault((label, 0), {})["phi"] = instruction
@@ -285,7 +299,7 @@ class Causes:
                 roles.setdefault((label, index), {})["set"] = instruction
         return roles, code.first
 
-    def role_at(self, place: tuple[str, int], roles: dict, run: Timeline, position: int) -> Setter | None:
+    def role_at(self, place: tuple[str, int], roles: Roles, run: Timeline, position: int) -> Setter | None:
         """What was done at a place, to come to the state of a run at a position or by the step from there."""
         found = roles.get(place, {})
         if position < run.position and "set" in found and not run.poke_at(position):
@@ -307,7 +321,7 @@ class Causes:
             return Setter("unset", came)
         return Setter("parameter" if depth > 1 else "given", max(came, 0))
 
-    def searched(self, name: str, function: str, at: Timeline, depth: int, roles: dict) -> Setter:
+    def searched(self, name: str, function: str, at: Timeline, depth: int, roles: Roles) -> Setter:
         """Goes back to the last place at which the temporary was set in this frame, or to the frame's beginning."""
         first = (self.program.functions[function].first, 0)
         for position, place in own_hits(self.program, self.scratch, at, function, list(roles)):
@@ -521,7 +535,7 @@ class Causes:
         hit = next(self.scratch.go(at).hits(False, stops, most=1), None)
         return hit.position if hit and hit.stop is not None else None
 
-    def same_stores(self, address: int, left: set[int], at: Timeline, low: int, writers: list) -> bool:
+    def same_stores(self, address: int, left: set[int], at: Timeline, low: int, writers: Writers) -> bool:
         """Looks for stores of what was there already, behind the last change; False where they are too many."""
         first, count = address + min(left), max(left) - min(left) + 1
         sites = [site for site in self.accesses.sites(True) if self.accesses.may_touch(site, True, first, count)]
@@ -555,7 +569,7 @@ class Causes:
             found += [(poke.position, span)] * bool(span)
         return found
 
-    def covered(self, sites: list[Site], address: int, left: set[int], at: Timeline, low: int, found: list) -> bool:
+    def covered(self, sites: list[Site], address: int, left: set[int], at: Timeline, low: int, found: Writers) -> bool:
         """Adds stores by these sites, the latest first, until all bytes have one; False where too many were looked at."""
         looked, seen = 0, set()
         for block in self.accesses.blocks(sites, at, low):
@@ -585,23 +599,20 @@ class Causes:
         after = self.scratch.go(at.at(position + 1)).memory(address, max(left) + 1)
         return {offset for offset in left if before[offset] != after[offset]}
 
-    def told_writers(self, question: Question, writers: list[tuple[int, set[int]]], left: set[int]) -> Cause:
+    def told_writers(self, question: Question, writers: Writers, left: set[int]) -> Cause:
         merged: dict[tuple[int, str], set[int]] = {}
         for position, span in writers:
             # Stores of one call of a function of the runtime are one.
             call, callee = (question.at.at(position), "") if question.at.poke_at(position) else \
                 self.call_in_own(question.at.at(position))
             merged.setdefault((call.position, callee), set()).update(span)
-        made: Cause | None = None
-        for position, callee in sorted(merged, reverse=True):
-            cause = self.writer_told(question, position, merged[position, callee], callee)
-            if made is None:
-                made = cause
-            else:
-                made.lines += cause.lines
-                made.questions += cause.questions
+        told = [self.writer_told(question, position, merged[position, callee], callee)
+                for position, callee in sorted(merged, reverse=True)]
+        made = told[0] if told else Cause(question.at.at(0))
+        for cause in told[1:]:
+            made.lines += cause.lines
+            made.questions += cause.questions
         if left:
-            made = made or Cause(question.at.at(0))
             made.lines.append(f"{self.which(question, left)}{question.text} so since the start: "
                               f"{self.data_told(question.address + min(left))}")
         return made

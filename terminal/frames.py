@@ -178,9 +178,9 @@ def steps_begun(at: Timeline) -> int:
 
 def allocations_of(program: Program, function: str) -> dict[str, int]:
     """The temporaries of a function that an alloc gives, each with its number of bytes, or 2^64 where the text has none."""
-    found = {}
+    found: dict[str, int] = {}
     for _, _, instruction in program.functions[function].places():
-        if instruction.operation in ALLOCATIONS:
+        if instruction.operation in ALLOCATIONS and instruction.result:
             size = instruction.operands[0].text
             found[instruction.result] = int(size) if size.isdigit() else 1 << 64
     return found

@@ -78,7 +78,7 @@ def disas(shell: Shell, rest: str) -> None:
     if not rest and not frames:
         raise Refused("no frame: the run is over; `disas $f` shows a function")
     selected = frames[shell.session.selected] if frames else None
-    name = rest or selected.function
+    name = rest or (selected.function if selected else "")
     function, here = program.functions[name], 0
     if selected and selected.function == name:
         # A caller stands behind its call.

@@ -4,7 +4,7 @@ from __future__ import annotations
 import pathlib
 import shlex
 
-from .answers import read_output
+from .answers import live, read_output
 from .expressions import Unset, Wrong
 from .habits import save_stops
 from .scratch import Refused
@@ -54,8 +54,8 @@ def examine(shell: Shell, rest: str) -> None:
     for first in range(0, count, per_line):
         shown = []
         for at in range(first, min(first + per_line, count)):
-            piece = found[at * size:(at + 1) * size]
-            shown.append("--" if None in piece else unit_shown(shell, piece, unit, letter, address + at * size))
+            piece = live(found[at * size:(at + 1) * size])
+            shown.append("--" if piece is None else unit_shown(shell, piece, unit, letter, address + at * size))
         there = address + first * size
         shell.say(f"{named(shell, there)}: {'  '.join(shown)}")
     shell.examined = address + count * size
@@ -79,8 +79,8 @@ def read_format(shell: Shell, letters: str) -> tuple[int, str, str]:
     return count, shell.unit, shell.format
 
 
-def unit_shown(shell: Shell, piece: list[int], unit: str, letter: str, address: int) -> str:
-    value = int.from_bytes(bytes(piece), "little")
+def unit_shown(shell: Shell, piece: bytes, unit: str, letter: str, address: int) -> str:
+    value = int.from_bytes(piece, "little")
     if letter == "a":
         name = shell.causes.address_told(value, unit, shell.session.timeline, address=address) if unit == "l" else None
         return f"{value} {name}" if name else named(shell, value)

@@ -105,7 +105,9 @@ class Lowered:
 
     def float_at(self, data: Data | None, address: int, count: int) -> str:
         """The class of the float that so many bytes of an object are, or nothing."""
-        for begin, cls, number in self.data.get(data.name, ()) if data else ():
+        if data is None:
+            return ""
+        for begin, cls, number in self.data.get(data.name, ()):
             size = FLOAT_BYTES[cls]
             offset = address - data.address - begin
             if count == size and 0 <= offset < number * size and offset % size == 0:

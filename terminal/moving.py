@@ -1,6 +1,8 @@
 """Commands that move the session."""
 from __future__ import annotations
 
+from typing import Callable
+
 from .expressions import Wrong
 from .output import Standard, is_plain
 from .runs import Outcome
@@ -13,7 +15,7 @@ MOST_MOVES = (1 << 32) - 1
 MOST_LISTED = 1000
 
 
-def repeated(shell: Shell, text: str, move) -> None:
+def repeated(shell: Shell, text: str, move: Callable[[], Outcome]) -> None:
     """Makes a move as often as a line says, and shows where that ended."""
     outcome = Outcome()
     for index in range(shell.count(text, MOST_MOVES)):
@@ -38,7 +40,7 @@ def by_many(shell: Shell, text: str, sign: int) -> None:
             shell.outcome(Outcome(refusal=moved.refusal))
             return
         left -= size
-        if moved.refusal or moved.reason or moved.place.end or shell.waiting.is_pressed:
+        if moved.refusal or moved.reason or session.place.end or shell.waiting.is_pressed:
             break
         shell.waiting.tell(session.place.position, target=max(0, target))
     shell.show("stopped by Ctrl-C" if left and shell.waiting.is_pressed else "")

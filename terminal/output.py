@@ -9,7 +9,7 @@ import os
 import re
 import shutil
 import sys
-from typing import Iterator, Protocol
+from typing import Iterator, Protocol, TextIO
 
 from .waiting import Waiting
 
@@ -39,7 +39,7 @@ class Output(Protocol):
     def say(self, *lines: str) -> None: ...
 
 
-def is_plain(stream=None) -> bool:
+def is_plain(stream: TextIO | None = None) -> bool:
     """Whether a stream is no terminal, or one that knows no more than lines."""
     return not (stream or sys.stdout).isatty() or os.environ.get("TERM", "dumb") == "dumb"
 

@@ -41,20 +41,21 @@ class Pipe:
     def __init__(self, words: list[str], pulse: Callable[[], None] = lambda: None, renaming: Renaming | None = None):
         self.process = subprocess.Popen(["qrev", *words[1:]], executable=words[0], stdin=subprocess.PIPE,
                                         stdout=subprocess.PIPE, start_new_session=True)
-        os.set_blocking(self.process.stdin.fileno(), False)
+        assert self.process.stdin and self.process.stdout
+        self.sink, self.source = self.process.stdin, self.process.stdout
+        os.set_blocking(self.sink.fileno(), False)
         self.widen()
         self.pulse, self.sent, self.renaming = pulse, 0, renaming
+        self.refused: Ended | None = None
         try:
             self.loaded = self.told(self.exchange(MARK, 1)[:-len(MARKED)]).splitlines()
         except Ended as end:
             self.loaded = self.rest.decode("latin-1").splitlines()
             self.refused = end
-        else:
-            self.refused = None
 
     def widen(self) -> None:
         """Lets more stand in the pipes than the system gives at first, so that neither side waits for the other often."""
-        for stream in (self.process.stdin, self.process.stdout):
+        for stream in (self.sink, self.source):
             try:
                 fcntl.fcntl(stream.fileno(), fcntl.F_SETPIPE_SZ, WIDE)
             except (OSError, AttributeError):
@@ -62,7 +63,7 @@ class Pipe:
 
     def exchange(self, sent: bytes, marks: int) -> bytes:
         """Writes all of it while it reads, until the answer to a mark came so many times."""
-        source, sink = self.process.stdout.fileno(), self.process.stdin.fileno()
+        source, sink = self.source.fileno(), self.sink.fileno()
         left, self.rest = memoryview(sent), bytearray()
         self.sent += len(sent)
         while marks:
@@ -112,7 +113,7 @@ class Pipe:
         """Sends commands whose answers `finish` takes, whenever they have come; False if there is no room for them at once."""
         sent = self.written("".join(f"{line}\n" for line in lines)) + MARK
         try:
-            written = os.write(self.process.stdin.fileno(), sent)
+            written = os.write(self.sink.fileno(), sent)
         except (BlockingIOError, BrokenPipeError):
             return False
         self.sent += written
@@ -122,7 +123,7 @@ class Pipe:
 
     def has_answered(self) -> bool:
         """Whether some of an answer is there."""
-        return bool(select.select([self.process.stdout.fileno()], [], [], 0)[0])
+        return bool(select.select([self.source.fileno()], [], [], 0)[0])
 
     def finish(self, count: int) -> list[list[str]]:
         """The answers to so many commands that were begun, each of which tells by its first line how long it is."""
@@ -163,7 +164,7 @@ class Pipe:
         """Ends the process, whatever it does."""
         self.process.kill()
         self.process.wait()
-        for stream in (self.process.stdin, self.process.stdout):
+        for stream in (self.sink, self.source):
             try:
                 stream.close()
             except BrokenPipeError:

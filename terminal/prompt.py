@@ -8,7 +8,7 @@ from typing import Iterator
 try:
     import readline
 except ImportError:
-    readline = None
+    readline = None  # type: ignore[assignment]
 
 from .expressions import WORDS as EXPRESSION_WORDS
 from .shell import COMMANDS, Leave, Shell, Switched

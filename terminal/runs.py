@@ -131,7 +131,8 @@ class Runs:
         """The suspicious move that comes first in a run from here, of those that are stopped at."""
         wanted = [stop for stop in self.active if isinstance(stop, SuspicionStop)]
         found = [each for each in (self.find_suspicious(stop, is_forward) for stop in wanted) if each]
-        return (min if is_forward else max)(found, key=lambda each: each.position, default=None)
+        found.sort(key=lambda each: each.position)
+        return found[0 if is_forward else -1] if found else None
 
     def run_plainly(self, command: str) -> Outcome:
         begun = self.session.place.position
@@ -144,9 +145,9 @@ class Runs:
                 return self.outcome_of(moved.reason, command == "continue")
             if self.waiting.is_pressed:
                 return Outcome(STOPPED)
-            if self.budget and abs(moved.place.position - begun) >= self.budget:
+            if self.budget and abs(self.session.place.position - begun) >= self.budget:
                 return Outcome("limit")
-            self.waiting.tell(moved.place.position)
+            self.waiting.tell(self.session.place.position)
 
     def outcome_of(self, reason: str, is_forward: bool) -> Outcome:
         """A reason of the debugger, with the stop that it names and what that says."""

@@ -91,6 +91,12 @@ class Scratch:
         """Where the session keeps its last moves only, so does this one, a million at least; it begins anew for more."""
         return max(SLICE, self.launch.history) if self.launch.history else None
 
+    @property
+    def running(self) -> Pipe:
+        """The process, which has been started."""
+        assert self.pipe
+        return self.pipe
+
     def drop(self) -> None:
         if self.pipe:
             self.pipe.close()
@@ -106,7 +112,7 @@ class Scratch:
     def follow(self, there: Timeline) -> None:
         """Has the process go towards another state of the session's run while that goes on, if it is far away."""
         if self.following:
-            if not self.pipe.has_answered():
+            if not self.pipe or not self.pipe.has_answered():
                 return
             self.settle()
         if abs(there.position - self.timeline.position) < FAR:
@@ -117,7 +123,7 @@ class Scratch:
         word, _, count = line.partition(" ")
         if word in ("step", "back"):
             line = f"{word} {min(int(count), MOST_MOVES)}"
-        if self.pipe.has_room(len(line) + 3) and self.pipe.begin(line):
+        if self.running.has_room(len(line) + 3) and self.running.begin(line):
             self.following = [line]
 
     def settle(self) -> None:
@@ -126,7 +132,7 @@ class Scratch:
             return
         lines, self.following = self.following, []
         try:
-            answers = self.pipe.finish(len(lines))
+            answers = self.running.finish(len(lines))
         except (Interrupted, Ended):
             self.drop()
             raise
@@ -146,10 +152,10 @@ class Scratch:
         self.settle()
         if not self.pipe:
             self.start()
-        if not self.pipe.has_room(size):
+        if not self.running.has_room(size):
             self.begin_anew()
         try:
-            return call(self.pipe)
+            return call(self.running)
         except (Interrupted, Ended):
             self.drop()
             raise

@@ -44,9 +44,8 @@ class Session:
         self.lines.append(line)
         self.kept.clear()
         if line.split(" ")[0] in MOVES:
-            moved = read_moved(answer)
-            self.place = moved.place
-            before, self.timeline = self.timeline, self.timeline.moved(moved.place.position, line, depth)
+            self.place = read_moved(answer).place or self.place
+            before, self.timeline = self.timeline, self.timeline.moved(self.place.position, line, depth)
             self.reached = max(self.reached if before.pokes == self.timeline.pokes else 0, self.timeline.position)
             self.selected = 0
             if self.is_followed:

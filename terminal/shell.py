@@ -6,7 +6,7 @@ import shlex
 from dataclasses import dataclass
 from typing import Callable, Sequence
 
-from .answers import Place
+from .answers import Place, live
 from .causes import Cause, Causes
 from .expressions import Node, Unset, Value, Wrong, evaluate, parse, parts_of, whole
 from .frames import Frames
@@ -47,9 +47,12 @@ class Command:
 COMMANDS: dict[str, Command] = {}
 
 
-def command(names: str, usage: str, completes: str = "", is_repeated: bool = True):
+Call = Callable[["Shell", str], None]
+
+
+def command(names: str, usage: str, completes: str = "", is_repeated: bool = True) -> Callable[[Call], Call]:
     """Makes a function of the shell and the rest of the line a command."""
-    def register(call):
+    def register(call: Call) -> Call:
         made = Command(tuple(names.split()), usage, call, completes, is_repeated)
         for name in made.names:
             COMMANDS[name] = made
@@ -78,10 +81,10 @@ class FrameState:
         return value, width
 
     def bytes(self, address: int, count: int) -> int:
-        found = self.shell.session.memory(address, count)
-        if None in found:
+        found = live(self.shell.session.memory(address, count))
+        if found is None:
             raise Unset(f"address {address} isn't live")
-        return int.from_bytes(bytes(found), "little")
+        return int.from_bytes(found, "little")
 
     def address(self, name: str) -> int:
         return self.shell.address_of(name)

@@ -11,7 +11,7 @@ from typing import NamedTuple
 ESCAPE = re.compile(r"\\([\\tn])")
 
 
-def unescaped(match: re.Match) -> str:
+def unescaped(match: re.Match[str]) -> str:
     """A character that would part the fields or the lines of a map."""
     return {"t": "\t", "n": "\n"}.get(match.group(1), "\\")
 

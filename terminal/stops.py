@@ -4,7 +4,7 @@ from __future__ import annotations
 from dataclasses import dataclass, field
 from typing import Callable
 
-from .answers import Place, read_bytes, read_value
+from .answers import Place, live, read_bytes, read_value
 from .expressions import Node, Unset, evaluate, is_fixed, parts_of, temporaries_of, whole
 from .scratch import frames_of
 from .text import STACK, Program
@@ -132,10 +132,10 @@ class Answered:
         line = f"mem {address} {count}"
         if line not in self.answers:
             self.answers[line] = self.ask(line)[0]
-        found = read_bytes(self.answers[line][0])
-        if None in found:
+        found = live(read_bytes(self.answers[line][0]))
+        if found is None:
             raise Unset(f"dead address {address}")
-        return int.from_bytes(bytes(found), "little")
+        return int.from_bytes(found, "little")
 
     def address(self, name: str) -> int:
         return self.program.addresses[name]
@@ -149,6 +149,15 @@ class FixedState:
 
     def __init__(self, program: Program):
         self.program = program
+
+    def temporary(self, name: str) -> tuple[int, str]:
+        raise Unset(name)
+
+    def bytes(self, address: int, count: int) -> int:
+        raise Unset(f"address {address}")
+
+    def word(self, name: str) -> int:
+        raise Unset(name)
 
     def address(self, name: str) -> int:
         return self.program.addresses[name]
@@ -276,8 +285,9 @@ def shown(value: int | None, width: str = "") -> str:
 
 
 def as_number(found: list[int | None], width: str = "") -> str:
-    if not found or None in found:
+    known = live(found)
+    if not known:
         return "dead"
     if width in FLOATS:
-        return as_float(int.from_bytes(bytes(found), "little"), width)
-    return str(int.from_bytes(bytes(found), "little")) if len(found) <= MOST_NUMBER else "live"
+        return as_float(int.from_bytes(known, "little"), width)
+    return str(int.from_bytes(known, "little")) if len(known) <= MOST_NUMBER else "live"

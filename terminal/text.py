@@ -7,7 +7,7 @@ from __future__ import annotations
 import string
 from dataclasses import dataclass, field
 from functools import cached_property
-from typing import Iterator
+from typing import Callable, Iterator
 
 from .renaming import Renaming
 
@@ -89,7 +89,7 @@ class Instruction:
     labels: tuple[str, ...] = ()
     count: int = 0
 
-    def written(self, show=lambda operand: operand.text) -> str:
+    def written(self, show: Callable[[Operand], str] = lambda operand: operand.text) -> str:
         """The canonical text, with each operand as `show` has it."""
         values = [show(operand) for operand in self.operands]
         head = f"{self.result} ={self.type} " if self.result else ""
@@ -264,7 +264,9 @@ class Reader:
         operation = "loadsw" if word.text == "loadw" else word.text
         if operation == "call":
             return Instruction(first.line, operation, result, type, self.read_call())
-        operands, labels, count = [], [], 0
+        operands: list[Operand] = []
+        labels: list[str] = []
+        count = 0
         while self.token.kind != "newline" and self.token.text != "}":
             token = self.take()
             if token.kind == "label":

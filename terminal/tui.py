@@ -6,7 +6,7 @@ import os
 try:
     import curses
 except ImportError:
-    curses = None
+    curses = None  # type: ignore[assignment]
 
 from .expressions import Wrong
 from .output import Quit, is_plain
@@ -18,7 +18,7 @@ from .shell import Leave, Shell, command
 TYPED = {"s": "step", "b": "back", "n": "next", "N": "reverse-next", "p": "reverse-next", "c": "continue", "r": "reverse",
          "f": "finish", "F": "reverse-finish", "l": "next-line", "L": "reverse-next-line", "u": "up", "d": "down", "w": "why",
          "W": "why back", "g": "goto why", "i": "info stops", **{str(number): f"why {number}" for number in range(1, 10)}}
-KEYS = ("? keys", "q leave", "s step", "b back", "n next", "N back over", "c continue", "r reverse", "space breakpoint", "w why",
+KEYS: tuple[str, ...] = ("? keys", "q leave", "s step", "b back", "n next", "N back over", "c continue", "r reverse", "space breakpoint", "w why",
         "1-9 why N", ": command", "f finish", "F back out", "u/d frame", "g goto why")
 HELP = """s, b        a step, a step back             n, N     the same over calls
 c, r        run on, run back to a stop      f, F     out of the frame, back to its call
@@ -40,7 +40,7 @@ PAIRS = {"text": 2, "temporary": 6, "global": 3, "label": 5, "fault": 1, "mark":
 class Kept:
     """Takes what is said, for a pane."""
 
-    def __init__(self):
+    def __init__(self) -> None:
         self.lines: list[str] = []
 
     def begin(self) -> None:
@@ -53,7 +53,7 @@ class Kept:
 class Screenful:
     """The screen, from the first key to the last."""
 
-    def __init__(self, shell: Shell, window):
+    def __init__(self, shell: Shell, window: curses.window):
         self.shell, self.window = shell, window
         self.panes, self.kept = Panes(shell), Kept()
         # The line that is marked, if one is; and the one that was shown last.

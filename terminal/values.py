@@ -47,14 +47,14 @@ def as_text(value: int) -> str | None:
 def float_of(value: int, width: str) -> float:
     """The float that bits are: of a word a single, of a long word a double."""
     code, number = ("<d", "<Q") if BITS[width] == 64 else ("<f", "<I")
-    return struct.unpack(code, struct.pack(number, unsigned(value, width if BITS[width] >= 32 else "w")))[0]
+    return float(struct.unpack(code, struct.pack(number, unsigned(value, width if BITS[width] >= 32 else "w")))[0])
 
 
 def bits_of(value: float, width: str) -> int:
     """The bits of a number as a single or a double; one that is too large is infinite."""
     code, number = ("<d", "<Q") if BITS[width] == 64 else ("<f", "<I")
     try:
-        return struct.unpack(number, struct.pack(code, value))[0]
+        return int(struct.unpack(number, struct.pack(code, value))[0])
     except OverflowError:
         return bits_of(math.copysign(math.inf, value), width)
 

@@ -19,7 +19,7 @@ class Interrupted(Exception):
 class Waiting:
     """Ctrl-C at the prompt breaks the line off; while a command runs it is only marked, and looked at between moves."""
 
-    def __init__(self):
+    def __init__(self) -> None:
         self.pressed_at: float | None = None
         self.is_at_prompt = False
         self.is_shown = False
@@ -34,7 +34,7 @@ class Waiting:
         for number in (signal.SIGHUP, signal.SIGTERM):
             signal.signal(number, lambda number, _frame: sys.exit(128 + number))
 
-    def handle(self, _number, _frame) -> None:
+    def handle(self, _number: int, _frame: object) -> None:
         if self.is_at_prompt:
             raise KeyboardInterrupt
         if self.pressed_at is None:

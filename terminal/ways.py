@@ -1,9 +1,10 @@
 """The way that control took through a call, and why it didn't come to a block."""
 from __future__ import annotations
 
+from dataclasses import replace
 from typing import Sequence
 
-from .causes import ASKED, Cause, Question
+from .causes import ASKED, Cause
 from .expressions import Wrong
 from .levels import MOST_STOPS, own_hits, stop_line
 from .scratch import Refused
@@ -23,14 +24,15 @@ def path(shell: Shell, rest: str) -> None:
     function, at = call_of(shell, rest.strip())
     blocks = blocks_of(shell, function, at)
     rounds = folded([label for _, label in blocks])
-    shown, number = [], 0
+    shown: list[str] = []
+    number = 0
     for labels, times in rounds:
         shown.append(f"  #{blocks[number][0]}  {' '.join(labels)}" + (f"  x {times}" if times > 1 else ""))
         number += len(labels) * times
     if len(shown) > MOST_TOLD:
         shown[:-MOST_TOLD] = [f"  .. {len(shown) - MOST_TOLD} lines before are left out"]
-    times = f"{len(blocks)} blocks" if len(blocks) > 1 else "1 block"
-    shell.say(f"{function.name} went through {times}, from #{blocks[0][0]} to #{at.position}", *shown)
+    told = f"{len(blocks)} blocks" if len(blocks) > 1 else "1 block"
+    shell.say(f"{function.name} went through {told}, from #{blocks[0][0]} to #{at.position}", *shown)
 
 
 def call_of(shell: Shell, name: str) -> tuple[Function, Timeline]:
@@ -156,5 +158,5 @@ def tell_jump(shell: Shell, cause: Cause, function: Function, there: Timeline | 
     if not condition.startswith("%"):
         cause.questions.append(causes.control(there, causes.innermost(there)[0]))
     else:
-        cause.questions.append(Question(**{**vars(causes.temporary(condition, there)), "note": f"so it went to {taken}"}))
+        cause.questions.append(replace(causes.temporary(condition, there), note=f"so it went to {taken}"))
     cause.lines.append(ASKED)
