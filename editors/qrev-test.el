@@ -174,14 +174,20 @@ data $b = { w 2 }
       (should-error (qrev-watch) :type 'user-error))
     (delete-process (get-buffer-process session))))
 
-(defconst qrev-test-clone (expand-file-name "../qrev" (file-name-directory load-file-name)))
+(defconst qrev-test-check (expand-file-name "../check/main" (file-name-directory load-file-name)))
 
 (defun qrev-test-checked (file)
-  "The buffer of a check of FILE that has ended."
-  (let ((qrev-command qrev-test-clone) (compilation-always-kill t))
-    (let ((buffer (qrev-check file)))
-      (while (get-buffer-process buffer) (accept-process-output nil 0.1))
-      buffer)))
+  "The buffer of a check of FILE that has ended, by the program that is tested."
+  (let ((qrev-command (make-temp-file "qrev" nil ".sh"))
+        (compilation-always-kill t))
+    (with-temp-file qrev-command
+      (insert (format "#!/bin/sh\nshift\nexec %s --debugger %s -- \"$@\"\n" qrev-test-check (getenv "QREV"))))
+    (set-file-modes qrev-command #o755)
+    (unwind-protect
+        (let ((buffer (qrev-check file)))
+          (while (get-buffer-process buffer) (accept-process-output nil 0.1))
+          buffer)
+      (delete-file qrev-command))))
 
 (ert-deftest qrev-test-check-goes-to-the-suspicious-line ()
   (with-current-buffer (qrev-test-checked (expand-file-name "squares.ssa" qrev-test-folder))
