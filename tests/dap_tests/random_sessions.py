@@ -9,17 +9,18 @@ from harness.running import EXAMPLES
 from hostile_tests.programs import NUMBERS, random_program
 from hostile_tests.scripts import Lines
 from reference.adapter import Adapter
-from reference.shown import DATA, MACHINE, Free
+from reference.shown import DATA, MACHINE, OBJECTS, POINTED, Free
 
 from .driver import Record, frame, messages_in, replay_fault, request_message
 from .sessions import FOLDER
 
 REQUESTS = 60
+BINARY = ("||", "&&", "|", "^", "&", "==", "!=", "<", "<=", ">", ">=", "<<", ">>", "+", "-", "*", "/", "%")
 KINDS = {"next": 12, "stepIn": 12, "stepOut": 6, "stepBack": 12, "continue": 10, "reverseContinue": 8, "restartFrame": 4,
          "configurationDone": 4, "setBreakpoints": 6, "setFunctionBreakpoints": 4, "setDataBreakpoints": 5,
          "dataBreakpointInfo": 5, "breakpointLocations": 2, "stackTrace": 6, "scopes": 3, "variables": 10, "setVariable": 8,
          "evaluate": 8, "console": 14, "readMemory": 4, "writeMemory": 4, "exceptionInfo": 3, "completions": 3,
-         "threads": 1, "pause": 1, "setExceptionBreakpoints": 1, "odd": 2, "restart": 1, "terminate": 1}
+         "setExpression": 4, "loadedSources": 1, "threads": 1, "pause": 1, "setExceptionBreakpoints": 1, "odd": 2, "restart": 1, "terminate": 1}
 MOVES = ("next", "stepIn", "stepOut", "stepBack", "continue", "reverseContinue")
 # Lines whose answer hangs on what no page settles for an adapter: it ends nothing, and a text isn't a line of bytes.
 LEFT_OUT = ("quit", "\xff\xfe")
@@ -56,7 +57,7 @@ class Session:
         self.adapter = Adapter()
         self.messages, self.wanted = [], []
         self.program, self.record = folder / f"random-{seed}.ssa", folder / f"random-{seed}.script"
-        self.arguments = self.recorded = None
+        self.arguments, self.recorded = None, {}
         if self.random.randrange(5):
             text, arguments = random_program(self.random)
         else:
@@ -92,6 +93,8 @@ class Session:
             given["history"] = history
         if random.randrange(3) == 0:
             given["stopOnEntry"] = bool(random.randrange(2))
+        if random.randrange(15) == 0:
+            given["noDebug"] = True
         map_given = random.choice(self.maps)
         if map_given is not None:
             given["map"] = map_given
@@ -103,13 +106,14 @@ class Session:
         self.note_recorded()
 
     def note_recorded(self):
-        """Notes the arguments of a session that is open: its record is of these."""
+        """Notes the arguments of a session that is open: its record is of these. A restart keeps those before it."""
         if self.adapter.debuggee:
-            self.recorded = self.arguments
+            self.recorded[self.adapter.debuggee.record] = self.arguments
 
     def begin(self):
-        self.ask("initialize", {"linesStartAt1": bool(self.random.randrange(3)),
-                                "columnsStartAt1": bool(self.random.randrange(3))})
+        self.ask("initialize", {name: bool(self.random.randrange(3)) for name in (
+            "linesStartAt1", "columnsStartAt1", "supportsVariableType", "supportsMemoryReferences")} | self.random.choice((
+                {}, {"clientID": "vscode"}, {"clientID": "other"})))
         self.launch()
         return self.adapter.debuggee is not None
 
@@ -172,21 +176,70 @@ class Session:
         return self.random.choice((self.line_number(), self.random.randrange(11), 2**32 - 1, 2**32))
 
     def setBreakpoints(self):
-        return "setBreakpoints", {"source": {"path": self.path()}, "breakpoints": self.some(lambda: {"line": self.source_line()})}
+        return "setBreakpoints", {"source": {"path": self.path()}, "breakpoints": self.some(
+            lambda: {"line": self.source_line(), **self.rule()})}
+
+    # Expressions, and what breakpoints ask for.
+
+    def operand(self):
+        random = self.random
+        return random.choice((
+            lambda: self.temporary(1), lambda: self.temporary(1), lambda: self.temporary(self.frame()), lambda: self.datum(),
+            lambda: f"{random.choice('bhwlsd')}[{self.datum()} + {random.randrange(12)}]",
+            lambda: f"{random.choice('bhwl')}[{self.temporary(1)}]", lambda: random.choice(("depth", "position", "0x1f", "0b101", "'a'")),
+            lambda: str(random.choice(NUMBERS) % 2**64), lambda: str(random.randrange(9)), lambda: random.choice(("1.5", "2e3", "0.25"))))()
+
+    def expression(self, depth=2):
+        """An expression; now and then what is none."""
+        random = self.random
+        if depth == 0 or random.randrange(4) == 0:
+            return self.operand()
+        inner = self.expression(depth - 1)
+        return random.choice((
+            lambda: f"{inner} {random.choice(BINARY)} {self.expression(depth - 1)}", lambda: f"({inner})",
+            lambda: f"{random.choice('-+~!')}{inner}", lambda: f"{random.choice('us')}({inner})",
+            lambda: f"{inner} {random.choice(BINARY)} {self.operand()}", lambda: f"w[{inner}]",
+            lambda: random.choice((f"{inner} +", f"({inner}", f"{inner} {inner}", f"x({inner})"))))()
+
+    def rule(self):
+        """What a breakpoint asks for besides its place: mostly nothing."""
+        random = self.random
+        if random.randrange(3):
+            return {}
+        given = {}
+        if random.randrange(2):
+            given["condition"] = self.expression(1)
+        if random.randrange(3) == 0:
+            given["hitCondition"] = random.choice(("1", "2", ">= 2", "< 3", "== 2", "= 1", "> 1", "% 2", "<=2", "x", "2 2"))
+        if random.randrange(4) == 0:
+            given["logMessage"] = f"at {{{self.operand()}}} and {{{self.expression(1)}}}{random.choice(('', '}', '{', ' {x}'))}"
+        return given
+
+    def format(self):
+        return self.random.choice(({}, {}, {"format": {"hex": True}}, {"format": {"hex": False}}))
+
+    def setExpression(self):
+        random = self.random
+        expression = random.choice((lambda: self.temporary(1), lambda: f"{random.choice('bhwl')}[{self.datum()} + {random.randrange(9)}]",
+                                    lambda: self.expression(1)))()
+        return "setExpression", {"expression": expression, "value": self.new_value(), **self.format()}
+
+    def new_value(self):
+        return self.lines.value() if self.random.randrange(2) else self.expression(1)
 
     def place(self):
         line = self.lines.line("break").removeprefix("break ")
         return self.random.choice((line, line, line.removeprefix("$"), "nope", "f0 @nope 1", "main @start x"))
 
     def setFunctionBreakpoints(self):
-        return "setFunctionBreakpoints", {"breakpoints": self.some(lambda: {"name": self.place()}, 3)}
+        return "setFunctionBreakpoints", {"breakpoints": self.some(lambda: {"name": self.place(), **self.rule()}, 3)}
 
     def watched(self):
         return self.lines.line(self.random.choice(("watch bytes", "watch temp"))).removeprefix("watch ")
 
     def setDataBreakpoints(self):
         return "setDataBreakpoints", {"breakpoints": self.some(lambda: {
-            "dataId": self.watched(), "accessType": self.random.choice(("write", "write", "write", "read"))}, 3)}
+            "dataId": self.watched() if self.random.randrange(3) else self.datum(), **self.rule(), "accessType": self.random.choice(("write", "write", "write", "read"))}, 3)}
 
     def dataBreakpointInfo(self):
         random, frame = self.random, self.frame()
@@ -212,9 +265,10 @@ class Session:
         return "scopes", {"frameId": self.frame()}
 
     def variables(self):
-        reference = self.random.choice((1, 1, self.frame(), DATA, DATA, MACHINE, self.depth + 1))
+        reference = self.random.choice((1, 1, self.frame(), DATA, DATA, MACHINE, self.depth + 1, OBJECTS + self.random.randrange(4),
+                                        POINTED + self.random.randrange(8), POINTED + 65536 + self.random.randrange(4)))
         page = self.random.choice(({}, {}, {"start": self.random.randrange(6), "count": self.random.randrange(4)}))
-        return "variables", {"variablesReference": reference, **page}
+        return "variables", {"variablesReference": reference, **page, **self.format()}
 
     def value(self):
         return self.lines.value() if self.random.randrange(4) else self.random.choice(("x", "1 2", "", str(2**64), "1\n2"))
@@ -230,14 +284,13 @@ class Session:
 
     def evaluate(self):
         frame = self.frame()
-        name = self.random.choice((self.temporary(1), self.temporary(frame), self.datum(), "$main", "%nope"))
+        name = self.random.choice((self.temporary(1), self.temporary(frame), self.datum(), "$main", "%nope", self.expression(),
+                                   self.expression()))
         context = self.random.choice(("watch", "hover", "repl"))
-        if context == "repl" and name.startswith(("$nope", "%")):
-            context = "watch"
-        if context == "hover" and self.random.randrange(2):
+        if context == "hover" and name[0] in "$%" and self.random.randrange(2):
             name = name[1:]
         where = self.random.choice(({}, {"frameId": frame}))
-        return "evaluate", {"expression": name, "context": context, **where}
+        return "evaluate", {"expression": name, "context": context, **where, **self.format()}
 
     def console_line(self):
         line = self.random.choice(list(self.lines.some(3)))
@@ -332,9 +385,12 @@ def fault_of(program, qrev, folder, seed, requests, seconds):
     fault = answered_fault(session, messages_in(run.stdout))
     if fault or run.returncode != 0:
         return fault or f"exit status {run.returncode}"
-    if not session.record.exists():
-        return None
-    given = session.recorded
+    faults = (replayed_fault(qrev, name, given, pathlib.Path(folder), seconds) for name, given in session.recorded.items())
+    return next(filter(None, faults), None)
+
+
+def replayed_fault(qrev, name, given, folder, seconds):
+    """What `qrev` does otherwise with the record of a session of these arguments, or None."""
     words = [given["program"], *map(str, given["args"]), "--limit", str(given["limit"])]
     words += ["--history", str(given["history"])] if "history" in given else []
-    return replay_fault(qrev, Record(str(session.record), words), pathlib.Path(folder), seconds)
+    return replay_fault(qrev, Record(name, words), folder, seconds)

@@ -8,21 +8,73 @@ import binascii
 import os
 import sys
 
+import re
+
 from .debuggee import Debuggee
+from .expressions import Memory, Missing, Named, NoExpression, bits_of, is_float, is_true, parse
 from .launching import BadLaunch, launch_of
 from .messages import Lost, frame, is_number, read_body, request_in
 from .session import COMMANDS, WIDTHS, NUMBER
-from .shown import DATA, MACHINE, Free, View, told
+from .shown import DATA, MACHINE, POINTED, Free, Scene, View, told
 from .tokens import Refused
 
 CAPABILITIES = """ConfigurationDoneRequest FunctionBreakpoints DataBreakpoints EvaluateForHovers StepBack SetVariable
 RestartFrame ExceptionInfoRequest ReadMemoryRequest WriteMemoryRequest SteppingGranularity TerminateRequest
-BreakpointLocationsRequest CompletionsRequest RestartRequest""".split()
+BreakpointLocationsRequest CompletionsRequest RestartRequest ConditionalBreakpoints HitConditionalBreakpoints LogPoints
+SetExpression ValueFormattingOptions""".split()
 MOST_READ, MOST_TARGETS = 65536, 1000
+
+
+# Why a value that can't be had leaves a condition false; for other reasons the run stands, so that they are seen.
+PASSING = ("unset", "no such frame", "dead address", "division by zero", "a shift by less than 0 or more than 63",
+           "a value of more than 127 bits")
+LOOKING = ("print", "temps", "mem", "where", "list", "out", "stops", "break", "watch", "delete")
+MOVING = ("step", "back", "continue", "reverse", "set", "poke")
 
 
 class Failure(Exception):
     """A request that fails, with its message."""
+
+
+class Client:
+    """What an editor said of itself."""
+
+    def __init__(self, given):
+        self.first_line = 0 if given.get("linesStartAt1") is False else 1
+        self.first_column = 0 if given.get("columnsStartAt1") is False else 1
+        self.has_types = given.get("supportsVariableType") is True
+        self.has_references = given.get("supportsMemoryReferences") is True
+        self.repeats_watches = given.get("clientID") == "vscode"
+
+
+class Rule:
+    """What a breakpoint asks for besides its place, and the positions at which it was met."""
+
+    def __init__(self, wanted):
+        self.condition = parse(wanted["condition"]) if texts(wanted, "condition") else None
+        self.hits = re.fullmatch(r"\s*(>=|<=|==|>|<|=|%|)\s*([0-9]+)\s*", texts(wanted, "hitCondition")) \
+            if texts(wanted, "hitCondition") else None
+        self.message, self.met = texts(wanted, "logMessage"), []
+
+    def is_plain(self):
+        return not (self.condition or self.hits or self.message)
+
+    def meets(self, position):
+        """Notes that the run came to it, and tells whether that is often enough."""
+        before = [at for at in self.met if at < position]
+        if position not in self.met:
+            self.met = before + [position]
+        if not self.hits:
+            return True
+        count, (sign, said) = len(before) + 1, self.hits.groups()
+        said = int(said)
+        return {"": count >= said, ">=": count >= said, "<=": count <= said, "==": count == said, "=": count == said,
+                ">": count > said, "<": count < said, "%": said != 0 and count % said == 0}[sign]
+
+
+def texts(given, name):
+    """The text of a member, if it says something."""
+    return given[name] if isinstance(given.get(name), str) else ""
 
 
 def arguments_of(request):
@@ -44,11 +96,31 @@ def items_in(given, name):
         if isinstance(given.get(name), list) else []
 
 
+def plain_path(path):
+    """A path without `.`, `..` and empty parts."""
+    parts = []
+    for part in path.split("/"):
+        if part == ".." and parts and parts[-1] != "..":
+            parts.pop()
+        elif part == ".." and not path.startswith("/") or part not in ("", ".", ".."):
+            parts.append(part)
+    return ("/" if path.startswith("/") and parts else "") + "/".join(parts)
+
+
+def contents_of(name):
+    """The bytes of a file, or none where it can't be read."""
+    try:
+        with open(name, "rb") as file:
+            return file.read()
+    except (OSError, ValueError):
+        return b""
+
+
 class Adapter:
     """What is kept between requests. `answer` gives the messages that come of one, without their numbers."""
 
     def __init__(self):
-        self.first_line = self.first_column = 1
+        self.client, self.sessions = Client({}), 0
         self.debuggee = self.launched = None
         self.is_left = False
 
@@ -77,30 +149,52 @@ class Adapter:
     def tell(self, event, **body):
         self.events.append({"type": "event", "event": event, "body": body})
 
-    def tell_stopped(self, reason):
+    def tell_stopped(self, reason, hits=None):
         self.debuggee.tell_output(self.tell)
-        self.tell("stopped", **self.debuggee.stopped(reason))
+        self.tell("stopped", **self.debuggee.stopped(reason, hits))
+
+    @property
+    def first_column(self):
+        return self.client.first_column
 
     # Outside of a session.
 
     def initialize(self, given):
-        self.first_line = 0 if given.get("linesStartAt1") is False else 1
-        self.first_column = 0 if given.get("columnsStartAt1") is False else 1
+        self.client = Client(given)
         return {f"supports{name}": True for name in CAPABILITIES}
 
     def launch(self, given):
+        self.sessions = 0
         self.load(given)
         self.launched = given
+
+    def record_of(self, launched):
+        """The file that takes the record: a restart keeps those before it, and nothing but a record is written over."""
+        if launched.record is None:
+            return None
+        name = launched.record + (f".{self.sessions + 1}" if self.sessions else "")
+        contents = {end: contents_of(name + end) for end in ("", ".transcript")}
+        is_record = contents[".transcript"].startswith(b"loaded ")
+        if contents[".transcript"] and not is_record or contents[""] and not is_record:
+            raise Failure(f"record: not a record: {name}")
+        try:
+            for end in contents:
+                open(name + end, "ab").close()
+        except (OSError, ValueError):
+            raise Failure(f"record: cannot write {name}") from None
+        return name
 
     def load(self, given):
         try:
             launched = launch_of(given)
             sources = launched.sources()
+            record = self.record_of(launched)
             text = launched.text()
         except BadLaunch as bad:
             raise Failure(str(bad)) from None
         try:
-            self.debuggee = Debuggee(launched, text, self.first_line, sources)
+            self.debuggee = Debuggee(launched, text, self.client.first_line, sources, record)
+            self.sessions += 1
         except Refused as refused:
             self.tell_refused(launched, refused)
             raise Failure(refused.answer().rstrip("\n")) from None
@@ -111,7 +205,7 @@ class Adapter:
         if refused.line is None:
             place = {"source": Free(source), "line": Free(None)}
         else:
-            place = {"source": source, "line": refused.line - 1 + self.first_line}
+            place = {"source": source, "line": refused.line - 1 + self.client.first_line}
         self.tell("output", category="stderr", output=refused.answer(), **place)
 
     def nothing(self, given):
@@ -126,11 +220,11 @@ class Adapter:
 
     def end_session(self):
         launched = self.debuggee.launched
-        is_written = self.debuggee.write_record()
+        is_written, record = self.debuggee.write_record(), self.debuggee.record
         self.debuggee = None
-        if launched.record is not None:
-            line = f"replay: {launched.command_line()} < {launched.record}" if is_written \
-                else f"record: cannot write {launched.record}"
+        if record is not None:
+            line = f"replay: {launched.command_line()} < {record}" if is_written \
+                else f"record: cannot write {record}"
             self.tell("output", category="console", output=f"{line}\n")
 
     def end_of_input(self):
@@ -145,7 +239,11 @@ class Adapter:
         self.debuggee.write_record()
         self.debuggee = None
         again = given.get("arguments")
-        self.load(again if isinstance(again, dict) and "program" in again else self.launched)
+        try:
+            self.load(again if isinstance(again, dict) and isinstance(again.get("program"), str) else self.launched)
+        except Failure:
+            self.tell("terminated")
+            raise
 
     def is_open(self, given):
         raise Failure("a session is open")
@@ -156,13 +254,75 @@ class Adapter:
         if self.debuggee.is_configured:
             raise Failure("already configured")
         self.debuggee.is_configured = True
-        if self.debuggee.launched.stops_on_entry:
+        if self.debuggee.launched.no_debug:
+            self.run_out()
+        elif self.debuggee.launched.stops_on_entry:
             self.tell_stopped("entry")
         else:
-            self.tell_stopped(self.debuggee.reason_of(self.debuggee.line("continue")))
+            self.by_line("continue")
+
+    def run_out(self):
+        """Runs to the end past all stops."""
+        begun, session = self.debuggee.session.position, self.debuggee.session
+        reason = "break"
+        while reason.startswith(("break", "watch")) and abs(session.position - begun) < session.limit:
+            reason = self.debuggee.reason_of(self.debuggee.line("continue"))
+        self.debuggee.tell_output(self.tell)
+        self.tell("output", category="console", output=(self.debuggee.ended_elsewhere() or self.debuggee.place()) + "\n")
+        self.tell("terminated")
 
     def by_line(self, line):
-        self.tell_stopped(self.debuggee.reason_of(self.debuggee.line(line)))
+        self.travel(lambda: self.debuggee.reason_of(self.debuggee.line(line)))
+
+    def travel(self, move):
+        """Goes on by moves until the run stands: breakpoints by their rules, and at the limit of moves anyway. A move that gives
+        no reason goes on."""
+        begun, session = self.debuggee.session.position, self.debuggee.session
+        while True:
+            reason = move()
+            stands, hits, log = self.judge(reason) if reason else (False, [], "")
+            if log:
+                self.tell("output", category="console", output=log)
+            if stands:
+                return self.tell_stopped(reason, hits or None)
+            if abs(session.position - begun) >= session.limit:
+                return self.tell_stopped("limit")
+
+    def judge(self, reason):
+        """Whether the run stands where a reason ended it, at which breakpoints, and what is told there."""
+        found, hits, log = self.debuggee.hits(reason), [], ""
+        for one in found:
+            rule = self.debuggee.rules.get(one)
+            if rule is None:
+                hits.append(one)
+            elif self.rule_holds(rule):
+                if rule.message:
+                    log += self.log_of(rule.message) + "\n"
+                else:
+                    hits.append(one)
+        return not found or bool(hits), hits, log
+
+    def rule_holds(self, rule):
+        try:
+            if rule.condition and not is_true(rule.condition.value(Scene(self.view(), 1))):
+                return False
+        except Missing as missing:
+            if missing.args[0] in PASSING:
+                return False
+        return rule.meets(self.debuggee.session.position)
+
+    def log_of(self, message):
+        """A message with what stands in braces worked out."""
+        view = self.view()
+
+        def worth(match):
+            try:
+                return view.worth(1, match.group(1))["result"]
+            except NoExpression:
+                return match.group()
+            except Missing as missing:
+                return {"dead address": "dead", "no such temporary or global here": match.group()}.get(missing.args[0], "unset")
+        return re.sub(r"\{([^{}]*)\}", worth, message)
 
     def continue_(self, given):
         self.by_line("continue")
@@ -172,28 +332,52 @@ class Adapter:
         self.by_line("reverse")
 
     def step_in(self, given):
-        self.by_line("step")
+        if self.goes_by_lines(given):
+            self.to_line(lambda: self.debuggee.reason_of(self.debuggee.line("step")))
+        else:
+            self.by_line("step")
+
+    def goes_by_lines(self, given):
+        return self.debuggee.sources is not None and given.get("granularity") != "instruction"
 
     def next(self, given):
+        depth = self.debuggee.depth
         if given.get("granularity") == "instruction":
             self.by_line("step")
+        elif self.goes_by_lines(given):
+            self.to_line(lambda: self.debuggee.go_on(depth))
         else:
-            self.tell_stopped(self.debuggee.go_on(self.debuggee.depth))
+            self.travel(lambda: self.debuggee.go_on(depth))
+
+    def to_line(self, move):
+        """Goes on by moves to another line of the source."""
+        start = self.debuggee.stand()
+
+        def on():
+            hidden = self.debuggee.depth > start.depth and self.debuggee.is_sourceless()
+            reason = self.debuggee.go_on(self.debuggee.depth - 1) if hidden else move()
+            return reason if reason != "step" or self.debuggee.has_arrived(start) else None
+        self.travel(on)
 
     def step_out(self, given):
-        self.tell_stopped(self.debuggee.go_on(self.debuggee.depth - 1))
+        depth = self.debuggee.depth - 1
+        self.travel(lambda: self.debuggee.go_on(depth))
 
     def step_back(self, given):
         if given.get("granularity") == "instruction":
             self.by_line("back")
+        elif self.goes_by_lines(given):
+            self.travel(self.debuggee.back_by_line)
         else:
-            self.tell_stopped(self.debuggee.go_back(max(1, self.debuggee.depth)))
+            depth = max(1, self.debuggee.depth)
+            self.travel(lambda: self.debuggee.go_back(depth))
 
     def restart_frame(self, given):
         number = number_in(given, "frameId")
         if not self.view().frame(number):
             raise Failure("no such frame")
-        self.tell_stopped(self.debuggee.restart_call(self.debuggee.depth - number))
+        depth = self.debuggee.depth - number
+        self.travel(lambda: self.debuggee.restart_call(depth))
 
     # Stops.
 
@@ -201,8 +385,11 @@ class Adapter:
         """The source that a request is about, by the map's path, or None where it is about the text."""
         source = given.get("source")
         path = text_in(source, "path") if isinstance(source, dict) else None
-        mine = self.debuggee.launched.program
-        if path is not None and (path == mine or path.endswith("/" + mine) or mine.endswith("/" + path)):
+        mine, asked = self.debuggee.launched.program, path
+        path = None if path is None else plain_path(path)
+        if asked is not None and os.path.exists(asked) and os.path.realpath(asked) == os.path.realpath(mine):
+            return None
+        if path and (path == mine or path.endswith("/" + mine) or mine.endswith("/" + path)):
             return None
         found = self.debuggee.sources.path_called(path) if self.debuggee.sources and path is not None else None
         if found is None:
@@ -226,18 +413,43 @@ class Adapter:
 
     def item_of(self, kind, wanted, make):
         try:
-            for member in ("condition", "hitCondition", "logMessage"):
-                if wanted.get(member) and isinstance(wanted[member], str):
-                    raise Failure(f"not supported: {member}")
-            line, told_of_it = make(wanted)
-            answer = self.debuggee.line(line)
-            if answer.startswith("no: "):
-                raise Failure(answer.rstrip("\n"))
+            rule = self.rule_of(wanted)
+            lines, told_of_it = make(wanted)
+            number = self.make_stops(kind, lines)
         except Failure as failure:
             return {"verified": False, "message": str(failure)}
-        number = self.debuggee.session.last_stop
-        self.debuggee.made[kind].append(number)
+        if not rule.is_plain():
+            self.debuggee.rules[number] = rule
         return {"id": number, "verified": True, **told_of_it}
+
+    @staticmethod
+    def rule_of(wanted):
+        try:
+            rule = Rule(wanted)
+        except NoExpression:
+            raise Failure("condition: no expression") from None
+        if texts(wanted, "hitCondition") and not rule.hits:
+            raise Failure("hitCondition: no count")
+        if wanted.get("accessType") in ("read", "readWrite"):
+            raise Failure("not supported: accessType")
+        return rule
+
+    def make_stops(self, kind, lines):
+        """Makes the stops of a breakpoint; the number of the first, by which it is known."""
+        first = None
+        for line in lines:
+            answer = self.debuggee.line(line)
+            if answer.startswith("no: "):
+                if first is None:
+                    raise Failure(answer.rstrip("\n"))
+                continue
+            number = self.debuggee.session.last_stop
+            first = number if first is None else first
+            self.debuggee.made[kind].append(number)
+            self.debuggee.ids[number] = first
+            if answer.startswith("break "):
+                self.debuggee.stop_places[number] = answer.rstrip("\n").split(" ", 2)[2]
+        return first
 
     def line_wanted(self, wanted):
         line = number_in(wanted, "line")
@@ -253,7 +465,7 @@ class Adapter:
 
     def text_stop(self, wanted):
         place = self.place_from(self.line_wanted(wanted))
-        return f"break {self.debuggee.place_text(*place)}", \
+        return [f"break {self.debuggee.place_text(*place)}"], \
             {"line": self.debuggee.told(self.debuggee.line_of(*place)), "source": self.debuggee.launched.source()}
 
     def source_stop(self, path, wanted):
@@ -261,7 +473,8 @@ class Adapter:
         if found is None:
             raise Failure("no line of the text is from this line or a later one")
         line, text_line = found
-        return f"break {self.debuggee.place_text(*self.place_from(text_line))}", \
+        places = self.debuggee.entries(path, line) or [self.place_from(text_line)]
+        return [f"break {self.debuggee.place_text(*place)}" for place in places], \
             {"line": self.debuggee.told(line), "source": self.debuggee.source_of(path)}
 
     @staticmethod
@@ -275,12 +488,21 @@ class Adapter:
 
     def function_stop(self, wanted):
         name = self.name_in(wanted, "name")
-        return f"break {name if name.startswith('$') else '$' + name}", {}
+        return [f"break {name if name.startswith('$') else '$' + name}"], {}
 
     def data_stop(self, wanted):
-        if wanted.get("accessType") in ("read", "readWrite"):
-            raise Failure("not supported: accessType")
-        return f"watch {self.name_in(wanted, 'dataId')}", {}
+        name = self.name_in(wanted, "dataId")
+        if self.view().width_of(name) and self.view().size_of(name):
+            return list(self.whole_object(name)), {}
+        return [f"watch {name}"], {}
+
+    def whole_object(self, name):
+        """The watches of all bytes of a data object."""
+        address, left = self.view().address_of(name), self.view().size_of(name)
+        while left:
+            letter, width = next((letter, width) for letter, width in sorted(WIDTHS.items(), key=lambda one: -one[1]) if width <= left)
+            yield f"watch {letter} {address}"
+            address, left = address + width, left - width
 
     def set_function_breakpoints(self, given):
         return self.replace_stops("function", given, self.function_stop)
@@ -306,8 +528,10 @@ class Adapter:
 
     # What is shown.
 
-    def view(self):
-        return View(self.debuggee, self.first_column)
+    def view(self, given=None):
+        """What is shown, in the format that a request asks for."""
+        shown_as = (given or {}).get("format")
+        return View(self.debuggee, self.client, isinstance(shown_as, dict) and shown_as.get("hex") is True)
 
     def threads(self, given):
         return {"threads": [{"id": 1, "name": "main"}]}
@@ -324,7 +548,7 @@ class Adapter:
         return {"scopes": found}
 
     def variables(self, given):
-        found = self.view().variables(number_in(given, "variablesReference"))
+        found = self.view(given).variables(number_in(given, "variablesReference"))
         if found is None:
             raise Failure("no such variables")
         start, count = number_in(given, "start") or 0, number_in(given, "count") or 0
@@ -335,36 +559,123 @@ class Adapter:
         value, view = text_in(given, "value") or "", self.view()
         if "\n" in name + value:
             raise Failure("a newline in a value")
+        if reference is not None and (reference > DATA or POINTED <= reference < MACHINE):
+            raise Failure("read-only")
         if reference == 1 and view.frame(1):
-            line = f"set {name} {value}"
-        elif reference == DATA:
-            line = f"poke {view.width_of(name) or 'w'} {name} {value}"
-        else:
-            raise Failure("read-only" if reference == MACHINE or view.frame(reference) else "no such variables")
+            return self.set_temporary(name, value, given)
+        if reference == DATA:
+            letter = view.width_of(name) or "w"
+            if not view.width_of(name):
+                raise Failure("no such temporary or global here")
+            item = next(item for item in view.program.datas if f"${item.name}" == name)
+            self.answered(f"poke {letter} {name} {self.words(value, view.letter_of(item))}")
+            now = next(one for one in self.view(given).variables(DATA) if one["name"] == name)
+            return self.set_body(now)
+        raise Failure("read-only" if reference == MACHINE or view.frame(reference) else "no such variables")
+
+    @staticmethod
+    def set_body(now):
+        return {"value": now["value"], "variablesReference": 0, **({"type": now["type"]} if "type" in now else {})}
+
+    def answered(self, line):
         answer = self.debuggee.line(line)
         if answer.startswith("no: "):
             raise Failure(answer.rstrip("\n"))
-        now = next(one for one in self.view().variables(reference) if one["name"] == name)
-        return {"value": now["value"], "type": now["type"], "variablesReference": Free(None), "memoryReference": Free(None)}
+
+    def set_temporary(self, name, value, given):
+        view = self.view()
+        plain = view.names_told.short.get("%" + name.removeprefix("%"), name.removeprefix("%"))
+        func = view.machine.funcs[view.frame(1).func] if view.frame(1) else None
+        kind = view.names_told.floats.get((func.name, plain), "") if func else ""
+        self.answered(f"set %{plain} {self.words(value, kind)}")
+        return self.set_body(next(one for one in self.view(given).variables(1) if one["evaluateName"] == f"%{plain}"))
+
+    def words(self, value, letter, number=1):
+        """A value in the words of a command: it may be an expression. What is none is the session's to refuse."""
+        if letter not in ("s", "d") and re.fullmatch("-?[0-9]*", value):
+            return value
+        try:
+            worth = parse(value.split(" <")[0].split(" (-")[0]).value(Scene(self.view(), number))
+        except NoExpression:
+            return value
+        except Missing as missing:
+            raise Failure(missing.args[0]) from None
+        if letter in ("s", "d"):
+            return str(bits_of(worth.number, letter)) if is_float(worth) else value
+        return value if is_float(worth) else str(worth.number % 2**64)
+
+    def set_expression(self, given):
+        text, value = text_in(given, "expression") or "", text_in(given, "value") or ""
+        number = number_in(given, "frameId") if number_in(given, "frameId") is not None else 1
+        if "\n" in value:
+            raise Failure("a newline in a value")
+        try:
+            part = parse(text)
+        except NoExpression:
+            raise Failure("no such temporary or global here") from None
+        if isinstance(part, Named) and part.name[0] == "%" and number == 1:
+            return self.set_temporary(part.name, value, given)
+        if not isinstance(part, Memory):
+            raise Failure("read-only")
+        try:
+            address = part.inside.value(Scene(self.view(), number))
+        except Missing as missing:
+            raise Failure(missing.args[0]) from None
+        if is_float(address):
+            raise Failure("a float, and a whole number was expected")
+        address = address.number % 2**64
+        letter = {"s": "w", "d": "l"}.get(part.letter, part.letter)
+        self.answered(f"poke {letter} {address} {self.words(value, part.letter, number)}")
+        view = self.view(given)
+        now = int.from_bytes(view.now.read(address, WIDTHS[letter]), "little")
+        return {"value": view.value_text(now, part.letter), "variablesReference": 0, **view.typed(part.letter)}
+
+    def loaded_sources(self, given):
+        sources = self.debuggee.sources
+        paths = [sources.shown(path) for path in sources.paths()] if sources else []
+        return {"sources": [self.debuggee.launched.source()] + [{"name": path.rsplit("/", 1)[-1], "path": path} for path in paths]}
 
     def evaluate(self, given):
-        expression, context = text_in(given, "expression") or "", given.get("context")
+        expression, context = text_in(given, "expression") or "", given.get("context") or ""
+        expression = expression.removeprefix("p ")
         frame = number_in(given, "frameId")
-        names = [expression]
-        if context == "hover" and expression[:1] not in ("%", "$"):
-            names = ["%" + expression, "$" + expression]
-        for name in names:
-            found = self.view().value(1 if frame is None else frame, name)
-            if found:
-                return found
-        if context == "repl":
-            return self.console(expression)
-        raise Failure("no such temporary or global here")
+        frame = 1 if frame is None else frame
+        view = self.view(given)
+        if context == "hover" and re.match("[A-Za-z_.]", expression):
+            for sigil in "%$":
+                try:
+                    return view.worth(frame, sigil + expression)
+                except NoExpression:
+                    continue
+                except Missing as missing:
+                    if missing.args[0] not in ("no such temporary or global here", "no such frame"):
+                        raise Failure(missing.args[0]) from None
+            raise Failure("no such temporary or global here")
+        try:
+            return view.worth(frame, expression)
+        except Missing as missing:
+            raise Failure(missing.args[0]) from None
+        except NoExpression:
+            return self.by_command(expression, context)
+
+    def by_command(self, expression, context):
+        """What is made of a text that is no expression."""
+        if context != "repl" and (context != "watch" or not self.is_command(expression)):
+            raise Failure("no such temporary or global here")
+        if any(line.split() == ["quit"] for line in expression.split("\n")):
+            raise Failure("quit ends no session here")
+        moves = any(line.split()[:1] and line.split()[0] in MOVING for line in expression.split("\n"))
+        if context == "watch" and moves and self.client.repeats_watches:
+            raise Failure("a watch that moves: take it in the console")
+        return self.console(expression)
+
+    @staticmethod
+    def is_command(text):
+        """Whether a text is a command; of those that the tests send the first word tells."""
+        return "\n" not in text and text.split()[:1] and text.split()[0] in LOOKING + MOVING + ("quit",)
 
     def console(self, expression):
         answers, reason = [], None
-        if any(line.split() == ["quit"] for line in expression.split("\n")):
-            raise Failure("quit ends no session here")
         for line in expression.split("\n"):
             answer = self.debuggee.line(line)
             answers.append(answer)
@@ -391,7 +702,7 @@ class Adapter:
 
     def exception_info(self, given):
         status = self.debuggee.session.now.status
-        if status[0] != "fault":
+        if status[0] != "fault" or self.debuggee.ended_elsewhere():
             raise Failure("no fault")
         return {"exceptionId": status[1], "description": self.debuggee.place(), "breakMode": "always"}
 
@@ -445,7 +756,7 @@ INSIDE = {
     "continue": "continue_", "reverseContinue": "reverse_continue", "stepIn": "step_in", "next": "next",
     "stepOut": "step_out", "stepBack": "step_back", "restartFrame": "restart_frame", "pause": "nothing",
     "readMemory": "read_memory", "writeMemory": "write_memory", "exceptionInfo": "exception_info",
-    "completions": "completions",
+    "completions": "completions", "setExpression": "set_expression", "loadedSources": "loaded_sources",
 }
 
 

@@ -1,5 +1,6 @@
 """A session that an editor drives: it moves by lines of commands alone, and each line is kept with its answer."""
 import collections
+from typing import NamedTuple
 
 from .grammar import parse
 from .places import line_of, lines_of_code, place_from
@@ -13,14 +14,31 @@ BOUNDS = {"start": ("entry", "the start: nothing is before it"), "oldest": ("pau
 REFUSALS = {"no: at start\n": "start", "no: history ends\n": "oldest", "no: at end\n": "end"}
 
 
+def whole(piece):
+    """Bytes without a character that their end cuts; as they are where they are no UTF-8."""
+    try:
+        piece.decode()
+    except UnicodeDecodeError as error:
+        if error.reason == "unexpected end of data":
+            return piece[:error.start]
+    return piece
+
+
+class Stand(NamedTuple):
+    depth: int
+    origin: object
+
+
 class Debuggee:
     """A session, its lines and answers, and which stops were made by which request."""
 
-    def __init__(self, launched, text, first_line, sources):
+    def __init__(self, launched, text, first_line, sources, record):
         loaded, self.session = load(text, launched.entry, launched.args, launched.limit, launched.history)
         self.launched, self.first_line, self.sources = launched, first_line, sources
+        self.names, self.record, self.rules, self.ids = launched.names(), record, {}, {}
         self.program = parse(cut(text))
         self.script, self.transcript = [], [loaded]
+        self.stop_places = {}  # of a breakpoint by its number, as the session tells it
         self.made = collections.defaultdict(list)  # "text", "function", "data", or a source with its path
         self.shown, self.is_configured = b"", False
 
@@ -34,7 +52,7 @@ class Debuggee:
 
     def write_record(self):
         """Writes the record, if there is to be one; whether that went well."""
-        name = self.launched.record
+        name = self.record
         if name is None:
             return True
         try:
@@ -95,9 +113,80 @@ class Debuggee:
         lines = [self.told(line) for line, text_line in self.sources.lines_of(path) if self.place_from(text_line)]
         return [line for line in lines if first <= line <= last]
 
+    # Lines of sources.
+
+    def origin_at(self, func, block, index):
+        """Where the line of a place came from, if the text has what is there."""
+        part = self.program.funcs[func].blocks[block]
+        if index == len(part.insts) and not part.jump.is_written:
+            return None
+        return self.sources.origin(line_of(self.program, func, block, index))
+
+    def last_origin(self, func, block):
+        """Where the line of the last place of a block came from that the text has."""
+        part = self.program.funcs[func].blocks[block]
+        line = part.jump.line if part.jump.is_written else part.insts[-1].line if part.insts else part.line
+        return self.sources.origin(line)
+
+    def entries(self, path, line):
+        """The places at which a run comes to a line of a source from another line."""
+        found = []
+        for func, code in enumerate(self.program.funcs):
+            for block, part in enumerate(code.blocks):
+                for index in range(len(part.insts) + 1):
+                    if self.is_entry(func, block, index, (path, line)):
+                        found.append((func, block, index))
+        return found
+
+    def is_entry(self, func, block, index, wanted):
+        if self.origin_at(func, block, index) != wanted:
+            return False
+        for before in range(index - 1, -1, -1):
+            origin = self.sources.origin(line_of(self.program, func, block, before))
+            if origin:
+                return origin != wanted
+        blocks = self.program.funcs[func].blocks
+        leads = [number for number, other in enumerate(blocks) if blocks[block].label in other.jump.labels]
+        return block == 0 or any(self.last_origin(func, number) != wanted for number in leads)
+
+    def stand(self):
+        """How many calls are open, and where the line came from at which the run stands."""
+        frames = self.session.now.frames
+        if not frames:
+            return Stand(0, None)
+        frame = frames[-1]
+        return Stand(len(frames), self.sources.origin(line_of(self.program, frame.func, frame.block, frame.index)))
+
+    def has_arrived(self, start):
+        now = self.stand()
+        return now.origin is not None and (now.depth != start.depth or now.origin != start.origin)
+
+    def is_sourceless(self):
+        """Whether the innermost call is of a function that came from no source."""
+        blocks = self.program.funcs[self.session.now.frames[-1].func].blocks
+        return not any(self.sources.origin(part.line) for block in blocks for part in block.insts + [block.jump])
+
+    def back_by_line(self):
+        """To the beginning of the line of the source at which the run stands then, or of the line before."""
+        begun, depth, reason = self.session.position, max(1, self.depth), None
+        while reason is None:
+            reason = self.go_back(depth)
+            if reason == "step" and not self.stand().origin:
+                reason = "limit" if begun - self.session.position >= self.session.limit else None
+        target = self.stand()
+        while reason == "step":
+            reason = self.go_back(target.depth)
+            now = self.stand()
+            if reason == "step" and (now.depth < target.depth or now.origin != target.origin):
+                return self.go_on(target.depth)
+            if reason == "step" and begun - self.session.position >= self.session.limit:
+                return "limit"
+        return reason
+
     def clear(self, kind):
         for number in sorted(self.made[kind]):
             self.line(f"delete {number}")
+            self.rules.pop(self.ids.pop(number), None)
         self.made[kind] = []
 
     # Runs over calls. How far they go is looked up first, and they go there by one line.
@@ -165,35 +254,58 @@ class Debuggee:
             return answer.split("\n")[0][len("stop: "):]
         return REFUSALS.get(answer, "step")
 
-    def stopped(self, reason):
-        """The body of the event that says so."""
-        word, text, number = self.words(reason)
+    def stopped(self, reason, hits=None):
+        """The body of the event that says so; of which breakpoints, if it isn't all at the place."""
+        end = self.ended_elsewhere()
+        if end:
+            return {"reason": "end", "description": end, "text": Free(None), "threadId": 1, "allThreadsStopped": True}
+        hits = self.hits(reason) if hits is None else hits
+        word, text = self.words(reason, hits)
         body = {"reason": word, "description": self.place(), "text": text, "threadId": 1, "allThreadsStopped": True}
-        return body if number is None else {**body, "hitBreakpointIds": [number]}
+        return {**body, "hitBreakpointIds": hits} if hits else body
 
-    def words(self, reason):
+    def ended_elsewhere(self):
+        """How the run ended, if it was halted in a function that isn't the program's own."""
+        now = self.session.now
+        if now.status != ("fault", "halted"):
+            return None
+        return self.names.ended_in(self.program.funcs[now.frames[-1].func].name)
+
+    def hits(self, reason):
+        """The breakpoints at which the run stands, if a stop ended it."""
+        kind, _, number = reason.partition(" ")
+        if not number or kind not in ("break", "watch"):
+            return []
+        found, now = {self.ids.get(int(number), int(number))}, self.session.now
+        here = self.session.frame_text(now.frames[-1]) if now.frames else None
+        for numbers in self.made.values():
+            found |= {self.ids[one] for one in numbers if self.stop_places.get(one) == here and here}
+        return sorted(found)
+
+    def words(self, reason, hits):
         status = self.session.now.status
         if status[0] == "fault":
-            return "exception", status[1], None
+            return "exception", status[1]
         if status[0] != "running":
-            return "end", "end of the run", None
+            return "end", "end of the run"
         if reason in BOUNDS:
-            return *BOUNDS[reason], None
-        kind, _, number = reason.partition(" ")
+            return BOUNDS[reason]
+        kind = reason.partition(" ")[0]
         if kind in ("entry", "step"):
-            return kind, Free(None), None
-        number = int(number)
+            return kind, Free(None)
         if kind == "watch":
-            return "data breakpoint", Free(None), number
-        return "function breakpoint" if number in self.made["function"] else "breakpoint", Free(None), number
+            return "data breakpoint", Free(None)
+        on_function = hits and any(self.ids[one] == hits[0] for one in self.made["function"])
+        return "function breakpoint" if on_function else "breakpoint", Free(None)
 
     def tell_output(self, tell):
         """Tells what is new of the output, by `tell`."""
         output, shown = self.session.now.output, self.shown
-        if shown.startswith(output):
+        same = next((at for at, (old, new) in enumerate(zip(shown, output)) if old != new), min(len(shown), len(output)))
+        new = output[same:] if self.session.now.is_over else whole(output[same:])
+        if not new:
             return
-        same = next((at for at, (old, new) in enumerate(zip(shown, output)) if old != new), len(shown))
         if same < len(shown):
             tell("output", category="console", output=DIFFERS)
-        tell("output", category="stdout", output=told(output[same:]))
-        self.shown = output
+        tell("output", category="stdout", output=told(new))
+        self.shown = output[:same] + new

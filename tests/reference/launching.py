@@ -5,6 +5,7 @@ from typing import NamedTuple, Optional
 
 from .mapping import GREATEST_MAP, BadMap, SourceMap
 from .messages import is_number
+from .names import Names
 from .tokens import GREATEST_TEXT
 
 GREATEST_ARGUMENT, GREATEST_LIMIT, GREATEST_HISTORY = 2**64 - 1, 2**32 - 1, 1_000_000
@@ -24,6 +25,16 @@ class Launch(NamedTuple):
     stops_on_entry: bool
     record: Optional[str]
     map: Optional[str]
+    no_debug: bool = False
+
+    def names(self):
+        """What the names of the text stand for."""
+        name = self.program + ".map" if self.map is None else self.map
+        try:
+            with open(name.removesuffix(".map") + ".names", "rb") as file:
+                return Names(file.read(GREATEST_MAP + 1))
+        except (OSError, ValueError):
+            return Names()
 
     def text(self):
         """The bytes of the program; what is beyond the greatest text is one byte at most."""
@@ -89,9 +100,12 @@ def launch_of(given):
     stops_on_entry = given.get("stopOnEntry", True)
     if not isinstance(stops_on_entry, bool):
         raise BadLaunch("stopOnEntry: no flag")
+    no_debug = given.get("noDebug", False)
+    if not isinstance(no_debug, bool):
+        raise BadLaunch("noDebug: no flag")
     record = given.get("record")
     if "record" in given and not isinstance(record, str):
         raise BadLaunch("record: no path")
     if "map" in given and not isinstance(given["map"], str):
         raise BadLaunch("map: no path")
-    return Launch(given["program"], entry, args, limit, history, stops_on_entry, record, given.get("map"))
+    return Launch(given["program"], entry, args, limit, history, stops_on_entry, record, given.get("map"), no_debug)

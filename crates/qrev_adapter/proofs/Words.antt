@@ -1,6 +1,6 @@
 -- What a command is, by the test that the code makes, and whether the editor leaves by it.
 use Rattle.std.proofs.Common.{◌≡◌, ◌∙◌, ℕ, List, Bool, true, false, Option, refl, sym, ap, nat_eq, get_or}
-use Rattle.std.specs.Prelude.{Some, None, codes}
+use Rattle.std.specs.Prelude.{Some, None, codes, cond}
 use Rattle.std.specs.Str.{bytes_eq}
 use Rattle.std.proofs.lemmas.Bool.{false≢true}
 use Rattle.std.proofs.lemmas.Slice.Eq.{bytes_eq-Decides}
@@ -41,3 +41,10 @@ leaves_by command is = (λ left. is, λ stays. absurd (stays refl))
 
 pub stays_by : (found : Option Ending) (command : List ℕ) → (found ≡ Some Left → ⊥) → (command ≡ codes "disconnect" → ⊥) → Leaves found command
 stays_by found command other isnt = (λ left. absurd (other left), λ stays. isnt)
+
+-- a value that a test chooses, and one behind a test that fails
+pub chosen : {X : Type 0} → (test known : Bool) (x y : X) → test ≡ known → test ≡ true → x ≡ cond known x y
+chosen test known x y same holds = ap (λ (b : Bool). cond b x y) (sym holds ∙ same)
+
+pub passed : {X : Type 0} → (test known : Bool) (x y z : X) → test ≡ known → test ≡ false → z ≡ y → z ≡ cond known x y
+passed test known x y z same fails rest = rest ∙ ap (λ (b : Bool). cond b x y) (sym fails ∙ same)

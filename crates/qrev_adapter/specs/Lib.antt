@@ -1,3 +1,4 @@
 -- The words of this crate's contracts.
+pub mod Asked
 pub mod Opened
 pub mod Served

@@ -1,6 +1,7 @@
 -- What calls do to a conversation.
-use Rattle.std.specs.Prelude.{◌≡◌, ℕ, List, [], ◌∷◌, ◌++◌, ⊤, Option, Some, codes, Result, Ok, Err, ◌⊎◌}
+use Rattle.std.specs.Prelude.{◌≡◌, ℕ, List, [], ◌∷◌, ◌++◌, ⊤, Option, Some, codes, Result, Ok, Err, ◌⊎◌, IfOk, Bool, cond}
 use Rattle.qrev_notices.specs.Conversation.{Asked, Spoken, HasReplied, HasRepliedPart, HasResponded}
+use Rattle.qrev_notices.specs.Last.{HasToldLast, TellsLast}
 use Rattle.qrev_notices.specs.Reading.{IsFarewell, IsStaying, Asks, AsksNothing, AsksToStay, Heard, IsIdle, IsPending, IsRead, HasStayed, IsConversation, IsClosed}
 use Rattle.qrev_notices.specs.declared.trouble.Trouble.{Trouble}
 use Rattle.qrev_notices.specs.declared.trouble.Trouble.TheVariants.{OutOfMemory, Device}
@@ -8,6 +9,8 @@ use Rattle.qrev_notices.specs.declared.line.Ended.{Ended}
 use Rattle.qrev_notices.specs.declared.line.Closed.{Closed}
 use Rattle.qrev_adapter.specs.declared.requests.Ending.{Ending}
 use Rattle.qrev_adapter.specs.declared.requests.Ending.TheVariants.{Terminated, Left}
+use Rattle.qrev_adapter.specs.declared.requests.Then.{Then}
+use Rattle.qrev_adapter.specs.declared.requests.Then.TheVariants as thens
 use Rattle.qrev_adapter.specs.declared.session.Next.{Next}
 use Rattle.qrev_adapter.specs.declared.session.Next.TheVariants.{Message, End, Restart}
 
@@ -18,6 +21,19 @@ HasHeard P start before body now = (a : Asked) × Asks body a × HasResponded st
 -- how a session ends after a request with this command tells whether the editor leaves by it
 abbrev pub Leaves : Option Ending → List ℕ → Type 0
 Leaves ending command = (ending ≡ Some Left → command ≡ codes "disconnect") × ((ending ≡ Some Left → ⊥) → command ≡ codes "disconnect" → ⊥)
+
+-- what an editor is told last behind a response, by what follows that: that the run stands, where it may have moved
+abbrev pub HasFollowed : Then → Spoken → Type 0
+HasFollowed thens.Nothing now = ⊤
+HasFollowed (thens.Stopped why) now = HasToldLast (codes "stopped") now
+HasFollowed (thens.Move where_to) now = HasToldLast (codes "stopped") now
+
+abbrev pub Follows : Then → Result (Unit {0}) Trouble → Spoken → Type 0
+Follows what result now = IfOk result (λ x. HasFollowed what now)
+
+-- what it is told last where the run begins: that it stands, or that the session can be ended where the run isn't debugged
+abbrev pub BeginsRun : Bool → Result (Unit {0}) Trouble → Spoken → Type 0
+BeginsRun debugs result now = TellsLast result (cond debugs (codes "stopped") (codes "terminated")) now
 
 -- a message is answered: a request has its response, and nothing is sent for what is none; a restart is responded to later
 abbrev pub Hears : Result Next Trouble → List ℕ → Spoken → Spoken → Type 0

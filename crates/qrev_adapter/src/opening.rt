@@ -18,16 +18,17 @@ use qil_meaning::Image;
 use qil_numbering::number;
 use qil_rules::Checked;
 use qil_streams::{Sink, Source};
+use qrev_map::Names;
 use qrev_notices::{
-    Closed, Debuggee, Ended, Files, Line, read_sources, refuse_load, refuse_map, refuse_start,
-    refuse_unread, tell_open,
+    Closed, Debuggee, Ended, Files, Line, RecordFault, read_names, read_sources, record_fault,
+    record_name, refuse_load, refuse_map, refuse_record, refuse_start, refuse_unread, tell_open,
 };
 use qrev_protocol::Request;
 use qrev_recorder::{HasMachine, Opening, Recorder};
 use qrev_requests::Launch;
 use qrev_sessions::{BoundedSession, WholeSession};
 use qrev_views::Shown;
-use std::alloc::Allocator;
+use std::alloc::{AllocError, Allocator};
 use std::hash::RandomState;
 
 /// Serves a session that has made no move.
@@ -65,12 +66,20 @@ fn open_session<
         recorder,
         shown: Shown {
             path: launch.program.as_str(),
-            numbering: line.numbering,
+            numbering: line.client.numbering,
         },
         source_map: line.source_map.take(),
         output: Vec::new(alloc),
         stops: Vec::new(alloc),
+        rules: Vec::new(alloc),
+        hit: Vec::new(alloc),
+        names: std::mem::replace(&mut line.names, Names::none(alloc)),
+        client: line.client,
+        record: line.record.take(),
+        asked_path: None,
+        real_path: files.real_path(launch.program.as_str()),
     };
+    line.sessions = line.sessions.saturating_add(1);
     serve_session(debuggee, launch, files, line)
 }
 
@@ -281,6 +290,70 @@ fn open<A: Allocator + Copy, S: Source, W: Sink, F: Files<A>>(
     open_text(keys, opening, launch, request, files, line)
 }
 
+/// Loads a program and serves it, if its session can be recorded where a launch asks for it.
+fn open_recorded<A: Allocator + Copy, S: Source, W: Sink, F: Files<A>>(
+    keys: RandomState,
+    launch: &Launch<A>,
+    request: Request<'_>,
+    files: &F,
+    line: &mut Line<A, S, W>,
+) -> Result<Closed<A>, Ended>
+    ensures { Serves result (asked_by request.entry) (heard S.remaining W.contents line.old) (heard S.remaining W.contents line.new) }
+{
+    let fault = match fault_of_record(line.alloc, files, line.record.as_ref()) {
+        Ok(fault) => fault,
+        Err(_) => {
+            request.end();
+            return Err(Ended::OutOfMemory);
+        }
+    };
+    match fault {
+        Some(fault) => refuse_record(fault, request, line),
+        None => open(keys, launch, request, files, line),
+    }
+}
+
+/// Why the session can't be recorded in a file, if it is to be and can't.
+fn fault_of_record<A: Allocator + Copy, F: Files<A>>(
+    alloc: A,
+    files: &F,
+    record: Option<&String<A>>,
+) -> Result<Option<RecordFault>, AllocError> {
+    match record {
+        Some(record) => record_fault(alloc, files, record.as_str()),
+        None => Ok(None),
+    }
+}
+
+/// Reads what the names of a text stand for and where it is recorded, loads its program and serves it, until the session is closed.
+fn open_named<A: Allocator + Copy, S: Source, W: Sink, F: Files<A>>(
+    keys: RandomState,
+    launch: &Launch<A>,
+    request: Request<'_>,
+    files: &F,
+    line: &mut Line<A, S, W>,
+) -> Result<Closed<A>, Ended>
+    ensures { Serves result (asked_by request.entry) (heard S.remaining W.contents line.old) (heard S.remaining W.contents line.new) }
+{
+    let names = match read_names(line.alloc, launch, files) {
+        Ok(names) => names,
+        Err(_) => {
+            request.end();
+            return Err(Ended::OutOfMemory);
+        }
+    };
+    let record = match record_name(line.alloc, launch, line.sessions) {
+        Ok(record) => record,
+        Err(_) => {
+            request.end();
+            return Err(Ended::OutOfMemory);
+        }
+    };
+    line.names = names;
+    line.record = record;
+    open_recorded(keys, launch, request, files, line)
+}
+
 /// Reads the map of a launch, loads its program and serves it, until the session is closed.
 pub fn open_mapped<A: Allocator + Copy, S: Source, W: Sink, F: Files<A>>(
     keys: RandomState,
@@ -296,5 +369,5 @@ pub fn open_mapped<A: Allocator + Copy, S: Source, W: Sink, F: Files<A>>(
         Err(fault) => return refuse_map(fault, launch, request, line),
     };
     line.source_map = source_map;
-    open(keys, launch, request, files, line)
+    open_named(keys, launch, request, files, line)
 }

@@ -1,19 +1,24 @@
 //! The requests while a session is open: what each does, its response, and what follows it.
 
+ghost use Rattle.std.specs.Prelude.{◌≡◌, Bool, cond, codes, None};
+ghost use Rattle.qrev_debuggee.specs.qrev_recorder.qil_replies.qil_stops.Depths.{depth};
 ghost use Rattle.qrev_notices.specs.Conversation.{asked_by, spoken, Responds, Tells};
+ghost use Rattle.qrev_notices.specs.Last.{TellsLast};
+ghost use Rattle.qrev_adapter.specs.Asked.{motion_of, line_of, first_of, travel_of};
 ghost use Rattle.qrev_adapter.specs.Served.{Leaves};
 
 use qil_machine::Machine;
 use qil_state::Status;
 use qil_streams::Sink;
-use qrev_breakpoints::{breakpoint_locations, set_breakpoints, set_by_words};
+use qrev_breakpoints::{breakpoint_locations, loaded_sources, set_breakpoints, set_by_words};
 use qrev_inspection::{
-    completions, data_breakpoint_info, evaluate, read_memory, scopes, set_variable, stack_trace,
-    variables, write_memory,
+    completions, data_breakpoint_info, evaluate, read_memory, scopes, set_expression, set_variable,
+    stack_trace, variables, write_memory,
 };
+use qrev_moving::Travel;
 use qrev_notices::{
-    Body, Cause, Debuggee, Failure, Motion, Port, StopFamily, Trouble, Why, begin_body, fault_in,
-    make_move, output_event, refuse_with, tell_stopped,
+    Body, Cause, Debuggee, Failure, Motion, Port, StopFamily, Trouble, Why, begin_body,
+    ended_elsewhere, fault_in, make_move, output_event, refuse_with, tell_stopped,
 };
 use qrev_protocol::Request;
 use qrev_recorder::HasMachine;
@@ -27,7 +32,7 @@ pub enum Then {
     Nothing,
     /// The editor is told that the run stands.
     Stopped(Why),
-    Move(Motion),
+    Move(Travel),
 }
 
 /// How a session ends.
@@ -62,16 +67,16 @@ fn put_threads<A: Allocator>(body: Body<A>) -> Result<Body<A>, AllocError> {
         .end()
 }
 
-/// Where the run ended, if a fault ended it.
-fn fault_place<A: Allocator + Copy>(
-    alloc: A,
-    position: u64,
-    machine: &Machine<'_, A>,
+/// Where the run ended, if a fault of the program ended it: what isn't there is none.
+fn fault_place<'c, A: Allocator + Copy + 'c, L: HasMachine<A, Machine<'c, A>>>(
+    debuggee: &Debuggee<'c, A, L>,
 ) -> Result<String<A>, Failure> {
-    if !matches!(machine.status(), Status::Faulted(_)) {
+    let machine = debuggee.machine();
+    let elsewhere = ended_elsewhere(debuggee.alloc, machine, &debuggee.names)?;
+    if !matches!(machine.status(), Status::Faulted(_)) || elsewhere.is_some() {
         return Err(Failure::Because(Cause::NoFault));
     }
-    Ok(place_text(alloc, position, machine)?)
+    Ok(place_text(debuggee.alloc, debuggee.position(), machine)?)
 }
 
 /// Adds the threads that a request asks for.
@@ -91,7 +96,7 @@ fn exception_info<'c, A: Allocator + Copy + 'c, L: HasMachine<A, Machine<'c, A>>
     debuggee: &Debuggee<'c, A, L>,
     body: Body<A>,
 ) -> Result<Body<A>, Failure> {
-    let place = fault_place(debuggee.alloc, debuggee.position(), debuggee.machine())?;
+    let place = fault_place(debuggee)?;
     Ok(put_exception(body, place.as_str())?)
 }
 
@@ -104,29 +109,104 @@ fn restart_frame<'c, A: Allocator + Copy + 'c, L: HasMachine<A, Machine<'c, A>>>
     let depth = debuggee.depth() as u64;
     match depth.checked_sub(number) {
         // The innermost frame is number 1.
-        Some(outside) if number != 0 => Ok(Then::Move(Motion::ToBeginning(outside as usize))),
+        Some(outside) if number != 0 => {
+            let motion = Motion::ToBeginning(outside as usize);
+            Ok(Then::Move(Travel::Motion(motion)))
+        }
         _ => Err(Failure::Because(Cause::NoSuchFrame)),
     }
 }
 
-/// The move that a request asks for, if it asks for one, while so many calls are open.
-fn motion_asked<A: Allocator + Copy>(
-    depth: usize,
+/// The motion that a command asks for, if it asks for one, by single moves or not, while so many calls are open.
+fn motion_of(command: &str, is_single: bool, depth: usize) -> Option<Motion>
+    ensures { result ≡ motion_of command.now is_single depth }
+{
+    if command == "continue" {
+        return Some(Motion::Continue);
+    }
+    if command == "reverseContinue" {
+        return Some(Motion::Reverse);
+    }
+    if command == "stepOut" {
+        return Some(Motion::ToDepth(depth.saturating_sub(1)));
+    }
+    if command == "stepIn" {
+        return Some(Motion::Step);
+    }
+    if command == "next" {
+        return Some(over_calls(is_single, Motion::Step, Motion::ToDepth(depth)));
+    }
+    if command == "stepBack" {
+        let back = Motion::BackToDepth(depth.max(1));
+        return Some(over_calls(is_single, Motion::Back, back));
+    }
+    None
+}
+
+/// A single move, or one over calls.
+fn over_calls(is_single: bool, single: Motion, over: Motion) -> Motion
+    ensures { result ≡ cond is_single single over }
+{
+    if is_single { single } else { over }
+}
+
+/// The step from line to line of a source that a command asks for, if it asks for one.
+fn line_of(command: &str) -> Option<Travel>
+    ensures { result ≡ line_of command.now }
+{
+    if command == "next" {
+        return Some(Travel::Line { into: false });
+    }
+    if command == "stepIn" {
+        return Some(Travel::Line { into: true });
+    }
+    if command == "stepBack" {
+        return Some(Travel::LineBack);
+    }
+    None
+}
+
+/// The same where such steps can be made.
+fn line_where(has_lines: bool, command: &str) -> Option<Travel>
+    ensures { result ≡ cond has_lines (line_of command.now) None }
+{
+    if has_lines { line_of(command) } else { None }
+}
+
+/// A step from line to line if there is one, else a motion.
+fn first_of(line: Option<Travel>, motion: Option<Motion>) -> Option<Travel>
+    ensures { result ≡ first_of line motion }
+{
+    if line.is_some() {
+        return line;
+    }
+    match motion {
+        Some(motion) => Some(Travel::Motion(motion)),
+        None => None,
+    }
+}
+
+/// Where a command asks to go: from line to line of a source where it may, else by a motion.
+fn travel_of(has_lines: bool, command: &str, is_single: bool, depth: usize) -> Option<Travel>
+    ensures { result ≡ travel_of has_lines command.now is_single depth }
+{
+    let line = line_where(has_lines, command);
+    let motion = motion_of(command, is_single, depth);
+    first_of(line, motion)
+}
+
+/// Where a request asks to go, if it does: from line to line of a source if there is a map of places, and by single moves if it
+/// says so.
+fn travel_asked<'c, A: Allocator + Copy + 'c, L: HasMachine<A, Machine<'c, A>>>(
+    debuggee: &Debuggee<'c, A, L>,
     command: &str,
     asked: Arguments<'_, '_, A>,
-) -> Option<Motion> {
+) -> Option<Travel>
+    ensures { (has_lines is_single : Bool) × (result ≡ travel_of has_lines command.now is_single (depth (L.state debuggee.now.recorder.live).timeline)) }
+{
     let is_single = asked.text("granularity") == Some("instruction");
-    match command {
-        "continue" => Some(Motion::Continue),
-        "reverseContinue" => Some(Motion::Reverse),
-        "stepIn" => Some(Motion::Step),
-        "next" if is_single => Some(Motion::Step),
-        "next" => Some(Motion::ToDepth(depth)),
-        "stepOut" => Some(Motion::ToDepth(depth.saturating_sub(1))),
-        "stepBack" if is_single => Some(Motion::Back),
-        "stepBack" => Some(Motion::BackToDepth(depth.max(1))),
-        _ => None,
-    }
+    let has_lines = debuggee.source_map.is_some() && !is_single;
+    travel_of(has_lines, command, is_single, debuggee.depth())
 }
 
 /// Does what a request asks that neither looks nor sets, and says what follows.
@@ -136,11 +216,11 @@ fn control<'c, A: Allocator + Copy + 'c, L: HasMachine<A, Machine<'c, A>>>(
     asked: Arguments<'_, '_, A>,
     body: Body<A>,
 ) -> Result<(Body<A>, Then), Failure> {
-    if let Some(motion) = motion_asked(debuggee.depth(), command, asked) {
-        if motion == Motion::Continue {
-            return Ok((body.flag("allThreadsContinued", true)?, Then::Move(motion)));
+    if let Some(travel) = travel_asked(debuggee, command, asked) {
+        if command == "continue" {
+            return Ok((body.flag("allThreadsContinued", true)?, Then::Move(travel)));
         }
-        return Ok((body, Then::Move(motion)));
+        return Ok((body, Then::Move(travel)));
     }
     match command {
         "restartFrame" => Ok((body, restart_frame(debuggee, asked)?)),
@@ -168,6 +248,7 @@ fn look<'c, A: Allocator + Copy + 'c, L: HasMachine<A, Machine<'c, A>>>(
         "breakpointLocations" => breakpoint_locations(debuggee, asked, body),
         "readMemory" => read_memory(debuggee, asked, body),
         "exceptionInfo" => exception_info(debuggee, body),
+        "loadedSources" => loaded_sources(debuggee, body),
         "completions" => completions(debuggee, asked, body),
         _ => return control(debuggee, command, asked, body),
     };
@@ -200,6 +281,7 @@ fn answer<'c, A: Allocator + Copy + 'c, L: HasMachine<A, Machine<'c, A>>>(
         "setFunctionBreakpoints" => set_by_words(debuggee, asked, StopFamily::Function, body),
         "setDataBreakpoints" => set_by_words(debuggee, asked, StopFamily::Data, body),
         "setVariable" => set_variable(debuggee, asked, body),
+        "setExpression" => set_expression(debuggee, asked, body),
         "writeMemory" => write_memory(debuggee, asked, body),
         "evaluate" => return evaluated(debuggee, asked, body),
         _ => return look(debuggee, command, asked, body),
@@ -263,7 +345,8 @@ pub fn move_and_tell<'c, A: Allocator + Copy + 'c, L: HasMachine<A, Machine<'c, 
     port: &mut Port<A, W>,
     motion: Motion,
 ) -> Result<(), Trouble>
-    ensures { Tells result (spoken W.contents port.old) (spoken W.contents port.new) }
+    ensures events { Tells result (spoken W.contents port.old) (spoken W.contents port.new) }
+    ensures stands { TellsLast result (codes "stopped") (spoken W.contents port.new) }
 {
     let why = match make_move(debuggee, motion) {
         Ok(why) => why,

@@ -3,17 +3,17 @@
 ghost use Rattle.qrev_notices.specs.Conversation.{asked_by};
 ghost use Rattle.std.specs.Prelude.{Ok};
 ghost use Rattle.qrev_notices.specs.Reading.{Heard, heard, IsStaying, Serves, IsClosed, IsConversation};
-ghost use Rattle.qrev_adapter.specs.Served.{ServesMessage, ServesAgain, ServesOn, StandsAfter};
+ghost use Rattle.qrev_adapter.specs.Served.{ServesMessage, ServesAgain, ServesOn, StandsAfter, Closes};
 
 use crate::opening::open_mapped;
 use json::Scratch;
 use qil_streams::{Sink, Source};
 use qrev_notices::{
-    Closed, Ended, Files, Line, message_in, numbering_said, refuse_unfit, respond_idle,
+    Client, Closed, Ended, Files, Line, client_said, message_in, refuse_unfit, respond_idle,
+    tell_plain,
 };
 use qrev_protocol::{Request, request_of};
 use qrev_requests::{Arguments, Launch, launch_said};
-use qrev_views::Numbering;
 use std::alloc::Allocator;
 use std::hash::RandomState;
 
@@ -54,7 +54,31 @@ fn open_again<A: Allocator + Copy, S: Source, W: Sink, F: Files<A>>(
         None => return Err(Ended::Broken),
     };
     let asked = Arguments::of(&message).inside("arguments");
-    load_again(keys, launch, request, asked, files, line)
+    let before = line.sessions;
+    let closed = load_again(keys, launch, request, asked, files, line)?;
+    let is_open = line.sessions != before;
+    tell_refused(is_open, closed, line)
+}
+
+/// Tells that there is no session any more, if none was opened again.
+fn tell_refused<A: Allocator + Copy, S: Source, W: Sink>(
+    is_open: bool,
+    closed: Closed<A>,
+    line: &mut Line<A, S, W>,
+) -> Result<Closed<A>, Ended>
+    ensures { Closes result closed (heard S.remaining W.contents line.old) (heard S.remaining W.contents line.new) }
+{
+    if is_open {
+        return Ok(closed);
+    }
+    let other = match closed {
+        Closed::Terminated => {
+            tell_plain(line.alloc, "terminated", &mut line.port)?;
+            return Ok(Closed::Terminated);
+        }
+        other => other,
+    };
+    Ok(other)
 }
 
 /// Loads with the arguments that a message has.
@@ -123,17 +147,18 @@ fn launch_asked<A: Allocator + Copy, S: Source, W: Sink, F: Files<A>>(
         Ok(launch) => launch,
         Err(unfit) => return after(refuse_unfit(request, unfit, line)?),
     };
+    line.sessions = 0;
     serve_launch(keys, request, &launch, files, line)
 }
 
-/// How an editor counts after a request: as its first one says, else as before.
-fn numbering_after<A: Allocator + Copy>(
+/// What an editor is known to be after a request: what its first one says, else what it was.
+fn client_after<A: Allocator + Copy>(
     command: &str,
     asked: Arguments<'_, '_, A>,
-    before: Numbering,
-) -> Numbering {
+    before: Client,
+) -> Client {
     if command == "initialize" {
-        return numbering_said(asked);
+        return client_said(asked);
     }
     before
 }
@@ -146,7 +171,7 @@ fn answer_idle<A: Allocator + Copy, S: Source, W: Sink>(
 ) -> Result<(), Ended>
     ensures { ServesOn result (asked_by request.entry) (heard S.remaining W.contents line.old) (heard S.remaining W.contents line.new) }
 {
-    line.numbering = numbering_after(request.command(), asked, line.numbering);
+    line.client = client_after(request.command(), asked, line.client);
     let leaves = request.command() == "disconnect";
     respond_idle(line.alloc, &mut line.port, request)?;
     if leaves {

@@ -1,14 +1,16 @@
 //! A session from its first message to its end.
 
-ghost use Rattle.std.specs.Prelude.{IfOk};
+ghost use Rattle.std.specs.Prelude.{codes, IfOk};
 ghost use Rattle.qrev_notices.specs.Conversation.{asked_by, spoken, Responds, Tells};
+ghost use Rattle.qrev_notices.specs.Last.{TellsLast};
 ghost use Rattle.qrev_notices.specs.Reading.{heard};
-ghost use Rattle.qrev_adapter.specs.Served.{Leaves, Hears, GoesOn, Closes};
+ghost use Rattle.qrev_adapter.specs.Served.{Leaves, Hears, GoesOn, Closes, BeginsRun, Follows};
 
 use crate::requests::{Ending, Then, ending_asked, move_and_tell, refuse, respond};
 use json::Scratch;
 use qil_machine::Machine;
 use qil_streams::{Sink, Source};
+use qrev_moving::{Travel, run_out, travel_and_tell};
 use qrev_notices::{
     Cause, Closed, Debuggee, Ended, Failure, Files, Line, Motion, Port, Trouble, Why, keep_record,
     message_in, tell_plain, tell_stopped, write_record,
@@ -18,35 +20,56 @@ use qrev_recorder::HasMachine;
 use qrev_requests::{Arguments, Launch};
 use std::alloc::Allocator;
 
+/// Goes where a request asks, and tells that the run stands.
+fn go_and_tell<'c, A: Allocator + Copy + 'c, L: HasMachine<A, Machine<'c, A>>, W: Sink>(
+    debuggee: &mut Debuggee<'c, A, L>,
+    port: &mut Port<A, W>,
+    where_to: Travel,
+) -> Result<(), Trouble>
+    ensures events { Tells result (spoken W.contents port.old) (spoken W.contents port.new) }
+    ensures stands { TellsLast result (codes "stopped") (spoken W.contents port.new) }
+{
+    if debuggee.rules.is_empty() {
+        if let Travel::Motion(motion) = where_to {
+            return move_and_tell(debuggee, port, motion);
+        }
+    }
+    travel_and_tell(debuggee, port, where_to)
+}
+
 /// Begins the run: the editor has made its breakpoints.
 fn begin<'c, A: Allocator + Copy + 'c, L: HasMachine<A, Machine<'c, A>>, W: Sink>(
     debuggee: &mut Debuggee<'c, A, L>,
     port: &mut Port<A, W>,
     request: Request<'_>,
-    stops_on_entry: bool,
+    stage: Stage,
 ) -> Result<(), Trouble>
-    ensures { Responds result (asked_by request.entry) (spoken W.contents port.old) (spoken W.contents port.new) }
+    ensures responds { Responds result (asked_by request.entry) (spoken W.contents port.old) (spoken W.contents port.new) }
+    ensures begun { BeginsRun stage.debugs result (spoken W.contents port.new) }
 {
     port.accept(request)?;
-    if stops_on_entry {
+    if !stage.debugs {
+        return run_out(debuggee, port);
+    }
+    if stage.stops_on_entry {
         return tell_stopped(debuggee, Why::Entry, port);
     }
-    move_and_tell(debuggee, port, Motion::Continue)
+    go_and_tell(debuggee, port, Travel::Motion(Motion::Continue))
 }
 
 /// Tells what follows a response.
 fn follow<'c, A: Allocator + Copy + 'c, L: HasMachine<A, Machine<'c, A>>, W: Sink>(
     debuggee: &mut Debuggee<'c, A, L>,
     port: &mut Port<A, W>,
-    then: Then,
+    what: Then,
 ) -> Result<(), Trouble>
-    ensures { Tells result (spoken W.contents port.old) (spoken W.contents port.new) }
+    ensures events { Tells result (spoken W.contents port.old) (spoken W.contents port.new) }
+    ensures stands { Follows what result (spoken W.contents port.new) }
 {
-    if let Then::Stopped(why) = then {
-        return tell_stopped(debuggee, why, port);
-    }
-    if let Then::Move(motion) = then {
-        return move_and_tell(debuggee, port, motion);
+    match what {
+        Then::Stopped(why) => return tell_stopped(debuggee, why, port),
+        Then::Move(where_to) => return go_and_tell(debuggee, port, where_to),
+        Then::Nothing => {}
     }
     Ok(())
 }
@@ -56,6 +79,8 @@ fn follow<'c, A: Allocator + Copy + 'c, L: HasMachine<A, Machine<'c, A>>, W: Sin
 struct Stage {
     has_begun: bool,
     stops_on_entry: bool,
+    /// Whether the run is debugged: else it goes to its end.
+    debugs: bool,
 }
 
 /// Begins the run, where it hasn't begun.
@@ -76,7 +101,7 @@ fn begin_once<'c, A: Allocator + Copy + 'c, L: HasMachine<A, Machine<'c, A>>, W:
         );
     }
     stage.has_begun = true;
-    begin(debuggee, port, request, stage.stops_on_entry)
+    begin(debuggee, port, request, *stage)
 }
 
 /// Answers one request, and says how the session ends if it does.
@@ -109,11 +134,30 @@ enum Next {
     Restart,
 }
 
+/// Notes where the path of the file leads that a request is about.
+fn note_path<'c, A: Allocator + Copy + 'c, L: HasMachine<A, Machine<'c, A>>, F: Files<A>>(
+    debuggee: &mut Debuggee<'c, A, L>,
+    files: &F,
+    asked: Arguments<'_, '_, A>,
+) {
+    debuggee.asked_path = match asked.inside("source").text("path") {
+        Some(path) => files.real_path(path),
+        None => None,
+    };
+}
+
 /// Answers one message, and says what comes after it.
-fn answer_message<'c, A: Allocator + Copy + 'c, L: HasMachine<A, Machine<'c, A>>, W: Sink>(
+fn answer_message<
+    'c,
+    A: Allocator + Copy + 'c,
+    L: HasMachine<A, Machine<'c, A>>,
+    W: Sink,
+    F: Files<A>,
+>(
     debuggee: &mut Debuggee<'c, A, L>,
     port: &mut Port<A, W>,
     stage: &mut Stage,
+    files: &F,
     body: &[u8],
 ) -> Result<Next, Trouble>
     ensures { Hears result body.now (spoken W.contents port.old) (spoken W.contents port.new) }
@@ -131,7 +175,9 @@ fn answer_message<'c, A: Allocator + Copy + 'c, L: HasMachine<A, Machine<'c, A>>
         request.end();
         return Ok(Next::Restart);
     }
-    let ending = answer_one(debuggee, port, stage, request, Arguments::of(&message))?;
+    let asked = Arguments::of(&message);
+    note_path(debuggee, files, asked);
+    let ending = answer_one(debuggee, port, stage, request, asked)?;
     if let Some(ending) = ending {
         return Ok(Next::End(ending));
     }
@@ -145,23 +191,22 @@ fn answer_messages<
     L: HasMachine<A, Machine<'c, A>>,
     S: Source,
     W: Sink,
+    F: Files<A>,
 >(
     debuggee: &mut Debuggee<'c, A, L>,
-    stops_on_entry: bool,
+    stage: Stage,
+    files: &F,
     line: &mut Line<A, S, W>,
 ) -> Result<Closed<A>, Ended>
     ensures { GoesOn result (heard S.remaining W.contents line.old) (heard S.remaining W.contents line.new) }
 {
-    let mut stage = Stage {
-        has_begun: false,
-        stops_on_entry,
-    };
+    let mut stage = stage;
     for _ in 0..u64::MAX {
         let body = match line.next()? {
             Some(body) => body,
             None => return Ok(Closed::InputEnded),
         };
-        match answer_message(debuggee, &mut line.port, &mut stage, body.as_slice())? {
+        match answer_message(debuggee, &mut line.port, &mut stage, files, body.as_slice())? {
             Next::Message => {}
             Next::End(Ending::Terminated) => return Ok(Closed::Terminated),
             Next::End(Ending::Left) => return Ok(Closed::Left),
@@ -201,7 +246,7 @@ fn close<
         }
         other => other,
     };
-    keep_record(debuggee, launch, files)?;
+    keep_record(debuggee, files)?;
     Ok(other)
 }
 
@@ -221,10 +266,15 @@ pub fn serve_session<
 ) -> Result<Closed<A>, Ended>
     ensures { GoesOn result (heard S.remaining W.contents line.old) (heard S.remaining W.contents line.new) }
 {
-    let closed = match answer_messages(&mut debuggee, launch.stops_on_entry, line) {
+    let stage = Stage {
+        has_begun: false,
+        stops_on_entry: launch.stops_on_entry,
+        debugs: launch.debugs,
+    };
+    let closed = match answer_messages(&mut debuggee, stage, files, line) {
         Ok(closed) => closed,
         Err(ended) => {
-            let _ = keep_record(&debuggee, launch, files);
+            let _ = keep_record(&debuggee, files);
             return Err(ended);
         }
     };

@@ -4,7 +4,7 @@ use qil_machine::Machine;
 use qrev_debuggee::{Cause, Debuggee, Failure, HasMachine};
 use qrev_map::SourceFile;
 use qrev_requests::Arguments;
-use qrev_views::{SourceMap, same_file};
+use qrev_views::{SourceMap, plain_path, same_file};
 use std::alloc::{AllocError, Allocator};
 
 /// A source that a request is about.
@@ -51,14 +51,54 @@ fn source_asked<'c, A: Allocator + Copy + 'c, L: HasMachine<A, Machine<'c, A>>>(
     debuggee: &Debuggee<'c, A, L>,
     path: &str,
 ) -> Result<AskedFile<A>, Failure> {
-    let found = match &debuggee.source_map {
-        Some(source_map) => source_named(debuggee.alloc, source_map, path)?,
-        None => None,
+    let Some(source_map) = &debuggee.source_map else {
+        return Err(Failure::Because(Cause::AnotherFile));
     };
-    match found {
+    match source_by(
+        debuggee.alloc,
+        source_map,
+        path,
+        debuggee.asked_path.as_ref(),
+    )? {
         Some(source) => Ok(AskedFile::Source(source)),
         None => Err(Failure::Because(Cause::AnotherFile)),
     }
+}
+
+/// The source of a path, or of where that leads.
+fn source_by<A: Allocator + Copy>(
+    alloc: A,
+    source_map: &SourceMap<A>,
+    path: &str,
+    real: Option<&String<A>>,
+) -> Result<Option<AskedSource<A>>, AllocError> {
+    let plain = plain_path(alloc, path)?;
+    let found = source_named(alloc, source_map, plain.as_str())?;
+    match (found, real) {
+        (None, Some(real)) => source_named(alloc, source_map, real.as_str()),
+        (found, _) => Ok(found),
+    }
+}
+
+/// Whether two files are one, as far as is known of where their paths lead.
+fn is_same<A: Allocator>(one: Option<&String<A>>, other: Option<&String<A>>) -> bool {
+    match (one, other) {
+        (Some(one), Some(other)) => one.as_str() == other.as_str(),
+        _ => false,
+    }
+}
+
+/// Whether a path is that of the program's text.
+fn is_program<'c, A: Allocator + Copy + 'c, L: HasMachine<A, Machine<'c, A>>>(
+    debuggee: &Debuggee<'c, A, L>,
+    path: &str,
+) -> Result<bool, AllocError> {
+    if is_same(debuggee.asked_path.as_ref(), debuggee.real_path.as_ref()) {
+        return Ok(true);
+    }
+    let asked = plain_path(debuggee.alloc, path)?;
+    let own = plain_path(debuggee.alloc, debuggee.shown.path)?;
+    Ok(same_file(asked.as_str(), own.as_str()))
 }
 
 /// The file that a request is about: the program's, or a source that its text came from.
@@ -68,7 +108,7 @@ pub fn file_asked<'c, A: Allocator + Copy + 'c, L: HasMachine<A, Machine<'c, A>>
 ) -> Result<AskedFile<A>, Failure> {
     match source.text("path") {
         Some(path) => {
-            if same_file(path, debuggee.shown.path) {
+            if is_program(debuggee, path)? {
                 Ok(AskedFile::Text)
             } else {
                 source_asked(debuggee, path)

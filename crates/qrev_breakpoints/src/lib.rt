@@ -4,7 +4,11 @@
 
 mod asked_file;
 mod locations;
+mod places;
+mod rules;
+mod sources;
 mod stops;
 
 pub use locations::breakpoint_locations;
+pub use sources::loaded_sources;
 pub use stops::{set_breakpoints, set_by_words};

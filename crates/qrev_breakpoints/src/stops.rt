@@ -1,6 +1,8 @@
 //! The requests that make stops: breakpoints at lines and at functions, watches.
 
 use crate::asked_file::{AskedFile, AskedSource, file_asked};
+use crate::places::{FuncPlace, entries};
+use crate::rules::{add_rule, drop_rules, flaw_in};
 use qil_lines::{Place, line_of, place_in};
 use qil_machine::Machine;
 use qil_pieces::Fragment;
@@ -8,7 +10,7 @@ use qil_tree::{Func, Program};
 use qrev_debuggee::{Body, Cause, Debuggee, Done, Failure, HasMachine, RequestedStop, StopFamily};
 use qrev_protocol::{Array, InObject, Whole};
 use qrev_requests::Arguments;
-use qrev_views::{as_text, put_source};
+use qrev_views::{as_text, data_named, data_size, put_source};
 use std::alloc::{AllocError, Allocator};
 
 /// The list of breakpoints in a body.
@@ -24,7 +26,6 @@ pub enum Flaw {
     Newline,
     Condition,
     HitCondition,
-    LogMessage,
     AccessType,
     AnotherFile,
 }
@@ -37,28 +38,10 @@ fn flaw_words(flaw: Flaw) -> &'static str {
         Flaw::NoSource => "no line of the text is from this line or a later one",
         Flaw::NoName => "no name",
         Flaw::Newline => "a newline in a name",
-        Flaw::Condition => "not supported: condition",
-        Flaw::HitCondition => "not supported: hitCondition",
-        Flaw::LogMessage => "not supported: logMessage",
+        Flaw::Condition => "condition: no expression",
+        Flaw::HitCondition => "hitCondition: no count",
         Flaw::AccessType => "not supported: accessType",
         Flaw::AnotherFile => "the program isn't made from this file",
-    }
-}
-
-/// What a stop asks for that isn't served.
-fn unserved<A: Allocator + Copy>(asked: Arguments<'_, '_, A>) -> Option<Flaw> {
-    if asked.says("condition") {
-        return Some(Flaw::Condition);
-    }
-    if asked.says("hitCondition") {
-        return Some(Flaw::HitCondition);
-    }
-    if asked.says("logMessage") {
-        return Some(Flaw::LogMessage);
-    }
-    match asked.text("accessType") {
-        Some("read" | "readWrite") => Some(Flaw::AccessType),
-        _ => None,
     }
 }
 
@@ -142,6 +125,7 @@ fn delete_stops<'c, A: Allocator + Copy + 'c, L: HasMachine<A, Machine<'c, A>>>(
         }
     }
     debuggee.stops.retain(|stop| stop.family != family);
+    drop_rules(debuggee);
     Ok(())
 }
 
@@ -156,15 +140,24 @@ fn delete_stop<'c, A: Allocator + Copy + 'c, L: HasMachine<A, Machine<'c, A>>>(
     }
 }
 
-/// Makes a stop by a line.
+/// Makes a stop by a line. It belongs to the breakpoint of the number that is given, or is one of its own.
 fn make_stop<'c, A: Allocator + Copy + 'c, L: HasMachine<A, Machine<'c, A>>>(
     debuggee: &mut Debuggee<'c, A, L>,
     family: StopFamily,
+    id: Option<u64>,
     line: &[Fragment<'_>],
 ) -> Result<Made, Failure> {
+    let from = debuggee.answered();
     match debuggee.line_of(line) {
         Ok(Done::Added(number)) => {
-            match debuggee.stops.push(RequestedStop { family, number }) {
+            let to = debuggee.answered().saturating_sub(1);
+            let stop = RequestedStop {
+                family,
+                number,
+                id: id.unwrap_or(number),
+                answer: (from, to),
+            };
+            match debuggee.stops.push(stop) {
                 Ok(()) => Ok(Made::Number(number)),
                 Err(_) => Err(Failure::OutOfMemory),
             }
@@ -185,21 +178,20 @@ fn put_answered<'c, A: Allocator + Copy + 'c, L: HasMachine<A, Machine<'c, A>>>(
     put_flaw(list, answer.as_str())
 }
 
-/// Makes a breakpoint at a place, which is shown on a line of a file.
-fn break_at<'c, A: Allocator + Copy + 'c, L: HasMachine<A, Machine<'c, A>>>(
+/// Makes a stop at a place.
+fn stop_at<'c, A: Allocator + Copy + 'c, L: HasMachine<A, Machine<'c, A>>>(
     debuggee: &mut Debuggee<'c, A, L>,
-    list: BreakpointList<A>,
     family: StopFamily,
+    id: Option<u64>,
     spot: Spot<'_, '_, A>,
-    path: &str,
-    line: u32,
-) -> Result<BreakpointList<A>, Failure> {
+) -> Result<Option<Made>, Failure> {
     let Some(block) = spot.func.blocks.as_slice().get(spot.place.block) else {
-        return Ok(put_flaw(list, flaw_words(Flaw::NoPlace))?);
+        return Ok(None);
     };
     let made = make_stop(
         debuggee,
         family,
+        id,
         &[
             Fragment::Bytes(b"break $"),
             Fragment::Bytes(spot.func.name.bytes()),
@@ -209,9 +201,23 @@ fn break_at<'c, A: Allocator + Copy + 'c, L: HasMachine<A, Machine<'c, A>>>(
             Fragment::Number(spot.place.index as u64),
         ],
     )?;
+    Ok(Some(made))
+}
+
+/// Adds what became of a breakpoint at a line of a file.
+fn put_break<'c, A: Allocator + Copy + 'c, L: HasMachine<A, Machine<'c, A>>>(
+    debuggee: &mut Debuggee<'c, A, L>,
+    list: BreakpointList<A>,
+    made: Option<Made>,
+    asked: Arguments<'_, '_, A>,
+    path: &str,
+    line: u32,
+) -> Result<BreakpointList<A>, Failure> {
     match made {
-        Made::Answered(from) => Ok(put_answered(debuggee, list, from)?),
-        Made::Number(number) => {
+        None => Ok(put_flaw(list, flaw_words(Flaw::NoPlace))?),
+        Some(Made::Answered(from)) => Ok(put_answered(debuggee, list, from)?),
+        Some(Made::Number(number)) => {
+            add_rule(debuggee, number, asked)?;
             let line = debuggee.shown.numbering.line(line);
             Ok(put_made_at(list, number, path, line)?)
         }
@@ -223,22 +229,74 @@ fn break_in_text<'c, A: Allocator + Copy + 'c, L: HasMachine<A, Machine<'c, A>>>
     debuggee: &mut Debuggee<'c, A, L>,
     list: BreakpointList<A>,
     line: u64,
+    asked: Arguments<'_, '_, A>,
 ) -> Result<BreakpointList<A>, Failure> {
     let Some(spot) = spot_at(debuggee.program(), debuggee.shown.numbering.text_line(line)) else {
         return Ok(put_flaw(list, flaw_words(Flaw::NoPlace))?);
     };
     let line = line_of(spot.func, spot.place).unwrap_or(spot.func.line);
     let path = debuggee.shown.path;
-    break_at(debuggee, list, StopFamily::Text, spot, path, line)
+    let made = stop_at(debuggee, StopFamily::Text, None, spot)?;
+    put_break(debuggee, list, made, asked, path, line)
 }
 
-/// Makes a breakpoint at the place that a line of a source means: that of the first line of the text which came from it, or
-/// from the least line after it of which there is one.
+/// The place of a function by its number.
+fn spot_of<'p, 'a, A: Allocator>(
+    program: &'p Program<'a, A>,
+    place: FuncPlace,
+) -> Option<Spot<'p, 'a, A>> {
+    match program.funcs.as_slice().get(place.func) {
+        Some(func) => Some(Spot {
+            func,
+            place: place.place,
+        }),
+        None => None,
+    }
+}
+
+/// Makes stops at places, which are one breakpoint.
+fn stop_at_all<'c, A: Allocator + Copy + 'c, L: HasMachine<A, Machine<'c, A>>>(
+    debuggee: &mut Debuggee<'c, A, L>,
+    family: StopFamily,
+    places: &[FuncPlace],
+) -> Result<Option<Made>, Failure> {
+    let mut first = None;
+    for place in places {
+        let Some(spot) = spot_of(debuggee.program(), *place) else {
+            continue;
+        };
+        let id = match first {
+            Some(Made::Number(number)) => Some(number),
+            _ => None,
+        };
+        let made = stop_at(debuggee, family, id, spot)?;
+        if id.is_none() {
+            first = made;
+        }
+    }
+    Ok(first)
+}
+
+/// The places at which a run comes to a line of a source.
+fn places_of<'c, A: Allocator + Copy + 'c, L: HasMachine<A, Machine<'c, A>>>(
+    debuggee: &Debuggee<'c, A, L>,
+    source: &AskedSource<A>,
+    line: u32,
+) -> Result<Vec<FuncPlace, A>, AllocError> {
+    match &debuggee.source_map {
+        Some(source_map) => entries(debuggee.alloc, debuggee.program(), source_map, source, line),
+        None => Ok(Vec::new(debuggee.alloc)),
+    }
+}
+
+/// Makes a breakpoint at a line of a source, or at the least line after it from which the text has a line: at all places at which
+/// a run comes to that line, or where there is none at the place that its first line of the text means.
 fn break_in_source<'c, A: Allocator + Copy + 'c, L: HasMachine<A, Machine<'c, A>>>(
     debuggee: &mut Debuggee<'c, A, L>,
     list: BreakpointList<A>,
     source: &AskedSource<A>,
     line: u64,
+    asked: Arguments<'_, '_, A>,
 ) -> Result<BreakpointList<A>, Failure> {
     let mapping = match debuggee.shown.numbering.file_line(line) {
         Some(line) => source.file.first_from(line),
@@ -247,15 +305,21 @@ fn break_in_source<'c, A: Allocator + Copy + 'c, L: HasMachine<A, Machine<'c, A>
     let Some(mapping) = mapping else {
         return Ok(put_flaw(list, flaw_words(Flaw::NoSource))?);
     };
-    let Some(spot) = spot_at(debuggee.program(), mapping.text_line) else {
-        return Ok(put_flaw(list, flaw_words(Flaw::NoPlace))?);
-    };
     let family = StopFamily::Source(source.first_line);
-    break_at(
+    let places = places_of(debuggee, source, mapping.line)?;
+    let made = if places.is_empty() {
+        let Some(spot) = spot_at(debuggee.program(), mapping.text_line) else {
+            return Ok(put_flaw(list, flaw_words(Flaw::NoPlace))?);
+        };
+        stop_at(debuggee, family, None, spot)?
+    } else {
+        stop_at_all(debuggee, family, places.as_slice())?
+    };
+    put_break(
         debuggee,
         list,
-        family,
-        spot,
+        made,
+        asked,
         source.path.as_str(),
         mapping.line,
     )
@@ -268,15 +332,15 @@ fn set_line<'c, A: Allocator + Copy + 'c, L: HasMachine<A, Machine<'c, A>>>(
     file: &AskedFile<A>,
     asked: Arguments<'_, '_, A>,
 ) -> Result<BreakpointList<A>, Failure> {
-    if let Some(flaw) = unserved(asked) {
+    if let Some(flaw) = flaw_in(debuggee.alloc, asked)? {
         return Ok(put_flaw(list, flaw_words(flaw))?);
     }
     let Some(line) = asked.number("line") else {
         return Ok(put_flaw(list, flaw_words(Flaw::NoLine))?);
     };
     match file {
-        AskedFile::Text => break_in_text(debuggee, list, line),
-        AskedFile::Source(source) => break_in_source(debuggee, list, source, line),
+        AskedFile::Text => break_in_text(debuggee, list, line, asked),
+        AskedFile::Source(source) => break_in_source(debuggee, list, source, line, asked),
     }
 }
 
@@ -327,9 +391,6 @@ fn words_asked<'q, A: Allocator + Copy>(
     asked: Arguments<'_, 'q, A>,
     family: StopFamily,
 ) -> Result<&'q str, Flaw> {
-    if let Some(flaw) = unserved(asked) {
-        return Err(flaw);
-    }
     let words = match family {
         StopFamily::Data => asked.text("dataId"),
         _ => asked.text("name"),
@@ -353,31 +414,114 @@ fn verb_for<'v>(family: StopFamily, words: &[u8]) -> &'v [u8] {
 /// Makes one stop by words.
 fn make_by_words<'c, A: Allocator + Copy + 'c, L: HasMachine<A, Machine<'c, A>>>(
     debuggee: &mut Debuggee<'c, A, L>,
-    list: BreakpointList<A>,
     family: StopFamily,
     words: &[u8],
-) -> Result<BreakpointList<A>, Failure> {
+) -> Result<Made, Failure> {
     let verb = verb_for(family, words);
-    match make_stop(
+    make_stop(
         debuggee,
         family,
+        None,
         &[Fragment::Bytes(verb), Fragment::Bytes(words)],
-    )? {
-        Made::Number(number) => Ok(put_made(list, number)?),
-        Made::Answered(from) => Ok(put_answered(debuggee, list, from)?),
+    )
+}
+
+/// The widest bytes that a watch may read of so many: the letter, and how many they are.
+fn widest(left: u64) -> (&'static [u8], u64) {
+    if left >= 8 {
+        (b"l", 8)
+    } else if left >= 4 {
+        (b"w", 4)
+    } else if left >= 2 {
+        (b"h", 2)
+    } else {
+        (b"b", 1)
     }
 }
 
-/// Makes one stop by the words that a request says.
+/// Makes a watch of so many bytes at most from an address on, and gives how many it watches.
+fn watch_part<'c, A: Allocator + Copy + 'c, L: HasMachine<A, Machine<'c, A>>>(
+    debuggee: &mut Debuggee<'c, A, L>,
+    id: Option<u64>,
+    address: u64,
+    left: u64,
+) -> Result<(Made, u64), Failure> {
+    let (letter, width) = widest(left);
+    let made = make_stop(
+        debuggee,
+        StopFamily::Data,
+        id,
+        &[
+            Fragment::Bytes(b"watch "),
+            Fragment::Bytes(letter),
+            Fragment::Bytes(b" "),
+            Fragment::Number(address),
+        ],
+    )?;
+    Ok((made, width))
+}
+
+/// Makes watches of all bytes of a data object, which are one breakpoint.
+fn watch_object<'c, A: Allocator + Copy + 'c, L: HasMachine<A, Machine<'c, A>>>(
+    debuggee: &mut Debuggee<'c, A, L>,
+    address: u64,
+    size: u64,
+) -> Result<Made, Failure> {
+    let (first, width) = watch_part(debuggee, None, address, size)?;
+    let Made::Number(id) = first else {
+        return Ok(first);
+    };
+    let mut done = width;
+    for _ in 0..size {
+        if done >= size {
+            break;
+        }
+        let at = address.wrapping_add(done);
+        let (_, width) = watch_part(debuggee, Some(id), at, size - done)?;
+        done = done.saturating_add(width);
+    }
+    Ok(first)
+}
+
+/// Where the data object lies that is asked for as a whole, and how many bytes it has.
+fn object_asked<'c, A: Allocator + Copy + 'c, L: HasMachine<A, Machine<'c, A>>>(
+    debuggee: &Debuggee<'c, A, L>,
+    family: StopFamily,
+    words: &[u8],
+) -> Option<(u64, u64)> {
+    if family != StopFamily::Data {
+        return None;
+    }
+    let name = words.strip_prefix(b"$")?;
+    let data = data_named(debuggee.program(), name)?;
+    let address = debuggee.machine().code().image().address(name)?;
+    Some((address, data_size(data)))
+}
+
+/// Makes one breakpoint by the words that a request says.
 fn set_words<'c, A: Allocator + Copy + 'c, L: HasMachine<A, Machine<'c, A>>>(
     debuggee: &mut Debuggee<'c, A, L>,
     list: BreakpointList<A>,
     family: StopFamily,
     asked: Arguments<'_, '_, A>,
 ) -> Result<BreakpointList<A>, Failure> {
-    match words_asked(asked, family) {
-        Ok(words) => make_by_words(debuggee, list, family, words.as_bytes()),
-        Err(flaw) => Ok(put_flaw(list, flaw_words(flaw))?),
+    if let Some(flaw) = flaw_in(debuggee.alloc, asked)? {
+        return Ok(put_flaw(list, flaw_words(flaw))?);
+    }
+    let words = match words_asked(asked, family) {
+        Ok(words) => words.as_bytes(),
+        Err(flaw) => return Ok(put_flaw(list, flaw_words(flaw))?),
+    };
+    let made = match object_asked(debuggee, family, words) {
+        Some((address, size)) if size > 0 => watch_object(debuggee, address, size)?,
+        _ => make_by_words(debuggee, family, words)?,
+    };
+    match made {
+        Made::Answered(from) => Ok(put_answered(debuggee, list, from)?),
+        Made::Number(number) => {
+            add_rule(debuggee, number, asked)?;
+            Ok(put_made(list, number)?)
+        }
     }
 }
 

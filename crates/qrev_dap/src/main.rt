@@ -4,6 +4,7 @@
 use qil_streams::{FromReader, IntoWriter};
 use qrev_adapter::{Ended, Files, Line, Opening, Record, serve};
 use std::alloc::{AllocError, Global};
+use std::fs::OpenOptions;
 use std::hash::RandomState;
 use std::io::Read;
 use std::process::ExitCode;
@@ -46,6 +47,19 @@ impl<'r, R: rt::Files> Files<Global> for Disk<'r, R> {
                 }
             }
         }
+    }
+
+    fn real_path(&self, name: &str) -> Option<String> {
+        match self.rt.canonicalize(self.alloc, name) {
+            Ok(path) => Some(path.into_string()),
+            Err(_) => None,
+        }
+    }
+
+    fn can_write(&self, name: &str) -> bool {
+        let mut options = OpenOptions::new();
+        options.write(true).create(true);
+        options.open(self.rt, name).is_ok()
     }
 
     fn write(

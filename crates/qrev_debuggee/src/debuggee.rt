@@ -7,12 +7,15 @@ ghost use Rattle.qil_meaning.specs.Timeline.{position, oldest};
 ghost use Rattle.qrev_recorder.specs.qil_replies.qil_stops.Depths.{depth};
 ghost use Rattle.qrev_debuggee.specs.Moves.{Lined, RanTo, RanBack, RanBackTo, LineFails, RunFails};
 
+use crate::client::Client;
 use crate::failure::{Cause, Failure};
+use crate::rules::StopRule;
 use qil_machine::Machine;
 use qil_meaning::Reason;
 use qil_pieces::{Fragment, put_fragments};
 use qil_streams::Buffer;
 use qil_tree::Program;
+use qrev_map::Names;
 use qrev_recorder::{Debugged, DepthEnd, Done, HasMachine, LineError, Recorder};
 use qrev_views::{Shown, SourceMap};
 use std::alloc::Allocator;
@@ -33,6 +36,10 @@ pub enum StopFamily {
 pub struct RequestedStop {
     pub family: StopFamily,
     pub number: u64,
+    /// The number by which the editor knows the breakpoint that it belongs to: one at a line may be several stops.
+    pub id: u64,
+    /// Where the session's answer stands in the transcript that says what it is.
+    pub answer: (usize, usize),
 }
 
 /// A session that an editor drives.
@@ -49,6 +56,19 @@ pub struct Debuggee<'c, A: Allocator, L: Debugged<A>> {
     pub output: Vec<u8, A>,
     /// The stops that requests made and didn't take away, the lowest number first.
     pub stops: Vec<RequestedStop, A>,
+    /// What some of the breakpoints ask for besides their places.
+    pub rules: Vec<StopRule<A>, A>,
+    /// The breakpoints at which the run stands, by the numbers that the editor knows.
+    pub hit: Vec<u64, A>,
+    /// What the names of the text stand for.
+    pub names: Names<A>,
+    pub client: Client,
+    /// The file that takes the record.
+    pub record: Option<String<A>>,
+    /// The file that a request is about, where the path of that leads.
+    pub asked_path: Option<String<A>>,
+    /// The file of the program, where its path leads.
+    pub real_path: Option<String<A>>,
 }
 
 impl From<LineError> for Failure {
@@ -117,6 +137,14 @@ impl<'c, A: Allocator + Copy + 'c, L: HasMachine<A, Machine<'c, A>>> Debuggee<'c
             Some((b'\n', text)) => text,
             _ => answers,
         }
+    }
+
+    /// A part of the transcript.
+    pub fn told(&self, (from, to): (usize, usize)) -> &[u8] {
+        let transcript = self.recorder.transcript();
+        let to = to.min(transcript.len());
+        let from = from.min(to);
+        &transcript[from..to]
     }
 
     /// Answers a line.

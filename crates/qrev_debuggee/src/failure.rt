@@ -23,6 +23,15 @@ pub enum Cause {
     DeadAddress,
     NoMemory,
     ScriptFull,
+    Unset,
+    DeadBytes,
+    ZeroDivisor,
+    BadShift,
+    TooLarge,
+    OfFloats,
+    NotWhole,
+    MovingWatch,
+    NoPlace,
 }
 
 impl Cause {
@@ -47,6 +56,15 @@ impl Cause {
             Cause::DeadAddress => "no: dead address",
             Cause::NoMemory => "no memory for the next move",
             Cause::ScriptFull => "the script is full",
+            Cause::Unset => "unset",
+            Cause::DeadBytes => "dead address",
+            Cause::ZeroDivisor => "division by zero",
+            Cause::BadShift => "a shift by less than 0 or more than 63",
+            Cause::TooLarge => "a value of more than 127 bits",
+            Cause::OfFloats => "no operation of floats: u(..) is the bits of one",
+            Cause::NotWhole => "a float, and a whole number was expected",
+            Cause::MovingWatch => "a watch that moves: take it in the console",
+            Cause::NoPlace => "no place at or after this line",
         }
     }
 }

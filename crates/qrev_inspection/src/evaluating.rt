@@ -1,59 +1,62 @@
-//! `evaluate`: the value of a temporary or of a global, and in the console lines of commands.
+//! `evaluate`: the value of an expression, and in the console lines of commands.
 
-use crate::looking::temp_in;
+use crate::looking::showing_said;
+use crate::results::{address_in, cause_of, letter_of, put_reference, put_result, put_type};
 use qil_commands::{Command, read_command};
 use qil_machine::Machine;
-use qil_tree::Class;
 use qrev_debuggee::{Body, Cause, Debuggee, Done, Failure, HasMachine, Why};
+use qrev_expressions::{
+    Expression, Missing, Scene, Told, Unread, Value, evaluate as worth, parse, tell,
+};
+use qrev_map::Names;
 use qrev_requests::Arguments;
-use qrev_views::{as_text, class_letter, frame_of, number_text, value_text};
+use qrev_views::{Showing, as_text, sigiled};
 use std::alloc::{AllocError, Allocator};
 
-/// Adds a result that is a text.
-fn put_result<A: Allocator>(body: Body<A>, text: &str) -> Result<Body<A>, AllocError> {
-    body.text("result", text)?.number("variablesReference", 0)
-}
-
-/// What an expression names.
+/// An expression, and how its value is asked for.
 #[derive(Clone, Copy)]
-enum Named {
-    /// A temporary: what it holds, and its class.
-    Temp(Option<u64>, Option<Class>),
-    /// The address of data or a function.
-    Address(u64),
+pub struct Asked<'x> {
+    pub text: &'x [u8],
+    pub scene: Scene,
+    pub showing: Showing,
 }
 
-/// Adds what a temporary holds.
-fn put_temp<A: Allocator + Copy>(
+/// Adds what an expression is worth.
+fn put_value<A: Allocator + Copy>(
     alloc: A,
     body: Body<A>,
-    value: Option<u64>,
-    class: Option<Class>,
-) -> Result<Body<A>, AllocError> {
-    let value = value_text(alloc, value)?;
-    put_result(body, value.as_str())?.text("type", class_letter(class))
-}
-
-/// Adds an address.
-fn put_address<A: Allocator + Copy>(
-    alloc: A,
-    body: Body<A>,
-    address: u64,
-) -> Result<Body<A>, AllocError> {
-    let address = number_text(alloc, address)?;
-    put_result(body, address.as_str())?.text("memoryReference", address.as_str())
-}
-
-/// Adds what an expression names.
-fn put_named<A: Allocator + Copy>(
-    alloc: A,
-    body: Body<A>,
-    named: Named,
-) -> Result<Body<A>, AllocError> {
-    match named {
-        Named::Temp(value, class) => put_temp(alloc, body, value, class),
-        Named::Address(address) => put_address(alloc, body, address),
+    machine: &Machine<'_, A>,
+    showing: Showing,
+    expression: &Expression<'_, A>,
+    value: Value,
+) -> Result<Body<A>, Failure> {
+    let text = match tell(alloc, machine, showing, expression, value)? {
+        Told::Text(text) => text,
+        Told::Missing(missing) => return Err(Failure::Because(cause_of(missing))),
+    };
+    let body = put_result(body, text.as_str())?;
+    let body = put_type(body, showing, letter_of(value))?;
+    match address_in(machine, value) {
+        Some(address) => Ok(put_reference(alloc, body, showing, address)?),
+        None => Ok(body),
     }
+}
+
+/// What a text is worth as an expression, if it is one.
+fn worth_of<'x, A: Allocator + Copy>(
+    alloc: A,
+    machine: &Machine<'_, A>,
+    names: &Names<A>,
+    scene: Scene,
+    text: &'x [u8],
+) -> Result<Option<(Expression<'x, A>, Value)>, AllocError> {
+    let expression = match parse(alloc, text) {
+        Ok(expression) => expression,
+        Err(Unread::Malformed) => return Ok(None),
+        Err(Unread::OutOfMemory) => return Err(AllocError),
+    };
+    let value = worth(alloc, machine, names, scene, &expression)?;
+    Ok(Some((expression, value)))
 }
 
 /// Whether a line ends the script.
@@ -69,41 +72,6 @@ fn has_quit(text: &str) -> bool {
         }
     }
     false
-}
-
-/// The temporary of a name, without its sigil, in the frame of a number.
-fn temp_named<A: Allocator + Copy>(
-    machine: &Machine<'_, A>,
-    number: u64,
-    name: &[u8],
-) -> Option<Named> {
-    let frame = frame_of(machine, number)?;
-    let (value, class) = temp_in(machine, frame, name)?;
-    Some(Named::Temp(value, class))
-}
-
-/// The data or the function of a name, without its sigil.
-fn global_named<A: Allocator + Copy>(machine: &Machine<'_, A>, name: &[u8]) -> Option<Named> {
-    let address = machine.code().image().address(name)?;
-    Some(Named::Address(address))
-}
-
-/// What an expression names: `%x`, `$name`, and where an editor leaves sigils out the name alone.
-fn named_by<A: Allocator + Copy>(
-    machine: &Machine<'_, A>,
-    number: u64,
-    expression: &[u8],
-    is_bare: bool,
-) -> Option<Named> {
-    match expression.split_first() {
-        Some((b'%', name)) => temp_named(machine, number, name),
-        Some((b'$', name)) => global_named(machine, name),
-        _ if is_bare => match temp_named(machine, number, expression) {
-            Some(named) => Some(named),
-            None => global_named(machine, expression),
-        },
-        _ => None,
-    }
 }
 
 /// Answers lines of commands, and says why the run stands if one of them moved the session.
@@ -144,20 +112,117 @@ fn console<'c, A: Allocator + Copy + 'c, L: HasMachine<A, Machine<'c, A>>>(
     Ok((body, why))
 }
 
-/// What is made of an expression that names nothing: in the console it is lines of commands.
-fn answer_unnamed<'c, A: Allocator + Copy + 'c, L: HasMachine<A, Machine<'c, A>>>(
+/// Whether a line moves the run or changes a value.
+fn is_move(line: &[u8]) -> bool {
+    matches!(
+        read_command(line),
+        Ok(Some(
+            Command::Step(_)
+                | Command::Back(_)
+                | Command::Continue
+                | Command::Reverse
+                | Command::Set(..)
+                | Command::Poke(..)
+        ))
+    )
+}
+
+/// Whether a line of a text moves the run or changes a value.
+fn has_move(text: &str) -> bool {
+    for line in text.split('\n') {
+        if is_move(line.as_bytes()) {
+            return true;
+        }
+    }
+    false
+}
+
+/// Whether a text is a command.
+fn is_command(text: &str) -> bool {
+    matches!(read_command(text.as_bytes()), Ok(Some(_)))
+}
+
+/// What is made of a text that is no expression: in the console it is lines of commands, and as a watch it may be one.
+fn answer_lines_of<'c, A: Allocator + Copy + 'c, L: HasMachine<A, Machine<'c, A>>>(
     debuggee: &mut Debuggee<'c, A, L>,
     context: &str,
     text: &str,
     body: Body<A>,
 ) -> Result<(Body<A>, Option<Why>), Failure> {
-    if context != "repl" {
+    let is_console = context == "repl";
+    if !is_console && (context != "watch" || !is_command(text)) {
         return Err(Failure::Because(Cause::NoSuchName));
     }
     if has_quit(text) {
         return Err(Failure::Because(Cause::QuitInConsole));
     }
+    if !is_console && debuggee.client.repeats_watches && has_move(text) {
+        return Err(Failure::Because(Cause::MovingWatch));
+    }
     console(debuggee, text, body)
+}
+
+/// What an editor shows where it leaves a sigil out: a temporary before data or a function.
+fn hovered<A: Allocator + Copy>(
+    alloc: A,
+    machine: &Machine<'_, A>,
+    names: &Names<A>,
+    asked: Asked<'_>,
+    body: Body<A>,
+) -> Result<Body<A>, Failure> {
+    for sigil in [b"%".as_slice(), b"$".as_slice()] {
+        let name = sigiled(alloc, sigil, asked.text)?;
+        let found = worth_of(alloc, machine, names, asked.scene, name.as_str().as_bytes())?;
+        match found {
+            Some((_, Value::Missing(Missing::NoSuchName | Missing::NoFrame))) | None => {}
+            Some((expression, value)) => {
+                return put_value(alloc, body, machine, asked.showing, &expression, value);
+            }
+        }
+    }
+    Err(Failure::Because(Cause::NoSuchName))
+}
+
+/// Whether a text is a name without a sigil.
+fn is_bare(text: &[u8]) -> bool {
+    match text.first() {
+        Some(byte) => byte.is_ascii_alphabetic() || *byte == b'_' || *byte == b'.',
+        None => false,
+    }
+}
+
+/// The expression that is asked for. `p` before it is what some consoles send.
+fn text_said<'q, A: Allocator + Copy>(asked: Arguments<'_, 'q, A>) -> &'q str {
+    let text = asked.text("expression").unwrap_or("");
+    text.strip_prefix("p ").unwrap_or(text)
+}
+
+/// What came of a text that may be an expression: its value was added, or nothing was.
+enum Tried<A: Allocator> {
+    Added(Body<A>),
+    NoExpression(Body<A>),
+}
+
+/// Adds the value of a text, if it is an expression.
+fn try_expression<'c, A: Allocator + Copy + 'c, L: HasMachine<A, Machine<'c, A>>>(
+    debuggee: &Debuggee<'c, A, L>,
+    said: Asked<'_>,
+    is_hover: bool,
+    body: Body<A>,
+) -> Result<Tried<A>, Failure> {
+    let alloc = debuggee.alloc;
+    let machine = debuggee.machine();
+    if is_hover && is_bare(said.text) {
+        let body = hovered(alloc, machine, &debuggee.names, said, body)?;
+        return Ok(Tried::Added(body));
+    }
+    match worth_of(alloc, machine, &debuggee.names, said.scene, said.text)? {
+        Some((expression, value)) => {
+            let body = put_value(alloc, body, machine, said.showing, &expression, value)?;
+            Ok(Tried::Added(body))
+        }
+        None => Ok(Tried::NoExpression(body)),
+    }
 }
 
 /// Adds the value of an expression, or in the console the answers to commands.
@@ -166,12 +231,18 @@ pub fn evaluate<'c, A: Allocator + Copy + 'c, L: HasMachine<A, Machine<'c, A>>>(
     asked: Arguments<'_, '_, A>,
     body: Body<A>,
 ) -> Result<(Body<A>, Option<Why>), Failure> {
-    let expression = asked.text("expression").unwrap_or("");
-    let number = asked.number("frameId").unwrap_or(1);
+    let text = text_said(asked);
     let context = asked.text("context").unwrap_or("");
-    let is_bare = context == "hover";
-    match named_by(debuggee.machine(), number, expression.as_bytes(), is_bare) {
-        Some(named) => Ok((put_named(debuggee.alloc, body, named)?, None)),
-        None => answer_unnamed(debuggee, context, expression, body),
+    let said = Asked {
+        text: text.as_bytes(),
+        scene: Scene {
+            number: asked.number("frameId").unwrap_or(1),
+            position: debuggee.position(),
+        },
+        showing: showing_said(debuggee.client, asked),
+    };
+    match try_expression(debuggee, said, context == "hover", body)? {
+        Tried::Added(body) => Ok((body, None)),
+        Tried::NoExpression(body) => answer_lines_of(debuggee, context, text, body),
     }
 }

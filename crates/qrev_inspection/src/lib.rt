@@ -6,6 +6,7 @@ mod completing;
 mod evaluating;
 mod looking;
 mod memory;
+mod results;
 mod setting;
 mod watching;
 
@@ -13,5 +14,5 @@ pub use completing::completions;
 pub use evaluating::evaluate;
 pub use looking::{scopes, stack_trace, variables};
 pub use memory::{read_memory, write_memory};
-pub use setting::set_variable;
+pub use setting::{set_expression, set_variable};
 pub use watching::data_breakpoint_info;

@@ -1,36 +1,105 @@
-//! `setVariable`: a temporary of the innermost frame, or the shown word of a data object.
+//! `setVariable` and `setExpression`: a temporary of the innermost frame, or memory.
 
-use crate::looking::temp_in;
+use crate::looking::showing_said;
+use crate::results::{cause_of, put_type};
+use qil_answers::func_name;
 use qil_machine::Machine;
 use qil_pieces::Fragment;
-use qil_tree::Data;
+use qil_tree::{Class, Data};
 use qrev_debuggee::{Body, Cause, Debuggee, Done, Failure, HasMachine};
+use qrev_expressions::{
+    Expression, Memory, Missing, Operation, Scene, Unread, Value, bits_at, evaluate, low_bits,
+    named_temp, parse,
+};
+use qrev_map::{FloatClass, Names};
 use qrev_requests::Arguments;
-use qrev_views::{DATA, MACHINE, class_letter, data_named, data_word, frame_of, value_text};
+use qrev_views::{
+    DATA, MACHINE, Showing, Style, data_float, data_named, data_word, frame_of, letter_of,
+    number_text, told_value,
+};
 use std::alloc::{AllocError, Allocator};
+use std::num::{f32_to_bits_with_nan, f64_to_bits_with_nan, nearest_f64_to_f32_with_nan};
 
-/// A value that was set, and its type.
+/// A value that was set, and what it is.
 #[derive(Clone, Copy)]
 struct Set<'l> {
     value: Option<u64>,
     letter: &'l str,
+    class: Option<Class>,
+    float: Option<FloatClass>,
 }
 
 /// Adds the text of a value, and its type.
-fn put_text<A: Allocator>(body: Body<A>, value: &str, letter: &str) -> Result<Body<A>, AllocError> {
-    body.text("value", value)?
-        .text("type", letter)?
-        .number("variablesReference", 0)
-}
-
-/// Adds a value and its type.
 fn put_value<A: Allocator + Copy>(
     alloc: A,
     body: Body<A>,
+    machine: &Machine<'_, A>,
+    showing: Showing,
     set: Set<'_>,
 ) -> Result<Body<A>, AllocError> {
-    let value = value_text(alloc, set.value)?;
-    put_text(body, value.as_str(), set.letter)
+    let style = Style::of(set.float, showing.is_hex);
+    let value = told_value(alloc, machine, style, set.class, set.value)?;
+    let body = body.text("value", value.as_str())?;
+    put_type(body, showing, set.letter)?.number("variablesReference", 0)
+}
+
+/// A value as a float.
+fn as_float(value: Value) -> Option<f64> {
+    match value {
+        Value::Double(float) | Value::Written(float) => Some(float),
+        Value::Single(float) => Some(std::num::f32_to_f64_with_nan(float)),
+        Value::Number(..) | Value::Missing(_) => None,
+    }
+}
+
+/// The bits of a value as what is set: a float, or a whole number.
+fn bits_of(value: Value, float: Option<FloatClass>) -> Option<u64> {
+    match (float, value) {
+        (None, Value::Number(number, _)) => Some(low_bits(number)),
+        (Some(FloatClass::Double), value) => Some(f64_to_bits_with_nan(as_float(value)?)),
+        (Some(FloatClass::Single), Value::Single(float)) => {
+            Some(u64::from(f32_to_bits_with_nan(float)))
+        }
+        (Some(FloatClass::Single), value) => {
+            let float = nearest_f64_to_f32_with_nan(as_float(value)?);
+            Some(u64::from(f32_to_bits_with_nan(float)))
+        }
+        _ => None,
+    }
+}
+
+/// Whether a text is a number as the session takes it.
+fn is_plain(text: &[u8]) -> bool {
+    let digits = text.strip_prefix(b"-").unwrap_or(text);
+    digits.iter().all(|byte| byte.is_ascii_digit())
+}
+
+/// The value that a text says, in the words of a command: it may be an expression. What is none is the session's to refuse.
+fn words_of<A: Allocator + Copy>(
+    alloc: A,
+    machine: &Machine<'_, A>,
+    names: &Names<A>,
+    scene: Scene,
+    float: Option<FloatClass>,
+    text: &str,
+) -> Result<String<A>, Failure> {
+    if float.is_none() && is_plain(text.as_bytes()) {
+        return Ok(String::from_str(alloc, text)?);
+    }
+    // What stands behind a value, as the name of an address, isn't a part of it.
+    let (front, _) = text.split_once(" <").unwrap_or((text, ""));
+    let (front, _) = front.split_once(" (-").unwrap_or((front, ""));
+    let expression = match parse(alloc, front.as_bytes()) {
+        Ok(expression) => expression,
+        Err(Unread::Malformed) => return Ok(String::from_str(alloc, text)?),
+        Err(Unread::OutOfMemory) => return Err(Failure::OutOfMemory),
+    };
+    let value = evaluate(alloc, machine, names, scene, &expression)?;
+    match (value, bits_of(value, float)) {
+        (_, Some(bits)) => Ok(number_text(alloc, bits)?),
+        (Value::Missing(missing), _) => Err(Failure::Because(cause_of(missing))),
+        _ => Ok(String::from_str(alloc, text)?),
+    }
 }
 
 /// Answers the line that sets a temporary.
@@ -40,35 +109,91 @@ fn answer_set<'c, 'x, A: Allocator + Copy + 'c, L: HasMachine<A, Machine<'c, A>>
     value: &'x [u8],
 ) -> Result<Done, Failure> {
     debuggee.line_of(&[
-        Fragment::Bytes(b"set "),
+        Fragment::Bytes(b"set %"),
         Fragment::Bytes(name),
         Fragment::Bytes(b" "),
         Fragment::Bytes(value),
     ])
 }
 
-/// What the innermost frame holds of the temporary of a name, and its class.
-fn temp_now<'l, A: Allocator + Copy>(machine: &Machine<'_, A>, name: &[u8]) -> Set<'l> {
-    let found = match frame_of(machine, 1) {
-        Some(frame) => temp_in(machine, frame, name),
-        None => None,
+/// What the innermost frame holds of the temporary of a name, and what that is.
+fn temp_now<'l, A: Allocator + Copy>(
+    machine: &Machine<'_, A>,
+    names: &Names<A>,
+    name: &[u8],
+) -> Set<'l> {
+    let Some(frame) = frame_of(machine, 1) else {
+        return Set {
+            value: None,
+            letter: "l",
+            class: None,
+            float: None,
+        };
     };
-    let (value, class) = found.unwrap_or((None, None));
+    let (value, class) = named_temp(machine, frame, name).unwrap_or((None, None));
+    let float = names.class_of(func_name(machine.code(), frame.func()), name);
     Set {
         value,
-        letter: class_letter(class),
+        letter: letter_of(float, class),
+        class,
+        float,
     }
+}
+
+/// The scene of the innermost frame.
+fn innermost(position: u64) -> Scene {
+    Scene {
+        number: 1,
+        position,
+    }
+}
+
+/// As `words_of`, in a session.
+fn words_in<'c, A: Allocator + Copy + 'c, L: HasMachine<A, Machine<'c, A>>>(
+    debuggee: &Debuggee<'c, A, L>,
+    scene: Scene,
+    float: Option<FloatClass>,
+    text: &str,
+) -> Result<String<A>, Failure> {
+    words_of(
+        debuggee.alloc,
+        debuggee.machine(),
+        &debuggee.names,
+        scene,
+        float,
+        text,
+    )
+}
+
+/// As `temp_now`, in a session.
+fn temp_in<'c, 'l, A: Allocator + Copy + 'c, L: HasMachine<A, Machine<'c, A>>>(
+    debuggee: &Debuggee<'c, A, L>,
+    name: &[u8],
+) -> Set<'l> {
+    temp_now(debuggee.machine(), &debuggee.names, name)
+}
+
+/// The name that a temporary has in the text, of the one that is told.
+fn name_in<'c, A: Allocator + Copy + 'c, L: HasMachine<A, Machine<'c, A>>>(
+    debuggee: &Debuggee<'c, A, L>,
+    told: &[u8],
+) -> Result<Vec<u8, A>, AllocError> {
+    let told = told.strip_prefix(b"%").unwrap_or(told);
+    Vec::from_slice(debuggee.alloc, debuggee.names.run(b"%", told))
 }
 
 /// Sets a temporary of the innermost frame, and gives its value after that.
 fn set_temp<'c, 'x, 'l, A: Allocator + Copy + 'c, L: HasMachine<A, Machine<'c, A>>>(
     debuggee: &mut Debuggee<'c, A, L>,
     name: &'x [u8],
-    value: &'x [u8],
+    value: &'x str,
 ) -> Result<Set<'l>, Failure> {
-    answer_set(debuggee, name, value)?;
-    let plain = name.strip_prefix(b"%").unwrap_or(name);
-    Ok(temp_now(debuggee.machine(), plain))
+    let plain = name_in(debuggee, name)?;
+    let before: Set<'l> = temp_in(debuggee, plain.as_slice());
+    let scene = innermost(debuggee.position());
+    let words = words_in(debuggee, scene, before.float, value)?;
+    answer_set(debuggee, plain.as_slice(), words.as_str().as_bytes())?;
+    Ok(temp_in(debuggee, plain.as_slice()))
 }
 
 /// Answers the line that writes a word of this letter to a data object.
@@ -99,22 +224,185 @@ fn word_now<A: Allocator + Copy>(machine: &Machine<'_, A>, data: &Data<'_, A>) -
     machine.bytes(address, width).ok()
 }
 
+/// What the shown word of a data object holds, and what that is; and the letter in which it is poked.
+fn data_in<'c, 'l, A: Allocator + Copy + 'c, L: HasMachine<A, Machine<'c, A>>>(
+    debuggee: &Debuggee<'c, A, L>,
+    name: &[u8],
+) -> Option<(Set<'l>, &'l str)> {
+    let data = data_named(debuggee.program(), name)?;
+    let (letter, width) = data_word(data);
+    let float = data_float(&debuggee.names, data);
+    let set = Set {
+        value: word_now(debuggee.machine(), data),
+        letter: letter_of_data(float, letter),
+        class: class_of_width(width),
+        float,
+    };
+    Some((set, letter))
+}
+
 /// Writes the shown word of a data object, and gives its value after that.
 fn set_data<'c, 'x, 'l, A: Allocator + Copy + 'c, L: HasMachine<A, Machine<'c, A>>>(
     debuggee: &mut Debuggee<'c, A, L>,
     name: &'x [u8],
-    value: &'x [u8],
+    value: &'x str,
 ) -> Result<Set<'l>, Failure> {
     let plain = name.strip_prefix(b"$").unwrap_or(name);
-    let Some(data) = data_named(debuggee.program(), plain) else {
+    let before: Option<(Set<'l>, &'l str)> = data_in(debuggee, plain);
+    let Some((set, letter)) = before else {
         return Err(Failure::Because(Cause::NoSuchName));
     };
-    let (letter, _) = data_word(data);
-    answer_poke(debuggee, letter, plain, value)?;
+    let scene = innermost(debuggee.position());
+    let words = words_in(debuggee, scene, set.float, value)?;
+    answer_poke(debuggee, letter, plain, words.as_str().as_bytes())?;
+    match data_in(debuggee, plain) {
+        Some((set, _)) => Ok(set),
+        None => Ok(set),
+    }
+}
+
+/// The letter of a float, or that of a width.
+fn letter_of_data<'l>(float: Option<FloatClass>, letter: &'l str) -> &'l str {
+    match float {
+        Some(FloatClass::Single) => "s",
+        Some(FloatClass::Double) => "d",
+        None => letter,
+    }
+}
+
+/// The class in which a number of so many bytes is told.
+fn class_of_width(width: u64) -> Option<Class> {
+    if width == 8 {
+        Some(Class::L)
+    } else {
+        Some(Class::W)
+    }
+}
+
+/// The letter in which memory is poked, the letter that is told of it, how many bytes it has, and which float it is.
+fn poked(memory: Memory) -> (&'static str, &'static str, u64, Option<FloatClass>) {
+    match memory {
+        Memory::Byte => ("b", "b", 1, None),
+        Memory::Half => ("h", "h", 2, None),
+        Memory::Word => ("w", "w", 4, None),
+        Memory::Long => ("l", "l", 8, None),
+        Memory::Single => ("w", "s", 4, Some(FloatClass::Single)),
+        Memory::Double => ("l", "d", 8, Some(FloatClass::Double)),
+    }
+}
+
+/// What the memory at an address holds.
+fn memory_now<A: Allocator + Copy>(
+    machine: &Machine<'_, A>,
+    memory: Memory,
+    address: u64,
+) -> Option<u64> {
+    match poked(memory).2 {
+        1 => bits_at(machine, address, 1),
+        2 => bits_at(machine, address, 2),
+        4 => bits_at(machine, address, 4),
+        _ => bits_at(machine, address, 8),
+    }
+}
+
+/// Answers the line that writes a word of this letter to an address.
+fn answer_poke_at<'c, 'x, A: Allocator + Copy + 'c, L: HasMachine<A, Machine<'c, A>>>(
+    debuggee: &mut Debuggee<'c, A, L>,
+    letter: &'x str,
+    address: u64,
+    value: &'x [u8],
+) -> Result<Done, Failure> {
+    debuggee.line_of(&[
+        Fragment::Bytes(b"poke "),
+        Fragment::Bytes(letter.as_bytes()),
+        Fragment::Bytes(b" "),
+        Fragment::Number(address),
+        Fragment::Bytes(b" "),
+        Fragment::Bytes(value),
+    ])
+}
+
+/// Writes a value to memory, and gives what is there after that.
+fn set_memory<'c, 'x, 'l, A: Allocator + Copy + 'c, L: HasMachine<A, Machine<'c, A>>>(
+    debuggee: &mut Debuggee<'c, A, L>,
+    scene: Scene,
+    memory: Memory,
+    address: u64,
+    value: &'x str,
+) -> Result<Set<'l>, Failure> {
+    let (verb, letter, width, float) = poked(memory);
+    let words = words_in(debuggee, scene, float, value)?;
+    answer_poke_at(debuggee, verb, address, words.as_str().as_bytes())?;
     Ok(Set {
-        value: word_now(debuggee.machine(), data),
+        value: memory_now(debuggee.machine(), memory, address),
         letter,
+        class: class_of_width(width),
+        float,
     })
+}
+
+/// The address that an expression without its last operation, a load, is worth.
+fn address_worth<A: Allocator + Copy>(
+    alloc: A,
+    machine: &Machine<'_, A>,
+    names: &Names<A>,
+    scene: Scene,
+    expression: Expression<'_, A>,
+) -> Result<u64, Failure> {
+    let Expression { mut operations } = expression;
+    operations.pop();
+    let address = Expression { operations };
+    match evaluate(alloc, machine, names, scene, &address)? {
+        Value::Number(number, _) => Ok(low_bits(number)),
+        Value::Missing(missing) => Err(Failure::Because(cause_of(missing))),
+        _ => Err(Failure::Because(cause_of(Missing::NotWhole))),
+    }
+}
+
+/// As `address_worth`, in a session.
+fn address_in<'c, A: Allocator + Copy + 'c, L: HasMachine<A, Machine<'c, A>>>(
+    debuggee: &Debuggee<'c, A, L>,
+    scene: Scene,
+    expression: Expression<'_, A>,
+) -> Result<u64, Failure> {
+    address_worth(
+        debuggee.alloc,
+        debuggee.machine(),
+        &debuggee.names,
+        scene,
+        expression,
+    )
+}
+
+/// Sets what an expression names, and gives its value after that.
+fn set_said<'c, 'x, 'l, A: Allocator + Copy + 'c, L: HasMachine<A, Machine<'c, A>>>(
+    debuggee: &mut Debuggee<'c, A, L>,
+    scene: Scene,
+    text: &'x str,
+    value: &'x str,
+) -> Result<Set<'l>, Failure> {
+    let expression = match parse(debuggee.alloc, text.as_bytes()) {
+        Ok(expression) => expression,
+        Err(Unread::Malformed) => return Err(Failure::Because(Cause::NoSuchName)),
+        Err(Unread::OutOfMemory) => return Err(Failure::OutOfMemory),
+    };
+    match (
+        expression.operations.as_slice().last().copied(),
+        expression.operations.len(),
+    ) {
+        (Some(Operation::Temp(name)), 1) => {
+            if scene.number == 1 {
+                set_temp(debuggee, name, value)
+            } else {
+                Err(Failure::Because(Cause::ReadOnly))
+            }
+        }
+        (Some(Operation::Load(memory)), _) => {
+            let address = address_in(debuggee, scene, expression)?;
+            set_memory(debuggee, scene, memory, address, value)
+        }
+        _ => Err(Failure::Because(Cause::ReadOnly)),
+    }
 }
 
 /// Why nothing can be set in a scope, if so it is: only the temporaries of the innermost frame can be, and data.
@@ -129,12 +417,17 @@ fn refusal_of<A: Allocator + Copy>(machine: &Machine<'_, A>, reference: u64) -> 
     }
 }
 
+/// The memory that a part of a data object is, or of what a temporary points to, by its expression.
+fn is_part(reference: u64) -> bool {
+    reference >= qrev_views::OBJECTS || (reference >= qrev_views::POINTED && reference < MACHINE)
+}
+
 /// Sets a variable of a scope, and gives its value after that.
 fn set_in<'c, 'x, 'l, A: Allocator + Copy + 'c, L: HasMachine<A, Machine<'c, A>>>(
     debuggee: &mut Debuggee<'c, A, L>,
     reference: u64,
     name: &'x [u8],
-    value: &'x [u8],
+    value: &'x str,
 ) -> Result<Set<'l>, Failure> {
     if reference == DATA {
         return set_data(debuggee, name, value);
@@ -151,11 +444,14 @@ fn set_asked<'c, 'l, A: Allocator + Copy + 'c, L: HasMachine<A, Machine<'c, A>>>
     asked: Arguments<'_, '_, A>,
 ) -> Result<Set<'l>, Failure> {
     let name = asked.text("name").unwrap_or("").as_bytes();
-    let value = asked.text("value").unwrap_or("").as_bytes();
-    if name.contains(&b'\n') || value.contains(&b'\n') {
+    let value = asked.text("value").unwrap_or("");
+    if name.contains(&b'\n') || value.as_bytes().contains(&b'\n') {
         return Err(Failure::Because(Cause::NewlineInValue));
     }
     let reference = asked.number("variablesReference").unwrap_or(0);
+    if is_part(reference) {
+        return Err(Failure::Because(Cause::ReadOnly));
+    }
     set_in(debuggee, reference, name, value)
 }
 
@@ -166,5 +462,26 @@ pub fn set_variable<'c, A: Allocator + Copy + 'c, L: HasMachine<A, Machine<'c, A
     body: Body<A>,
 ) -> Result<Body<A>, Failure> {
     let set = set_asked(debuggee, asked)?;
-    Ok(put_value(debuggee.alloc, body, set)?)
+    let showing = showing_said(debuggee.client, asked);
+    Ok(put_value(debuggee.alloc, body, debuggee.machine(), showing, set)?)
+}
+
+/// Sets what an expression names.
+pub fn set_expression<'c, A: Allocator + Copy + 'c, L: HasMachine<A, Machine<'c, A>>>(
+    debuggee: &mut Debuggee<'c, A, L>,
+    asked: Arguments<'_, '_, A>,
+    body: Body<A>,
+) -> Result<Body<A>, Failure> {
+    let value = asked.text("value").unwrap_or("");
+    if value.as_bytes().contains(&b'\n') {
+        return Err(Failure::Because(Cause::NewlineInValue));
+    }
+    let scene = Scene {
+        number: asked.number("frameId").unwrap_or(1),
+        position: debuggee.position(),
+    };
+    let text = asked.text("expression").unwrap_or("");
+    let set = set_said(debuggee, scene, text, value)?;
+    let showing = showing_said(debuggee.client, asked);
+    Ok(put_value(debuggee.alloc, body, debuggee.machine(), showing, set)?)
 }

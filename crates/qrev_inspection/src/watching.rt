@@ -5,8 +5,9 @@ use qil_layout::FuncId;
 use qil_machine::Machine;
 use qil_pieces::Fragment;
 use qrev_debuggee::{Body, Debuggee, Failure, HasMachine};
+use qrev_map::Names;
 use qrev_requests::Arguments;
-use qrev_views::{DATA, data_named, data_word, frame_of, joined};
+use qrev_views::{DATA, data_named, data_size, data_word, frame_of, joined, sigiled};
 use std::alloc::{AllocError, Allocator};
 
 /// What `watch` says of a temporary.
@@ -56,8 +57,17 @@ fn innermost_alone<A: Allocator + Copy>(alloc: A, func: &[u8]) -> Result<String<
 
 /// Adds that a data breakpoint can be set, and what it watches.
 fn put_watchable<A: Allocator>(body: Body<A>, id: &str) -> Result<Body<A>, AllocError> {
+    put_watched(body, id, id)
+}
+
+/// The same with another description.
+fn put_watched<A: Allocator>(
+    body: Body<A>,
+    id: &str,
+    description: &str,
+) -> Result<Body<A>, AllocError> {
     body.text("dataId", id)?
-        .text("description", id)?
+        .text("description", description)?
         .array("accessTypes")?
         .text("write")?
         .end()?
@@ -115,11 +125,13 @@ fn put_temp_watch<A: Allocator + Copy>(
 fn temp_watch<A: Allocator + Copy>(
     alloc: A,
     machine: &Machine<'_, A>,
+    names: &Names<A>,
     number: u64,
     name: &[u8],
     body: Body<A>,
 ) -> Result<Body<A>, AllocError> {
-    let plain = name.strip_prefix(b"%").unwrap_or(name);
+    let told = name.strip_prefix(b"%").unwrap_or(name);
+    let plain = names.run(b"%", told);
     match func_with(machine, number, plain) {
         Some(func) => put_temp_watch(
             alloc,
@@ -132,15 +144,55 @@ fn temp_watch<A: Allocator + Copy>(
     }
 }
 
+/// The most bytes of a data object that are watched as a whole.
+const WHOLE_LIMIT: u64 = 128;
+
+/// Why only the beginning of a data object is watched.
+fn beginning_alone<A: Allocator + Copy>(
+    alloc: A,
+    id: &str,
+    size: u64,
+) -> Result<String<A>, AllocError> {
+    joined(
+        alloc,
+        &[
+            Fragment::Bytes(id.as_bytes()),
+            Fragment::Bytes(b", the first of "),
+            Fragment::Number(size),
+            Fragment::Bytes(b" bytes"),
+        ],
+    )
+}
+
+/// Adds what watches the beginning of a data object, which is too large to be watched as a whole.
+fn put_beginning<A: Allocator + Copy>(
+    alloc: A,
+    body: Body<A>,
+    id: &str,
+    size: u64,
+) -> Result<Body<A>, AllocError> {
+    let description = beginning_alone(alloc, id, size)?;
+    put_watched(body, id, description.as_str())
+}
+
 /// Adds what watches a data object of a letter.
 fn put_data_watch<A: Allocator + Copy>(
     alloc: A,
-    letter: &str,
+    (letter, width): (&str, u64),
+    size: u64,
     name: &[u8],
     body: Body<A>,
 ) -> Result<Body<A>, AllocError> {
+    if size > width && size <= WHOLE_LIMIT {
+        let whole = sigiled(alloc, b"$", name)?;
+        return put_watchable(body, whole.as_str());
+    }
     let id = data_id(alloc, letter.as_bytes(), name)?;
-    put_watchable(body, id.as_str())
+    if size > width {
+        put_beginning(alloc, body, id.as_str(), size)
+    } else {
+        put_watchable(body, id.as_str())
+    }
 }
 
 /// Adds what watches a data object.
@@ -152,7 +204,7 @@ fn data_watch<A: Allocator + Copy>(
 ) -> Result<Body<A>, AllocError> {
     let plain = name.strip_prefix(b"$").unwrap_or(name);
     match data_named(machine.code().program(), plain) {
-        Some(data) => put_data_watch(alloc, data_word(data).0, plain, body),
+        Some(data) => put_data_watch(alloc, data_word(data), data_size(data), plain, body),
         None => put_unwatchable(body, "nothing to watch"),
     }
 }
@@ -188,13 +240,14 @@ fn watched_by<A: Allocator + Copy>(asked: Arguments<'_, '_, A>, name: &[u8]) -> 
 fn put_watch<A: Allocator + Copy>(
     alloc: A,
     machine: &Machine<'_, A>,
+    names: &Names<A>,
     watched: Watched,
     name: &[u8],
     body: Body<A>,
 ) -> Result<Body<A>, AllocError> {
     match watched {
         Watched::Data => data_watch(alloc, machine, name, body),
-        Watched::Temp(number) => temp_watch(alloc, machine, number, name, body),
+        Watched::Temp(number) => temp_watch(alloc, machine, names, number, name, body),
         Watched::Nothing => put_unwatchable(body, "nothing to watch"),
     }
 }
@@ -207,5 +260,12 @@ pub fn data_breakpoint_info<'c, A: Allocator + Copy + 'c, L: HasMachine<A, Machi
 ) -> Result<Body<A>, Failure> {
     let name = asked.text("name").unwrap_or("").as_bytes();
     let watched = watched_by(asked, name);
-    Ok(put_watch(debuggee.alloc, debuggee.machine(), watched, name, body)?)
+    Ok(put_watch(
+        debuggee.alloc,
+        debuggee.machine(),
+        &debuggee.names,
+        watched,
+        name,
+        body,
+    )?)
 }

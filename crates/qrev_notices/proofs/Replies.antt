@@ -18,6 +18,7 @@ use Rattle.qrev_protocol.specs.declared.outgoing.Outcome.TheVariants.{Done}
 use Rattle.qrev_notices.specs.declared.trouble.Trouble.{Trouble}
 use Rattle.qrev_notices.specs.declared.trouble.Trouble.TheVariants.{OutOfMemory, Device}
 use Rattle.qrev_notices.specs.Conversation.{Asked, Spoken, Says, message_text, IsNumbered, AreNumbered, BeginsAs, IsResponse, IsEvent, AreReply, AreReplies, HasReplied, HasRepliedPart, HasResponded, SaysPart, Sends, Responds, Tells, IsEventSoFar}
+use Rattle.qrev_notices.specs.Last.{IsNamedEvent, TellsLast}
 
 -- a text of tokens begins as the first of them do
 printed : (after : Bool) (head more : List Token) → (rest : List ℕ) × (print_from after (head ++ more) ≡ print_from after head ++ rest)
@@ -179,9 +180,38 @@ tells_cast T U Device old now h = h
 pub tells_as : (T U : Type 0) (e f : Trouble) (old now : Spoken) → Tells {T = T} (Err e) old now → f ≡ e → Tells {T = U} (Err f) old now
 tells_as T U e f old now h same = subst (λ (t : Trouble). Tells {T = U} (Err t) old now) (sym same) (tells_cast T U e old now h)
 
+-- what the exit of a `?` returns, after what was told before it
+pub tells_exit : (T U V : Type 0) (x : V) (result : Result U Trouble) (trouble : Trouble) (old mid now : Spoken) → IsErrAnd result (λ e. e ≡ trouble) → Tells (Ok x) old mid
+    → Tells {T = T} (Err trouble) mid now → Tells result old now
+tells_exit T U V x result trouble old mid now exit one two =
+    let p = err_from_is_err_and result exit in
+    subst (λ (r : Result U Trouble). Tells r old now) (sym p.1) (tells_as T U trouble p.0 old now (told_then {U = T} x (Err trouble) old mid now one two) p.2)
+
 -- an event that has more members is one
 pub event_first : (name : List ℕ) (tokens : List Token) → tokens ≡ event_head name → IsEventSoFar tokens
 event_first name tokens e = (name, [], e ∙ sym (append-nil (event_head name)))
 
 pub event_grows : (old new : Written) (more : List Token) → Adds old new more → IsEventSoFar old.tokens → IsEventSoFar new.tokens
 event_grows old new more added is = (is.0, is.1 ++ more, added ∙ ap (λ (v : List Token). v ++ more) is.2 ∙ append_assoc (event_head is.0) is.1 more)
+
+-- an event of a name
+pub named_is : (name : List ℕ) (tokens : List Token) → IsNamedEvent name tokens → IsEventSoFar tokens
+named_is name tokens is = (name, is.0, is.1)
+
+pub named_first : (name : List ℕ) (tokens : List Token) → tokens ≡ event_head name → IsNamedEvent name tokens
+named_first name tokens e = ([], e ∙ sym (append-nil (event_head name)))
+
+pub named_grows : (name : List ℕ) (old new : Written) (more : List Token) → Adds old new more → IsNamedEvent name old.tokens → IsNamedEvent name new.tokens
+named_grows name old new more added is = (is.0 ++ more, added ∙ ap (λ (v : List Token). v ++ more) is.1 ∙ append_assoc (event_head name) is.0 more)
+
+-- one was sent, the last message so far
+pub told_last : {T : Type 0} → (result : Result T Trouble) (name : List ℕ) (n : ℕ) (tokens : List Token) (old now : Spoken) → IsNamedEvent name tokens → Sends result (message_text n tokens) old now
+    → TellsLast result name now
+told_last (Ok x) name n tokens old now is sent = record {
+  before = old;
+  text = message_text n tokens;
+  is_event = begins n (event_head name) is.0 tokens is.1;
+  written = sent.0;
+  counted = sent.1;
+}
+told_last (Err e) name n tokens old now is sent = tt

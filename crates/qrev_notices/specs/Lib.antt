@@ -1,3 +1,4 @@
 -- The words of this crate's contracts.
 pub mod Conversation
+pub mod Last
 pub mod Reading

@@ -5,13 +5,13 @@ ghost use Rattle.qrev_notices.specs.Conversation.{asked_by, spoken, Responds};
 use crate::port::{Port, begin_body};
 use crate::trouble::Trouble;
 use qil_streams::Sink;
-use qrev_debuggee::{Body, Cause};
+use qrev_debuggee::{Body, Cause, Client};
 use qrev_protocol::Request;
 use qrev_requests::Arguments;
 use qrev_views::Numbering;
 use std::alloc::{AllocError, Allocator};
 
-const CAPABILITIES: [&str; 15] = [
+const CAPABILITIES: [&str; 20] = [
     "supportsConfigurationDoneRequest",
     "supportsFunctionBreakpoints",
     "supportsDataBreakpoints",
@@ -27,6 +27,11 @@ const CAPABILITIES: [&str; 15] = [
     "supportsBreakpointLocationsRequest",
     "supportsCompletionsRequest",
     "supportsRestartRequest",
+    "supportsConditionalBreakpoints",
+    "supportsHitConditionalBreakpoints",
+    "supportsLogPoints",
+    "supportsSetExpression",
+    "supportsValueFormattingOptions",
 ];
 
 /// The body that tells what is served.
@@ -56,11 +61,25 @@ fn initialize<A: Allocator + Copy, W: Sink>(
     port.respond(request, body)
 }
 
-/// How an editor counts.
-pub fn numbering_said<A: Allocator + Copy>(asked: Arguments<'_, '_, A>) -> Numbering {
-    Numbering {
-        first_line: u32::from(asked.flag("linesStartAt1").unwrap_or(true)),
-        first_column: u32::from(asked.flag("columnsStartAt1").unwrap_or(true)),
+/// Whether an editor asks for its watches anew wherever the run stands. Emacs' dap-mode says of itself that it is VS Code, and does
+/// so too.
+fn repeats_watches(name: Option<&str>) -> bool {
+    match name {
+        Some(name) => name == "vscode",
+        None => false,
+    }
+}
+
+/// What an editor says of itself.
+pub fn client_said<A: Allocator + Copy>(asked: Arguments<'_, '_, A>) -> Client {
+    Client {
+        numbering: Numbering {
+            first_line: u32::from(asked.flag("linesStartAt1").unwrap_or(true)),
+            first_column: u32::from(asked.flag("columnsStartAt1").unwrap_or(true)),
+        },
+        has_types: asked.flag("supportsVariableType").unwrap_or(false),
+        has_references: asked.flag("supportsMemoryReferences").unwrap_or(false),
+        repeats_watches: repeats_watches(asked.text("clientID")),
     }
 }
 

@@ -11,14 +11,18 @@ mod source_map;
 mod stopped;
 mod trouble;
 
-pub use idle::{numbering_said, respond_idle};
+pub use idle::{client_said, respond_idle};
 pub use line::{Closed, Ended, Line, message_in};
 pub use port::{Port, begin_body};
-pub use qrev_debuggee::{Body, Cause, Debuggee, Failure, Motion, StopFamily, Why, make_move};
-pub use recording::{Files, keep_record, write_record};
-pub use refusals::{
-    refuse_load, refuse_start, refuse_unfit, refuse_unread, refuse_with, tell_open,
+pub use qrev_debuggee::{
+    Body, Cause, Client, Debuggee, Failure, Motion, StopFamily, Why, make_move,
 };
-pub use source_map::{MapFault, read_sources, refuse_map};
-pub use stopped::{fault_in, output_event, tell_plain, tell_stopped};
+pub use recording::{
+    Files, RecordFault, keep_record, record_fault, record_name, record_words, write_record,
+};
+pub use refusals::{
+    refuse_load, refuse_record, refuse_start, refuse_unfit, refuse_unread, refuse_with, tell_open,
+};
+pub use source_map::{MapFault, read_names, read_sources, refuse_map};
+pub use stopped::{ended_elsewhere, fault_in, output_event, tell_end, tell_plain, tell_stopped};
 pub use trouble::Trouble;

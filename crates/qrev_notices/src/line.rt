@@ -10,8 +10,10 @@ use crate::port::Port;
 use crate::trouble::Trouble;
 use json::{Error, Scratch, Value};
 use qil_streams::{Sink, Source};
+use qrev_debuggee::Client;
+use qrev_map::Names;
 use qrev_protocol::{Came, Incoming, ReadError};
-use qrev_views::{Numbering, SourceMap};
+use qrev_views::SourceMap;
 use std::alloc::{AllocError, Allocator};
 
 /// How the adapter ended.
@@ -69,9 +71,15 @@ pub struct Line<A: Allocator, S, W> {
     pub source: S,
     pub incoming: Incoming,
     pub port: Port<A, W>,
-    pub numbering: Numbering,
+    pub client: Client,
     /// Where the text that is being opened came from, until its session takes it.
     pub source_map: Option<SourceMap<A>>,
+    /// The same of what its names stand for.
+    pub names: Names<A>,
+    /// The same of the file that takes its record.
+    pub record: Option<String<A>>,
+    /// How many sessions the last launch opened.
+    pub sessions: u64,
 }
 
 impl<A: Allocator + Copy, S: Source, W: Sink> Line<A, S, W> {
@@ -87,11 +95,11 @@ impl<A: Allocator + Copy, S: Source, W: Sink> Line<A, S, W> {
             source,
             incoming: Incoming::new(),
             port: Port::new(alloc, sink),
-            numbering: Numbering {
-                first_line: 1,
-                first_column: 1,
-            },
+            client: Client::unknown(),
             source_map: None,
+            names: Names::none(alloc),
+            record: None,
+            sessions: 0,
         }
     }
 

@@ -7,6 +7,7 @@ ghost use Rattle.qrev_protocol.specs.Outgoing.{response_head};
 ghost use Rattle.qrev_protocol.specs.declared.outgoing.Outcome.TheVariants.{Done};
 ghost use Rattle.qrev_notices.specs.declared.trouble.Trouble.TheVariants.{OutOfMemory};
 ghost use Rattle.qrev_notices.specs.Conversation.{asked_by, message_text, spoken, IsNumbered, Sends, Responds, Tells, IsEventSoFar};
+ghost use Rattle.qrev_notices.specs.Last.{IsNamedEvent, TellsLast};
 
 use crate::trouble::Trouble;
 use itoa::Buffer;
@@ -112,7 +113,8 @@ impl<A: Allocator + Copy, W: Sink> Port<A, W> {
     /// Sends an event.
     pub fn tell(&mut self, event: Object<A, Whole>) -> Result<(), Trouble>
         requires { IsEventSoFar event.out.tokens }
-        ensures { Tells result (spoken W.contents self.old) (spoken W.contents self.new) }
+        ensures events { Tells result (spoken W.contents self.old) (spoken W.contents self.new) }
+        ensures last { (name : List ℕ) → IsNamedEvent name event.out.tokens → TellsLast result name (spoken W.contents self.new) }
     {
         self.send(event)
     }

@@ -23,6 +23,12 @@ pub trait Files<A: Allocator> {
     /// The bytes of a file, up to one more than a map of places may have, or none if it can't be read.
     fn read_map(&self, name: &str) -> Result<Option<Vec<u8, A>>, AllocError>;
 
+    /// Where a path leads, through links.
+    fn real_path(&self, name: &str) -> Option<String<A>>;
+
+    /// Whether a file can be written, which is made if it isn't there. What is in it stays.
+    fn can_write(&self, name: &str) -> bool;
+
     /// Makes a file of a script, and one of its transcript, and says whether it could. Nothing else can be written: for what the
     /// session was opened with, the script has this transcript.
     fn write(
@@ -114,6 +120,88 @@ fn transcript_name<A: Allocator + Copy>(alloc: A, record: &str) -> Result<String
     Ok(name)
 }
 
+/// Why a session can't be recorded where a launch asks for it.
+#[derive(Clone, Copy)]
+pub enum RecordFault {
+    /// The file is there, and is no record.
+    Other,
+    Unwritable,
+}
+
+/// The words of that.
+pub fn record_words<A: Allocator + Copy>(
+    alloc: A,
+    fault: RecordFault,
+    record: &str,
+) -> Result<String<A>, AllocError> {
+    let front = match fault {
+        RecordFault::Other => "record: not a record: ",
+        RecordFault::Unwritable => "record: cannot write ",
+    };
+    let mut words = String::from_str(alloc, front)?;
+    words.push_str(record)?;
+    Ok(words)
+}
+
+/// The file that takes the record of a launch's session of a number, from 0: a restart keeps the records before it.
+pub fn record_name<A: Allocator + Copy>(
+    alloc: A,
+    launch: &Launch<A>,
+    sessions: u64,
+) -> Result<Option<String<A>>, AllocError> {
+    let Some(record) = &launch.record else {
+        return Ok(None);
+    };
+    let mut name = String::from_str(alloc, record.as_str())?;
+    if sessions > 0 {
+        add_number(alloc, &mut name, ".", sessions.saturating_add(1))?;
+    }
+    Ok(Some(name))
+}
+
+/// Whether a file of this name has bytes that don't begin so.
+fn is_other<A: Allocator + Copy, F: Files<A>>(
+    files: &F,
+    name: &str,
+    beginning: &[u8],
+) -> Result<bool, AllocError> {
+    match files.read_map(name)? {
+        Some(bytes) => Ok(!bytes.is_empty() && !bytes.as_slice().starts_with(beginning)),
+        None => Ok(false),
+    }
+}
+
+/// Whether a file of this name begins as a transcript does.
+fn has_transcript<A: Allocator + Copy, F: Files<A>>(
+    files: &F,
+    name: &str,
+) -> Result<bool, AllocError> {
+    match files.read_map(name)? {
+        Some(bytes) => Ok(bytes.as_slice().starts_with(b"loaded ")),
+        None => Ok(false),
+    }
+}
+
+/// Why a session can't be recorded in a file, if it can't. A file that is there has to be a record, which has its transcript beside
+/// it, or empty.
+pub fn record_fault<A: Allocator + Copy, F: Files<A>>(
+    alloc: A,
+    files: &F,
+    record: &str,
+) -> Result<Option<RecordFault>, AllocError> {
+    let transcript = transcript_name(alloc, record)?;
+    let transcript = transcript.as_str();
+    let is_record = has_transcript(files, transcript)?;
+    if is_other(files, transcript, b"loaded ")? || (!is_record && is_other(files, record, b"\0")?) {
+        return Ok(Some(RecordFault::Other));
+    }
+    if files.can_write(record) && files.can_write(transcript) {
+        Ok(None)
+    } else {
+        Ok(Some(RecordFault::Unwritable))
+    }
+}
+
 /// Writes a record, and says whether it could.
 fn write<'c, A: Allocator + Copy + 'c, L: HasMachine<A, Machine<'c, A>>, F: Files<A>>(
     debuggee: &Debuggee<'c, A, L>,
@@ -135,10 +223,9 @@ fn write<'c, A: Allocator + Copy + 'c, L: HasMachine<A, Machine<'c, A>>, F: File
 /// Writes the record of a session, if one was asked for, and tells nothing of it.
 pub fn keep_record<'c, A: Allocator + Copy + 'c, L: HasMachine<A, Machine<'c, A>>, F: Files<A>>(
     debuggee: &Debuggee<'c, A, L>,
-    launch: &Launch<A>,
     files: &F,
 ) -> Result<(), AllocError> {
-    if let Some(record) = &launch.record {
+    if let Some(record) = &debuggee.record {
         write(debuggee, record.as_str(), files)?;
     }
     Ok(())
@@ -173,7 +260,7 @@ pub fn write_record<
 ) -> Result<(), Trouble>
     ensures { Tells result (spoken W.contents port.old) (spoken W.contents port.new) }
 {
-    let Some(record) = &launch.record else {
+    let Some(record) = &debuggee.record else {
         return Ok(());
     };
     let record = record.as_str();

@@ -6,6 +6,7 @@ ghost use Rattle.qrev_notices.specs.Reading.{heard, Serves, IsClosedBy};
 
 use crate::line::{Closed, Ended, Line};
 use crate::port::Port;
+use crate::recording::{RecordFault, record_words};
 use crate::stopped::{output_body, tell_plain};
 use crate::trouble::Trouble;
 use qil_loading::{LoadError, Refusal, put_refusal_line};
@@ -172,7 +173,7 @@ pub fn refuse_load<A: Allocator + Copy, S: Source, W: Sink>(
     ensures { Serves result (asked_by request.entry) (heard S.remaining W.contents line.old) (heard S.remaining W.contents line.new) }
 {
     let alloc = line.alloc;
-    let numbering = line.numbering;
+    let numbering = line.client.numbering;
     let path = launch.program.as_str();
     closed_by(refuse_text(alloc, &mut line.port, request, numbering, path, error))
 }
@@ -210,4 +211,28 @@ pub fn refuse_unfit<A: Allocator + Copy, S: Source, W: Sink>(
         return Err(Ended::OutOfMemory);
     }
     closed_by(line.port.refuse(request, unfit_words(unfit)))
+}
+
+/// The words of a record that can't be kept.
+fn unkept_words<A: Allocator + Copy>(
+    alloc: A,
+    fault: RecordFault,
+    record: Option<&String<A>>,
+) -> Result<String<A>, AllocError> {
+    match record {
+        Some(record) => record_words(alloc, fault, record.as_str()),
+        None => record_words(alloc, fault, ""),
+    }
+}
+
+/// Responds that a session can't be recorded where a launch asks for it.
+pub fn refuse_record<A: Allocator + Copy, S: Source, W: Sink>(
+    fault: RecordFault,
+    request: Request<'_>,
+    line: &mut Line<A, S, W>,
+) -> Result<Closed<A>, Ended>
+    ensures { Serves result (asked_by request.entry) (heard S.remaining W.contents line.old) (heard S.remaining W.contents line.new) }
+{
+    let words = unkept_words(line.alloc, fault, line.record.as_ref());
+    closed_by(refuse_with(&mut line.port, request, &words))
 }

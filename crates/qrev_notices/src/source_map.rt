@@ -7,7 +7,7 @@ use crate::line::{Closed, Ended, Line};
 use crate::recording::Files;
 use crate::refusals::{closed_by, refuse_with, unread_words};
 use qil_streams::{Sink, Source};
-use qrev_map::{Map, MapError};
+use qrev_map::{Map, MapError, Names};
 use qrev_protocol::Request;
 use qrev_requests::Launch;
 use qrev_views::{SourceMap, number_text};
@@ -67,6 +67,28 @@ pub fn read_sources<A: Allocator + Copy, F: Files<A>>(
             }
         }
         Err(_) => Err(MapFault::Refused(MapError::OutOfMemory)),
+    }
+}
+
+/// The path of the names: beside the map, with the ending of names.
+fn names_path<A: Allocator + Copy>(alloc: A, launch: &Launch<A>) -> Result<String<A>, AllocError> {
+    let path = map_path(alloc, launch)?;
+    let front = path.as_str().strip_suffix(".map").unwrap_or(path.as_str());
+    let mut names = String::from_str(alloc, front)?;
+    names.push_str(".names")?;
+    Ok(names)
+}
+
+/// Reads what the names of the text of a launch stand for, if that is told beside it.
+pub fn read_names<A: Allocator + Copy, F: Files<A>>(
+    alloc: A,
+    launch: &Launch<A>,
+    files: &F,
+) -> Result<Names<A>, AllocError> {
+    let path = names_path(alloc, launch)?;
+    match files.read_map(path.as_str())? {
+        Some(text) => Names::new(text),
+        None => Ok(Names::none(alloc)),
     }
 }
 

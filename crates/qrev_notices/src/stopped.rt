@@ -1,18 +1,25 @@
 //! What an editor is told when a run stands: the output that is new, and why and where the run stands.
 
-ghost use Rattle.std.specs.Prelude.{◌≤◌, length, IfOk};
+ghost use Rattle.std.specs.Prelude.{codes, ◌≤◌, length, IfOk};
 ghost use Rattle.qrev_notices.specs.Conversation.{spoken, Tells, IsEventSoFar};
+ghost use Rattle.qrev_notices.specs.Last.{IsNamedEvent, TellsLast};
 
 use crate::port::Port;
 use crate::trouble::Trouble;
+use qil_answers::func_name;
 use qil_machine::Machine;
 use qil_meaning::Reason;
-use qil_state::Status;
+use qil_pieces::Fragment;
+use qil_state::{Fault, Status};
 use qil_streams::Sink;
-use qrev_debuggee::{Body, Debuggee, HasMachine, RequestedStop, StopFamily, Why};
-use qrev_protocol::{Object, Whole, event};
-use qrev_views::{as_text, place_text};
+use qrev_debuggee::{Body, Debuggee, HasMachine, RequestedStop, StopFamily, Why, hits};
+use qrev_map::{Foreign, Names};
+use qrev_protocol::{Array, InObject, Object, Whole, event};
+use qrev_views::{as_text, joined, place_text};
 use std::alloc::{AllocError, Allocator};
+
+/// The list of the breakpoints that were hit.
+type HitList<A> = Array<A, InObject<InObject<Whole>>>;
 
 /// Such an event, up to the end of its body.
 pub fn output_body<A: Allocator + Copy>(
@@ -48,7 +55,8 @@ pub fn tell_plain<A: Allocator + Copy, W: Sink>(
     name: &str,
     port: &mut Port<A, W>,
 ) -> Result<(), Trouble>
-    ensures { Tells result (spoken W.contents port.old) (spoken W.contents port.new) }
+    ensures events { Tells result (spoken W.contents port.old) (spoken W.contents port.new) }
+    ensures last { TellsLast result name.now (spoken W.contents port.new) }
 {
     port.tell(event(alloc, name)?)
 }
@@ -97,21 +105,36 @@ fn tell_more<A: Allocator + Copy, W: Sink>(
     port.tell(output_event(alloc, "stdout", text.as_str())?)
 }
 
+/// How many bytes of an output are told: a character that its end cuts waits for its rest, while the run goes on.
+fn whole_length(new: &[u8], is_over: bool) -> usize
+    ensures { result ≤ length new.now }
+{
+    if is_over {
+        return new.len();
+    }
+    match std::str::from_utf8(new) {
+        Err(error) if error.error_len().is_none() => error.valid_up_to().min(new.len()),
+        _ => new.len(),
+    }
+}
+
 /// Tells what is new of an output.
 fn tell_new<A: Allocator + Copy, W: Sink>(
     alloc: A,
     output: &[u8],
+    is_over: bool,
     told: &mut Vec<u8, A>,
     port: &mut Port<A, W>,
 ) -> Result<(), Trouble>
     ensures { Tells result (spoken W.contents port.old) (spoken W.contents port.new) }
 {
     let same = common(output, told.as_slice());
-    if same == output.len() {
+    let (_, rest) = output.split_at(same);
+    let (new, _) = rest.split_at(whole_length(rest, is_over));
+    if new.is_empty() {
         return Ok(());
     }
     tell_difference(alloc, same < told.len(), port)?;
-    let (_, new) = output.split_at(same);
     tell_more(alloc, new, same, told, port)
 }
 
@@ -122,45 +145,44 @@ fn tell_output<'c, A: Allocator + Copy + 'c, L: HasMachine<A, Machine<'c, A>>, W
 ) -> Result<(), Trouble>
     ensures { Tells result (spoken W.contents port.old) (spoken W.contents port.new) }
 {
-    let output = debuggee.recorder.live().machine().output();
-    tell_new(debuggee.alloc, output, &mut debuggee.output, port)
+    let machine = debuggee.recorder.live().machine();
+    let is_over = machine.is_final();
+    let output = machine.output();
+    tell_new(debuggee.alloc, output, is_over, &mut debuggee.output, port)
 }
 
-/// The reason's word, the text next to it, and the number of the stop that was hit.
+/// The reason's word, and the text next to it.
 #[derive(Clone, Copy)]
 struct Words {
     reason: &'static str,
     text: &'static str,
-    stop: Option<u64>,
 }
 
 /// The words of a reason, or of how the run ended. A fault has a text of its own.
 fn words_of(status: Status, why: Why, on_function: bool) -> Words {
-    let (reason, text, stop) = match (status, why) {
-        (Status::Faulted(_), _) => ("exception", "fault", None),
-        (Status::Done(_) | Status::Exited(_), _) => ("end", "end of the run", None),
-        (_, Why::Entry) => ("entry", "entry", None),
-        (_, Why::Step) => ("step", "step", None),
-        (_, Why::Run(Reason::Break(number))) if on_function => {
-            ("function breakpoint", "breakpoint", Some(number))
-        }
-        (_, Why::Run(Reason::Break(number))) => ("breakpoint", "breakpoint", Some(number)),
-        (_, Why::Run(Reason::Watch(number))) => ("data breakpoint", "watch", Some(number)),
-        (_, Why::Run(Reason::Start)) => ("entry", "the start: nothing is before it", None),
-        (_, Why::Run(Reason::Oldest)) => ("pause", "the oldest state that is kept", None),
-        (_, Why::Run(Reason::Limit)) => ("pause", "the limit of moves: continue goes on", None),
-        (_, Why::Run(Reason::Memory)) => ("pause", "no memory for the next move", None),
-        (_, Why::Run(Reason::End)) => ("end", "end of the run", None),
+    let (reason, text) = match (status, why) {
+        (Status::Faulted(_), _) => ("exception", "fault"),
+        (Status::Done(_) | Status::Exited(_), _) => ("end", "end of the run"),
+        (_, Why::Entry) => ("entry", "entry"),
+        (_, Why::Step) => ("step", "step"),
+        (_, Why::Run(Reason::Break(_))) if on_function => ("function breakpoint", "breakpoint"),
+        (_, Why::Run(Reason::Break(_))) => ("breakpoint", "breakpoint"),
+        (_, Why::Run(Reason::Watch(_))) => ("data breakpoint", "watch"),
+        (_, Why::Run(Reason::Start)) => ("entry", "the start: nothing is before it"),
+        (_, Why::Run(Reason::Oldest)) => ("pause", "the oldest state that is kept"),
+        (_, Why::Run(Reason::Limit)) => ("pause", "the limit of moves: continue goes on"),
+        (_, Why::Run(Reason::Memory)) => ("pause", "no memory for the next move"),
+        (_, Why::Run(Reason::End)) => ("end", "end of the run"),
     };
-    Words { reason, text, stop }
+    Words { reason, text }
 }
 
-/// Whether a request for function breakpoints made the stop that was hit.
-fn is_on_function(why: Why, stops: &[RequestedStop]) -> bool {
-    match why {
-        Why::Run(Reason::Break(number)) => stops.iter().any(|stop| stop.number == number
+/// Whether a request for function breakpoints made the first of the breakpoints that are told.
+fn is_on_function(hits: &[u64], stops: &[RequestedStop]) -> bool {
+    match hits.first() {
+        Some(first) => stops.iter().any(|stop| stop.id == *first
             && stop.family == StopFamily::Function),
-        _ => false,
+        None => false,
     }
 }
 
@@ -178,7 +200,7 @@ fn stopped_body<A: Allocator + Copy>(
     reason: &str,
     place: &str,
 ) -> Result<Body<A>, AllocError>
-    ensures { IfOk result (λ o. IsEventSoFar o.out.tokens) }
+    ensures { IfOk result (λ o. IsNamedEvent (codes "stopped") o.out.tokens) }
 {
     let body = event(alloc, "stopped")?
         .object("body")?
@@ -189,8 +211,8 @@ fn stopped_body<A: Allocator + Copy>(
 
 /// Adds the text next to the reason, and the thread, which is always the same.
 fn add_thread<A: Allocator>(body: Body<A>, text: &str) -> Result<Body<A>, AllocError>
-    requires { IsEventSoFar body.out.tokens }
-    ensures { IfOk result (λ o. IsEventSoFar o.out.tokens) }
+    requires { IsNamedEvent (codes "stopped") body.out.tokens }
+    ensures { IfOk result (λ o. IsNamedEvent (codes "stopped") o.out.tokens) }
 {
     let body = body
         .text("text", text)?
@@ -199,24 +221,39 @@ fn add_thread<A: Allocator>(body: Body<A>, text: &str) -> Result<Body<A>, AllocE
     Ok(body)
 }
 
-/// Adds the number of a stop.
-fn add_stop<A: Allocator>(body: Body<A>, number: u64) -> Result<Body<A>, AllocError>
-    requires { IsEventSoFar body.out.tokens }
-    ensures { IfOk result (λ o. IsEventSoFar o.out.tokens) }
+/// Adds the number of a breakpoint.
+fn add_number<A: Allocator>(list: HitList<A>, number: u64) -> Result<HitList<A>, AllocError>
+    requires { IsNamedEvent (codes "stopped") list.out.tokens }
+    ensures { IfOk result (λ l. IsNamedEvent (codes "stopped") l.out.tokens) }
 {
-    let body = body.array("hitBreakpointIds")?.number(number)?.end()?;
-    Ok(body)
+    let list = list.number(number)?;
+    Ok(list)
 }
 
-/// Adds the number of the stop that was hit, if one was.
-fn add_hit<A: Allocator>(body: Body<A>, stop: Option<u64>) -> Result<Body<A>, AllocError>
-    requires { IsEventSoFar body.out.tokens }
-    ensures { IfOk result (λ o. IsEventSoFar o.out.tokens) }
+/// Adds the numbers of breakpoints.
+fn add_numbers<A: Allocator>(list: HitList<A>, numbers: &[u64]) -> Result<HitList<A>, AllocError>
+    requires { IsNamedEvent (codes "stopped") list.out.tokens }
+    ensures { IfOk result (λ l. IsNamedEvent (codes "stopped") l.out.tokens) }
 {
-    match stop {
-        Some(number) => add_stop(body, number),
-        None => Ok(body),
+    let mut list = list;
+    for number in numbers {
+        list = add_number(list, *number)?;
     }
+    Ok(list)
+}
+
+/// Adds the breakpoints that were hit, if some were.
+fn add_hits<A: Allocator>(body: Body<A>, numbers: &[u64]) -> Result<Body<A>, AllocError>
+    requires { IsNamedEvent (codes "stopped") body.out.tokens }
+    ensures { IfOk result (λ o. IsNamedEvent (codes "stopped") o.out.tokens) }
+{
+    if numbers.is_empty() {
+        return Ok(body);
+    }
+    let list = body.array("hitBreakpointIds")?;
+    let list = add_numbers(list, numbers)?;
+    let body = list.end()?;
+    Ok(body)
 }
 
 /// The event that says that the run stands, why, and at which place.
@@ -224,28 +261,97 @@ fn stopped_event<A: Allocator + Copy>(
     alloc: A,
     words: Words,
     place: &str,
+    hits: &[u64],
 ) -> Result<Object<A, Whole>, AllocError>
-    ensures { IfOk result (λ o. IsEventSoFar o.out.tokens) }
+    ensures { IfOk result (λ o. IsNamedEvent (codes "stopped") o.out.tokens) }
 {
     let body = stopped_body(alloc, words.reason, place)?;
     let body = add_thread(body, fault_in(place).unwrap_or(words.text))?;
-    let body = add_hit(body, words.stop)?;
+    let body = add_hits(body, hits)?;
     let message = body.end()?;
     Ok(message)
 }
 
+/// How a run ended in a function that isn't the program's own.
+fn foreign_text<A: Allocator + Copy>(
+    alloc: A,
+    foreign: Foreign,
+    func: &[u8],
+) -> Result<String<A>, AllocError> {
+    let front: &[u8] = b"halted in $";
+    let behind: &[u8] = match foreign {
+        Foreign::Outside => b", which isn't there",
+        Foreign::Runtime => b"",
+    };
+    if foreign == Foreign::Runtime && func == b"ended.by.signal".as_slice() {
+        return String::from_str(alloc, "ended by a signal");
+    }
+    joined(
+        alloc,
+        &[
+            Fragment::Bytes(front),
+            Fragment::Bytes(func),
+            Fragment::Bytes(behind),
+        ],
+    )
+}
+
+/// The function in which a run was halted.
+fn halted_in<'m, A: Allocator + Copy>(machine: &'m Machine<'_, A>) -> Option<&'m [u8]> {
+    if machine.status() != Status::Faulted(Fault::Halted) {
+        return None;
+    }
+    let frame = machine.frames().last()?;
+    Some(func_name(machine.code(), frame.func()))
+}
+
+/// How a run ended, if it was halted in a function that isn't the program's own: what isn't there is no fault of the program.
+pub fn ended_elsewhere<A: Allocator + Copy>(
+    alloc: A,
+    machine: &Machine<'_, A>,
+    names: &Names<A>,
+) -> Result<Option<String<A>>, AllocError> {
+    let Some(func) = halted_in(machine) else {
+        return Ok(None);
+    };
+    match names.foreign(func) {
+        Some(foreign) => Ok(Some(foreign_text(alloc, foreign, func)?)),
+        None => Ok(None),
+    }
+}
+
+/// The breakpoints to tell: those that were looked at, or else all at which the run stands.
+fn hits_told<'c, A: Allocator + Copy + 'c, L: HasMachine<A, Machine<'c, A>>>(
+    debuggee: &mut Debuggee<'c, A, L>,
+    why: Why,
+) -> Result<Vec<u64, A>, AllocError> {
+    let found = std::mem::replace(&mut debuggee.hit, Vec::new(debuggee.alloc));
+    if found.is_empty() {
+        return hits(debuggee, why);
+    }
+    Ok(found)
+}
+
 /// The message that says that the run stands.
 fn stopped_message<'c, A: Allocator + Copy + 'c, L: HasMachine<A, Machine<'c, A>>>(
-    debuggee: &Debuggee<'c, A, L>,
+    debuggee: &mut Debuggee<'c, A, L>,
     why: Why,
 ) -> Result<Object<A, Whole>, AllocError>
-    ensures { IfOk result (λ o. IsEventSoFar o.out.tokens) }
+    ensures { IfOk result (λ o. IsNamedEvent (codes "stopped") o.out.tokens) }
 {
+    let hits = hits_told(debuggee, why)?;
     let machine = debuggee.machine();
+    if let Some(end) = ended_elsewhere(debuggee.alloc, machine, &debuggee.names)? {
+        let words = Words {
+            reason: "end",
+            text: "end of the run",
+        };
+        return stopped_event(debuggee.alloc, words, end.as_str(), &[]);
+    }
     let place = place_text(debuggee.alloc, debuggee.position(), machine)?;
-    let on_function = is_on_function(why, debuggee.stops.as_slice());
+    let on_function = is_on_function(hits.as_slice(), debuggee.stops.as_slice());
     let words = words_of(machine.status(), why, on_function);
-    stopped_event(debuggee.alloc, words, place.as_str())
+    stopped_event(debuggee.alloc, words, place.as_str(), hits.as_slice())
 }
 
 /// Tells what is new of the output, and that the run stands.
@@ -254,8 +360,38 @@ pub fn tell_stopped<'c, A: Allocator + Copy + 'c, L: HasMachine<A, Machine<'c, A
     why: Why,
     port: &mut Port<A, W>,
 ) -> Result<(), Trouble>
-    ensures { Tells result (spoken W.contents port.old) (spoken W.contents port.new) }
+    ensures events { Tells result (spoken W.contents port.old) (spoken W.contents port.new) }
+    ensures stands { TellsLast result (codes "stopped") (spoken W.contents port.new) }
 {
     tell_output(debuggee, port)?;
     port.tell(stopped_message(debuggee, why)?)
+}
+
+/// How a run that wasn't debugged ended, as a line.
+fn end_text<'c, A: Allocator + Copy + 'c, L: HasMachine<A, Machine<'c, A>>>(
+    debuggee: &Debuggee<'c, A, L>,
+) -> Result<String<A>, AllocError> {
+    let alloc = debuggee.alloc;
+    let machine = debuggee.machine();
+    let mut text = match ended_elsewhere(alloc, machine, &debuggee.names)? {
+        Some(end) => end,
+        None => place_text(alloc, debuggee.position(), machine)?,
+    };
+    text.push_str("\n")?;
+    Ok(text)
+}
+
+/// Tells what is new of the output of a run that wasn't debugged, how it ended, and that the session can be ended.
+pub fn tell_end<'c, A: Allocator + Copy + 'c, L: HasMachine<A, Machine<'c, A>>, W: Sink>(
+    debuggee: &mut Debuggee<'c, A, L>,
+    port: &mut Port<A, W>,
+) -> Result<(), Trouble>
+    ensures events { Tells result (spoken W.contents port.old) (spoken W.contents port.new) }
+    ensures ends { TellsLast result (codes "terminated") (spoken W.contents port.new) }
+{
+    tell_output(debuggee, port)?;
+    let alloc = debuggee.alloc;
+    let text = end_text(debuggee)?;
+    port.tell(output_event(alloc, "console", text.as_str())?)?;
+    tell_plain(alloc, "terminated", port)
 }

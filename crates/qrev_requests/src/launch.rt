@@ -19,6 +19,8 @@ pub struct Launch<A: Allocator> {
     pub record: Option<String<A>>,
     /// The path of the map of places: none is looked for if it is empty.
     pub map: Option<String<A>>,
+    /// Whether the run is debugged: else it goes to its end, past all stops.
+    pub debugs: bool,
     ghost bounded: { limit ≤ 4294967295 },
     ghost least: { 1 ≤ unwrap_or bound 1 },
     ghost most: { unwrap_or bound 1 ≤ 1000000 },
@@ -33,6 +35,7 @@ pub enum Unfit {
     Limit,
     History,
     StopOnEntry,
+    NoDebug,
     Record,
     Map,
     OutOfMemory,
@@ -53,6 +56,7 @@ pub fn unfit_words(unfit: Unfit) -> &'static str {
         Unfit::Limit => "limit: not a number from 1 to 4294967295",
         Unfit::History => "history: not a number from 1 to 1000000",
         Unfit::StopOnEntry => "stopOnEntry: no flag",
+        Unfit::NoDebug => "noDebug: no flag",
         Unfit::Record => "record: no path",
         Unfit::Map => "map: no path",
         Unfit::OutOfMemory => "out of memory",
@@ -133,13 +137,18 @@ fn program_said<A: Allocator + Copy>(
     }
 }
 
-/// Whether the run is to stand at its entry.
-fn stop_said<A: Allocator + Copy>(asked: Arguments<'_, '_, A>) -> Result<bool, Unfit> {
-    match asked.get("stopOnEntry") {
-        None => Ok(true),
+/// A flag that may be left out.
+fn flag_said<A: Allocator + Copy>(
+    asked: Arguments<'_, '_, A>,
+    name: &str,
+    otherwise: bool,
+    unfit: Unfit,
+) -> Result<bool, Unfit> {
+    match asked.get(name) {
+        None => Ok(otherwise),
         Some(value) => match value.as_bool() {
             Some(flag) => Ok(flag),
-            None => Err(Unfit::StopOnEntry),
+            None => Err(unfit),
         },
     }
 }
@@ -172,7 +181,8 @@ pub fn launch_said<A: Allocator + Copy>(
     let args = numbers_said(alloc, asked)?;
     let limit = number_in(asked, "limit", 4_294_967_295, Unfit::Limit)?;
     let bound = number_in(asked, "history", 1_000_000, Unfit::History)?;
-    let stops_on_entry = stop_said(asked)?;
+    let stops_on_entry = flag_said(asked, "stopOnEntry", true, Unfit::StopOnEntry)?;
+    let no_debug = flag_said(asked, "noDebug", false, Unfit::NoDebug)?;
     let record = text_said(alloc, asked, "record", Unfit::Record)?;
     let map = text_said(alloc, asked, "map", Unfit::Map)?;
     Ok(Launch {
@@ -184,5 +194,6 @@ pub fn launch_said<A: Allocator + Copy>(
         stops_on_entry,
         record,
         map,
+        debugs: !no_debug,
     })
 }

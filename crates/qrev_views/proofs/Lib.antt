@@ -1,6 +1,7 @@
 -- The lemmas of this crate.
 pub mod ShownTexts
 pub mod Pages
+pub mod Each
 pub mod Rows
 pub mod ShownPlaces
 pub mod Stacks

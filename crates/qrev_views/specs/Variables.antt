@@ -1,6 +1,5 @@
 -- Variables, as the tokens of their JSON.
-use Rattle.std.specs.Prelude.{ℕ, ◌+◌, Bool, true, false, cond, List, [], ◌∷◌, ◌++◌, map, codes, decimal, Option, Some, None, is_some, unwrap_or, Result, Ok, Err, slice_get}
-use Rattle.std.specs.List.{flat_map}
+use Rattle.std.specs.Prelude.{◌≡◌, ℕ, ◌+◌, Bool, true, false, cond, List, [], ◌∷◌, ◌++◌, codes, decimal, Option, Some, None, is_some, unwrap_or, Result, Ok, Err}
 use Rattle.json.specs.Token.{Token, begin_object, end_object, begin_array, end_array, key, string, number}
 use Rattle.qil_tree.specs.declared.ops.Class.{Class}
 use Rattle.qil_tree.specs.declared.ops.Class.TheVariants as classes
@@ -21,7 +20,14 @@ use Rattle.qil_meaning.specs.Step.{func_named}
 use Rattle.qil_meaning.specs.Poke.{temp_class}
 use Rattle.qil_answers.specs.Texts.{state_line}
 use Rattle.qil_answers.specs.Shown.{temps_of_frame}
-use Rattle.qrev_views.specs.Texts.{shown_text, shown_value, without_end}
+use Rattle.qil_pieces.specs.Texts.{text_of}
+use Rattle.qrev_map.specs.declared.names.FloatClass.{FloatClass}
+use Rattle.qrev_map.specs.declared.names.FloatClass.TheVariants as floats
+use Rattle.qrev_views.specs.Pages.{page_of}
+use Rattle.qrev_views.specs.Texts.{shown_text, without_end}
+use Rattle.qrev_views.specs.Values.{IsTold, style_of}
+use Rattle.qrev_views.specs.declared.variable.Page.{Page}
+use Rattle.qrev_views.specs.declared.variable.Showing.{Showing}
 
 -- ---- one variable
 
@@ -29,22 +35,33 @@ use Rattle.qrev_views.specs.Texts.{shown_text, shown_value, without_end}
 abbrev pub text_member : List ℕ → List ℕ → List Token
 text_member name value = key name ∷ string value ∷ []
 
--- a variable with its name, its value, and that it has no parts
-abbrev pub variable_head : List ℕ → List ℕ → List Token
-variable_head name value =
-    begin_object ∷ key (codes "name") ∷ string name ∷ key (codes "value") ∷ string value ∷ key (codes "variablesReference") ∷ number (decimal 0) ∷ []
+-- a variable with its name, its value, and the reference by which its parts are asked for
+abbrev pub variable_head : List ℕ → List ℕ → ℕ → List Token
+variable_head name value parts =
+    begin_object ∷ key (codes "name") ∷ string name ∷ key (codes "value") ∷ string value ∷ key (codes "variablesReference") ∷ number (decimal parts) ∷ []
 
--- a variable with a name, a value, and a type
-abbrev pub typed_head : List ℕ → List ℕ → List ℕ → List Token
-typed_head name value type = variable_head name value ++ (text_member (codes "type") type ++ text_member (codes "evaluateName") name)
+-- its type, for an editor that understands it
+abbrev pub type_member : Bool → List ℕ → List Token
+type_member true type = text_member (codes "type") type
+type_member false type = []
+
+-- the expression that gives its value
+abbrev pub name_member : List ℕ → List Token
+name_member expression = text_member (codes "evaluateName") expression
 
 -- that it can't be set
 abbrev pub read_only : List Token
 read_only = key (codes "presentationHint") ∷ begin_object ∷ key (codes "attributes") ∷ begin_array ∷ string (codes "readOnly") ∷ end_array ∷ end_object ∷ []
 
--- a reference to the memory at an address
-abbrev pub reference : ℕ → List Token
-reference a = key (codes "memoryReference") ∷ string (decimal a) ∷ []
+-- a reference to the memory at an address, for an editor that understands it
+abbrev pub reference : Bool → ℕ → List Token
+reference true a = key (codes "memoryReference") ∷ string (decimal a) ∷ []
+reference false a = []
+
+-- items that are shown of these, one after the other
+abbrev pub ShowsEach : {X : Type 0} → (X → List Token → Type 0) → List X → List Token → Type 0
+ShowsEach Shows [] tokens = tokens ≡ []
+ShowsEach {X} Shows (x ∷ xs) tokens = (item others : List Token) × Shows x item × ShowsEach Shows xs others × (tokens ≡ item ++ others)
 
 -- ---- temporaries
 
@@ -52,21 +69,33 @@ abbrev pub class_letter : Option Class → List ℕ
 class_letter (Some classes.W) = codes "w"
 class_letter c = codes "l"
 
+-- the letter of a float, or of a class
+abbrev pub letter_of : Option FloatClass → Option Class → List ℕ
+letter_of None class = class_letter class
+letter_of (Some floats.Single) class = codes "s"
+letter_of (Some floats.Double) class = codes "d"
+
 -- to the memory at a value, where that is the address of a live byte
-abbrev pub live_reference : Live → Option ℕ → List Token
-live_reference m None = []
-live_reference m (Some a) = cond (is_some (m a)) (reference a) []
+abbrev pub live_reference : Bool → Live → Option ℕ → List Token
+live_reference understands m None = []
+live_reference understands m (Some a) = cond (is_some (m a)) (reference understands a) []
 
--- a temporary of a function, and what it holds
-abbrev pub temp_tokens : {A : Type 0} → Option (Func A) → Live → Bool → Name → Option ℕ → List Token
-temp_tokens func m can_be_set x v =
-    variable_head (shown_text (codes "%" ++ x)) (shown_value v)
-    ++ key (codes "type") ∷ string (class_letter (temp_class func x)) ∷ key (codes "evaluateName") ∷ string (shown_text (codes "%" ++ x))
-    ∷ (live_reference m v ++ (cond can_be_set [] read_only ++ end_object ∷ []))
+-- A temporary of a function, and what it holds: as a float where the names that stand beside the text say so, and under the name
+-- that they tell. Where they say nothing it has its own name, and is no float.
+pub record ShowsTemp {A : Type 0} (func : Option (Func A)) (m : Live) (names : List ℕ) (showing : Showing) (can_be_set : Bool) (x : Name) (v : Option ℕ) (item : List Token) : Type 0 where
+  pub float : Option FloatClass
+  pub name : List ℕ
+  pub value : List ℕ
+  pub parts : ℕ
+  pub unnamed : names ≡ [] → (float ≡ None) × (name ≡ x)
+  pub is_value : IsTold (style_of float showing.is_hex) v value
+  pub tokens : item ≡ variable_head (shown_text (codes "%" ++ name)) value parts
+      ++ (type_member showing.has_types (letter_of float (temp_class func x)) ++ (name_member (shown_text (codes "%" ++ x)) ++ (live_reference showing.has_references m v ++ (cond can_be_set [] read_only ++ end_object ∷ []))))
 
--- the temporaries of a frame, in the order in which its function's text first names them
-abbrev pub temps_tokens : {A : Type 0} → Program A → Live → Bool → Frame → List (List Token)
-temps_tokens p m can_be_set f = map (λ x. temp_tokens (func_named p.funcs f.func) m can_be_set x (f.temps x)) (temps_of_frame p f)
+-- the temporaries of a page of a frame, in the order in which its function's text first names them
+abbrev pub ShowsTemps : {A : Type 0} → Program A → Live → List ℕ → Showing → Bool → Frame → Page → List Token → Type 0
+ShowsTemps p m names showing can_be_set f page items =
+    ShowsEach (λ x. ShowsTemp (func_named p.funcs f.func) m names showing can_be_set x (f.temps x)) (page_of page (temps_of_frame p f)) items
 
 -- ---- data
 
@@ -91,15 +120,27 @@ abbrev pub value_of : {E : Type 0} → Result ℕ E → Option ℕ
 value_of (Ok v) = Some v
 value_of (Err e) = None
 
--- a data object, at an address
-abbrev pub data_at : {A : Type 0} → Live → Data A → ℕ → List Token
-data_at m d a =
-    variable_head (shown_text (codes "$" ++ d.name)) (shown_value (value_of (loaded m a (width_bytes (shown_width d.fields)))))
-    ++ key (codes "type") ∷ string (width_letter (shown_width d.fields)) ∷ key (codes "evaluateName") ∷ string (shown_text (codes "$" ++ d.name))
-    ∷ (reference a ++ end_object ∷ [])
+-- the letter of a float, or of a width
+abbrev pub data_letter : Option FloatClass → Width → List ℕ
+data_letter None w = width_letter w
+data_letter (Some floats.Single) w = codes "s"
+data_letter (Some floats.Double) w = codes "d"
 
-abbrev pub data_tokens : {A : Type 0} → Program A → Live → Data A → List Token
-data_tokens p m d = data_at m d (unwrap_or (address_of p d.name) 0)
+-- the number in the first bytes of a data object
+abbrev pub first_value : {A : Type 0} → Program A → Live → Data A → Option ℕ
+first_value p m d = value_of (loaded m (unwrap_or (address_of p d.name) 0) (width_bytes (shown_width d.fields)))
+
+-- a data object, by its first item: as a float where the names that stand beside the text say so
+pub record ShowsData {A : Type 0} (p : Program A) (m : Live) (names : List ℕ) (showing : Showing) (d : Data A) (item : List Token) : Type 0 where
+  pub float : Option FloatClass
+  pub value : List ℕ
+  pub parts : ℕ
+  pub unnamed : names ≡ [] → float ≡ None
+  pub is_value : IsTold (style_of float showing.is_hex) (first_value p m d) value
+  pub tokens : item ≡ variable_head (shown_text (codes "$" ++ d.name)) value parts
+      ++ (type_member showing.has_types (data_letter float (shown_width d.fields))
+      ++ (name_member (shown_text (text_of (data_letter float (shown_width d.fields) ∷ codes "[$" ∷ d.name ∷ codes "]" ∷ [])))
+      ++ (reference showing.has_references (unwrap_or (address_of p d.name) 0) ++ end_object ∷ [])))
 
 -- ---- the machine
 
@@ -112,4 +153,4 @@ machine_rows position oldest s =
     ∷ (codes "output", shown_text s.output) ∷ []
 
 abbrev pub fixed_tokens : List ℕ × List ℕ → List Token
-fixed_tokens row = variable_head row.0 row.1 ++ (read_only ++ end_object ∷ [])
+fixed_tokens row = variable_head row.0 row.1 0 ++ (read_only ++ end_object ∷ [])

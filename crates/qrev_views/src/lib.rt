@@ -5,17 +5,23 @@
 mod data;
 mod frames;
 mod machine;
+mod parts;
+mod remarks;
 mod scopes;
 mod source_map;
 mod temps;
 mod texts;
+mod values;
 mod variable;
 
-pub use data::{data_named, data_word, put_data};
+pub use data::{OBJECTS, data_float, data_named, data_size, data_word, put_data};
 pub use frames::{Numbering, Shown, frame_of, put_frames, put_source};
 pub use machine::put_machine;
+pub use parts::{put_object_parts, put_pointed_parts, quoted};
+pub use remarks::{data_around, remark_of, told_value};
 pub use scopes::{DATA, MACHINE, put_scopes};
-pub use source_map::{SourceLine, SourceMap, same_file};
-pub use temps::{class_letter, put_temps};
+pub use source_map::{SourceLine, SourceMap, plain_path, same_file};
+pub use temps::{POINTED, class_letter, letter_of, put_temps};
 pub use texts::{as_text, joined, number_text, place_text, sigiled};
-pub use variable::{Page, value_text};
+pub use values::{Style, value_text};
+pub use variable::{Page, Showing};

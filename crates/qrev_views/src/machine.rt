@@ -25,7 +25,7 @@ fn put_fixed<A: Allocator, U: Drop>(
 ) -> Result<Array<A, U>, AllocError>
     ensures { IfOk result (λ l. Adds list.out l.out (fixed_tokens (name.now, value.now))) }
 {
-    end_read_only(begin_variable(list, name, value)?)
+    end_read_only(begin_variable(list, name, value, 0)?)
 }
 
 /// Adds one whose value is a number.

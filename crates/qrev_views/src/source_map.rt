@@ -164,6 +164,13 @@ fn joined_parts<A: Allocator + Copy>(
     Ok(path)
 }
 
+/// A path without `.`, `..` and empty parts.
+pub fn plain_path<A: Allocator + Copy>(alloc: A, path: &str) -> Result<String<A>, AllocError> {
+    let mut parts: Parts<'_, '_, A> = SmallVec::new(&alloc);
+    add_parts(&mut parts, path)?;
+    joined_parts(alloc, path.starts_with('/'), parts.as_slice())
+}
+
 /// A path from the folder of a file, if it is relative.
 fn resolved<A: Allocator + Copy>(
     alloc: A,

@@ -1,14 +1,23 @@
 //! A variable, and which of many are shown.
 
-ghost use Rattle.std.specs.Prelude.{◌≡◌, ◌+◌, [], ◌∷◌, ◌++◌, cond, IfOk, min, string_bytes};
+ghost use Rattle.std.specs.Prelude.{◌≡◌, ◌+◌, true, [], ◌∷◌, ◌++◌, cond, IfOk, min};
 ghost use Rattle.json.specs.Token.{end_object};
 ghost use Rattle.qrev_protocol.specs.Outgoing.{Adds};
-ghost use Rattle.qrev_views.specs.Texts.{shown_text, shown_value};
-ghost use Rattle.qrev_views.specs.Variables.{variable_head, typed_head, read_only, reference};
+ghost use Rattle.qrev_views.specs.Variables.{variable_head, type_member, name_member, read_only, reference};
 
-use crate::texts::{number_text, sigiled};
+use crate::texts::number_text;
 use qrev_protocol::{Array, InArray, Object};
 use std::alloc::{AllocError, Allocator};
+
+/// How an editor wants variables to be shown.
+#[derive(Clone, Copy)]
+pub struct Showing {
+    pub is_hex: bool,
+    /// Whether it understands types.
+    pub has_types: bool,
+    /// Whether it understands references to memory.
+    pub has_references: bool,
+}
 
 /// Which items of a list are shown: those from the `start`-th on, counted from 0, and at most `count`.
 #[derive(Clone, Copy)]
@@ -30,78 +39,46 @@ impl Page {
     }
 }
 
-/// A value in decimal digits, or that it is unset.
-pub fn value_text<A: Allocator + Copy>(
-    alloc: A,
-    value: Option<u64>,
-) -> Result<String<A>, AllocError>
-    ensures { IfOk result (λ text. string_bytes text ≡ shown_value value) }
-{
-    match value {
-        Some(value) => number_text(alloc, value),
-        None => String::from_str(alloc, "unset"),
-    }
-}
-
-/// Begins a variable with its name, its value, and that it has no parts.
+/// Begins a variable with its name, its value, and the reference by which its parts are asked for: 0 if it has none.
 pub fn begin_variable<A: Allocator, U: Drop>(
     list: Array<A, U>,
     name: &str,
     value: &str,
+    parts: u64,
 ) -> Result<Object<A, InArray<U>>, AllocError>
-    ensures { IfOk result (λ o. Adds list.out o.out (variable_head name.now value.now)) }
+    ensures { IfOk result (λ o. Adds list.out o.out (variable_head name.now value.now parts)) }
 {
     let variable = list
         .object()?
         .text("name", name)?
         .text("value", value)?
-        .number("variablesReference", 0)?;
+        .number("variablesReference", parts)?;
     Ok(variable)
 }
 
-/// Begins a variable with its name, by which it can be evaluated, its value and its type.
-fn begin_named<A: Allocator, U: Drop>(
-    list: Array<A, U>,
-    name: &str,
-    value: &str,
+/// Adds the type, if the editor understands it.
+pub fn add_type<A: Allocator, U: Drop>(
+    variable: Object<A, InArray<U>>,
+    showing: Showing,
     letter: &str,
 ) -> Result<Object<A, InArray<U>>, AllocError>
-    ensures { IfOk result (λ o. Adds list.out o.out (typed_head name.now value.now letter.now)) }
+    ensures { IfOk result (λ o. Adds variable.out o.out (type_member showing.has_types letter.now)) }
 {
-    let variable = begin_variable(list, name, value)?
-        .text("type", letter)?
-        .text("evaluateName", name)?;
+    if !showing.has_types {
+        return Ok(variable);
+    }
+    let variable = variable.text("type", letter)?;
     Ok(variable)
 }
 
-/// The same, of a value that is a number or unset.
-fn begin_valued<A: Allocator + Copy, U: Drop>(
-    alloc: A,
-    list: Array<A, U>,
-    name: &str,
-    value: Option<u64>,
-    letter: &str,
+/// Adds the expression that gives its value.
+pub fn add_expression<A: Allocator, U: Drop>(
+    variable: Object<A, InArray<U>>,
+    expression: &str,
 ) -> Result<Object<A, InArray<U>>, AllocError>
-    ensures { IfOk result (λ o. Adds list.out o.out (typed_head name.now (shown_value value) letter.now)) }
+    ensures { IfOk result (λ o. Adds variable.out o.out (name_member expression.now)) }
 {
-    let value = value_text(alloc, value)?;
-    let variable = begin_named(list, name, value.as_str(), letter)?;
-    Ok(variable)
-}
-
-/// The same, whose name has a sigil.
-pub fn begin_typed<A: Allocator + Copy, U: Drop>(
-    alloc: A,
-    list: Array<A, U>,
-    sigil: &[u8],
-    name: &[u8],
-    value: Option<u64>,
-    letter: &str,
-) -> Result<Object<A, InArray<U>>, AllocError>
-    ensures { IfOk result (λ o. Adds list.out o.out (typed_head (shown_text (sigil.now ++ name.now)) (shown_value value) letter.now)) }
-{
-    let name = sigiled(alloc, sigil, name)?;
-    let variable = begin_valued(alloc, list, name.as_str(), value, letter)?;
+    let variable = variable.text("evaluateName", expression)?;
     Ok(variable)
 }
 
@@ -122,15 +99,31 @@ pub fn end_read_only<A: Allocator, U: Drop>(
 }
 
 /// Adds a reference to the memory at an address.
-pub fn add_address<A: Allocator + Copy, U: Drop>(
+fn put_reference<A: Allocator + Copy, U: Drop>(
     alloc: A,
     variable: Object<A, InArray<U>>,
     address: u64,
 ) -> Result<Object<A, InArray<U>>, AllocError>
-    ensures { IfOk result (λ o. Adds variable.out o.out (reference address)) }
+    ensures { IfOk result (λ o. Adds variable.out o.out (reference true address)) }
 {
     let address = number_text(alloc, address)?;
     let variable = variable.text("memoryReference", address.as_str())?;
+    Ok(variable)
+}
+
+/// Adds a reference to the memory at an address, if the editor understands it.
+pub fn add_address<A: Allocator + Copy, U: Drop>(
+    alloc: A,
+    variable: Object<A, InArray<U>>,
+    showing: Showing,
+    address: u64,
+) -> Result<Object<A, InArray<U>>, AllocError>
+    ensures { IfOk result (λ o. Adds variable.out o.out (reference showing.has_references address)) }
+{
+    if !showing.has_references {
+        return Ok(variable);
+    }
+    let variable = put_reference(alloc, variable, address)?;
     Ok(variable)
 }
 

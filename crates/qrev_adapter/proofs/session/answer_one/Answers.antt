@@ -1,6 +1,6 @@
--- What follows a response was not told.
+-- What follows a response was told, or was not.
 use Rattle.std.proofs.Common.{sym, subst}
-use Rattle.std.specs.Prelude.{Result, Option, Err}
+use Rattle.std.specs.Prelude.{Result, Option, Ok, Err}
 use Rattle.std.proofs.lemmas.Result.{err_from_is_err_and}
 use Rattle.qrev_notices.specs.Conversation.{asked_by, spoken, Responds}
 use Rattle.qrev_notices.specs.declared.trouble.Trouble.{Trouble}
@@ -15,4 +15,9 @@ returns-in_err-follow-clause-responds g c =
     let a = asked_by c.args.request in
     subst (λ (r : Result (Option Ending) Trouble). Responds r a (at c.args.port.now) (at c.follow.new.port)) (sym p.1)
     (responds_as (Unit {0}) (Option Ending) c.in_err-follow.field-0.0 p.0 a (at c.args.port.now) (at c.follow.new.port)
-    (responded_then {U = Unit {0}} c.in_ok-then.then (Err c.in_err-follow.field-0.0) a (at c.args.port.now) (at c.respond.new.port) (at c.follow.new.port) c.in_ok-then.ensures c.in_err-follow.ensures) p.2)
+    (responded_then {U = Unit {0}} c.in_ok-then.then (Err c.in_err-follow.field-0.0) a (at c.args.port.now) (at c.respond.new.port) (at c.follow.new.port) c.in_ok-then.ensures c.in_err-follow.ensures.events) p.2)
+
+pub returns-clause-responds : goal.returns-clause-responds
+returns-clause-responds g c =
+    let at = spoken g.W.Sink.contents in
+    responded_then {U = Unit {0}} c.in_ok-then.then (Ok (tt {0})) (asked_by c.args.request) (at c.args.port.now) (at c.respond.new.port) (at c.follow.new.port) c.in_ok-then.ensures c.in_ok-follow.ensures.events

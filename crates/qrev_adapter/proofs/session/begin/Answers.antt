@@ -3,12 +3,17 @@ use Rattle.qrev_notices.specs.Conversation.{asked_by, spoken}
 use Rattle.qrev_notices.proofs.Replies.{responded_then}
 use Rattle.qrev_adapter.proofs.session.begin.Goals as goal
 
-pub returns-then-stops_on_entry : goal.returns-then-stops_on_entry
-returns-then-stops_on_entry g c =
+pub returns-then-not-stage-clause-responds : goal.returns-then-not-stage-clause-responds
+returns-then-not-stage-clause-responds g c =
     let at = spoken g.W.Sink.contents in
-    responded_then (tt {0}) c.tell_stopped.result (asked_by c.args.request) (at c.args.port.now) (at c.accept.new.self) (at c.tell_stopped.new.port) c.in_ok-accept.ensures c.tell_stopped.ensures
+    responded_then (tt {0}) c.run_out.result (asked_by c.args.request) (at c.args.port.now) (at c.accept.new.self) (at c.run_out.new.port) c.in_ok-accept.ensures c.run_out.ensures.events
 
-pub returns : goal.returns
-returns g c =
+pub returns-then-stage-clause-responds : goal.returns-then-stage-clause-responds
+returns-then-stage-clause-responds g c =
     let at = spoken g.W.Sink.contents in
-    responded_then (tt {0}) c.move_and_tell.result (asked_by c.args.request) (at c.args.port.now) (at c.accept.new.self) (at c.move_and_tell.new.port) c.in_ok-accept.ensures c.move_and_tell.ensures
+    responded_then (tt {0}) c.tell_stopped.result (asked_by c.args.request) (at c.args.port.now) (at c.accept.new.self) (at c.tell_stopped.new.port) c.in_ok-accept.ensures c.tell_stopped.ensures.events
+
+pub returns-clause-responds : goal.returns-clause-responds
+returns-clause-responds g c =
+    let at = spoken g.W.Sink.contents in
+    responded_then (tt {0}) c.go_and_tell.result (asked_by c.args.request) (at c.args.port.now) (at c.accept.new.self) (at c.go_and_tell.new.port) c.in_ok-accept.ensures c.go_and_tell.ensures.events

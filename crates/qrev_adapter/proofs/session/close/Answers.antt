@@ -23,14 +23,14 @@ returns-in_err-tell_plain-in-Terminated g c = λ start h.
     let trouble = c.in_err-tell_plain-in-Terminated.field-0.0 in
     let stayed : HasStayed start mid = stayed_told (tt {0}) start old mid refl c.in_ok-write_record-in-Terminated.ensures (rw c.in-Terminated.is at h) in
     closed_exit c.from_residual-in_err-tell_plain-in-Terminated.result (ended_by trouble) start now c.from_residual-in_err-tell_plain-in-Terminated.ensures.1
-    (tells_failed trouble start mid now stayed.0 refl c.in_err-tell_plain-in-Terminated.ensures stayed.1)
+    (tells_failed trouble start mid now stayed.0 refl c.in_err-tell_plain-in-Terminated.ensures.events stayed.1)
 
 pub returns-in-Terminated : goal.returns-in-Terminated
 returns-in-Terminated g c = λ start h.
     let old : Heard = heard g.S.Source.remaining g.W.Sink.contents c.args.line.now in
     let mid : Heard = record { input = old.input; output = spoken g.W.Sink.contents c.write_record.new.port } in
     let now : Heard = record { input = old.input; output = spoken g.W.Sink.contents c.tell_plain.new.port } in
-    stayed_told (tt {0}) start mid now refl c.in_ok-tell_plain-in-Terminated.ensures (stayed_told (tt {0}) start old mid refl c.in_ok-write_record-in-Terminated.ensures (rw c.in-Terminated.is at h))
+    stayed_told (tt {0}) start mid now refl c.in_ok-tell_plain-in-Terminated.ensures.events (stayed_told (tt {0}) start old mid refl c.in_ok-write_record-in-Terminated.ensures (rw c.in-Terminated.is at h))
 
 pub returns-in_err-write_record-in-Left : goal.returns-in_err-write_record-in-Left
 returns-in_err-write_record-in-Left g c = λ start h.

@@ -1,0 +1,136 @@
+//! Whether a run stands where a stop ended it.
+
+use crate::logging::add_message;
+use qil_machine::Machine;
+use qrev_debuggee::{Debuggee, HasMachine, StopRule, Why, hits};
+use qrev_expressions::{Missing, Scene, Unread, evaluate, holds, parse};
+use qrev_map::Names;
+use std::alloc::{AllocError, Allocator};
+
+/// Whether a condition holds in a state. What can't be had in this state doesn't hold; what can be had in none does, so that the
+/// run stands where that is seen.
+fn condition_holds<A: Allocator + Copy>(
+    alloc: A,
+    machine: &Machine<'_, A>,
+    names: &Names<A>,
+    scene: Scene,
+    condition: &str,
+) -> Result<bool, AllocError> {
+    let expression = match parse(alloc, condition.as_bytes()) {
+        Ok(expression) => expression,
+        Err(Unread::Malformed) => return Ok(true),
+        Err(Unread::OutOfMemory) => return Err(AllocError),
+    };
+    match holds(evaluate(alloc, machine, names, scene, &expression)?) {
+        Ok(holds) => Ok(holds),
+        Err(Missing::NoSuchName | Missing::OfFloats | Missing::NotWhole) => Ok(true),
+        Err(_) => Ok(false),
+    }
+}
+
+/// Whether what a rule asks for holds, where the run comes to it.
+fn rule_holds<A: Allocator + Copy>(
+    alloc: A,
+    machine: &Machine<'_, A>,
+    names: &Names<A>,
+    scene: Scene,
+    rule: &mut StopRule<A>,
+) -> Result<bool, AllocError> {
+    if let Some(condition) = &rule.condition {
+        if !condition_holds(alloc, machine, names, scene, condition.as_str())? {
+            return Ok(false);
+        }
+    }
+    let count = rule.meet(scene.position)?;
+    match rule.hits {
+        Some(hits) => Ok(hits.allows(count)),
+        None => Ok(true),
+    }
+}
+
+/// What becomes of a run at a breakpoint.
+#[derive(Clone, Copy, PartialEq, Eq)]
+enum Judged {
+    Stands,
+    Passes,
+    Tells,
+}
+
+/// What becomes of it by a rule.
+fn judge_rule<A: Allocator + Copy>(
+    alloc: A,
+    machine: &Machine<'_, A>,
+    names: &Names<A>,
+    scene: Scene,
+    rule: &mut StopRule<A>,
+) -> Result<Judged, AllocError> {
+    if !rule_holds(alloc, machine, names, scene, rule)? {
+        return Ok(Judged::Passes);
+    }
+    if rule.message.is_some() {
+        Ok(Judged::Tells)
+    } else {
+        Ok(Judged::Stands)
+    }
+}
+
+/// The rule of a breakpoint, by its number among the rules.
+fn rule_of<A: Allocator>(rules: &[StopRule<A>], id: u64) -> Option<usize> {
+    rules.iter().position(|rule| rule.id == id)
+}
+
+/// What becomes of the run at the breakpoint of a number, and what is told there.
+fn judge_one<'c, A: Allocator + Copy + 'c, L: HasMachine<A, Machine<'c, A>>>(
+    debuggee: &mut Debuggee<'c, A, L>,
+    id: u64,
+    log: &mut String<A>,
+) -> Result<bool, AllocError> {
+    let Some(index) = rule_of(debuggee.rules.as_slice(), id) else {
+        return Ok(true);
+    };
+    let scene = Scene {
+        number: 1,
+        position: debuggee.position(),
+    };
+    let alloc = debuggee.alloc;
+    let machine = debuggee.recorder.live().machine();
+    let Some(rule) = debuggee.rules.as_mut_slice().get_mut(index) else {
+        return Ok(true);
+    };
+    match judge_rule(alloc, machine, &debuggee.names, scene, rule)? {
+        Judged::Stands => Ok(true),
+        Judged::Passes => Ok(false),
+        Judged::Tells => {
+            if let Some(message) = &rule.message {
+                add_message(
+                    alloc,
+                    machine,
+                    &debuggee.names,
+                    scene,
+                    message.as_str(),
+                    log,
+                )?;
+            }
+            Ok(false)
+        }
+    }
+}
+
+/// Whether the run stands at one of the breakpoints at which it came, which it then is told of; and adds what is told at others.
+pub fn judge<'c, A: Allocator + Copy + 'c, L: HasMachine<A, Machine<'c, A>>>(
+    debuggee: &mut Debuggee<'c, A, L>,
+    why: Why,
+    log: &mut String<A>,
+) -> Result<bool, AllocError> {
+    let found = hits(debuggee, why)?;
+    if found.is_empty() {
+        return Ok(true);
+    }
+    debuggee.hit.clear();
+    for id in found.as_slice() {
+        if judge_one(debuggee, *id, log)? {
+            debuggee.hit.push(*id)?;
+        }
+    }
+    Ok(!debuggee.hit.is_empty())
+}

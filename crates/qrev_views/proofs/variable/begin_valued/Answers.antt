@@ -1,6 +1,0 @@
--- Answers to the goals of `begin_valued`.
-use Rattle.std.proofs.Common.{refl}
-use Rattle.qrev_views.proofs.variable.begin_valued.Goals as goal
-
-pub returns : goal.returns
-returns g c = rw (c.in_ok-variable.ensures, c.as_str.ensures.value, c.in_ok-value.ensures) refl
