@@ -233,9 +233,12 @@ class Causes:
         index = next((index for index, frame in enumerate(frames) if self.lowered.is_own(frame.function)), 0)
         return (self.frames.frame(at, index), frames[index - 1].function) if index else (at, "")
 
-    def operand_value(self, text: str, at: Timeline) -> int:
+    def operand_value(self, text: str, at: Timeline) -> int | None:
+        return self.scratch.go(at).values(text)[0] if text.startswith("%") else self.accesses.constant(text)
+
+    def value_read(self, text: str, at: Timeline) -> int:
         """The value of an operand that a move from there has read, so that it is set."""
-        value = self.scratch.go(at).values(text)[0] if text.startswith("%") else self.accesses.constant(text)
+        value = self.operand_value(text, at)
         if value is None:
             raise Refused(f"{text} is unset at #{at.position}")
         return value
@@ -385,7 +388,7 @@ class Causes:
         if instruction.operation not in LOADED:
             return
         at = cause.at
-        address, count = self.operand_value(instruction.operands[0].text, at), size_of(instruction)
+        address, count = self.value_read(instruction.operands[0].text, at), size_of(instruction)
         before = self.scratch.go(at).memory(address, count)
         after = self.scratch.go(asked).memory(address, count)
         if before == after or None in after:
@@ -492,7 +495,7 @@ class Causes:
         cause = self.executed(there, f"byte {number} of the output, {written[number]} ({shown}), was written by")
         _, instruction = self.innermost(there)
         if self.operand_value(instruction.operands[0].text, there) == BUILT_IN["$puts"]:
-            address = self.operand_value(instruction.operands[1].text, there) + number - before
+            address = self.value_read(instruction.operands[1].text, there) + number - before
             byte = self.scratch.go(there).memory(address, 1)[0]
             if byte:
                 cause.questions.insert(0, self.memory(address, 1, there))
@@ -593,7 +596,7 @@ class Causes:
         at = run.at(position)
         _, instruction = self.innermost(at)
         if instruction.operation in STORED or instruction.operation == "blit":
-            begin = self.operand_value(instruction.operands[1].text, at) - address
+            begin = self.value_read(instruction.operands[1].text, at) - address
             return {offset for offset in left if begin <= offset < begin + size_of(instruction)}
         before = self.scratch.go(at).memory(address, max(left) + 1)
         after = self.scratch.go(at.at(position + 1)).memory(address, max(left) + 1)
