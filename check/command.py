@@ -23,7 +23,7 @@ from .telling import as_gnu, as_sarif, gnu_place, summary
 
 TOP = pathlib.Path(__file__).resolve().parent.parent
 # How many moves are looked at if nothing is said: some 20 seconds.
-LIMIT = 2_000_000
+LIMIT = 5_000_000
 MOST_LIMIT = (1 << 32) - 1
 WITH_VALUE = ("--limit", "--kinds", "--heap", "--except", "--format")
 NONE, REFUSED, UNREAD, SOME, FAULT, TOO_LONG = 0, 1, 2, 3, 4, 5

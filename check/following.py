@@ -5,42 +5,23 @@ The places and values of the run are answers of the proved program; the shadow i
 from __future__ import annotations
 
 from dataclasses import dataclass, field
+from itertools import islice
 from typing import Iterator
 
 from page.table import Table
 from terminal.text import ALLOCATIONS, EXTENSIONS, LOADED, STORED, Function, Instruction, Operand
 
 from . import shadow as rules
+from .frame import Frame, HeapCall
 from .heap import GIVERS, size_asked
 from .objects import MOST_BLOCK, Memory, Objects, loaded
+from .quick import LOOKS, Step, step_of
 from .shadow import CUT, MASK, MIXED, NUMBER, SET, Object, Part, Shadow
 from .telling import Suspicion, bits_told, distance_told, object_told, origin_told
 
 DIVISIONS = frozenset(("div", "rem", "udiv", "urem"))
 SHIFTS = frozenset(("shl", "shr", "sar"))
 PULSE = (1 << 16) - 1
-
-
-@dataclass
-class HeapCall:
-    """A call of a function of the heap that isn't made from another of them."""
-
-    role: str
-    function: str
-    arguments: list[int]
-    block: Object | None = None  # the one that is given back
-
-
-@dataclass
-class Frame:
-    function: Function
-    values: dict[str, int | None]
-    shadows: dict[str, Shadow]
-    slots: int   # how many there were when it was called
-    floor: int   # the top of the stack then
-    call: Instruction | None = None
-    place: tuple[str, str, int, Instruction] | None = None  # of the call
-    heap: HeapCall | None = None
 
 
 @dataclass
@@ -71,7 +52,8 @@ class Follower:
         self.objects = Objects(self.program)
         self.memory = Memory(self.program, self.objects, data)
         self.kinds, self.heap, self.excepted = kinds, heap, excepted or Excepted()
-        self.looks_at_operations = bool(kinds & {"shift", "order", "diff", "sum"})
+        self.looks_at_operations = bool(kinds & LOOKS)
+        self.is_quick = True
         self.frames: list[Frame] = []
         self.found: dict[tuple[int, str], Suspicion] = {}
         self.position, self.here = 0, 0
@@ -91,14 +73,22 @@ class Follower:
         frame = Frame(function, {name: next(values) for name in given}, {}, 0, self.memory.top)
         frame.shadows = {name: Shadow(MIXED) if kinds[name] == "l" else SET for name in given}
         self.frames.append(frame)
-        for position in range(len(places) - 1):
-            self.position, self.here = position, places[position]
+        steps: dict[int, Step | None] = {}
+        take, end, frames = values.__next__, self.table.end, self.frames
+        for position, (here, there) in enumerate(zip(places, islice(places, 1, None))):
             if not position & PULSE:
                 self.pulse(position)
-            if position in self.pokes:
+            if self.pokes and position in self.pokes:
+                self.position, self.here = position, here
                 self.poke(self.pokes[position].split(), values)
                 continue
-            self.move(self.table.places[self.here][3], places[position + 1], values)
+            if here not in steps:
+                steps[here] = step_of(self, here) if self.is_quick else None
+            step = steps[here]
+            if step and there != end and step(frames[-1], there, take):
+                continue
+            self.position, self.here = position, here
+            self.move(self.table.places[here][3], there, values)
         self.position = len(places) - 1
         self.look_at_end()
         return len(places) - 1
@@ -198,7 +188,7 @@ class Follower:
         told = read.name or "it"
         self.note("extension" if origin and origin.is_call else "undef", f"{what} {told}, of which {bits_told(bits)}{origin_told(origin)}")
         if read.name:
-            self.frames[-1].shadows[read.name] = Shadow(self.frames[-1].shadows[read.name].made)
+            self.frames[-1].shadows[read.name] = rules.shadow_of(self.frames[-1].shadows[read.name].made)
         return True
 
     # Looks.
@@ -383,10 +373,10 @@ class Follower:
         if operation in EXTENSIONS:
             made = a.made if operation[4] == "w" else NUMBER if a.made is NUMBER else CUT
             bits = rules.open_of_extension(operation, a.open, width) if a.open else 0
-            return Shadow(made, bits, a.origin if bits else None)
+            return rules.shadow_of(made, bits, a.origin)
         if operation == "neg":
             bits = rules.open_of_difference(0, 0, reads[0].value, a.open, MASK[width]) if a.open else 0
-            return Shadow(rules.made_by("neg", width, a.made, NUMBER, 0, False), bits, a.origin if bits else None)
+            return rules.shadow_of(rules.made_by("neg", width, a.made, NUMBER, 0, False), bits, a.origin)
         b = reads[1].shadow
         if a is SET and b is SET:
             return SET
@@ -394,10 +384,10 @@ class Follower:
         number = reads[1].value if b.made is NUMBER else reads[0].value
         made = rules.made_by(operation, width, a.made, b.made, number, is_same)
         if not a.open and not b.open:
-            return Shadow(made)
+            return rules.shadow_of(made)
         looked = operation[-1] if operation[0] == "c" else width
         bits = rules.open_by(operation, looked, reads[0].value, a.open, reads[1].value, b.open, is_same)
-        return Shadow(made, bits, (a.origin if a.open else b.origin) if bits else None)
+        return rules.shadow_of(made, bits, a.origin if a.open else b.origin)
 
     def after_load(self, instruction: Instruction, read: Read) -> Shadow:
         operation = instruction.operation

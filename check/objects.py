@@ -6,7 +6,7 @@ from operator import attrgetter
 
 from terminal.text import DATA, STACK, STACK_BYTES, Program
 
-from .shadow import CUT, MIXED, NUMBER, CutByte, Made, Object, Origin, Part, Shadow
+from .shadow import CUT, MIXED, NUMBER, CutByte, Made, Object, Origin, Part, Shadow, shadow_of
 
 READ_ONLY = ".rodata"
 # What a block of the heap has at most: more than memory has.
@@ -178,4 +178,4 @@ def loaded(memory: Memory, operation: str, address: int, count: int, width: str,
     if bits and operation in ("loadsw", "loadsh", "loadsb") and bits >> 8 * count - 1:
         bits |= (1 << 64) - (1 << 8 * count)
     bits &= (1 << 64) - 1 if width == "l" else (1 << 32) - 1
-    return Shadow(loaded_made(made, count, width), bits, Origin(position, False, told) if bits else None)
+    return shadow_of(loaded_made(made, count, width), bits, Origin(position, False, told) if bits else None)

@@ -77,6 +77,13 @@ class Shadow(NamedTuple):
 SET = Shadow(NUMBER)
 
 
+def shadow_of(made: Made, bits: int = 0, origin: Origin | None = None) -> Shadow:
+    """The shadow of a value: `SET` itself for a set one that is made of numbers, so that this can be seen at a glance."""
+    if made is NUMBER and not bits:
+        return SET
+    return Shadow(made, bits, origin if bits else None)
+
+
 def cut(shadow: Shadow) -> Shadow:
     """The low 32 bits of a value of 64."""
     made, bits, origin = shadow
@@ -86,8 +93,7 @@ def cut(shadow: Shadow) -> Shadow:
         made = Part(made, 0)
     elif made is MIXED:
         made = CUT
-    bits &= MASK["w"]
-    return Shadow(made, bits, origin if bits else None)
+    return shadow_of(made, bits & MASK["w"], origin)
 
 
 def plain(made: Made) -> Made:

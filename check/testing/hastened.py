@@ -1,0 +1,115 @@
+"""Quick steps change nothing: a run that is followed with them has the suspicions, the shadows and the memory of one that is followed
+without, for all texts, examples and stories, and random programs.
+"""
+from __future__ import annotations
+
+import pathlib
+import random
+from typing import Any, Callable, Iterator
+
+from hostile_tests.programs import random_program
+from page.gathering import Gathering
+from page.table import Table
+from terminal.pipe import Pipe
+from terminal.scratch import SLICE, Launch
+from terminal.text import Program
+
+from ..following import Follower
+from ..heap import roles_of
+from ..kinds import ALL, DEFAULT
+from ..shadow import Object, Part
+from .texts import TEXTS
+
+TOP = pathlib.Path(__file__).resolve().parent.parent.parent
+PROGRAMS, MOST_MOVES, LEAST_QUICK = 120, 8_000, 20_000
+Case = tuple[str, Callable[[], str | None]]
+
+
+class Counted(Follower):
+    """Counts the moves that are made in the long way."""
+
+    moves = 0
+
+    def move(self, *words: Any) -> None:
+        self.moves += 1
+        super().move(*words)
+
+
+def made_told(made: Any) -> str:
+    """What a value or a byte is made of, without the identity of its objects, which two followers don't share."""
+    if isinstance(made, Object):
+        return f"{made.name} {made.address} {made.born} {made.died}"
+    return f"{made_told(made.object)} from {made.first}" if isinstance(made, Part) else str(made)
+
+
+def told(shadow: Any) -> str:
+    return f"{made_told(shadow.made)} {shadow.open} {shadow.origin}"
+
+
+def state_of(follower: Follower) -> list[Any]:
+    """All that a follower knows at the end of a run."""
+    memory = follower.memory
+    return [[each.lines(None) for each in follower.suspicions()], [each.count for each in follower.suspicions()],
+            [(frame.function.name, frame.values, {name: told(shadow) for name, shadow in frame.shadows.items()}, frame.slots, frame.floor)
+             for frame in follower.frames],
+            memory.top, memory.data, memory.stack[:memory.top], memory.open_data, memory.open_stack,
+            {place: made_told(made) for place, made in memory.made.items()},
+            [(slot.name, slot.address, slot.born, slot.died) for slot in follower.objects.slots],
+            [(block.address, block.size, block.born) for block in follower.objects.blocks], follower.heap_depth]
+
+
+def run_fault(program: str, file: pathlib.Path, source: bytes, words: list[str]) -> tuple[str | None, int]:
+    """What differs, or None; and how many moves were quick."""
+    launch = Launch(program, str(file), tuple(words), SLICE)
+    first = Pipe(launch.command(1))
+    first.close()
+    if first.refused:
+        return None, 0
+    table = Table(Program(source))
+    gathered = Gathering(launch, table, MOST_MOVES)
+    gathered.gather()
+    data = next(part[5:] for part in gathered.parts if part[:1] == b"D")
+    quick = 0
+    for kinds in (DEFAULT, ALL):
+        states = []
+        for is_quick in (False, True):
+            follower = Counted(table, data, kinds, roles_of(table.program, None))
+            follower.is_quick = is_quick
+            moves = follower.follow(list(gathered.places), iter(gathered.values))
+            states.append(state_of(follower))
+        quick += moves - follower.moves
+        for slow, fast in zip(*states):
+            if slow != fast:
+                return f"{fast!r:.300} in place of {slow!r:.300}", quick
+    return None, quick
+
+
+def texts_fault(program: str) -> str | None:
+    quick = 0
+    for file in sorted([*TEXTS.glob("*.ssa"), *(TOP / "examples").rglob("*.ssa"), *(TOP / "rows").glob("*.ssa"),
+                        *(TOP / "rows" / "speed").glob("*.ssa")]):
+        fault, count = run_fault(program, file, file.read_bytes(), [])
+        if fault:
+            return f"{file.name}: {fault}"
+        quick += count
+    return None if quick > LEAST_QUICK else f"only {quick} moves were quick"
+
+
+def random_fault(program: str, place: pathlib.Path) -> str | None:
+    quick = 0
+    for number in range(PROGRAMS):
+        text, arguments = random_program(random.Random(f"hastened {number}"))
+        source = text if isinstance(text, bytes) else text.encode()
+        file = place / f"hastened-{number}.ssa"
+        file.write_bytes(source)
+        fault, count = run_fault(program, file, source, list(map(str, arguments)))
+        file.unlink()
+        if fault:
+            return f"random program {number}: {fault}"
+        quick += count
+    return None if quick > 1000 else f"only {quick} moves were quick"
+
+
+def cases(program: str, place: pathlib.Path) -> Iterator[Case]:
+    yield "quick steps, texts", lambda: texts_fault(program)
+    yield "quick steps, random programs", lambda: random_fault(program, place)
