@@ -70,10 +70,10 @@ def form_faults(package: zipfile.ZipFile) -> Iterator[str | None]:
     yield None if assets.get("Manifest") == "extension/package.json" and set(assets.values()) <= set(names) else f"vsix: assets {assets}"
     target = told.find(f"{SCHEMA}Installation/{SCHEMA}InstallationTarget").get("Id")
     yield None if target == "Microsoft.VisualStudio.Code" else f"vsix: for {target}"
-    adapter = package.getinfo("extension/qrev-dap")
-    rights = adapter.external_attr >> 16 & 0o777
-    yield None if package.read(adapter) == ADAPTER.read_bytes() and rights == 0o755 else \
-        f"vsix: the adapter isn't the released one, or has the rights {rights:o}"
+    adapter = package.getinfo("extension/qrev/release/qrev-dap-x86_64-linux")
+    rights = [package.getinfo(name).external_attr >> 16 & 0o777 for name in (adapter.filename, "extension/qrev-dap", "extension/qrev/qrev-dap")]
+    yield None if package.read(adapter) == ADAPTER.read_bytes() and rights == [0o755] * 3 else \
+        f"vsix: the adapter isn't the released one, or it and what starts it have the rights {[oct(each) for each in rights]}"
 
 
 def manifest_faults(manifest: dict, names: list[str]) -> Iterator[str | None]:

@@ -6,7 +6,7 @@
 const fs = require("fs");
 const path = require("path");
 const vscode = require("vscode");
-const { Marks, inTerminal, withLowering } = require("./tools");
+const { Marks, folderOf, inTerminal, withLowering } = require("./tools");
 const { Changes, why } = require("./why");
 
 const TYPE = "qrev";
@@ -58,6 +58,7 @@ class Adapters {
 
   createDebugAdapterDescriptor() {
     const program = adapterOf(this.context);
+    folderOf(this.context);
     try {
       fs.accessSync(program, fs.constants.X_OK);
     } catch {

@@ -20,7 +20,8 @@ const MOVES_AT_SAVE = 100000;
 const ENDS = { 0: "no suspicion", 4: "no suspicion, but the run ends by a fault", 5: "no suspicion up to the limit of moves" };
 
 // What is run below the folder of qrev.
-const PROGRAMS = ["qrev", "release/program", "release/fits", "release/qrev-x86_64-linux", "lower/qrev-lower"];
+const PROGRAMS = ["qrev", "qrev-dap", "release/program", "release/fits", "release/with-input-copy", "release/qrev-x86_64-linux",
+  "release/qrev-dap-x86_64-linux", "lower/qrev-lower"];
 
 // The clone of the setting, what came with the extension, or the clone that the extension is a link into.
 function folderOf(context) {
@@ -198,4 +199,4 @@ async function withLowering(context, given) {
   return { ...launch, program };
 }
 
-module.exports = { Marks, inTerminal, run, scriptOf, withLowering };
+module.exports = { Marks, folderOf, inTerminal, run, scriptOf, withLowering };

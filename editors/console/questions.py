@@ -1,0 +1,112 @@
+"""What a line of an editor's console asks that the prompt answers, and the prompt as a process that is led to a state."""
+from __future__ import annotations
+
+import os
+import pathlib
+import re
+import subprocess
+from dataclasses import dataclass, field
+from typing import Any
+
+TOP = pathlib.Path(__file__).resolve().parent.parent.parent
+# Questions that change nothing, and of `info` those that aren't about the prompt's own stops.
+ASKING = frozenset(("why", "readers", "writers", "suspects", "made", "path", "when", "disas", "x"))
+INFORMING = frozenset(("data", "frame", "functions", "locals", "out", "source", "symbol", "temps"))
+WORDS = tuple(sorted((*ASKING, "goto", "help", "info")))
+# A line that the prompt answers alike in each state, before and behind an answer.
+MARK = 987654321
+CHANGE = re.compile(r"\s*(set %|poke )")
+LINE = re.compile(r"\bline (\d+):")
+HELP = """In this console:
+  step N, back N, continue, reverse, goto N     move
+  print %x, temps, where, list, mem ADDRESS N   look; an expression alone is worked out: %x + 1, w[$d+4]
+  break $f @b 0, watch w $d, stops, delete N    stop
+  set %x 5, poke w $d 5                         change
+  why %x, why w $d, why, why N                  where a value comes from, and on from there
+  readers $d, writers $d, when %x, path         what read it, wrote it, set it; the way through the function
+  suspects, made %x                             what no right compiler's output does; what a value is made of
+  disas, x/8xw $d, info locals                  the text of a function; memory; the frame
+docs/DEBUGGER.md and docs/TERMINAL.md have all of it.
+"""
+
+
+def is_question(line: str) -> bool:
+    """Whether the prompt is asked for a line of the console."""
+    words = line.split()
+    if not words:
+        return False
+    word = words[0].partition("/")[0]
+    return word in ASKING or word == "info" and len(words) > 1 and words[1] in INFORMING
+
+
+@dataclass
+class Changes:
+    """What was changed by hand in a session, as lines of the prompt, each with its position."""
+
+    lines: list[tuple[int, str]] = field(default_factory=list)
+    # Whether something was changed in another way, which can't be said as a line here.
+    is_unknown: bool = False
+
+    def note(self, command: str, given: dict[str, Any], position: int) -> None:
+        """A request that the editor sends while the run stands at a position."""
+        if command == "setVariable" and str(given.get("name", "")).startswith("%"):
+            self.lines.append((position, f"set {given['name']} {given.get('value')}"))
+        elif command == "evaluate":
+            changes = [line.strip() for line in str(given.get("expression", "")).split("\n") if CHANGE.match(line)]
+            self.lines += [(position + at, line) for at, line in enumerate(changes)]
+        elif command in ("setVariable", "setExpression", "writeMemory"):
+            self.is_unknown = True
+
+    def stopped(self, position: int) -> None:
+        """A run that stands before a change has taken it back."""
+        self.lines = [each for each in self.lines if each[0] < position]
+
+    def to(self, position: int) -> list[str]:
+        """The lines that lead the prompt to the same state."""
+        way = [line for at, change in self.lines for line in (f"goto {at}", change)]
+        return [*way, f"goto {position}"]
+
+
+def words_of(launch: dict[str, Any]) -> list[str]:
+    """The words of the command line for a launch."""
+    entry = launch.get("entry")
+    return [os.path.abspath(str(launch.get("program", ""))), *map(str, launch.get("args") or []), *(["--entry", str(entry)] if entry else [])]
+
+
+class Prompter:
+    """The prompt of qrev on a program, which stands where it was led last."""
+
+    def __init__(self, launch: dict[str, Any], words: list[str]):
+        self.process = subprocess.Popen(
+            [str(TOP / "qrev"), *words, "--prompt", *words_of(launch)], stdin=subprocess.PIPE, stdout=subprocess.PIPE,
+            stderr=subprocess.STDOUT, text=True, errors="replace", env={**os.environ, "PYTHONUNBUFFERED": "1", "NO_COLOR": "1"})
+        self.led: list[str] | None = None
+
+    def answer(self, way: list[str], frame: int, question: str) -> str:
+        """What the prompt answers to a question, behind the lines that lead to a state, in a frame counted from 0."""
+        lead = [*way, f"frame {frame}"]
+        lines = [] if lead == self.led else lead
+        self.led = lead
+        assert self.process.stdin is not None
+        try:
+            self.process.stdin.write("\n".join([*lines, f"print {MARK}", question, f"print {MARK}", ""]))
+            self.process.stdin.flush()
+        except BrokenPipeError:
+            pass
+        before = self.read()
+        told = self.read()
+        return told if told is not None else (before or "the prompt can't be run").strip().split("\n")[-1]
+
+    def read(self) -> str | None:
+        """What comes before the next mark, or None if the process ended before one."""
+        assert self.process.stdout is not None
+        found: list[str] = []
+        for line in self.process.stdout:
+            if line.startswith(f"{MARK} = {MARK}"):
+                return "".join(found).rstrip("\n")
+            found.append(line)
+        return None
+
+    def close(self) -> None:
+        self.process.kill()
+        self.process.wait()

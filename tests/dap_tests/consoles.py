@@ -1,0 +1,229 @@
+"""The console of an editor as `qrev-dap` starts it: questions that the prompt answers, and all else as the adapter alone answers it.
+
+What `why` and the others say of examples/squares.ssa stands in README.md and docs/TERMINAL.md.
+"""
+import pathlib
+import shutil
+import stat
+import sys
+import tempfile
+import time
+from collections.abc import Callable, Iterator
+
+from harness.running import EXAMPLES, TOP
+
+from . import wire
+from .driver import Adapter, at_once_fault, frame, play, request_message
+from .sessions import FOLDER, is_changing
+
+RELAY = TOP / "editors" / "console" / "main"
+BUILT = "crates/"
+
+# A line of the console, and what is answered; behind all of them the run stands at #45.
+SQUARES = [
+    ("why", "done 30, at #88, comes of\n  #87 $main @end 2  line 44: ret %total\n  [1] %total = 30\n  [2] the way to @end"),
+    ("why w $bias", "w $bias+0 = 16: stored by\n  #44 $fill @body 4  line 18: storew %square, %place\n  [1] %square = 16\n"
+                    "  [2] %place = 65552 ($bias+0)\n  [3] the way to @body"),
+    ("why 2", "%place = 65552 ($bias+0) was set by\n  #43 $fill @body 3  line 17: %place =l add $squares, %bytes\n  [1] %bytes = 16\n"
+              "  [2] the way to @body"),
+    ("readers $bias", "#85 $main @end 0  line 42: %bias =w loadsw $bias\n1 read in the run from #0 to #88 done 30"),
+    ("suspects", "[1] #44 $fill @body 4  line 18: storew %square, %place\n"
+                 "      bounds: storew at the end of $squares (16 bytes), into $bias+0\n1 suspicion in 88 moves, done 30"),
+    ("goto 44", "#44 $fill @body 4"),
+    ("made %place", "%place is made of the address of $squares (16 bytes)"),
+    ("goto #44", "$fill @body 4\n$main @start 1"),
+    ("set %square 3", "#45 $fill @body 4"),
+    ("why %square", "%square = 3 was set by hand: #44 set %square 3"),
+    ("print %square", "%square = 3"),
+    ("%square + 1", "4"),
+]
+
+
+class Wrong(Exception):
+    """What came otherwise."""
+
+
+def words_of(program: str) -> list[str]:
+    return ["--adapter", program, *(["--built"] if BUILT in program else [])]
+
+
+class Console(Adapter):
+    """An adapter behind the console."""
+
+    def __init__(self, program: str, seconds: float, folder: pathlib.Path, client: str = "test") -> None:
+        super().__init__(str(RELAY), seconds, folder, words_of(program))
+        self.events: list[dict] = []
+        self.client = client
+
+    def answer(self, command: str, arguments: dict | None = None) -> dict:
+        """The response to a request; events before it are kept."""
+        self.request(command, arguments)
+        while (message := self.next()) and message["type"] == "event":
+            self.events.append(message)
+        if not message or message["request_seq"] != self.sent or message["command"] != command:
+            raise Wrong(f"{message} to {command}")
+        return message
+
+    def asked(self, line: str) -> str:
+        """What the console answers to a line, and that it isn't done, in front."""
+        message = self.answer("evaluate", {"expression": line, "context": "repl", "frameId": 1})
+        return message["body"]["result"] if message["success"] else f"failed: {message['message']}"
+
+    def stopped(self) -> dict:
+        while not self.events or self.events[-1]["event"] != "stopped":
+            message = self.next()
+            if message is None:
+                raise Wrong("the end in place of a stop")
+            self.events.append(message)
+        return self.events.pop()["body"]
+
+    def begin(self, program: str, **more: object) -> None:
+        self.answer("initialize", {"adapterID": "qrev", "clientID": self.client})
+        launched = self.answer("launch", {"program": program, **more})
+        if not launched["success"]:
+            raise Wrong(f"{launched}")
+        self.answer("configurationDone")
+        self.stopped()
+
+
+def squares(console: Console) -> None:
+    """The questions of README's example."""
+    console.begin("squares.ssa")
+    console.answer("continue", {"threadId": 1})
+    console.stopped()
+    for line, wanted in SQUARES:
+        got = console.asked(line)
+        if got != wanted:
+            raise Wrong(f"{line}: {got!r} in place of {wanted!r}")
+        if line.startswith("set"):
+            console.stopped()
+
+
+def another_frame(console: Console) -> None:
+    """A question is about the frame that the console is in."""
+    console.begin("squares.ssa")
+    console.asked("goto 44")
+    message = console.answer("evaluate", {"expression": "info locals", "context": "repl", "frameId": 2})
+    if "%square" in message["body"]["result"]:
+        raise Wrong(f"the caller has {message['body']['result']!r}")
+    if "%square = 16" not in console.asked("info locals"):
+        raise Wrong("the innermost call lacks %square")
+
+
+def links(console: Console) -> None:
+    """An editor that makes links gets each place of an answer with its line."""
+    console.begin("squares.ssa")
+    console.asked("goto 44")
+    console.events.clear()
+    head = console.asked("why %place")
+    if head != "%place = 65552 ($bias+0) was set by":
+        raise Wrong(f"the first line is {head!r}")
+    place = console.next()
+    body = place["body"] if place else {}
+    if body.get("line") != 17 or body["source"]["name"] != "squares.ssa" or not body["output"].startswith("  #43 $fill @body 3"):
+        raise Wrong(f"no place of line 17: {place}")
+
+
+def while_it_runs(console: Console) -> None:
+    """A run without an end: a question waits for a pause, and knows where the run stands then."""
+    console.begin("forever.ssa", history=1000)
+    console.answer("continue", {"threadId": 1})
+    time.sleep(1)
+    refused = console.asked("why %i")
+    if refused != "failed: the run goes on: pause it first":
+        raise Wrong(f"while it runs: {refused}")
+    console.answer("pause", {"threadId": 1})
+    if console.stopped()["text"] != "paused":
+        raise Wrong("it isn't paused")
+    told = console.asked("why %i")
+    if "%i =l add %i, 1" not in told:
+        raise Wrong(f"{told!r}")
+
+
+def helped(console: Console) -> None:
+    """Help, without a session and in one; completions; a question that there is no session for."""
+    if "why %x" not in console.asked("help"):
+        raise Wrong("no help")
+    if console.asked("why") != "failed: no session":
+        raise Wrong("a question without a session")
+    console.begin("squares.ssa")
+    message = console.answer("completions", {"text": "w", "column": 2})
+    labels = [target["label"] for target in message["body"]["targets"]]
+    if not {"watch", "where", "why", "writers", "when"} <= set(labels) or len(labels) != len(set(labels)):
+        raise Wrong(f"completions {labels}")
+
+
+CASES: dict[str, tuple[Callable[[Console], None], str]] = {
+    "squares": (squares, "test"), "another frame": (another_frame, "test"), "links": (links, "vscode"),
+    "while it runs": (while_it_runs, "test"), "help": (helped, "test"),
+}
+
+
+def fault_of(program: str, seconds: float, name: str) -> str | None:
+    """What the console does otherwise in a case, or None."""
+    does, client = CASES[name]
+    with tempfile.TemporaryDirectory(prefix="dap-") as place:
+        folder = pathlib.Path(place).resolve()
+        shutil.copy(FOLDER / "forever.ssa", folder)
+        shutil.copy(EXAMPLES / "squares.ssa", folder)
+        console = Console(program, seconds, folder, client)
+        try:
+            does(console)
+            console.answer("disconnect")
+            status = console.end()
+            return None if status == 0 else f"status {status}"
+        except Wrong as wrong:
+            return str(wrong)
+        finally:
+            console.kill()
+
+
+def script_for(program: str, folder: pathlib.Path) -> str:
+    """A program that is the adapter behind the console."""
+    script = folder / "behind-the-console"
+    script.write_text(f"#!/bin/sh\nexec '{sys.executable}' '{RELAY}' {' '.join(words_of(program))}\n")
+    script.chmod(script.stat().st_mode | stat.S_IXUSR)
+    return str(script)
+
+
+def session_fault(program: str, seconds: float, name: str) -> str | None:
+    """A session that is played behind the console, where nothing may be otherwise."""
+    path = FOLDER / f"{name}.dap"
+    text = path.read_text()
+    with tempfile.TemporaryDirectory(prefix="dap-") as place:
+        folder = pathlib.Path(place).resolve()
+        for file in [*FOLDER.glob("*.ssa"), *EXAMPLES.glob("*.ssa")]:
+            shutil.copy(file, folder)
+        script = script_for(program, folder)
+        log: list[dict] = []
+        fault, _ = play(script, name, text, folder, seconds, log)
+        return fault or (None if is_changing(text) else at_once_fault(script, text, folder, seconds, log))
+
+
+def wire_fault(program: str, seconds: float) -> str | None:
+    """What is no message, and messages in pieces, come to the adapter as they are."""
+    with tempfile.TemporaryDirectory(prefix="dap-") as place:
+        script = script_for(program, pathlib.Path(place))
+        for name, function, words in wire.cases():
+            if name in wire.INPUTS and (fault := function(script, seconds, *words)):
+                return f"{name}: {fault}"
+    return None
+
+
+def ended_fault(program: str, seconds: float) -> str | None:
+    """Where the editor goes away the adapter ends too."""
+    with tempfile.TemporaryDirectory(prefix="dap-") as place:
+        console = Console(program, seconds, pathlib.Path(place))
+        console.write(frame(request_message(1, "initialize", {"adapterID": "qrev"})))
+        console.next()
+        return None if console.end() == 0 else "it goes on without an editor"
+
+
+def cases() -> Iterator[tuple[str, Callable[..., str | None], tuple[str, ...]]]:
+    for name in CASES:
+        yield name, fault_of, (name,)
+    # Completions have more words here.
+    for path in sorted(set(FOLDER.glob("*.dap")) - {FOLDER / "completions.dap"}):
+        yield f"session {path.stem}", session_fault, (path.stem,)
+    yield "bytes", wire_fault, ()
+    yield "the editor goes away", ended_fault, ()
