@@ -80,9 +80,9 @@ def form_fault(message, number):
 class Adapter:
     """An adapter that runs. Its messages are read beside it, so that none has to wait for a reader."""
 
-    def __init__(self, program, seconds, folder):
+    def __init__(self, program, seconds, folder, words=()):
         self.seconds, self.sent, self.got, self.log = seconds, 0, 0, []
-        self.process = subprocess.Popen([program], stdin=subprocess.PIPE, stdout=subprocess.PIPE, stderr=subprocess.PIPE,
+        self.process = subprocess.Popen([program, *words], stdin=subprocess.PIPE, stdout=subprocess.PIPE, stderr=subprocess.PIPE,
                                         cwd=folder)
         self.came, self.errors = queue.Queue(), []
         self.readers = [threading.Thread(target=self.read_messages, daemon=True),

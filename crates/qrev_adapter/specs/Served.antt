@@ -1,12 +1,16 @@
 -- What calls do to a conversation.
 use Rattle.std.specs.Prelude.{◌≡◌, ℕ, List, [], ◌∷◌, ◌++◌, ⊤, Option, Some, codes, Result, Ok, Err, ◌⊎◌, IfOk, Bool, cond}
 use Rattle.qrev_notices.specs.Conversation.{Asked, Spoken, HasReplied, HasRepliedPart, HasResponded}
-use Rattle.qrev_notices.specs.Last.{HasToldLast, TellsLast}
+use Rattle.qrev_notices.specs.Last.{HasToldLast}
 use Rattle.qrev_notices.specs.Reading.{IsFarewell, IsStaying, Asks, AsksNothing, AsksToStay, Heard, IsIdle, IsPending, IsRead, HasStayed, IsConversation, IsClosed}
 use Rattle.qrev_notices.specs.declared.trouble.Trouble.{Trouble}
 use Rattle.qrev_notices.specs.declared.trouble.Trouble.TheVariants.{OutOfMemory, Device}
 use Rattle.qrev_notices.specs.declared.line.Ended.{Ended}
 use Rattle.qrev_notices.specs.declared.line.Closed.{Closed}
+use Rattle.qrev_moving.specs.declared.underway.Course.{Course}
+use Rattle.qrev_moving.specs.declared.underway.Course.TheVariants.{Stands}
+use Rattle.qrev_moving.specs.declared.underway.Course.TheVariants as courses
+use Rattle.qrev_moving.specs.declared.underway.Underway.{Underway}
 use Rattle.qrev_adapter.specs.declared.requests.Ending.{Ending}
 use Rattle.qrev_adapter.specs.declared.requests.Ending.TheVariants.{Terminated, Left}
 use Rattle.qrev_adapter.specs.declared.requests.Then.{Then}
@@ -22,18 +26,24 @@ HasHeard P start before body now = (a : Asked) × Asks body a × HasResponded st
 abbrev pub Leaves : Option Ending → List ℕ → Type 0
 Leaves ending command = (ending ≡ Some Left → command ≡ codes "disconnect") × ((ending ≡ Some Left → ⊥) → command ≡ codes "disconnect" → ⊥)
 
+-- a run goes on when the messages that have come are answered
+abbrev pub IsUnderway : Course → Type 0
+IsUnderway course = (u : Underway) × (course ≡ courses.Underway u)
+
 -- what an editor is told last behind a response, by what follows that: that the run stands, where it may have moved
 abbrev pub HasFollowed : Then → Spoken → Type 0
 HasFollowed thens.Nothing now = ⊤
+HasFollowed thens.Pause now = ⊤
 HasFollowed (thens.Stopped why) now = HasToldLast (codes "stopped") now
 HasFollowed (thens.Move where_to) now = HasToldLast (codes "stopped") now
 
-abbrev pub Follows : Then → Result (Unit {0}) Trouble → Spoken → Type 0
-Follows what result now = IfOk result (λ x. HasFollowed what now)
+-- and so it is told if the run stands then
+abbrev pub Follows : Then → Course → Result (Unit {0}) Trouble → Spoken → Type 0
+Follows what course result now = IfOk result (λ x. course ≡ Stands → HasFollowed what now)
 
--- what it is told last where the run begins: that it stands, or that the session can be ended where the run isn't debugged
-abbrev pub BeginsRun : Bool → Result (Unit {0}) Trouble → Spoken → Type 0
-BeginsRun debugs result now = TellsLast result (cond debugs (codes "stopped") (codes "terminated")) now
+-- what it is told last where the run begins, if that stands then: this, or that the session can be ended where the run isn't debugged
+abbrev pub BeginsRun : Bool → Course → Result (Unit {0}) Trouble → Spoken → Type 0
+BeginsRun debugs course result now = IfOk result (λ x. course ≡ Stands → HasToldLast (cond debugs (codes "stopped") (codes "terminated")) now)
 
 -- a message is answered: a request has its response, and nothing is sent for what is none; a restart is responded to later
 abbrev pub Hears : Result Next Trouble → List ℕ → Spoken → Spoken → Type 0

@@ -2,8 +2,7 @@
 
 ghost use Rattle.std.specs.Prelude.{◌≡◌, Bool, cond, codes, None};
 ghost use Rattle.qrev_debuggee.specs.qrev_recorder.qil_replies.qil_stops.Depths.{depth};
-ghost use Rattle.qrev_notices.specs.Conversation.{asked_by, spoken, Responds, Tells};
-ghost use Rattle.qrev_notices.specs.Last.{TellsLast};
+ghost use Rattle.qrev_notices.specs.Conversation.{asked_by, spoken, Responds};
 ghost use Rattle.qrev_adapter.specs.Asked.{motion_of, line_of, first_of, travel_of};
 ghost use Rattle.qrev_adapter.specs.Served.{Leaves};
 
@@ -18,7 +17,7 @@ use qrev_inspection::{
 use qrev_moving::Travel;
 use qrev_notices::{
     Body, Cause, Debuggee, Failure, Motion, Port, StopFamily, Trouble, Why, begin_body,
-    ended_elsewhere, fault_in, make_move, output_event, refuse_with, tell_stopped,
+    ended_elsewhere, fault_in, refuse_with,
 };
 use qrev_protocol::Request;
 use qrev_recorder::HasMachine;
@@ -33,6 +32,8 @@ pub enum Then {
     /// The editor is told that the run stands.
     Stopped(Why),
     Move(Travel),
+    /// A run that goes on comes to a stand.
+    Pause,
 }
 
 /// How a session ends.
@@ -224,9 +225,8 @@ fn control<'c, A: Allocator + Copy + 'c, L: HasMachine<A, Machine<'c, A>>>(
     }
     match command {
         "restartFrame" => Ok((body, restart_frame(debuggee, asked)?)),
-        "pause" | "setExceptionBreakpoints" | "terminate" | "disconnect" => {
-            Ok((body, Then::Nothing))
-        }
+        "pause" => Ok((body, Then::Pause)),
+        "setExceptionBreakpoints" | "terminate" | "disconnect" => Ok((body, Then::Nothing)),
         "initialize" | "launch" => Err(Failure::Because(Cause::SessionOpen)),
         _ => Err(Failure::Because(Cause::NotSupported)),
     }
@@ -337,25 +337,4 @@ pub fn respond<'c, A: Allocator + Copy + 'c, L: HasMachine<A, Machine<'c, A>>, W
     };
     port.respond(request, body)?;
     Ok(then)
-}
-
-/// Makes a move, and tells that the run stands.
-pub fn move_and_tell<'c, A: Allocator + Copy + 'c, L: HasMachine<A, Machine<'c, A>>, W: Sink>(
-    debuggee: &mut Debuggee<'c, A, L>,
-    port: &mut Port<A, W>,
-    motion: Motion,
-) -> Result<(), Trouble>
-    ensures events { Tells result (spoken W.contents port.old) (spoken W.contents port.new) }
-    ensures stands { TellsLast result (codes "stopped") (spoken W.contents port.new) }
-{
-    let why = match make_move(debuggee, motion) {
-        Ok(why) => why,
-        Err(Failure::OutOfMemory) => return Err(Trouble::OutOfMemory),
-        Err(_) => {
-            let text = "the script is full: no line more is taken\n";
-            port.tell(output_event(debuggee.alloc, "console", text)?)?;
-            return tell_stopped(debuggee, Why::Step, port);
-        }
-    };
-    tell_stopped(debuggee, why, port)
 }

@@ -9,8 +9,8 @@ use crate::opening::open_mapped;
 use json::Scratch;
 use qil_streams::{Sink, Source};
 use qrev_notices::{
-    Client, Closed, Ended, Files, Line, client_said, message_in, refuse_unfit, respond_idle,
-    tell_plain,
+    Client, Closed, Ended, Files, Line, client_said, message_in, progress_said, refuse_unfit,
+    respond_idle, tell_plain,
 };
 use qrev_protocol::{Request, request_of};
 use qrev_requests::{Arguments, Launch, launch_said};
@@ -95,6 +95,7 @@ fn open_asked<A: Allocator + Copy, S: Source, W: Sink, F: Files<A>>(
         Ok(launch) => launch,
         Err(unfit) => return refuse_unfit(request, unfit, line),
     };
+    line.has_limit = has_limit(&launch, asked);
     open_mapped(keys, &launch, request, files, line)
 }
 
@@ -148,6 +149,7 @@ fn launch_asked<A: Allocator + Copy, S: Source, W: Sink, F: Files<A>>(
         Err(unfit) => return after(refuse_unfit(request, unfit, line)?),
     };
     line.sessions = 0;
+    line.has_limit = has_limit(&launch, asked);
     serve_launch(keys, request, &launch, files, line)
 }
 
@@ -163,6 +165,23 @@ fn client_after<A: Allocator + Copy>(
     before
 }
 
+/// The same of whether it shows how far a long run is.
+fn progress_after<A: Allocator + Copy>(
+    command: &str,
+    asked: Arguments<'_, '_, A>,
+    before: bool,
+) -> bool {
+    if command == "initialize" {
+        return progress_said(asked);
+    }
+    before
+}
+
+/// Whether a run ends at the limit of moves: if a launch says a limit, and if each move is kept, which takes memory for it.
+fn has_limit<A: Allocator + Copy>(launch: &Launch<A>, asked: Arguments<'_, '_, A>) -> bool {
+    launch.bound.is_none() || asked.get("limit").is_some()
+}
+
 /// Responds to a request that launches nothing.
 fn answer_idle<A: Allocator + Copy, S: Source, W: Sink>(
     request: Request<'_>,
@@ -172,6 +191,7 @@ fn answer_idle<A: Allocator + Copy, S: Source, W: Sink>(
     ensures { ServesOn result (asked_by request.entry) (heard S.remaining W.contents line.old) (heard S.remaining W.contents line.new) }
 {
     line.client = client_after(request.command(), asked, line.client);
+    line.shows_progress = progress_after(request.command(), asked, line.shows_progress);
     let leaves = request.command() == "disconnect";
     respond_idle(line.alloc, &mut line.port, request)?;
     if leaves {

@@ -1,16 +1,19 @@
 //! A session from its first message to its end.
 
-ghost use Rattle.std.specs.Prelude.{codes, IfOk};
+ghost use Rattle.std.specs.Prelude.{◌≡◌, ◌≢◌, codes, IfOk};
 ghost use Rattle.qrev_notices.specs.Conversation.{asked_by, spoken, Responds, Tells};
-ghost use Rattle.qrev_notices.specs.Last.{TellsLast};
+ghost use Rattle.qrev_notices.specs.Last.{HasToldLast, TellsLast};
 ghost use Rattle.qrev_notices.specs.Reading.{heard};
-ghost use Rattle.qrev_adapter.specs.Served.{Leaves, Hears, GoesOn, Closes, BeginsRun, Follows};
+ghost use Rattle.qrev_adapter.specs.Served.{Leaves, Hears, GoesOn, Closes, BeginsRun, Follows, IsUnderway};
 
-use crate::requests::{Ending, Then, ending_asked, move_and_tell, refuse, respond};
+use crate::requests::{Ending, Then, ending_asked, refuse, respond};
 use json::Scratch;
 use qil_machine::Machine;
 use qil_streams::{Sink, Source};
-use qrev_moving::{Travel, run_out, travel_and_tell};
+use qrev_moving::{
+    Course, Pace, Travel, Underway, has_message, run_out, set_out, tell_arrived, tell_broken_off,
+    travel_and_tell,
+};
 use qrev_notices::{
     Cause, Closed, Debuggee, Ended, Failure, Files, Line, Motion, Port, Trouble, Why, keep_record,
     message_in, tell_plain, tell_stopped, write_record,
@@ -20,73 +23,174 @@ use qrev_recorder::HasMachine;
 use qrev_requests::{Arguments, Launch};
 use std::alloc::Allocator;
 
-/// Goes where a request asks, and tells that the run stands.
-fn go_and_tell<'c, A: Allocator + Copy + 'c, L: HasMachine<A, Machine<'c, A>>, W: Sink>(
+/// Goes where a request asks: until the run stands, which is told, or until a message has come.
+fn go_and_tell<
+    'c,
+    A: Allocator + Copy + 'c,
+    L: HasMachine<A, Machine<'c, A>>,
+    W: Sink,
+    F: Files<A>,
+>(
     debuggee: &mut Debuggee<'c, A, L>,
     port: &mut Port<A, W>,
+    files: &F,
+    stage: &mut Stage,
     where_to: Travel,
 ) -> Result<(), Trouble>
     ensures events { Tells result (spoken W.contents port.old) (spoken W.contents port.new) }
-    ensures stands { TellsLast result (codes "stopped") (spoken W.contents port.new) }
+    ensures stands { IfOk result (λ x. stage.new.course ≡ Course.Stands → HasToldLast (codes "stopped") (spoken W.contents port.new)) }
 {
-    if debuggee.rules.is_empty() {
-        if let Travel::Motion(motion) = where_to {
-            return move_and_tell(debuggee, port, motion);
-        }
-    }
-    travel_and_tell(debuggee, port, where_to)
+    let underway = set_out(debuggee, where_to);
+    stage.course = travel_and_tell(debuggee, port, files, stage.pace, underway)?;
+    Ok(())
+}
+
+/// Runs to the end, which is told, or until a message has come.
+fn run_to_end<'c, A: Allocator + Copy + 'c, L: HasMachine<A, Machine<'c, A>>, W: Sink, F: Files<A>>(
+    debuggee: &mut Debuggee<'c, A, L>,
+    port: &mut Port<A, W>,
+    files: &F,
+    stage: &mut Stage,
+) -> Result<(), Trouble>
+    ensures events { Tells result (spoken W.contents port.old) (spoken W.contents port.new) }
+    ensures ends { IfOk result (λ x. stage.new.course ≡ Course.Stands → HasToldLast (codes "terminated") (spoken W.contents port.new)) }
+{
+    stage.course = run_out(debuggee, port, files, stage.pace)?;
+    Ok(())
 }
 
 /// Begins the run: the editor has made its breakpoints.
-fn begin<'c, A: Allocator + Copy + 'c, L: HasMachine<A, Machine<'c, A>>, W: Sink>(
+fn begin<'c, A: Allocator + Copy + 'c, L: HasMachine<A, Machine<'c, A>>, W: Sink, F: Files<A>>(
     debuggee: &mut Debuggee<'c, A, L>,
     port: &mut Port<A, W>,
+    files: &F,
+    stage: &mut Stage,
     request: Request<'_>,
-    stage: Stage,
 ) -> Result<(), Trouble>
     ensures responds { Responds result (asked_by request.entry) (spoken W.contents port.old) (spoken W.contents port.new) }
-    ensures begun { BeginsRun stage.debugs result (spoken W.contents port.new) }
+    ensures begun { BeginsRun stage.old.debugs stage.new.course result (spoken W.contents port.new) }
 {
     port.accept(request)?;
     if !stage.debugs {
-        return run_out(debuggee, port);
+        return run_to_end(debuggee, port, files, stage);
     }
     if stage.stops_on_entry {
         return tell_stopped(debuggee, Why::Entry, port);
     }
-    go_and_tell(debuggee, port, Travel::Motion(Motion::Continue))
+    let on = Travel::Motion(Motion::Continue);
+    go_and_tell(debuggee, port, files, stage, on)
 }
 
-/// Tells what follows a response.
-fn follow<'c, A: Allocator + Copy + 'c, L: HasMachine<A, Machine<'c, A>>, W: Sink>(
+/// Brings a run to a stand for a reason of its own, which is told.
+fn stand<'c, A: Allocator + Copy + 'c, L: HasMachine<A, Machine<'c, A>>, W: Sink>(
     debuggee: &mut Debuggee<'c, A, L>,
     port: &mut Port<A, W>,
-    what: Then,
+    stage: &mut Stage,
+    why: Why,
 ) -> Result<(), Trouble>
     ensures events { Tells result (spoken W.contents port.old) (spoken W.contents port.new) }
-    ensures stands { Follows what result (spoken W.contents port.new) }
+    ensures stands { TellsLast result (codes "stopped") (spoken W.contents port.new) }
+    ensures course { stage.new.course ≡ Course.Stands }
 {
-    match what {
-        Then::Stopped(why) => return tell_stopped(debuggee, why, port),
-        Then::Move(where_to) => return go_and_tell(debuggee, port, where_to),
-        Then::Nothing => {}
+    let course = stage.course;
+    stage.course = Course::Stands;
+    match course {
+        Course::Underway(underway) => tell_arrived(debuggee, port, stage.pace, underway, why),
+        _ => tell_stopped(debuggee, why, port),
     }
+}
+
+/// Brings a run to a stand that is underway, which is told; one that stands already is told of nothing.
+fn pause<'c, A: Allocator + Copy + 'c, L: HasMachine<A, Machine<'c, A>>, W: Sink>(
+    debuggee: &mut Debuggee<'c, A, L>,
+    port: &mut Port<A, W>,
+    stage: &mut Stage,
+) -> Result<(), Trouble>
+    ensures events { Tells result (spoken W.contents port.old) (spoken W.contents port.new) }
+    ensures stands { IsUnderway stage.old.course → TellsLast result (codes "stopped") (spoken W.contents port.new) }
+    ensures course { IsUnderway stage.old.course → stage.new.course ≡ Course.Stands }
+{
+    match stage.course {
+        Course::Underway(underway) => {
+            stage.course = Course::Stands;
+            tell_broken_off(debuggee, port, stage.pace, underway)
+        }
+        _ => Ok(()),
+    }
+}
+
+/// Goes on with a travel that is underway.
+fn travel_on<'c, A: Allocator + Copy + 'c, L: HasMachine<A, Machine<'c, A>>, W: Sink, F: Files<A>>(
+    debuggee: &mut Debuggee<'c, A, L>,
+    port: &mut Port<A, W>,
+    files: &F,
+    stage: &mut Stage,
+    underway: Underway,
+) -> Result<(), Trouble>
+    ensures events { Tells result (spoken W.contents port.old) (spoken W.contents port.new) }
+    ensures stands { IfOk result (λ x. stage.new.course ≡ Course.Stands → HasToldLast (codes "stopped") (spoken W.contents port.new)) }
+{
+    stage.course = travel_and_tell(debuggee, port, files, stage.pace, underway)?;
     Ok(())
 }
 
-/// Whether the run has begun, or does so at the next `configurationDone`, and how.
+/// Goes on with a run that goes on, unless a message waits.
+fn go_on<'c, A: Allocator + Copy + 'c, L: HasMachine<A, Machine<'c, A>>, W: Sink, F: Files<A>>(
+    debuggee: &mut Debuggee<'c, A, L>,
+    port: &mut Port<A, W>,
+    files: &F,
+    stage: &mut Stage,
+) -> Result<(), Trouble>
+    ensures events { Tells result (spoken W.contents port.old) (spoken W.contents port.new) }
+{
+    if has_message::<A, F>(files, stage.pace) == Some(true) {
+        return Ok(());
+    }
+    match stage.course {
+        Course::Stands => Ok(()),
+        Course::Underway(underway) => travel_on(debuggee, port, files, stage, underway),
+        Course::RunsOut => run_to_end(debuggee, port, files, stage),
+    }
+}
+
+/// Tells what follows a response. A run that isn't debugged goes on to its end, whatever is asked meanwhile.
+fn follow<'c, A: Allocator + Copy + 'c, L: HasMachine<A, Machine<'c, A>>, W: Sink, F: Files<A>>(
+    debuggee: &mut Debuggee<'c, A, L>,
+    port: &mut Port<A, W>,
+    files: &F,
+    stage: &mut Stage,
+    what: Then,
+) -> Result<(), Trouble>
+    ensures events { Tells result (spoken W.contents port.old) (spoken W.contents port.new) }
+    ensures stands { stage.old.course ≢ Course.RunsOut → Follows what stage.new.course result (spoken W.contents port.new) }
+{
+    if matches!(stage.course, Course::RunsOut) {
+        return go_on(debuggee, port, files, stage);
+    }
+    match what {
+        Then::Stopped(why) => stand(debuggee, port, stage, why),
+        Then::Move(where_to) => go_and_tell(debuggee, port, files, stage, where_to),
+        Then::Pause => pause(debuggee, port, stage),
+        Then::Nothing => go_on(debuggee, port, files, stage),
+    }
+}
+
+/// Whether the run has begun, or does so at the next `configurationDone`, and how; and how it goes on.
 #[derive(Clone, Copy)]
 struct Stage {
     has_begun: bool,
     stops_on_entry: bool,
     /// Whether the run is debugged: else it goes to its end.
     debugs: bool,
+    pace: Pace,
+    course: Course,
 }
 
 /// Begins the run, where it hasn't begun.
-fn begin_once<'c, A: Allocator + Copy + 'c, L: HasMachine<A, Machine<'c, A>>, W: Sink>(
+fn begin_once<'c, A: Allocator + Copy + 'c, L: HasMachine<A, Machine<'c, A>>, W: Sink, F: Files<A>>(
     debuggee: &mut Debuggee<'c, A, L>,
     port: &mut Port<A, W>,
+    files: &F,
     stage: &mut Stage,
     request: Request<'_>,
 ) -> Result<(), Trouble>
@@ -101,13 +205,14 @@ fn begin_once<'c, A: Allocator + Copy + 'c, L: HasMachine<A, Machine<'c, A>>, W:
         );
     }
     stage.has_begun = true;
-    begin(debuggee, port, request, *stage)
+    begin(debuggee, port, files, stage, request)
 }
 
 /// Answers one request, and says how the session ends if it does.
-fn answer_one<'c, A: Allocator + Copy + 'c, L: HasMachine<A, Machine<'c, A>>, W: Sink>(
+fn answer_one<'c, A: Allocator + Copy + 'c, L: HasMachine<A, Machine<'c, A>>, W: Sink, F: Files<A>>(
     debuggee: &mut Debuggee<'c, A, L>,
     port: &mut Port<A, W>,
+    files: &F,
     stage: &mut Stage,
     request: Request<'_>,
     asked: Arguments<'_, '_, A>,
@@ -116,12 +221,15 @@ fn answer_one<'c, A: Allocator + Copy + 'c, L: HasMachine<A, Machine<'c, A>>, W:
     ensures leaves { IfOk result (λ ending. Leaves ending request.entry.command.now) }
 {
     let ending = ending_asked(request.command());
+    if ending.is_some() {
+        stage.course = Course::Stands;
+    }
     if request.command() == "configurationDone" {
-        begin_once(debuggee, port, stage, request)?;
+        begin_once(debuggee, port, files, stage, request)?;
         return Ok(ending);
     }
     let then = respond(debuggee, port, request, asked)?;
-    follow(debuggee, port, then)?;
+    follow(debuggee, port, files, stage, then)?;
     Ok(ending)
 }
 
@@ -177,7 +285,7 @@ fn answer_message<
     }
     let asked = Arguments::of(&message);
     note_path(debuggee, files, asked);
-    let ending = answer_one(debuggee, port, stage, request, asked)?;
+    let ending = answer_one(debuggee, port, files, stage, request, asked)?;
     if let Some(ending) = ending {
         return Ok(Next::End(ending));
     }
@@ -206,6 +314,7 @@ fn answer_messages<
             Some(body) => body,
             None => return Ok(Closed::InputEnded),
         };
+        stage.pace.is_waiting = line.is_waiting;
         match answer_message(debuggee, &mut line.port, &mut stage, files, body.as_slice())? {
             Next::Message => {}
             Next::End(Ending::Terminated) => return Ok(Closed::Terminated),
@@ -270,6 +379,12 @@ pub fn serve_session<
         has_begun: false,
         stops_on_entry: launch.stops_on_entry,
         debugs: launch.debugs,
+        pace: Pace {
+            has_limit: line.has_limit,
+            is_waiting: line.is_waiting,
+            shows_progress: line.shows_progress,
+        },
+        course: Course::Stands,
     };
     let closed = match answer_messages(&mut debuggee, stage, files, line) {
         Ok(closed) => closed,

@@ -1,16 +1,19 @@
 //! Moves that are told: what breakpoints tell on the way, and at the end that the run stands.
 
-ghost use Rattle.std.specs.Prelude.{codes};
+ghost use Rattle.std.specs.Prelude.{◌≡◌, codes, IfOk, None};
 ghost use Rattle.qrev_notices.specs.Conversation.{spoken, Tells};
-ghost use Rattle.qrev_notices.specs.Last.{TellsLast};
+ghost use Rattle.qrev_notices.specs.Last.{HasToldLast, TellsLast};
 
 use crate::judging::judge;
-use crate::lines::{Next, Stand, Travel, is_spent, line_back, line_step, stand_of};
+use crate::lines::{Next, Stand, Travel, is_spent, line_back, line_step};
+use crate::underway::{
+    Course, Onward, Pace, Underway, behind_piece, next_piece, tell_over, tell_underway,
+};
 use qil_machine::Machine;
 use qil_meaning::Reason;
 use qil_streams::Sink;
 use qrev_debuggee::{Debuggee, Failure, HasMachine, Motion, Why, make_move};
-use qrev_notices::{Port, Trouble, output_event, tell_end, tell_stopped};
+use qrev_notices::{Files, Port, Trouble, output_event, tell_end, tell_paused, tell_stopped};
 use std::alloc::{AllocError, Allocator};
 
 /// What is told where the script takes no line more.
@@ -52,11 +55,10 @@ fn travel_on<'c, A: Allocator + Copy + 'c, L: HasMachine<A, Machine<'c, A>>>(
 /// Travels until the run stands or a breakpoint tells something.
 fn travel_far<'c, A: Allocator + Copy + 'c, L: HasMachine<A, Machine<'c, A>>>(
     debuggee: &mut Debuggee<'c, A, L>,
-    travel: Travel,
-    start: Stand,
-    begun: u64,
+    underway: Underway,
     log: &mut String<A>,
 ) -> Result<Next, Failure> {
+    let (travel, start, begun) = (underway.travel, underway.start, underway.begun);
     for _ in 0..u64::MAX {
         let next = travel_on(debuggee, travel, start, begun, log)?;
         if matches!(next, Next::Stands(_)) || !log.is_empty() {
@@ -92,15 +94,13 @@ fn why_standing(next: Next) -> Option<Why> {
 fn travel_and_log<'c, A: Allocator + Copy + 'c, L: HasMachine<A, Machine<'c, A>>, W: Sink>(
     debuggee: &mut Debuggee<'c, A, L>,
     port: &mut Port<A, W>,
-    travel: Travel,
-    start: Stand,
-    begun: u64,
+    underway: Underway,
 ) -> Result<Option<Why>, Trouble>
     ensures { Tells result (spoken W.contents port.old) (spoken W.contents port.new) }
 {
     let alloc = debuggee.alloc;
     let mut log = String::new(alloc);
-    let next = match travel_far(debuggee, travel, start, begun, &mut log) {
+    let next = match travel_far(debuggee, underway, &mut log) {
         Ok(next) => next,
         Err(Failure::OutOfMemory) => return Err(Trouble::OutOfMemory),
         Err(_) => {
@@ -112,38 +112,103 @@ fn travel_and_log<'c, A: Allocator + Copy + 'c, L: HasMachine<A, Machine<'c, A>>
     Ok(why_standing(next))
 }
 
-/// Goes where an editor asks, past breakpoints that don't stop the run, and tells that it stands.
-pub fn travel_and_tell<'c, A: Allocator + Copy + 'c, L: HasMachine<A, Machine<'c, A>>, W: Sink>(
+/// Tells that a run stands that was underway, for a reason of its own.
+pub fn tell_arrived<'c, A: Allocator + Copy + 'c, L: HasMachine<A, Machine<'c, A>>, W: Sink>(
     debuggee: &mut Debuggee<'c, A, L>,
     port: &mut Port<A, W>,
-    travel: Travel,
+    pace: Pace,
+    underway: Underway,
+    why: Why,
 ) -> Result<(), Trouble>
     ensures events { Tells result (spoken W.contents port.old) (spoken W.contents port.new) }
     ensures stands { TellsLast result (codes "stopped") (spoken W.contents port.new) }
 {
-    let start = stand_of(debuggee);
-    let begun = debuggee.position();
-    for _ in 0..u64::MAX {
-        if let Some(why) = travel_and_log(debuggee, port, travel, start, begun)? {
-            return tell_stopped(debuggee, why, port);
-        }
-    }
-    tell_stopped(debuggee, Why::Step, port)
+    tell_over(debuggee, port, pace, underway)?;
+    tell_stopped(debuggee, why, port)
 }
 
-/// Runs to the end, past all stops, or until so many moves were made as one run may.
+/// Tells that a run was paused that was underway.
+pub fn tell_broken_off<'c, A: Allocator + Copy + 'c, L: HasMachine<A, Machine<'c, A>>, W: Sink>(
+    debuggee: &mut Debuggee<'c, A, L>,
+    port: &mut Port<A, W>,
+    pace: Pace,
+    underway: Underway,
+) -> Result<(), Trouble>
+    ensures events { Tells result (spoken W.contents port.old) (spoken W.contents port.new) }
+    ensures stands { TellsLast result (codes "stopped") (spoken W.contents port.new) }
+{
+    tell_over(debuggee, port, pace, underway)?;
+    tell_paused(debuggee, port)
+}
+
+/// Makes the next piece of a travel, past breakpoints that don't stop the run. Where the run stands behind it this is told; else
+/// what is underway is given, and whether it waits for a message.
+fn make_piece<'c, A: Allocator + Copy + 'c, L: HasMachine<A, Machine<'c, A>>, W: Sink, F: Files<A>>(
+    debuggee: &mut Debuggee<'c, A, L>,
+    port: &mut Port<A, W>,
+    files: &F,
+    pace: Pace,
+    underway: Underway,
+) -> Result<Option<(Underway, bool)>, Trouble>
+    ensures events { Tells result (spoken W.contents port.old) (spoken W.contents port.new) }
+    ensures stands { IfOk result (λ left. left ≡ None → HasToldLast (codes "stopped") (spoken W.contents port.new)) }
+{
+    let Some(why) = travel_and_log(debuggee, port, underway)? else {
+        return Ok(Some((underway, false)));
+    };
+    let onward = behind_piece::<A, F>(files, pace, why);
+    if onward == Onward::Stands {
+        tell_arrived(debuggee, port, pace, underway, why)?;
+        return Ok(None);
+    }
+    let next = next_piece(underway, debuggee.position());
+    tell_underway(debuggee, port, pace, next)?;
+    Ok(Some((next, onward == Onward::Waits)))
+}
+
+/// Travels on piece by piece until the run stands, which is told, or until a message has come.
+pub fn travel_and_tell<
+    'c,
+    A: Allocator + Copy + 'c,
+    L: HasMachine<A, Machine<'c, A>>,
+    W: Sink,
+    F: Files<A>,
+>(
+    debuggee: &mut Debuggee<'c, A, L>,
+    port: &mut Port<A, W>,
+    files: &F,
+    pace: Pace,
+    underway: Underway,
+) -> Result<Course, Trouble>
+    ensures events { Tells result (spoken W.contents port.old) (spoken W.contents port.new) }
+    ensures stands { IfOk result (λ course. course ≡ Course.Stands → HasToldLast (codes "stopped") (spoken W.contents port.new)) }
+{
+    let mut underway = underway;
+    for _ in 0..u64::MAX {
+        match make_piece(debuggee, port, files, pace, underway)? {
+            None => return Ok(Course::Stands),
+            Some((next, true)) => return Ok(Course::Underway(next)),
+            Some((next, false)) => underway = next,
+        }
+    }
+    Ok(Course::Underway(underway))
+}
+
+/// Runs to the end, past all stops, or until so many moves were made as one run may; why it stands then.
 fn run_far<'c, A: Allocator + Copy + 'c, L: HasMachine<A, Machine<'c, A>>>(
     debuggee: &mut Debuggee<'c, A, L>,
-) -> Result<(), Failure> {
+) -> Result<Why, Failure> {
     let begun = debuggee.position();
     for _ in 0..u64::MAX {
         let why = make_move(debuggee, Motion::Continue)?;
-        let goes_on = matches!(why, Why::Run(Reason::Break(_) | Reason::Watch(_)));
-        if !goes_on || is_spent(debuggee, begun) {
-            return Ok(());
+        if !matches!(why, Why::Run(Reason::Break(_) | Reason::Watch(_))) {
+            return Ok(why);
+        }
+        if is_spent(debuggee, begun) {
+            break;
         }
     }
-    Ok(())
+    Ok(Why::Run(Reason::Limit))
 }
 
 /// Tells that the script takes no line more, and how far the run came; nothing where memory ran out.
@@ -162,17 +227,38 @@ fn tell_failed<'c, A: Allocator + Copy + 'c, L: HasMachine<A, Machine<'c, A>>, W
     tell_end(debuggee, port)
 }
 
-/// Runs to the end without a stop, and tells the output and how the run ended.
-pub fn run_out<'c, A: Allocator + Copy + 'c, L: HasMachine<A, Machine<'c, A>>, W: Sink>(
+/// Runs on to the end without a stop, and tells the output and how the run ended; or until a message has come.
+pub fn run_out<
+    'c,
+    A: Allocator + Copy + 'c,
+    L: HasMachine<A, Machine<'c, A>>,
+    W: Sink,
+    F: Files<A>,
+>(
     debuggee: &mut Debuggee<'c, A, L>,
     port: &mut Port<A, W>,
-) -> Result<(), Trouble>
+    files: &F,
+    pace: Pace,
+) -> Result<Course, Trouble>
     ensures events { Tells result (spoken W.contents port.old) (spoken W.contents port.new) }
-    ensures ends { TellsLast result (codes "terminated") (spoken W.contents port.new) }
+    ensures ends { IfOk result (λ course. course ≡ Course.Stands → HasToldLast (codes "terminated") (spoken W.contents port.new)) }
 {
-    match run_far(debuggee) {
-        Ok(()) => {}
-        Err(failure) => return tell_failed(debuggee, port, failure),
+    for _ in 0..u64::MAX {
+        let why = match run_far(debuggee) {
+            Ok(why) => why,
+            Err(failure) => {
+                tell_failed(debuggee, port, failure)?;
+                return Ok(Course::Stands);
+            }
+        };
+        match behind_piece::<A, F>(files, pace, why) {
+            Onward::GoesOn => {}
+            Onward::Waits => return Ok(Course::RunsOut),
+            Onward::Stands => {
+                tell_end(debuggee, port)?;
+                return Ok(Course::Stands);
+            }
+        }
     }
-    tell_end(debuggee, port)
+    Ok(Course::RunsOut)
 }

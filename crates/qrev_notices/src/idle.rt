@@ -83,6 +83,11 @@ pub fn client_said<A: Allocator + Copy>(asked: Arguments<'_, '_, A>) -> Client {
     }
 }
 
+/// Whether an editor says of itself that it shows how far a long run is.
+pub fn progress_said<A: Allocator + Copy>(asked: Arguments<'_, '_, A>) -> bool {
+    asked.flag("supportsProgressReporting").unwrap_or(false)
+}
+
 /// Why a command isn't served without a session.
 fn cause_of(command: &str) -> Cause {
     if command == "attach" {

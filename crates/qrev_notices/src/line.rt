@@ -9,7 +9,7 @@ ghost use Rattle.qrev_notices.specs.Reading.{IsDocument, ReadsNext};
 use crate::port::Port;
 use crate::trouble::Trouble;
 use json::{Error, Scratch, Value};
-use qil_streams::{Sink, Source};
+use qil_streams::{DeviceFault, Sink, Source};
 use qrev_debuggee::Client;
 use qrev_map::Names;
 use qrev_protocol::{Came, Incoming, ReadError};
@@ -80,6 +80,41 @@ pub struct Line<A: Allocator, S, W> {
     pub record: Option<String<A>>,
     /// How many sessions the last launch opened.
     pub sessions: u64,
+    /// Whether a part of the next message, or all of it, was read with the last one.
+    pub is_waiting: bool,
+    /// Whether a run of the session ends at the limit of moves.
+    pub has_limit: bool,
+    /// Whether the editor shows how far a long run is.
+    pub shows_progress: bool,
+}
+
+/// A source that is at its end.
+#[derive(Drop)]
+struct Dry;
+
+impl Source for Dry {
+    ghost remaining = { λ _. Some [] };
+
+    ghost failures = { λ _. 0 };
+
+    fn read(&mut self, _into: &mut [u8]) -> Result<usize, DeviceFault> {
+        Ok(0)
+    }
+
+    fn faults(&self) -> u64 {
+        0
+    }
+}
+
+/// Whether bytes were read that are in no message so far.
+fn has_pending(incoming: &mut Incoming) -> bool
+    ensures { incoming.new.pending ≡ incoming.old.pending }
+{
+    let mut dry = Dry;
+    match incoming.pending.fill(&mut dry) {
+        Ok(has_pending) => has_pending,
+        Err(_) => false,
+    }
 }
 
 impl<A: Allocator + Copy, S: Source, W: Sink> Line<A, S, W> {
@@ -100,6 +135,9 @@ impl<A: Allocator + Copy, S: Source, W: Sink> Line<A, S, W> {
             names: Names::none(alloc),
             record: None,
             sessions: 0,
+            is_waiting: false,
+            has_limit: true,
+            shows_progress: false,
         }
     }
 
@@ -112,7 +150,9 @@ impl<A: Allocator + Copy, S: Source, W: Sink> Line<A, S, W> {
         if self.source.faults() == u64::MAX {
             return Err(Ended::Broken);
         }
-        match self.incoming.next(self.alloc, &mut self.source) {
+        let came = self.incoming.next(self.alloc, &mut self.source);
+        self.is_waiting = has_pending(&mut self.incoming);
+        match came {
             Ok(Came::Body(body)) => Ok(Some(body)),
             Ok(Came::End) => Ok(None),
             Ok(Came::Lost) => Err(Ended::Broken),

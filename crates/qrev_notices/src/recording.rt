@@ -26,6 +26,9 @@ pub trait Files<A: Allocator> {
     /// Where a path leads, through links.
     fn real_path(&self, name: &str) -> Option<String<A>>;
 
+    /// Whether bytes of the input wait that weren't read so far, if that can be told.
+    fn has_input(&self) -> Option<bool>;
+
     /// Whether a file can be written, which is made if it isn't there. What is in it stays.
     fn can_write(&self, name: &str) -> bool;
 

@@ -367,6 +367,32 @@ pub fn tell_stopped<'c, A: Allocator + Copy + 'c, L: HasMachine<A, Machine<'c, A
     port.tell(stopped_message(debuggee, why)?)
 }
 
+/// The message that says that the run was paused, and where it stands.
+fn paused_message<'c, A: Allocator + Copy + 'c, L: HasMachine<A, Machine<'c, A>>>(
+    debuggee: &Debuggee<'c, A, L>,
+) -> Result<Object<A, Whole>, AllocError>
+    ensures { IfOk result (λ o. IsNamedEvent (codes "stopped") o.out.tokens) }
+{
+    let words = Words {
+        reason: "pause",
+        text: "paused",
+    };
+    let place = place_text(debuggee.alloc, debuggee.position(), debuggee.machine())?;
+    stopped_event(debuggee.alloc, words, place.as_str(), &[])
+}
+
+/// Tells what is new of the output, and that the run was paused.
+pub fn tell_paused<'c, A: Allocator + Copy + 'c, L: HasMachine<A, Machine<'c, A>>, W: Sink>(
+    debuggee: &mut Debuggee<'c, A, L>,
+    port: &mut Port<A, W>,
+) -> Result<(), Trouble>
+    ensures events { Tells result (spoken W.contents port.old) (spoken W.contents port.new) }
+    ensures stands { TellsLast result (codes "stopped") (spoken W.contents port.new) }
+{
+    tell_output(debuggee, port)?;
+    port.tell(paused_message(debuggee)?)
+}
+
 /// How a run that wasn't debugged ended, as a line.
 fn end_text<'c, A: Allocator + Copy + 'c, L: HasMachine<A, Machine<'c, A>>>(
     debuggee: &Debuggee<'c, A, L>,

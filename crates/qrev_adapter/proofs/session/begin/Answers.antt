@@ -6,7 +6,7 @@ use Rattle.qrev_adapter.proofs.session.begin.Goals as goal
 pub returns-then-not-stage-clause-responds : goal.returns-then-not-stage-clause-responds
 returns-then-not-stage-clause-responds g c =
     let at = spoken g.W.Sink.contents in
-    responded_then (tt {0}) c.run_out.result (asked_by c.args.request) (at c.args.port.now) (at c.accept.new.self) (at c.run_out.new.port) c.in_ok-accept.ensures c.run_out.ensures.events
+    responded_then (tt {0}) c.run_to_end.result (asked_by c.args.request) (at c.args.port.now) (at c.accept.new.self) (at c.run_to_end.new.port) c.in_ok-accept.ensures c.run_to_end.ensures.events
 
 pub returns-then-stage-clause-responds : goal.returns-then-stage-clause-responds
 returns-then-stage-clause-responds g c =
