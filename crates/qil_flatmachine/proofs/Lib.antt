@@ -12,6 +12,7 @@ pub mod Unwritten
 pub mod Fetching
 pub mod Assigning
 pub mod Going
+pub mod Stepping
 pub mod Quietly
 pub mod Viewing
 pub mod Replacing

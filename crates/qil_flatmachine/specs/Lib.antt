@@ -6,3 +6,4 @@ pub mod Received
 pub mod Passing
 pub mod Faults
 pub mod Kept
+pub mod Stepped

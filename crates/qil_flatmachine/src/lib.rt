@@ -5,6 +5,7 @@ mod advance;
 mod assignments;
 mod call;
 mod copied;
+mod found;
 mod jump;
 mod kept;
 mod known;

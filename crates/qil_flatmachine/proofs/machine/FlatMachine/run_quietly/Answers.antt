@@ -1,7 +1,8 @@
 -- One step more, behind which no stop may hold.
-use Rattle.std.proofs.Common.{◌∙◌, rules, sym}
+use Rattle.std.proofs.Common.{◌∙◌, ap, sym}
 use Rattle.std.proofs.lemmas.Bool.{true≢false}
 use Rattle.qil_state.specs.State.{state_of}
+use Rattle.qil_flatmachine.specs.Seen.{Base, FlatWhole}
 use Rattle.qil_flatmachine.proofs.Going.{ran_more, runs_more}
 use Rattle.qil_flatmachine.proofs.Quietly.{quiet_more, unbroken_more}
 use Rattle.qil_flatmachine.proofs.machine.FlatMachine.run_quietly.Goals as goal
@@ -17,8 +18,9 @@ loop-made-preserved g c =
     record {
       base = c.advance.ensures.base ∙ i.base;
       program = same;
+      goes = c.advance.ensures.goes c.if-not-advance.false;
       steps = steps;
-      running = runs_more p s c.loop-made.self.whole c.loop-made.made i.running i.steps (search rules);
+      running = runs_more p s c.loop-made.self.whole c.loop-made.made i.running i.steps i.goes;
       quiet = λ told. quiet_more p new.program s (state_of new) c.args.stops.now c.args.before.now c.loop-made.made same steps (i.quiet told) (c.may_stop.ensures.quiet c.if-may_stop.false);
       unbroken = unbroken_more p new.program s (state_of new) c.args.stops.now c.loop-made.made same steps i.unbroken (c.may_stop.ensures.unbroken c.if-may_stop.false);
     }
@@ -26,3 +28,7 @@ loop-made-preserved g c =
 -- with no stops it goes on behind each step
 pub returns-then-may_stop-clause-over : goal.returns-then-may_stop-clause-over
 returns-then-may_stop-clause-over g c none = absurd (true≢false (sym c.if-may_stop.true ∙ c.may_stop.ensures.none none))
+
+-- the instructions stay those of the code
+pub advance-requires-clause-insts : goal.advance-requires-clause-insts
+advance-requires-clause-insts g c = c.insts-insts.ensures.insts ∙ ap (λ (x : FlatWhole _). x.base.flat.insts) c.self.view_is ∙ sym (ap (λ (b : Base _). b.flat.insts) c.loop-made.invariant.base)

@@ -1,9 +1,10 @@
--- The steps so far, each of a run that went on, and behind none of them may a stop hold.
+-- The steps so far, each of a run that went on, as it does still, and behind none of them may a stop hold.
 use Rattle.std.proofs.Common.{◌≡◌, ℕ, ◌<◌, ◌≤◌, false, None}
 use Rattle.qil_meaning.specs.State.{is_final}
 use Rattle.qil_meaning.specs.Stops.{first_break}
 use Rattle.qil_meaning.specs.Targets.{after}
 use Rattle.qil_state.specs.State.{state_of}
+use Rattle.qil_machine.specs.Places.{IsRunning}
 use Rattle.qil_stops.specs.Named.{named_stops}
 use Rattle.qil_stops.specs.Readings.{AllTell}
 use Rattle.qil_flatmachine.proofs.machine.FlatMachine.run_quietly.Given as goal
@@ -12,6 +13,7 @@ abbrev pub invariant-loop-made : goal.invariant-loop-made
 invariant-loop-made g l = record {
   base : l.self.base ≡ l.fn.self.base;
   program : l.self.whole.program ≡ l.fn.self.whole.program;
+  goes : IsRunning l.self.whole;
   steps : state_of l.self.whole ≡ after l.fn.self.whole.program (state_of l.fn.self.whole) l.made;
   running : (j : ℕ) → j < l.made → is_final (after l.fn.self.whole.program (state_of l.fn.self.whole) j).status ≡ false;
   quiet : AllTell l.fn.self.whole.program (state_of l.fn.self.whole) l.stops l.before
