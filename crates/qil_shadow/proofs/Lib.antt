@@ -6,3 +6,4 @@ mod Rows
 pub mod MemoryLemmas
 pub mod Meanings
 pub mod CopyLemmas
+pub mod ClearLemmas

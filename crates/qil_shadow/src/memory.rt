@@ -1,6 +1,7 @@
 //! What the bytes of memory are made of, by their addresses.
 
-ghost use Rattle.std.specs.Prelude.{◌≡◌, ◌+◌, ◌-◌, ◌<◌, ◌≤◌, ◌^◌, false, IfOk, IfSome, IsSome};
+ghost use Rattle.std.specs.Prelude.{◌≡◌, ◌+◌, ◌-◌, ◌<◌, ◌≤◌, ◌^◌, false, replicate, IfOk, IfSome, IsSome};
+ghost use Rattle.qil_memory.specs.Buffers.{stack_base, capacity};
 ghost use Rattle.qil_memory.specs.Calls.{overlap};
 ghost use Rattle.qil_shadow.specs.Bytes.{laid_origins, origins_at, stored_origins, joined};
 ghost use Rattle.qil_shadow.specs.Shadow.{all_numbers};
@@ -153,7 +154,9 @@ impl<A: Allocator> OriginMemory<A> {
     }
 
     /// Makes so many bytes of the stack numbers.
-    pub fn clear(&mut self, address: u64, count: u64) {
+    pub fn clear(&mut self, address: u64, count: u64)
+        ensures { stack_base ≤ address → address + count ≤ stack_base + capacity → origins_in self.new ≡ laid_origins (origins_in self.old) address (replicate count ByteOrigin.Number) }
+    {
         let _ = &self.stack_origins;
         if count > CAPACITY {
             return;

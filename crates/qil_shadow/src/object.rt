@@ -69,6 +69,10 @@ pub struct Objects<A: Allocator> {
     /// How many of them there are from the start on.
     fixed: usize,
     living: Vec<u32, A>,
+    /// The addresses of the data, which are the first of all.
+    starts: Vec<u64, A>,
+    /// No two objects of the data begin at one address.
+    are_apart: bool,
 }
 
 impl<A: Allocator + Copy> Objects<A> {
@@ -78,11 +82,46 @@ impl<A: Allocator + Copy> Objects<A> {
             all: Vec::new(alloc),
             fixed: 0,
             living: Vec::new(alloc),
+            starts: Vec::new(alloc),
+            are_apart: true,
         }
     }
 }
 
 impl<A: Allocator> Objects<A> {
+    /// Adds one of the data, which are added in the order of their addresses before all others.
+    ///
+    /// # Errors
+    ///
+    /// Out of memory.
+    pub fn add_data(&mut self, object: Object) -> Result<(), AllocError> {
+        if let Some(last) = self.starts.as_slice().last() {
+            if *last >= object.address {
+                self.are_apart = false;
+            }
+        }
+        self.starts.push(object.address)?;
+        self.add_fixed(object)
+    }
+
+    /// The object of the data that begins at an address, where no other does.
+    pub fn data_at(&self, address: u64) -> Option<ObjectId> {
+        if !self.are_apart {
+            return None;
+        }
+        let starts = self.starts.as_slice();
+        let index = starts.partition_point(|start| *start < address);
+        if *starts.get(index)? != address {
+            return None;
+        }
+        if index >= 4_294_967_295 {
+            return None;
+        }
+        Some(ObjectId {
+            index: index as u32,
+        })
+    }
+
     /// Adds one that is there from the start on.
     ///
     /// # Errors

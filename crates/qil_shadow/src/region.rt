@@ -1,6 +1,6 @@
 //! What the bytes of a part of memory are made of, kept by words of eight bytes.
 
-ghost use Rattle.std.specs.Prelude.{◌≡◌, ◌+◌, ◌*◌, ◌/◌, ◌%◌, ◌^◌, ◌<◌, ◌≤◌, length, IfOk};
+ghost use Rattle.std.specs.Prelude.{◌≡◌, ◌+◌, ◌*◌, ◌/◌, ◌%◌, ◌^◌, ◌<◌, ◌≤◌, length, replicate, IfOk};
 ghost use Rattle.qil_shadow.specs.Bytes.{laid_origins, origins_at, stored_origins, joined};
 ghost use Rattle.qil_shadow.specs.Shadow.{all_numbers};
 ghost use Rattle.qil_shadow.specs.Words.{is_of_numbers, byte_in, word_of, spread, kept, with_byte};
@@ -135,25 +135,47 @@ impl<A: Allocator> Region<A> {
     /// Makes a word, by its number, one of numbers.
     fn clear_word(&mut self, index: usize)
         requires { index < length self.old }
-        ensures { length self.new ≡ length self.old }
+        ensures length { length self.new ≡ length self.old }
+        ensures kept { kept self.new ≡ laid_origins (kept self.old) (8 * index) (replicate 8 ByteOrigin.Number) }
     {
         self.words[index] = WordOrigin::Numbers;
+    }
+
+    /// Makes so many words from one on, by their numbers, those of numbers.
+    fn clear_words(&mut self, first: usize, count: usize)
+        requires there { first + count ≤ length self.old }
+        requires place { first + count ≤ 2 ^ 32 }
+        ensures length { length self.new ≡ length self.old }
+        ensures kept { kept self.new ≡ laid_origins (kept self.old) (8 * first) (replicate (8 * count) ByteOrigin.Number) }
+    {
+        for index in 0..count {
+            self.clear_word(first + index);
+        }
+    }
+
+    /// Makes so many bytes from a place on numbers, one by one.
+    fn clear_bytes(&mut self, at: usize, count: usize)
+        requires there { at + count ≤ 8 * length self.old }
+        requires place { at + count ≤ 2 ^ 32 }
+        ensures length { length self.new ≡ length self.old }
+        ensures kept { kept self.new ≡ laid_origins (kept self.old) at (replicate count ByteOrigin.Number) }
+    {
+        for index in 0..count {
+            self.clear_byte(at + index);
+        }
     }
 
     /// Sets so many bytes from a place on to numbers.
     pub fn clear(&mut self, at: usize, count: usize)
         requires there { at + count ≤ 8 * length self.old }
         requires place { at + count ≤ 2 ^ 32 }
-        ensures { length self.new ≡ length self.old }
+        ensures length { length self.new ≡ length self.old }
+        ensures kept { kept self.new ≡ laid_origins (kept self.old) at (replicate count ByteOrigin.Number) }
     {
         if at % 8 == 0 && count % 8 == 0 {
-            for index in at / 8..(at + count) / 8 {
-                self.clear_word(index);
-            }
+            self.clear_words(at / 8, count / 8);
         } else {
-            for place in at..at + count {
-                self.clear_byte(place);
-            }
+            self.clear_bytes(at, count);
         }
     }
 

@@ -13,7 +13,6 @@ use crate::suspicion::{Access, Doubt, Hit, Place, Suspicion};
 use qil_code::{NumberedOperand, Slot};
 use qil_layout::{DATA_BASE, rounded_up};
 use qil_memory::STACK_BASE;
-use qil_tree::{Class, Operand};
 use std::alloc::{AllocError, Allocator};
 
 /// The highest top of the stack.
@@ -65,30 +64,6 @@ pub(crate) fn are_one_temporary(left: NumberedOperand, right: NumberedOperand) -
 }
 
 impl<'c, A: Allocator + Copy> Shadow<'c, A> {
-    /// What an operand is made of where a class is wanted, by its numbered form and that of the tree.
-    #[inline(always)]
-    pub(crate) fn origin_of(
-        &self,
-        class: Class,
-        operand: NumberedOperand,
-        written: &Operand<'_>,
-    ) -> Origin {
-        match operand {
-            NumberedOperand::Slot(slot) => self.frames.get(slot).in_class(class),
-            NumberedOperand::Constant(_) => self.constant_origin(class, written),
-        }
-    }
-
-    /// What a constant is made of: the address of a name, or a number.
-    pub(crate) fn constant_origin(&self, class: Class, written: &Operand<'_>) -> Origin {
-        match written {
-            Operand::Global(name) => {
-                Origin::Address(self.names.object(name.bytes())).in_class(class)
-            }
-            Operand::Number(_) | Operand::Temp(_) => Origin::Number,
-        }
-    }
-
     /// Whether so many bytes from an address on are live.
     pub(crate) fn is_live(&self, address: u64, count: u64) -> bool {
         let end = if address >= STACK_BASE {

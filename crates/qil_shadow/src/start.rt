@@ -70,7 +70,7 @@ fn note_object<'c, A: Allocator + Copy>(
     for field in object.fields.as_slice() {
         at = note_field(memory, names, at, field);
     }
-    objects.add_fixed(fixed(ObjectKind::Data(index), begin, at.saturating_sub(begin)))
+    objects.add_data(fixed(ObjectKind::Data(index), begin, at.saturating_sub(begin)))
 }
 
 /// Notes the functions of a program, and those that every program has.
