@@ -4,7 +4,7 @@ from __future__ import annotations
 import pathlib
 import re
 import sys
-from dataclasses import dataclass, field
+from dataclasses import dataclass, field, replace
 from typing import Callable, TextIO
 
 from page.gathering import Gathering
@@ -15,14 +15,15 @@ from terminal.scratch import SLICE, Launch
 from terminal.sourcemap import SourceMap
 from terminal.text import Program
 
+from . import fast
 from .following import Excepted, Follower
 from .heap import WrongHeap, roles_of
 from .kinds import ALL, WrongKind, chosen
 from .states import TooLong, table_of
-from .telling import as_gnu, as_sarif, gnu_place, summary
+from .telling import Suspicion, as_gnu, as_sarif, gnu_place, summary
 
 TOP = pathlib.Path(__file__).resolve().parent.parent
-# How many moves are looked at if nothing is said: some 20 seconds.
+# How many moves are looked at for all kinds if nothing is said: some 20 seconds.
 LIMIT = 5_000_000
 MOST_LIMIT = (1 << 32) - 1
 WITH_VALUE = ("--limit", "--kinds", "--heap", "--except", "--format")
@@ -34,7 +35,9 @@ Usage: ./qrev --check FILE [ARGS..] [OPTIONS]
 
 Options:
       --entry NAME           The function that runs first [default: main]
-      --limit N              Look at N moves [default: {LIMIT}]
+      --limit N              Look at N moves [default: {fast.LIMIT}]. Behind {LIMIT} only {", ".join(sorted(fast.KINDS))}
+                             are looked for, unless --kinds names others
+      --fast                 Look for these alone from the beginning: some seconds for {fast.LIMIT} moves
       --kinds KIND,..        Look for these kinds of suspicions alone; `strict`: for the default ones and the strict ones
       --heap ROLE=FUNC,..    The functions that make and free blocks of the heap, in the roles take, calloc, realloc,
                              memalign, give and look
@@ -75,8 +78,10 @@ class Asked:
 
     file: str = ""
     words: list[str] = field(default_factory=list)  # of the debugger: arguments, the entry
-    limit: int = LIMIT
+    limit: int | None = None
     kinds: frozenset[str] = frozenset()
+    has_kinds: bool = False
+    is_fast: bool = False
     heap: str | None = None
     has_no_heap: bool = False
     excepted: Excepted = field(default_factory=Excepted)
@@ -89,7 +94,7 @@ class Asked:
         left = list(words)
         while left:
             name, has_value, value = left.pop(0).partition("=")
-            if name == "--no-heap" and not has_value:
+            if name in ("--no-heap", "--fast") and not has_value:
                 given[name] = [""]
             elif name in WITH_VALUE:
                 if not has_value and not left:
@@ -108,7 +113,8 @@ class Asked:
         limit = given.get("--limit", [str(LIMIT)])[-1]
         if not limit.isdigit() or not 1 <= int(limit) <= MOST_LIMIT:
             raise BadCommand(f"--limit {limit}: a number from 1 to {MOST_LIMIT} was expected")
-        self.limit = int(limit)
+        self.limit = int(limit) if "--limit" in given else None
+        self.is_fast, self.has_kinds = "--fast" in given, "--kinds" in given
         try:
             self.kinds = chosen(given["--kinds"][-1] if "--kinds" in given else None)
         except WrongKind as error:
@@ -118,7 +124,16 @@ class Asked:
         if self.format not in ("text", "gnu", "json"):
             raise BadCommand(f"--format {self.format}: text, gnu or json was expected")
         self.excepted = Excepted({pair_of(word) for word in given.get("--except", [])})
+        if self.is_fast and self.heap is not None:
+            raise BadCommand("--fast and --heap exclude each other")
+        if self.is_fast and self.has_kinds and not self.kinds <= fast.KINDS:
+            raise BadCommand(f"--fast: the kinds {', '.join(sorted(fast.KINDS))} were expected")
         return self
+
+    @property
+    def may_go_on(self) -> bool:
+        """Whether what is looked for behind the first moves is what the fast pass tells."""
+        return not self.has_kinds or self.kinds <= fast.KINDS
 
 
 def pair_of(word: str) -> tuple[str, str]:
@@ -134,7 +149,38 @@ def version() -> str:
     return found[1] if found else "0"
 
 
-def checked(debugger: str, asked: Asked, place: pathlib.Path, out: TextIO) -> int:
+@dataclass
+class Outcome:
+    """What was found in how many moves, and where the run stands then."""
+
+    found: list[Suspicion]
+    moves: int
+    end: str
+    is_over: bool
+    last: int | None  # the place of the last move, by its number
+    full: int | None = None  # so many of the moves were looked at for all kinds, if not all were
+
+    @property
+    def status(self) -> int:
+        if self.found:
+            return SOME
+        return TOO_LONG if not self.is_over else FAULT if self.end.startswith("fault") else NONE
+
+
+@dataclass
+class Programs:
+    """The debugger, and the program of the fast pass: a path, or whether the one that is built here is wanted."""
+
+    debugger: str
+    checker: str | None = None
+    is_built: bool = False
+    full: int = LIMIT  # how many moves are looked at for all kinds, if nothing else is said
+
+    def fast(self, may_build: bool) -> str | None:
+        return self.checker or fast.program(self.is_built, may_build)
+
+
+def checked(programs: Programs, asked: Asked, place: pathlib.Path, out: TextIO) -> int:
     """Checks a run, and writes what was found; the exit status."""
     try:
         source = pathlib.Path(asked.file).read_bytes()
@@ -143,36 +189,82 @@ def checked(debugger: str, asked: Asked, place: pathlib.Path, out: TextIO) -> in
         return UNREAD
     copy = place / "program.ssa"
     copy.write_bytes(source)
-    launch = Launch(debugger, str(copy), tuple(asked.words), SLICE)
+    launch = Launch(programs.debugger, str(copy), tuple(asked.words), SLICE)
     pipe = Pipe(launch.command(1))
     pipe.close()
     if pipe.refused:
         return refused(pipe, asked, source)
     try:
-        table, gathered = run_of(launch, source, asked.limit)
-    except TooLong as error:
+        table = table_of(Program(source))
+        outcome = found_fast(programs, launch, table, asked) if asked.is_fast else found_fully(programs, launch, table, asked)
+    except (TooLong, fast.Failed) as error:
         print(f"qrev: {asked.file}: {error}", file=sys.stderr)
         return UNREAD
-    try:
-        heap = roles_of(table.program, asked.heap, asked.has_no_heap)
     except WrongHeap as error:
         raise BadCommand(str(error)) from None
+    return told(outcome, table, asked, out)
+
+
+def found_fully(programs: Programs, launch: Launch, table: Table, asked: Asked) -> Outcome:
+    """All kinds in the first moves; and behind them, if the run goes on, what the fast pass tells."""
+    limit, checker = asked.limit or programs.full, None
+    if limit > programs.full and asked.may_go_on:
+        checker = programs.fast(False)
+        limit = programs.full if checker else limit
+    gathered = run_of(launch, table, limit)
+    heap = roles_of(table.program, asked.heap, asked.has_no_heap)
     follower = Told(table, part_of(gathered, b"D"), asked.kinds, heap, asked.excepted)
     follower.moves = len(gathered.places) - 1
     moves = follower.follow(list(gathered.places), iter(gathered.values))
     follower.end()
-    return told(follower, gathered, moves, asked, out)
+    is_over = bool(gathered.end)
+    end = gathered.end if is_over else f"limit at {table.places[gathered.places[-1]][0]}"
+    last = next((each for each in reversed(gathered.places) if each != table.end), None)
+    outcome = Outcome(follower.suspicions(), moves, end, is_over, last)
+    if is_over or asked.limit is not None and asked.limit <= moves or not asked.may_go_on:
+        return outcome
+    checker = checker or programs.fast(False)
+    return gone_on(outcome, checker, launch, table, asked) if checker else outcome
 
 
-def run_of(launch: Launch, source: bytes, limit: int) -> tuple[Table, Gathering]:
+def gone_on(outcome: Outcome, checker: str, launch: Launch, table: Table, asked: Asked) -> Outcome:
+    """With what the fast pass tells of the same run beyond: other places, and how often it came at those that are known."""
+    further = fast_outcome(checker, launch, table, asked)
+    known = {(each.function, each.label, each.index, each.kind): each for each in outcome.found}
+    for each in further.found:
+        same = known.get((each.function, each.label, each.index, each.kind))
+        if same:
+            same.count = max(same.count, each.count)
+        else:
+            outcome.found.append(each)
+    outcome.found.sort(key=lambda each: (each.position, each.kind))
+    return Outcome(outcome.found, further.moves, further.end, further.is_over, further.last, outcome.moves)
+
+
+def found_fast(programs: Programs, launch: Launch, table: Table, asked: Asked) -> Outcome:
+    checker = programs.fast(True)
+    assert checker
+    return fast_outcome(checker, launch, table, asked)
+
+
+def fast_outcome(checker: str, launch: Launch, table: Table, asked: Asked) -> Outcome:
+    """What the fast pass tells of a run, and its end."""
+    launch = replace(launch, limit=asked.limit or fast.LIMIT)
+    found = [each for each in fast.suspicions(checker, launch, table)
+             if each.kind in asked.kinds and not asked.excepted.holds_of(each.kind, fast.meant_by(each), each.function)]
+    end = fast.end_of(launch)
+    last = table.ids[f"{end.last.function} {end.last.label} {end.last.index}"] if end.last else None
+    return Outcome(sorted(found, key=lambda each: (each.position, each.kind)), end.moves, end.told, end.is_over, last)
+
+
+def run_of(launch: Launch, table: Table, limit: int) -> Gathering:
     """The places and values of a run, up to a limit of moves."""
-    table = table_of(Program(source))
     gathered = Gathering(launch, table, limit)
     gathered.gather()
     failed = part_of(gathered, b"X")
     if failed:
         raise OSError(0, failed.decode(), "the debugger")
-    return table, gathered
+    return gathered
 
 
 def refused(pipe: Pipe, asked: Asked, source: bytes) -> int:
@@ -186,30 +278,26 @@ def part_of(gathered: Gathering, letter: bytes) -> bytes:
     return next((part[5:] for part in gathered.parts if part[:1] == letter), b"")
 
 
-def fault_line(table: Table, gathered: Gathering, file: str, source: Callable[[int], str]) -> str:
+def fault_line(table: Table, outcome: Outcome, file: str, source: Callable[[int], str]) -> str:
     """The instruction that ended the run by a fault, as an error."""
-    position = max(at for at, place in enumerate(gathered.places) if place != table.end)
-    function, label, index, instruction = table.places[gathered.places[position]]
-    return f"{gnu_place(source, file, instruction.line)}: error: {gathered.end} [#{position} {function} {label} {index}]"
+    assert outcome.last is not None
+    function, label, index, instruction = table.places[outcome.last]
+    return (f"{gnu_place(source, file, instruction.line)}: error: {outcome.end} "
+            f"[#{outcome.moves - 1} {function} {label} {index}]")
 
 
-def told(follower: Follower, gathered: Gathering, moves: int, asked: Asked, out: TextIO) -> int:
-    found = follower.suspicions()
+def told(outcome: Outcome, table: Table, asked: Asked, out: TextIO) -> int:
     source = SourceMap.beside(asked.file).place
-    is_over = bool(gathered.end)
-    end = gathered.end if is_over else f"limit at {follower.table.places[gathered.places[-1]][0]}"
     if asked.format == "json":
-        print(as_sarif(found, asked.file, version(), source), file=out)
+        print(as_sarif(outcome.found, asked.file, version(), source), file=out)
     elif asked.format == "gnu":
-        for line in as_gnu(found, asked.file, source):
+        for line in as_gnu(outcome.found, asked.file, source):
             print(line, file=out)
-        if end.startswith("fault"):
-            print(fault_line(follower.table, gathered, asked.file, source), file=out)
+        if outcome.end.startswith("fault"):
+            print(fault_line(table, outcome, asked.file, source), file=out)
     else:
-        for each in found:
+        for each in outcome.found:
             print("\n".join(each.lines(source(each.instruction.line))), file=out)
-        print(summary(found, moves, end), file=out)
+        print(summary(outcome.found, outcome.moves, outcome.end, outcome.full), file=out)
     out.flush()
-    if found:
-        return SOME
-    return TOO_LONG if not is_over else FAULT if end.startswith("fault") else NONE
+    return outcome.status

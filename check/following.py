@@ -40,7 +40,11 @@ class Excepted:
     pairs: set[tuple[str, str]] = field(default_factory=set)
 
     def holds(self, kind: str, meant: Object | None, function: str) -> bool:
-        return (kind, function) in self.pairs or meant is not None and (kind, meant.name.split(" ")[0]) in self.pairs
+        return self.holds_of(kind, meant.name.split(" ")[0] if meant else None, function)
+
+    def holds_of(self, kind: str, meant: str | None, function: str) -> bool:
+        """The same, by the name of the object or of the function that made it."""
+        return (kind, function) in self.pairs or meant is not None and (kind, meant) in self.pairs
 
 
 class Follower:

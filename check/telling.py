@@ -71,10 +71,11 @@ def origin_told(origin: Origin | None) -> str:
     return f": {origin.told} at #{origin.position}" if origin else ""
 
 
-def summary(suspicions: Sequence[Suspicion], moves: int, end: str) -> str:
-    """The last line."""
+def summary(suspicions: Sequence[Suspicion], moves: int, end: str, full: int | None = None) -> str:
+    """The last line; it says so if only the first moves were looked at for all kinds."""
     number = counted(len(suspicions), "suspicion") if suspicions else "no suspicion"
-    return f"{number} in {counted(moves, 'move')}, {end}"
+    kinds = f", {full} of them for all kinds" if full is not None else ""
+    return f"{number} in {counted(moves, 'move')}{kinds}, {end}"
 
 
 def as_sarif(suspicions: Sequence[Suspicion], file: str, version: str, source: Callable[[int], str]) -> str:

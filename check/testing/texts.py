@@ -14,11 +14,13 @@ MAIN = pathlib.Path(__file__).resolve().parent.parent / "main"
 TEXTS = pathlib.Path(__file__).resolve().parent / "texts"
 PLACE = re.compile(r"(#\d+ \S+ \S+ \d+)  line (\d+): ")
 SECONDS = 60
+# The program of the fast pass, if it isn't the one that runs here.
+CHECKER: list[str] = []
 Case = tuple[str, Callable[[], str | None]]
 
 
 def run(program: str, *words: str) -> subprocess.CompletedProcess[str]:
-    return subprocess.run([sys.executable, str(MAIN), "--debugger", program, "--", *words], capture_output=True, text=True,
+    return subprocess.run([sys.executable, str(MAIN), "--debugger", program, *CHECKER, "--", *words], capture_output=True, text=True,
                           timeout=SECONDS)
 
 

@@ -1,0 +1,97 @@
+"""The fast pass: four kinds of suspicions of a long run, told by a program of its own, and the lines of the text with them.
+
+`qrev-check` tells a suspicion by its place, and knows nothing of lines and of how an instruction is written.
+"""
+from __future__ import annotations
+
+import pathlib
+import re
+import subprocess
+from dataclasses import dataclass
+from typing import Iterator
+
+from page.table import Table
+from terminal.answers import Place, read_moved
+from terminal.pipe import Pipe
+from terminal.scratch import Launch
+
+from .telling import Suspicion
+
+TOP = pathlib.Path(__file__).resolve().parent.parent
+# What is asked of a value's origin alone.
+KINDS = frozenset(("bounds", "stale", "cut", "stray"))
+# How many moves are looked at if nothing is said: some seconds.
+LIMIT = 100_000_000
+TOLD = re.compile(r"#(\d+) (\S+) (\S+) (\d+)  (\w+): (.*?)(?:  \((\d+) times\))?")
+# The object that was meant: behind the distance to it, and before its size or what it is.
+MEANT = re.compile(r"(?:\bof|\bbefore|\bin) (\$\S+?)(?: %\S+)? \(|(?:\bof|\bbefore|\bin) (\$\S+), a function")
+
+
+class Failed(Exception):
+    """Why there is no answer, in words."""
+
+
+def program(is_built: bool, may_build: bool) -> str | None:
+    """The program that runs here; None if there is none and it may not be built now."""
+    words = [*(["--built"] if is_built else []), *([] if may_build else ["--there"]), "qrev-check"]
+    found = subprocess.run([str(TOP / "release" / "program"), *words], stdout=subprocess.PIPE, text=True,
+                           stderr=None if may_build else subprocess.DEVNULL)
+    if found.returncode and may_build:
+        raise Failed("there is no program for --fast")
+    return None if found.returncode else found.stdout.strip()
+
+
+def suspicions(checker: str, launch: Launch, table: Table) -> list[Suspicion]:
+    """Those of a run up to the limit of its launch, in the order in which the first of each came."""
+    words = [checker, launch.file, *launch.words, "--limit", str(launch.limit)]
+    ran = subprocess.run(words, stdin=subprocess.DEVNULL, capture_output=True, text=True, check=False)
+    lines = ran.stdout.splitlines()
+    if ran.returncode not in (0, 3, 4, 5) or not lines:
+        memory = ran.returncode == 2
+        raise Failed("the fast pass has run out of memory" if memory else ran.stderr.strip() or "the fast pass failed")
+    return list(read(lines[:-1], table))
+
+
+def read(lines: list[str], table: Table) -> Iterator[Suspicion]:
+    for line in lines:
+        found = TOLD.fullmatch(line)
+        if not found:
+            raise Failed(f"the fast pass told {line!r}")
+        position, function, label, index, kind, text, count = found.groups()
+        instruction = table.places[table.ids[f"{function} {label} {index}"]][3]
+        yield Suspicion(kind, int(position), function, label, int(index), instruction, text, int(count or 1))
+
+
+def meant_by(told: Suspicion) -> str | None:
+    """The name of the object that was meant, or of the function that made it."""
+    found = MEANT.search(told.text)
+    return (found[1] or found[2]) if found else None
+
+
+@dataclass
+class End:
+    """Where a run stands at its limit, or how it ended, and the place of the last move."""
+
+    moves: int
+    told: str
+    is_over: bool
+    last: Place | None
+
+    @property
+    def is_fault(self) -> bool:
+        return self.told.startswith("fault")
+
+
+def end_of(launch: Launch) -> End:
+    """The end of a run, as the debugger tells it."""
+    pipe = Pipe(launch.command(None))
+    try:
+        moved, before = (read_moved(lines) for lines in pipe.ask("continue", "back"))
+    finally:
+        pipe.close()
+    place = moved.place
+    if not place:
+        raise Failed(f"the debugger said {moved.refusal!r}")
+    if place.end:
+        return End(place.position, place.end, True, before.place)
+    return End(place.position, f"limit at {place.function}", False, place)

@@ -1,0 +1,91 @@
+"""The fast pass: that it tells the same as the other one, of the kinds that both tell, and goes on behind it."""
+from __future__ import annotations
+
+import pathlib
+import subprocess
+import sys
+import tempfile
+from typing import Callable, Iterator
+
+from check.fast import KINDS
+
+from .rows import ROWS, text_of
+from .texts import CHECKER, MAIN, SECONDS, TEXTS, run
+
+TOP = MAIN.parent.parent
+# Both look at so many moves.
+LIMIT = ["--limit", "20000"]
+SLOW = ["--kinds", ",".join(sorted(KINDS)), "--no-heap"]
+# A store behind the end in the eleventh round: each round has six moves, one comes before, and the store is its third.
+LATE = """data $a = align 4 { z 40 }
+data $b = align 4 { z 40 }
+export function w $main() {
+@start
+@loop
+	%i =l phi @start 0, @loop %j
+	%o =l mul %i, 4
+	%q =l add $a, %o
+	storew 1, %q
+	%j =l add %i, 1
+	%c =w csltl %j, ROUNDS
+	jnz %c, @loop, @end
+@end
+	ret 0
+}
+"""
+STORE = ("#63 $main @loop 2  line 9: storew 1, %q\n  bounds: storew at the end of $a (40 bytes), into $b+0\n")
+# The words before the program and behind it, how many rounds there are, what is told, and the status.
+GOING_ON: list[tuple[str, list[str], list[str], int, str, int]] = [
+    ("goes on", ["--full", "20"], [], 11, STORE + "1 suspicion in 68 moves, 20 of them for all kinds, done 0\n", 3),
+    ("goes on up to a limit", ["--full", "20"], ["--limit", "63"], 11,
+     "no suspicion in 63 moves, 20 of them for all kinds, limit at $main\n", 5),
+    ("is over before", ["--full", "68"], [], 11, STORE + "1 suspicion in 68 moves, done 0\n", 3),
+    ("counts what was told before", ["--full", "70"], [], 13,
+     STORE[:-1] + "  (3 times)\n1 suspicion in 80 moves, 70 of them for all kinds, done 0\n", 3),
+    ("does not go on for other kinds", ["--full", "20"], ["--kinds", "undef"], 11, "no suspicion in 20 moves, limit at $main\n", 5),
+    ("goes on for its kinds", ["--full", "20"], ["--kinds", "bounds"], 11,
+     STORE + "1 suspicion in 68 moves, 20 of them for all kinds, done 0\n", 3),
+    ("goes on, but for an object", ["--full", "20"], ["--except", "bounds:$a"], 11,
+     "no suspicion in 68 moves, 20 of them for all kinds, done 0\n", 0),
+    ("goes on, but for a function", ["--full", "20"], ["--except", "bounds:$main"], 11,
+     "no suspicion in 68 moves, 20 of them for all kinds, done 0\n", 0),
+    ("all at once", [], ["--fast"], 11, STORE + "1 suspicion in 68 moves, done 0\n", 3),
+    ("all at once up to a limit", [], ["--fast", "--limit", "63"], 11, "no suspicion in 63 moves, limit at $main\n", 5),
+    ("other kinds", [], ["--fast", "--kinds", "undef"], 11, "", 64),
+    ("a heap", [], ["--fast", "--heap", "take=main"], 11, "", 64),
+]
+Case = tuple[str, Callable[[], str | None]]
+
+
+def same_fault(program: str, file: pathlib.Path, *words: str) -> str | None:
+    """What the fast pass tells of a text otherwise than the other one, or None."""
+    slow, fast = run(program, str(file), *words, *LIMIT, *SLOW), run(program, str(file), *words, *LIMIT, "--fast")
+    same = (slow.returncode, slow.stdout, slow.stderr) == (fast.returncode, fast.stdout, fast.stderr)
+    if same and slow.stdout:
+        return None
+    return f"{fast.returncode}, {fast.stdout!r} {fast.stderr!r} in place of {slow.returncode}, {slow.stdout!r}"
+
+
+def row_fault(program: str, beside: str, lines: list[str]) -> str | None:
+    with tempfile.TemporaryDirectory(prefix="check-") as place:
+        file = pathlib.Path(place) / "row.ssa"
+        file.write_text(text_of(beside, lines))
+        return same_fault(program, file)
+
+
+def going_on_fault(program: str, before: list[str], behind: list[str], rounds: int, told: str, status: int) -> str | None:
+    with tempfile.TemporaryDirectory(prefix="check-") as place:
+        file = pathlib.Path(place) / "late.ssa"
+        file.write_text(LATE.replace("ROUNDS", str(rounds)))
+        words = [sys.executable, str(MAIN), "--debugger", program, *CHECKER, *before, "--", str(file), *behind]
+        ran = subprocess.run(words, capture_output=True, text=True, timeout=SECONDS, check=False)
+    return None if (ran.returncode, ran.stdout) == (status, told) else f"{ran}"
+
+
+def cases(program: str) -> Iterator[Case]:
+    for file in [*sorted(TEXTS.glob("*.ssa")), *sorted((TOP / "examples").glob("*.ssa"))]:
+        yield f"fast {file.stem}", lambda file=file: same_fault(program, file)
+    for name, *row in ROWS:
+        yield f"fast row {name}", lambda row=row: row_fault(program, *row[:2])
+    for name, *case in GOING_ON:
+        yield f"fast {name}", lambda case=case: going_on_fault(program, *case)

@@ -1,0 +1,223 @@
+//! What constants are made of. Numbered code has the address of a name as a constant, and the tree tells which constant is one: it
+//! is looked at where the value can be an address.
+
+use crate::origin::{ObjectId, Origin};
+use crate::shadow::Shadow;
+use crate::suspicion::Place;
+use qil_code::{BlockId, Code, NumberedOperand, PhiMove};
+use qil_tree::{Block, Class, Expr, InstKind, JumpKind, Operand};
+use std::alloc::Allocator;
+
+/// No name has an address below: the functions lie here that every program has.
+const LEAST_ADDRESS: u64 = 1024;
+
+/// Which operand is read of what stands at a place.
+#[derive(Clone, Copy)]
+pub(crate) enum Reading {
+    First,
+    Second,
+    /// An argument of a call, counted from 0.
+    Argument(usize),
+    /// What a function returns.
+    Returned,
+}
+
+/// The operand of an expression of one, and the first of two.
+fn first_operand<'t, 'a>(expr: &'t Expr<'a>) -> &'t Operand<'a> {
+    match expr {
+        Expr::Unary(_, first) => first,
+        Expr::Binary(_, first, _) => first,
+        Expr::Compare(_, _, first, _) => first,
+        Expr::Extend(_, first) => first,
+        Expr::Load(_, first) => first,
+    }
+}
+
+/// The second operand of two, or the only one.
+fn second_operand<'t, 'a>(expr: &'t Expr<'a>) -> &'t Operand<'a> {
+    match expr {
+        Expr::Unary(_, only) => only,
+        Expr::Binary(_, _, second) => second,
+        Expr::Compare(_, _, _, second) => second,
+        Expr::Extend(_, only) => only,
+        Expr::Load(_, only) => only,
+    }
+}
+
+/// An operand of an instruction.
+fn operand_in<'t, 'a, A: Allocator>(
+    kind: &'t InstKind<'a, A>,
+    reading: Reading,
+) -> Option<&'t Operand<'a>> {
+    match kind {
+        InstKind::Assign(_, expr) => match reading {
+            Reading::First => Some(first_operand(expr)),
+            Reading::Second => Some(second_operand(expr)),
+            Reading::Argument(_) | Reading::Returned => None,
+        },
+        InstKind::Store(_, number, address) => of_two(number, address, reading),
+        InstKind::Blit(source, target, _) => of_two(source, target, reading),
+        InstKind::Call(_, _, args) => match reading {
+            Reading::Argument(index) => match args.as_slice().get(index) {
+                Some(given) => Some(&given.value),
+                None => None,
+            },
+            Reading::First | Reading::Second | Reading::Returned => None,
+        },
+        InstKind::Alloc(_, _, _) => None,
+    }
+}
+
+/// One of two operands.
+fn of_two<'t, 'a>(
+    first: &'t Operand<'a>,
+    second: &'t Operand<'a>,
+    reading: Reading,
+) -> Option<&'t Operand<'a>> {
+    match reading {
+        Reading::First => Some(first),
+        Reading::Second => Some(second),
+        Reading::Argument(_) | Reading::Returned => None,
+    }
+}
+
+/// What a block returns.
+fn returned_in<'t, 'a, A: Allocator>(block: &'t Block<'a, A>) -> Option<&'t Operand<'a>> {
+    match &block.jump.kind {
+        JumpKind::Ret(Some(operand)) => Some(operand),
+        _ => None,
+    }
+}
+
+/// An operand of what stands at a place of a block.
+fn operand_at<'t, 'a, A: Allocator>(
+    block: &'t Block<'a, A>,
+    index: u32,
+    reading: Reading,
+) -> Option<&'t Operand<'a>> {
+    match block.insts.as_slice().get(index as usize) {
+        Some(inst) => operand_in(&inst.kind, reading),
+        None => returned_in(block),
+    }
+}
+
+/// What a phi of a block takes where that of a label is left.
+fn phi_operand<'t, 'a, A: Allocator>(
+    block: &'t Block<'a, A>,
+    left: &[u8],
+    index: usize,
+) -> Option<&'t Operand<'a>> {
+    let phi = block.phis.as_slice().get(index)?;
+    for source in phi.sources.as_slice() {
+        if source.label.bytes() == left {
+            return Some(&source.value);
+        }
+    }
+    None
+}
+
+impl<'c, A: Allocator + Copy> Shadow<'c, A> {
+    /// What an operand at a place is made of where a class is wanted.
+    #[inline(always)]
+    pub(crate) fn origin_of(
+        &self,
+        code: &Code<'c, A>,
+        place: Place,
+        reading: Reading,
+        class: Class,
+        operand: NumberedOperand,
+    ) -> Origin {
+        match operand {
+            NumberedOperand::Slot(slot) => self.frames.get(slot).in_class(class),
+            NumberedOperand::Constant(value) => {
+                if value < LEAST_ADDRESS {
+                    Origin::Number
+                } else {
+                    self.constant_origin(code, place, reading, class, value)
+                }
+            }
+        }
+    }
+
+    /// What a constant is made of that can be an address.
+    #[inline(never)]
+    fn constant_origin(
+        &self,
+        code: &Code<'c, A>,
+        place: Place,
+        reading: Reading,
+        class: Class,
+        value: u64,
+    ) -> Origin {
+        match code.source(place.func, place.block) {
+            Some(block) => match operand_at(block, place.index, reading) {
+                Some(operand) => self.written_origin(operand, class, value),
+                None => Origin::Number,
+            },
+            None => Origin::Number,
+        }
+    }
+
+    /// What a phi gets of an edge, of which it is the one of that number.
+    #[inline(always)]
+    pub(crate) fn phi_origin(
+        &self,
+        code: &Code<'c, A>,
+        place: Place,
+        to: BlockId,
+        index: usize,
+        phi: &PhiMove,
+    ) -> Origin {
+        match phi.source {
+            NumberedOperand::Slot(slot) => self.frames.get(slot).in_class(phi.class),
+            NumberedOperand::Constant(value) => {
+                if value < LEAST_ADDRESS {
+                    Origin::Number
+                } else {
+                    self.constant_phi(code, place, to, index, phi.class, value)
+                }
+            }
+        }
+    }
+
+    /// What a constant is made of that can be an address, and that a phi takes.
+    #[inline(never)]
+    fn constant_phi(
+        &self,
+        code: &Code<'c, A>,
+        place: Place,
+        to: BlockId,
+        index: usize,
+        class: Class,
+        value: u64,
+    ) -> Origin {
+        let Some(left) = code.source(place.func, place.block) else {
+            return Origin::Number;
+        };
+        let Some(target) = code.source(place.func, to) else {
+            return Origin::Number;
+        };
+        match phi_operand(target, left.label.bytes(), index) {
+            Some(operand) => self.written_origin(operand, class, value),
+            None => Origin::Number,
+        }
+    }
+
+    /// What a written constant of a value is made of: the address of a name, or a number.
+    fn written_origin(&self, written: &Operand<'_>, class: Class, value: u64) -> Origin {
+        match written {
+            Operand::Global(name) => {
+                Origin::Address(self.object_of(name.bytes(), value)).in_class(class)
+            }
+            Operand::Number(_) | Operand::Temp(_) => Origin::Number,
+        }
+    }
+
+    /// The object of a name that has an address.
+    fn object_of(&self, name: &[u8], address: u64) -> ObjectId {
+        match self.objects.data_at(address) {
+            Some(object) => object,
+            None => self.names.object(name),
+        }
+    }
+}

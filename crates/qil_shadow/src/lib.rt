@@ -1,0 +1,27 @@
+//! The shadow of a run: what its values are made of, the objects that there are, and which moves are suspicious. The
+//! definitions stand in specs/.
+#![tactic(auto)]
+
+mod access;
+mod bytes;
+mod constants;
+mod laws;
+mod memory;
+mod names;
+mod object;
+mod operations;
+mod origin;
+mod region;
+mod shadow;
+mod stack;
+mod start;
+mod step;
+mod suspicion;
+mod widths;
+
+pub use access::{Action, Kind};
+pub use laws::{accesses_hold, words_go_through_memory};
+pub use object::{BuiltIn, Object, ObjectKind};
+pub use origin::{ByteOrigin, ObjectId, Origin};
+pub use shadow::Shadow;
+pub use suspicion::{Access, Doubt, Hit, Place, Suspicion};

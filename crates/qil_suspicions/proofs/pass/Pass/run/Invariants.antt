@@ -1,0 +1,14 @@
+-- The steps so far, as many as rounds unless the run is over.
+use Rattle.std.proofs.Common.{◌≡◌, ◌⊎◌, ◌≤◌, true}
+use Rattle.qil_meaning.specs.State.{is_final}
+use Rattle.qil_meaning.specs.Targets.{after}
+use Rattle.qil_state.specs.State.{state_of}
+use Rattle.qil_suspicions.proofs.pass.Pass.run.Given as goal
+
+abbrev pub invariant-loop-round : goal.invariant-loop-round
+invariant-loop-round g l = record {
+  program : l.self.whole.program ≡ l.fn.self.whole.program;
+  few : l.self.moves ≤ l.round;
+  steps : state_of l.self.whole ≡ after l.fn.self.whole.program (state_of l.fn.self.whole) l.self.moves;
+  so_far : (l.self.moves ≡ l.round) ⊎ (is_final (state_of l.self.whole).status ≡ true);
+}

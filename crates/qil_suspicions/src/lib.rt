@@ -1,0 +1,12 @@
+//! The forward pass over a run that notes its suspicions: a machine, and the shadow of its states beside it.
+#![tactic(auto)]
+
+mod notes;
+mod pass;
+
+pub use notes::{Note, Notes};
+pub use pass::Pass;
+pub use qil_shadow::{
+    Access, Action, BuiltIn, Doubt, Hit, Kind, Object, ObjectId, ObjectKind, Origin, Place,
+    Suspicion,
+};

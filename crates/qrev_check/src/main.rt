@@ -1,0 +1,64 @@
+//! `qrev_check FILE [ARGS..]`: runs a program, and tells what it does that no right compiler's output does.
+#![tactic(auto)]
+
+mod line;
+mod report;
+mod telling;
+
+use qil_options::{Failure, Given, read_given, read_words};
+use report::{Outcome, report};
+use std::alloc::Global;
+use std::hash::RandomState;
+use std::io;
+use std::io::LineWriter;
+use std::process::ExitCode;
+use std::random::RandomSource;
+use std::rt::{Env, Files};
+
+/// Reports on what is given.
+fn report_given<R: Print + RandomSource>(
+    rt: &R,
+    alloc: Global,
+    given: &Given<'_>,
+) -> Result<Outcome, Failure> {
+    let Ok(keys) = RandomState::new(rt) else {
+        return Err(Failure::NoKeys);
+    };
+    let Ok(mut writer) = LineWriter::new(alloc, io::writer(rt)) else {
+        return Err(Failure::OutOfMemory);
+    };
+    let text = given.program.as_slice();
+    let entry = given.run.entry.as_bytes();
+    let args = given.run.args.as_slice();
+    let limit = u64::from(given.run.limit);
+    Ok(report(alloc, keys, text, entry, args, limit, &mut writer))
+}
+
+/// The command line first, then the file, then the run.
+fn run<R: Files + Input + Print + Eprint + Env + RandomSource + AllocGlobal>(
+    rt: &R,
+    alloc: Global,
+) -> Result<Outcome, Failure> {
+    let words = read_words(rt, alloc)?;
+    let given = read_given(rt, alloc, words.as_slice())?;
+    report_given(rt, alloc, &given)
+}
+
+/// The status after a run.
+fn outcome_status(outcome: Outcome) -> u8 {
+    match outcome {
+        Outcome::Nothing => 0,
+        Outcome::Refused => 1,
+        Outcome::WriteFault | Outcome::Memory => 2,
+        Outcome::Some => 3,
+        Outcome::Fault => 4,
+        Outcome::Limit => 5,
+    }
+}
+
+fn main(rt: HostRuntime) -> ExitCode {
+    ExitCode::from(match run(&rt, rt.alloc()) {
+        Ok(outcome) => outcome_status(outcome),
+        Err(failure) => failure.status(),
+    })
+}
