@@ -18,11 +18,11 @@ returns-in_err-respond_idle g c = λ start before h.
 pub returns-then-leaves : goal.returns-then-leaves
 returns-then-leaves g c = λ start before h.
     let a = asked_by c.args.request in
-    let leaves = is_word a.command c.command-2.result.now (codes "disconnect") c.eq-leaves.result c.command-2.ensures c.eq-leaves.ensures c.if-leaves.true in (a, (before, h.0, c.in_ok-respond_idle.ensures start.output before h.1, h.2), leaves)
+    let leaves = is_word a.command c.command-3.result.now (codes "disconnect") c.eq-leaves.result c.command-3.ensures c.eq-leaves.ensures c.if-leaves.true in (a, (before, h.0, c.in_ok-respond_idle.ensures start.output before h.1, h.2), leaves)
 
 pub returns : goal.returns
 returns g c = λ start before h.
     let a = asked_by c.args.request in
     let old : Heard = heard g.S.Source.remaining g.W.Sink.contents c.args.line.now in
     let now : Heard = record { input = old.input; output = spoken g.W.Sink.contents c.respond_idle.new.port } in
-    let stays = is_not_word a.command c.command-2.result.now (codes "disconnect") c.eq-leaves.result c.command-2.ensures c.eq-leaves.ensures c.if-leaves.false in answered_idle start now (a, (before, h.0, c.in_ok-respond_idle.ensures start.output before h.1, h.2), stays)
+    let stays = is_not_word a.command c.command-3.result.now (codes "disconnect") c.eq-leaves.result c.command-3.ensures c.eq-leaves.ensures c.if-leaves.false in answered_idle start now (a, (before, h.0, c.in_ok-respond_idle.ensures start.output before h.1, h.2), stays)

@@ -5,13 +5,13 @@ use Rattle.qrev_notices.proofs.Replies.{quiet, told_then, tells_exit}
 use Rattle.qrev_moving.specs.declared.underway.Course.{Course}
 use Rattle.qrev_adapter.proofs.session.run_to_end.Goals as goal
 
-pub returns-in_err-run_out-clause-events : goal.returns-in_err-run_out-clause-events
-returns-in_err-run_out-clause-events g c =
+pub returns-in_err-stage-clause-events : goal.returns-in_err-stage-clause-events
+returns-in_err-stage-clause-events g c =
     let at = spoken g.W.Sink.contents in
-    tells_exit Course (Unit {0}) (Unit {0}) tt c.from_residual.result c.in_err-run_out.field-0.0 (at c.args.port.now) (at c.args.port.now) (at c.run_out.new.port) c.from_residual.ensures.1
-    (quiet (tt {0}) (at c.args.port.now)) c.in_err-run_out.ensures.events
+    tells_exit Course (Unit {0}) (Unit {0}) tt c.from_residual.result c.in_err-stage.field-0.0 (at c.args.port.now) (at c.args.port.now) (at c.run_out.new.port) c.from_residual.ensures.1
+    (quiet (tt {0}) (at c.args.port.now)) c.in_err-stage.ensures.events
 
 pub returns-clause-events : goal.returns-clause-events
 returns-clause-events g c =
     let now = spoken g.W.Sink.contents c.run_out.new.port in
-    told_then c.in_ok-run_out.field-0 (Ok (tt {0})) (spoken g.W.Sink.contents c.args.port.now) now now c.in_ok-run_out.ensures.events (quiet (tt {0}) now)
+    told_then c.in_ok-stage.field-0 (Ok (tt {0})) (spoken g.W.Sink.contents c.args.port.now) now now c.in_ok-stage.ensures.events (quiet (tt {0}) now)
