@@ -137,8 +137,10 @@ fn run<R: rt::Files + Env + AllocGlobal + Input + Print + RandomSource>(
     rt: &R,
     alloc: Global,
 ) -> u8 {
-    let Ok(words) = env::args(rt) else {
-        return 2;
+    let words = match env::args(rt) {
+        Ok(words) => words,
+        Err(error) if error.kind() == io::ErrorKind::OutOfMemory => return 3,
+        Err(_) => return 2,
     };
     let Ok(words): Result<Vec<String>, _> = words.collect(alloc) else {
         return 3;
