@@ -157,10 +157,11 @@ class Relay:
                 break
             if self.typed and b'"command":"completions"' in body[:200]:
                 body = self.completed(body)
+            # It is kept first: the editor may answer as soon as it is written.
             with self.turn:
+                self.note(body)
                 self.sent += 1
                 self.write(framed(renumbered(body, self.sent)))
-            self.note(body)
         if raw:
             with self.turn:
                 self.write(raw)
