@@ -6,14 +6,15 @@ import re
 import signal
 import subprocess
 import sys
-import tempfile
 import threading
 from queue import SimpleQueue
 from typing import Any, NoReturn
 
 from .frames import Frames, framed, read, renumbered, written
-from .questions import HELP, LINE, WORDS, Changes, Prompter, is_question
+from .questions import HELP, LINE, TOP, WORDS, Changes, Prompter, is_question
 
+# Starts an adapter that sees when a message has come, and when the editor, or this, went away.
+STARTS = TOP / "release" / "with-input-copy"
 POSITION = re.compile(r"#(\d+) ")
 GOTO = re.compile(r"goto +#?(\d{1,19})$")
 MOVING = frozenset(("continue", "next", "stepIn", "stepOut", "stepBack", "reverseContinue", "restartFrame", "configurationDone"))
@@ -25,11 +26,7 @@ class Relay:
     """An editor on standard input and output, and an adapter that is started for it."""
 
     def __init__(self, adapter: str, words: list[str]):
-        # The adapter sees by the length of this file, which has no name, that a message has come while a run goes on.
-        self.copy = tempfile.TemporaryFile()
-        handle = self.copy.fileno()
-        self.adapter = subprocess.Popen(["qrev-dap", "--input-copy", f"/proc/self/fd/{handle}"], executable=adapter,
-                                        stdin=subprocess.PIPE, stdout=subprocess.PIPE, pass_fds=(handle,))
+        self.adapter = subprocess.Popen([str(STARTS), "qrev-dap", adapter], stdin=subprocess.PIPE, stdout=subprocess.PIPE)
         self.words = words
         self.sent = 0
         self.turn = threading.Lock()
@@ -92,9 +89,7 @@ class Relay:
             self.adapter.stdin.write(raw)  # type: ignore[union-attr]
             self.adapter.stdin.flush()  # type: ignore[union-attr]
         except (BrokenPipeError, ValueError):
-            return
-        self.copy.write(raw)
-        self.copy.flush()
+            pass
 
     def request(self, message: dict[str, Any], raw: bytes) -> bytes:
         """What goes to the adapter for a request: itself, another one, or nothing."""
@@ -192,17 +187,22 @@ class Relay:
             message = read(body)
             with self.news:
                 self.open.discard(message.get("request_seq", 0))
+                if message.get("command") == "evaluate":
+                    self.place(str(message.get("body", {}).get("result", "")).rpartition("\n")[2])
                 if not message.get("success") and message.get("command") in MOVING:
                     self.is_running = False
                 self.news.notify_all()
         elif body.startswith((b'{"type":"event","event":"stopped"', b'{"type":"event","event":"terminated"')):
-            found = POSITION.match(str(read(body).get("body", {}).get("description", "")))
             with self.news:
                 self.is_running = False
-                if found:
-                    self.position = int(found[1])
-                    self.changes.stopped(self.position)
+                self.place(str(read(body).get("body", {}).get("description", "")))
                 self.news.notify_all()
+
+    def place(self, line: str) -> None:
+        """Keeps the position of a place line, which a stop has, and the last line that the console answers to a move."""
+        if found := POSITION.match(line):
+            self.position = int(found[1])
+            self.changes.stopped(self.position)
 
     def respond(self, message: dict[str, Any], success: bool, told: str) -> None:
         """Answers a request in place of the adapter."""

@@ -18,6 +18,8 @@ from .sessions import FOLDER, is_changing
 
 RELAY = TOP / "editors" / "console" / "main"
 BUILT = "crates/"
+# Seconds within which an adapter ends when nobody is there any more.
+GONE = 10.0
 
 # A line of the console, and what is answered; behind all of them the run stands at #45.
 SQUARES = [
@@ -219,6 +221,24 @@ def ended_fault(program: str, seconds: float) -> str | None:
         return None if console.end() == 0 else "it goes on without an editor"
 
 
+def killed_fault(program: str, seconds: float) -> str | None:
+    """Where what stands between is killed while a run goes on, the adapter ends too."""
+    with tempfile.TemporaryDirectory(prefix="dap-") as place:
+        folder = pathlib.Path(place).resolve()
+        shutil.copy(FOLDER / "forever.ssa", folder)
+        console = Console(program, seconds, folder)
+        console.begin("forever.ssa", history=1000)
+        console.answer("continue", {"threadId": 1})
+        known = console.process.pid
+        children = pathlib.Path(f"/proc/{known}/task/{known}/children").read_text().split()
+        console.kill()
+        end = time.monotonic() + GONE
+        while time.monotonic() < end and any(pathlib.Path(f"/proc/{child}").exists() for child in children):
+            time.sleep(0.05)
+        left = [child for child in children if pathlib.Path(f"/proc/{child}").exists()]
+        return None if children and not left else f"{left or 'no adapter'} of {children}"
+
+
 def cases() -> Iterator[tuple[str, Callable[..., str | None], tuple[str, ...]]]:
     for name in CASES:
         yield name, fault_of, (name,)
@@ -227,3 +247,4 @@ def cases() -> Iterator[tuple[str, Callable[..., str | None], tuple[str, ...]]]:
         yield f"session {path.stem}", session_fault, (path.stem,)
     yield "bytes", wire_fault, ()
     yield "the editor goes away", ended_fault, ()
+    yield "it is killed while a run goes on", killed_fault, ()
