@@ -10,7 +10,6 @@ import pathlib
 import random
 from typing import Callable, Iterator
 
-from hostile_tests.programs import random_program
 from page.gathering import Gathering
 from page.table import Table
 from terminal.answers import read_output
@@ -22,6 +21,7 @@ from ..following import Follower
 from ..heap import roles_of
 from ..kinds import DEFAULT
 from ..shadow import PART_BITS
+from .chance import random_files
 from .texts import TEXTS
 
 TOP = pathlib.Path(__file__).resolve().parent.parent.parent
@@ -117,13 +117,8 @@ def texts_fault(program: str) -> str | None:
 
 def random_fault(program: str, place: pathlib.Path) -> str | None:
     filled = 0
-    for number in range(PROGRAMS):
-        text, arguments = random_program(random.Random(f"filled {number}"))
-        source = text if isinstance(text, bytes) else text.encode()
-        file = place / f"filled-{number}.ssa"
-        file.write_bytes(source)
-        fault, count = run_fault(program, file, source, list(map(str, arguments)), str(number))
-        file.unlink()
+    for number, file, source, words in random_files(place, "filled", PROGRAMS):
+        fault, count = run_fault(program, file, source, words, str(number))
         if fault:
             return f"random program {number}: {fault}"
         filled += count

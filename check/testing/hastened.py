@@ -4,10 +4,8 @@ without, for all texts, examples and stories, and random programs.
 from __future__ import annotations
 
 import pathlib
-import random
 from typing import Any, Callable, Iterator
 
-from hostile_tests.programs import random_program
 from page.gathering import Gathering
 from page.table import Table
 from terminal.pipe import Pipe
@@ -18,6 +16,7 @@ from ..following import Follower
 from ..heap import roles_of
 from ..kinds import ALL, DEFAULT
 from ..shadow import Object, Part
+from .chance import random_files
 from .texts import TEXTS
 
 TOP = pathlib.Path(__file__).resolve().parent.parent.parent
@@ -97,13 +96,8 @@ def texts_fault(program: str) -> str | None:
 
 def random_fault(program: str, place: pathlib.Path) -> str | None:
     quick = 0
-    for number in range(PROGRAMS):
-        text, arguments = random_program(random.Random(f"hastened {number}"))
-        source = text if isinstance(text, bytes) else text.encode()
-        file = place / f"hastened-{number}.ssa"
-        file.write_bytes(source)
-        fault, count = run_fault(program, file, source, list(map(str, arguments)))
-        file.unlink()
+    for number, file, source, words in random_files(place, "hastened", PROGRAMS):
+        fault, count = run_fault(program, file, source, words)
         if fault:
             return f"random program {number}: {fault}"
         quick += count
