@@ -35,18 +35,22 @@ Usage: ./qrev --check FILE [ARGS..] [OPTIONS]
 
 Options:
       --entry NAME           The function that runs first [default: main]
-      --limit N              Look at N moves [default: {fast.LIMIT}]. Behind {LIMIT} only {", ".join(sorted(fast.KINDS))}
+      --limit N              Look at N moves [default: {fast.LIMIT}]. Behind {LIMIT} only \
+{", ".join(sorted(fast.KINDS))}
                              are looked for, unless --kinds names others
       --fast                 Look for these alone from the beginning: some seconds for {fast.LIMIT} moves
-      --kinds KIND,..        Look for these kinds of suspicions alone; `strict`: for the default ones and the strict ones
+      --kinds KIND,..        Look for these kinds of suspicions alone; \
+`strict`: for the default ones and the strict ones
       --heap ROLE=FUNC,..    The functions that make and free blocks of the heap, in the roles take, calloc, realloc,
                              memalign, give and look
       --no-heap              An allocator is code like any other
       --except KIND:$NAME    Not this kind for this object or function; may be given more than once
-      --format FORM          text, gnu (a line of warning for each, as compilers write it) or json (SARIF) [default: text]
+      --format FORM          text, gnu (a line of warning for each, as compilers write it) \
+or json (SARIF) [default: text]
 
 The status is {NONE} if there is no suspicion, {SOME} if there are some, {FAULT} if there is none but the run ends by a
-fault, {TOO_LONG} if there is none up to the limit, {REFUSED} if the program is refused, {UNREAD} if it can't be read, 64 for a
+fault, {TOO_LONG} if there is none up to the limit, {REFUSED} if the program is refused, {UNREAD} if it can't be read, \
+64 for a
 bad command line. The kinds are in docs/CHECKING.md.
 """
 
@@ -196,7 +200,8 @@ def checked(programs: Programs, asked: Asked, place: pathlib.Path, out: TextIO) 
         return refused(pipe, asked, source)
     try:
         table = table_of(Program(source))
-        outcome = found_fast(programs, launch, table, asked) if asked.is_fast else found_fully(programs, launch, table, asked)
+        find = found_fast if asked.is_fast else found_fully
+        outcome = find(programs, launch, table, asked)
     except (TooLong, fast.Failed) as error:
         print(f"qrev: {asked.file}: {error}", file=sys.stderr)
         return UNREAD
@@ -228,7 +233,8 @@ def found_fully(programs: Programs, launch: Launch, table: Table, asked: Asked) 
 
 
 def gone_on(outcome: Outcome, checker: str, launch: Launch, table: Table, asked: Asked) -> Outcome:
-    """With what the fast pass tells of the same run beyond: other places, and how often it came at those that are known."""
+    """With what the fast pass tells of the same run beyond: other places, and how often it came at those that are
+    known."""
     further = fast_outcome(checker, launch, table, asked)
     known = {(each.function, each.label, each.index, each.kind): each for each in outcome.found}
     for each in further.found:

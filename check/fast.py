@@ -1,4 +1,5 @@
-"""The fast pass: four kinds of suspicions of a long run, told by a program of its own, and the lines of the text with them.
+"""The fast pass: four kinds of suspicions of a long run, told by a program of its own, and the lines of the text with
+them.
 
 `qrev-check` tells a suspicion by its place, and knows nothing of lines and of how an instruction is written.
 """

@@ -9,7 +9,7 @@ from itertools import islice
 from typing import Iterator
 
 from page.table import Table
-from terminal.text import ALLOCATIONS, EXTENSIONS, LOADED, STORED, Function, Instruction, Operand
+from terminal.text import ALLOCATIONS, EXTENSIONS, LOADED, STORED, Instruction, Operand
 
 from . import shadow as rules
 from .frame import Frame, HeapCall
@@ -169,7 +169,8 @@ class Follower:
 
     # What is noted.
 
-    def note(self, kind: str, text: str, meant: Object | None = None, at: int | None = None, here: int | None = None) -> None:
+    def note(self, kind: str, text: str, meant: Object | None = None, at: int | None = None,
+             here: int | None = None) -> None:
         if kind not in self.kinds:
             return
         here = self.here if here is None else here
@@ -190,7 +191,8 @@ class Follower:
             return False
         origin = read.shadow.origin
         told = read.name or "it"
-        self.note("extension" if origin and origin.is_call else "undef", f"{what} {told}, of which {bits_told(bits)}{origin_told(origin)}")
+        self.note("extension" if origin and origin.is_call else "undef",
+                  f"{what} {told}, of which {bits_told(bits)}{origin_told(origin)}")
         if read.name:
             self.frames[-1].shadows[read.name] = rules.shadow_of(self.frames[-1].shadows[read.name].made)
         return True
@@ -232,7 +234,8 @@ class Follower:
         elif made is MIXED:
             thing = self.objects.at(address, not self.heap_depth)
             if thing is None or not thing.contains(address, count):
-                self.note("stray", f"{what} through {address}, which is made of more than one address{self.landing(address)}")
+                self.note("stray",
+                          f"{what} through {address}, which is made of more than one address{self.landing(address)}")
         else:
             self.note("cut", f"{what} through {address}, an address of which 32 bits were taken{self.landing(address)}")
         if is_store:
@@ -243,10 +246,14 @@ class Follower:
     def look_at_object(self, thing: Object, address: int, count: int, what: str) -> None:
         if thing.died is not None:
             kind = "freed" if thing.kind == "block" else "stale"
-            self.note(kind, f"{what} {distance_told(thing, address, count)} {object_told(thing)}{self.landing(address)}", thing)
+            self.note(kind,
+                      f"{what} {distance_told(thing, address, count)} {object_told(thing)}{self.landing(address)}",
+                      thing)
         elif thing.is_code or not thing.contains(address, count):
             outside = address if not thing.contains(address, 1) else max(address, thing.end)
-            self.note("bounds", f"{what} {distance_told(thing, address, count)} {object_told(thing)}{self.landing(outside)}", thing)
+            self.note("bounds",
+                      f"{what} {distance_told(thing, address, count)} {object_told(thing)}{self.landing(outside)}",
+                      thing)
 
     def look_at_store(self, made: object, address: int, count: int, what: str) -> None:
         """A store into what is read-only: through an address of it, or wherever else that lands in it."""
@@ -269,7 +276,8 @@ class Follower:
             self.use(read, "jnz of")
         made = read.shadow.made
         if isinstance(made, Part) and made.first == 0:
-            self.note("half", f"jnz of {read.name or 'an address'}, of which the low half alone is looked at", made.object)
+            self.note("half", f"jnz of {read.name or 'an address'}, of which the low half alone is looked at",
+                      made.object)
 
     def look_at_division(self, operation: str, width: str, reads: list[Read]) -> None:
         self.use(reads[1], f"the divisor of {operation} is", MASK[width])
@@ -313,7 +321,9 @@ class Follower:
                     self.note("call-types", f"{operand.type} is passed as the {kind} that {name} wants")
         for read, operand in zip(reads[1:], instruction.operands[1:]):
             if read.shadow.open == MASK["l" if operand.type == "l" else "w"]:
-                self.note("undef-value", f"{read.name or 'an argument'} is passed, all of whose bits are open{origin_told(read.shadow.origin)}")
+                self.note("undef-value",
+                          f"{read.name or 'an argument'} is passed, all of whose bits are "
+                          f"open{origin_told(read.shadow.origin)}")
 
     def look_at_built_in(self, name: str, reads: list[Read]) -> None:
         if len(reads) != 2:
@@ -336,7 +346,8 @@ class Follower:
                 return
             found, bits = self.memory.bytes(address, 1)
             if bits[0]:
-                self.note("undef", f"$puts of the byte at {address}{self.landing(address)}, of which {bits_told(bits[0])}")
+                self.note("undef",
+                          f"$puts of the byte at {address}{self.landing(address)}, of which {bits_told(bits[0])}")
             if not found[0]:
                 return
             address += 1
@@ -435,10 +446,12 @@ class Follower:
         given = [self.read(operand) for operand in instruction.operands[1:]]
         if name in self.program.built_in:
             if instruction.result:
-                self.set(instruction, rules.fitted(SET, instruction.type or "w", self.position, f"given back by {name}"), values)
+                self.set(instruction,
+                         rules.fitted(SET, instruction.type or "w", self.position, f"given back by {name}"), values)
             return
         function = self.program.functions[name]
-        frame = Frame(function, {}, {}, len(self.objects.slots), self.memory.top, instruction, self.table.places[self.here])
+        frame = Frame(function, {}, {}, len(self.objects.slots), self.memory.top, instruction,
+                      self.table.places[self.here])
         for name_of in dict.fromkeys(name_of for _, name_of in function.parameters):
             frame.values[name_of] = next(values)
         for read, operand, (kind, name_of) in zip(given, instruction.operands[1:], function.parameters):
@@ -461,9 +474,12 @@ class Follower:
         if reads:
             read = self.read(instruction.operands[0]) or reads[0]
             if read.shadow.open == MASK["l" if frame.function.type == "l" else "w"]:
-                self.note("undef-value", f"{read.name or 'a value'} is given back, all of whose bits are open{origin_told(read.shadow.origin)}")
+                self.note("undef-value",
+                          f"{read.name or 'a value'} is given back, all of whose bits are "
+                          f"open{origin_told(read.shadow.origin)}")
             told = f"given back by {frame.function.name}"
-            shadow = rules.fitted(read.shadow, frame.function.type or "w", self.position, f"{told} as {frame.function.type}")
+            shadow = rules.fitted(read.shadow, frame.function.type or "w", self.position,
+                                  f"{told} as {frame.function.type}")
         if frame.function.name in self.heap:
             self.heap_depth -= 1
         self.frames.pop()
@@ -480,7 +496,8 @@ class Follower:
             return
         kind = call.type or "w"
         caller.values[call.result] = value
-        caller.shadows[call.result] = rules.fitted(shadow, kind, self.position, f"given back by {frame.function.name} as {kind}")
+        caller.shadows[call.result] = rules.fitted(shadow, kind, self.position,
+                                                   f"given back by {frame.function.name} as {kind}")
 
     def end_heap_call(self, frame: Frame, heap: HeapCall, result: int, shadow: Shadow) -> Shadow:
         """What a call of the heap has given or ended; the shadow of its result."""
@@ -518,7 +535,8 @@ class Follower:
     def look_at_end(self) -> None:
         if "leak" in self.kinds:
             for block in self.objects.blocks:
-                self.note("leak", f"{object_told(block)} lives when the run ends", block, block.born, self.block_places.get(block))
+                self.note("leak", f"{object_told(block)} lives when the run ends", block, block.born,
+                          self.block_places.get(block))
 
     def suspicions(self) -> list[Suspicion]:
         return sorted(self.found.values(), key=lambda each: (each.position, each.kind))

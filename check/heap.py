@@ -4,8 +4,8 @@ from __future__ import annotations
 from terminal.text import Function, Program
 
 # A role, and the classes of the parameters and of the result that a function in it has; None: it may give anything.
-SHAPES = {"take": (("l",), "l"), "calloc": (("l", "l"), "l"), "realloc": (("l", "l"), "l"), "memalign": (("l", "l"), "l"),
-          "give": (("l",), None), "look": (("l",), "l")}
+SHAPES = {"take": (("l",), "l"), "calloc": (("l", "l"), "l"), "realloc": (("l", "l"), "l"),
+          "memalign": (("l", "l"), "l"), "give": (("l",), None), "look": (("l",), "l")}
 GIVERS = frozenset(("take", "calloc", "realloc", "memalign"))
 NAMES = {"malloc": "take", "calloc": "calloc", "realloc": "realloc", "free": "give", "aligned_alloc": "memalign",
          "memalign": "memalign", "malloc_usable_size": "look"}

@@ -15,7 +15,8 @@ ByteMade = Made | CutByte
 
 
 class Objects:
-    """All objects that live, by their addresses: data, slots in the order in which they were made, blocks of the heap."""
+    """All objects that live, by their addresses: data, slots in the order in which they were made, blocks of the
+    heap."""
 
     def __init__(self, program: Program):
         self.code = {address: Object("function", name, address, 0) for name, address in program.addresses.items()
@@ -81,7 +82,8 @@ class Memory:
                     self.made[item.address + offset + place] = Part(objects.named[name], place)
 
     def is_live(self, address: int, count: int) -> bool:
-        return DATA <= address and address + count <= DATA + len(self.data) or STACK <= address and address + count <= self.top
+        return DATA <= address and address + count <= DATA + len(self.data) or STACK <= address and \
+            address + count <= self.top
 
     def held(self, address: int) -> tuple[bytearray, bytearray, int]:
         """The bytes around a live address, their open bits, and where the first of them lies."""
@@ -164,8 +166,8 @@ def loaded_made(bytes_made: list[ByteMade], count: int, width: str) -> Made:
     first = bytes_made[0]
     if all(each is NUMBER for each in bytes_made):
         return NUMBER
-    if isinstance(first, Part) and all(isinstance(each, Part) and each.object is first.object and each.first == first.first + place
-                                       for place, each in enumerate(bytes_made)):
+    if isinstance(first, Part) and all(isinstance(each, Part) and each.object is first.object
+                                       and each.first == first.first + place for place, each in enumerate(bytes_made)):
         return first.object if count == 8 and first.first == 0 else first
     if count == 8 and all(isinstance(each, CutByte) and each.place == place for place, each in enumerate(bytes_made)):
         return CUT

@@ -1,7 +1,8 @@
 """What a value is made of, and which of its bits are open: the rules by which instructions pass both on.
 
-Beside each value stands a shadow. It says which address went into the value, if one did, and which bits nothing has set, with
-the move that brought these in. The shadow of a value never changes the value: the run is the same with and without.
+Beside each value stands a shadow. It says which address went into the value, if one did, and which bits nothing has
+set, with the move that brought these in. The shadow of a value never changes the value: the run is the same with and
+without.
 """
 from __future__ import annotations
 
@@ -78,7 +79,8 @@ SET = Shadow(NUMBER)
 
 
 def shadow_of(made: Made, bits: int = 0, origin: Origin | None = None) -> Shadow:
-    """The shadow of a value: `SET` itself for a set one that is made of numbers, so that this can be seen at a glance."""
+    """The shadow of a value: `SET` itself for a set one that is made of numbers, so that this can be seen at a
+    glance."""
     if made is NUMBER and not bits:
         return SET
     return Shadow(made, bits, origin if bits else None)
@@ -104,8 +106,8 @@ def plain(made: Made) -> Made:
 # ---- what it is made of
 
 def made_by(operation: str, width: str, a: Made, b: Made, value: int, is_same: bool) -> Made:
-    """What the result of an operation on two values is made of. The value is that of the one that is made of numbers, if just one
-    is; `is_same` says that both are one temporary."""
+    """What the result of an operation on two values is made of. The value is that of the one that is made of numbers,
+    if just one is; `is_same` says that both are one temporary."""
     if operation[0] == "c":
         return NUMBER
     if is_same and operation in ("xor", "sub"):
@@ -207,7 +209,8 @@ def open_of_comparison(relation: str, a: int, oa: int, b: int, ob: int, width: s
     """Whether the bits that are set leave a comparison open."""
     if relation in ("eq", "ne"):
         return int(not (a ^ b) & ~(oa | ob) & MASK[width])
-    (a_least, a_most), (b_least, b_most) = (bounds(value, bits, width, relation[0] == "s") for value, bits in ((a, oa), (b, ob)))
+    (a_least, a_most), (b_least, b_most) = (bounds(value, bits, width, relation[0] == "s") for value,
+                                            bits in ((a, oa), (b, ob)))
     kind = relation[1:]
     if kind in ("gt", "ge"):
         a_least, a_most, b_least, b_most = b_least, b_most, a_least, a_most
@@ -219,7 +222,8 @@ def open_of_comparison(relation: str, a: int, oa: int, b: int, ob: int, width: s
 
 
 def open_by(operation: str, width: str, a: int, oa: int, b: int, ob: int, is_same: bool) -> int:
-    """The open bits of the result of an operation on two values, of which one has open bits. The width is that of the operands."""
+    """The open bits of the result of an operation on two values, of which one has open bits. The width is that of the
+    operands."""
     if is_same and (operation in ("sub", "xor") or operation[0] == "c"):
         return 0
     mask = MASK[width]

@@ -13,6 +13,6 @@ def table_of(program: Program) -> Table:
     for function in program.functions.values():
         for name in function.temporaries:
             if len(name) > MOST_NAME:
-                raise TooLong(f"line {function.line}: {name[:20]}.. has a name of {len(name)} bytes, and a value can be asked for by "
-                              f"one of at most {MOST_NAME}")
+                raise TooLong(f"line {function.line}: {name[:20]}.. has a name of {len(name)} bytes, and a value can "
+                              f"be asked for by one of at most {MOST_NAME}")
     return Table(program)

@@ -1,4 +1,5 @@
-"""What is told of a suspicion: the lines for a reader, and the same for editors (as gcc writes it) and machines (SARIF)."""
+"""What is told of a suspicion: the lines for a reader, and the same for editors (as gcc writes it) and machines
+(SARIF)."""
 from __future__ import annotations
 
 import json
@@ -28,7 +29,8 @@ class Suspicion:
     def lines(self, source: str = "") -> list[str]:
         times = f"  ({self.count} times)" if self.count > 1 else ""
         return [f"#{self.position} {self.function} {self.label} {self.index}  line {self.instruction.line}: "
-                f"{self.instruction.written()}" + (f"  ({source})" if source else ""), f"  {self.kind}: {self.text}{times}"]
+                f"{self.instruction.written()}" + (f"  ({source})" if source else ""),
+                f"  {self.kind}: {self.text}{times}"]
 
 
 def counted(number: int, what: str) -> str:

@@ -10,7 +10,7 @@ import sys
 import tempfile
 import xml.etree.ElementTree as ElementTree
 import zipfile
-from typing import Iterator
+from typing import Any, Iterator
 
 sys.path.insert(0, str(pathlib.Path(__file__).resolve().parent.parent / "tests"))
 
@@ -21,13 +21,16 @@ ADAPTER = TOP / "release" / "qrev-dap-x86_64-linux"
 SCHEMA = "{http://schemas.microsoft.com/developer/vsx-schema/2011}"
 TYPES = "{http://schemas.openxmlformats.org/package/2006/content-types}"
 # What a manifest of an extension may have, of what VS Code's reference on manifests and on contributions names.
-MEMBERS = set("name displayName description version publisher private engines categories main activationEvents contributes".split())
-CONTRIBUTED = {"languages": {"id", "aliases", "extensions", "configuration"}, "grammars": {"language", "scopeName", "path"},
+MEMBERS = set("name displayName description version publisher private engines categories main activationEvents "
+              "contributes".split())
+CONTRIBUTED = {"languages": {"id", "aliases", "extensions", "configuration"},
+               "grammars": {"language", "scopeName", "path"},
                "breakpoints": {"language"}, "commands": {"command", "title", "category", "icon"},
                "keybindings": {"command", "key", "when"},
-               "debuggers": {"type", "label", "languages", "program", "configurationAttributes", "initialConfigurations",
-                             "configurationSnippets"}}
-MENUS = {"editor/title/run", "editor/title", "editor/context", "debug/toolBar", "debug/variables/context", "commandPalette"}
+               "debuggers": {"type", "label", "languages", "program", "configurationAttributes",
+                             "initialConfigurations", "configurationSnippets"}}
+MENUS = {"editor/title/run", "editor/title", "editor/context", "debug/toolBar", "debug/variables/context",
+         "commandPalette"}
 
 
 def made(folder: str, name: str) -> bytes:
@@ -36,7 +39,7 @@ def made(folder: str, name: str) -> bytes:
     return file.read_bytes()
 
 
-def faults(seconds: float) -> Iterator[object]:
+def faults(seconds: float) -> Iterator[str | Skipped | None]:
     """A fault of the package, None for each thing that is as it must be, or a test that is skipped."""
     with tempfile.TemporaryDirectory(prefix="vsix-") as folder:
         yield None if made(folder, "a.vsix") == made(folder, "b.vsix") else "vsix: equal files give other bytes"
@@ -62,29 +65,37 @@ def form_faults(package: zipfile.ZipFile) -> Iterator[str | None]:
     told = ElementTree.fromstring(package.read("extension.vsixmanifest"))
     identity = told.find(f"{SCHEMA}Metadata/{SCHEMA}Identity")
     manifest = json.loads(package.read("extension/package.json"))
-    version = re.search(r"(?m)^## ([0-9.]+)", (TOP / "CHANGELOG.md").read_text())[1]
+    version = re.search(r"(?m)^## ([0-9.]+)", (TOP / "CHANGELOG.md").read_text())
+    assert identity is not None and version
     said = [identity.get(name) for name in ("Id", "Publisher", "Version", "TargetPlatform")]
-    yield None if said == [manifest["name"], manifest["publisher"], version, "linux-x64"] and manifest["version"] == version else \
-        f"vsix: {said} and {manifest['version']} for version {version}"
-    assets = {each.get("Type").rpartition(".")[2]: each.get("Path") for each in told.iter(f"{SCHEMA}Asset")}
-    yield None if assets.get("Manifest") == "extension/package.json" and set(assets.values()) <= set(names) else f"vsix: assets {assets}"
-    target = told.find(f"{SCHEMA}Installation/{SCHEMA}InstallationTarget").get("Id")
-    yield None if target == "Microsoft.VisualStudio.Code" else f"vsix: for {target}"
+    yield None if said == [manifest["name"], manifest["publisher"], version[1], "linux-x64"] and \
+        manifest["version"] == version[1] else \
+        f"vsix: {said} and {manifest['version']} for version {version[1]}"
+    assets = {each.get("Type", "").rpartition(".")[2]: each.get("Path") for each in told.iter(f"{SCHEMA}Asset")}
+    yield None if assets.get("Manifest") == "extension/package.json" and set(assets.values()) <= set(names) else \
+        f"vsix: assets {assets}"
+    target = told.find(f"{SCHEMA}Installation/{SCHEMA}InstallationTarget")
+    host = None if target is None else target.get("Id")
+    yield None if host == "Microsoft.VisualStudio.Code" else f"vsix: for {host}"
     adapter = package.getinfo("extension/qrev/release/qrev-dap-x86_64-linux")
-    rights = [package.getinfo(name).external_attr >> 16 & 0o777 for name in (adapter.filename, "extension/qrev-dap", "extension/qrev/qrev-dap")]
+    rights = [package.getinfo(name).external_attr >> 16 & 0o777
+              for name in (adapter.filename, "extension/qrev-dap", "extension/qrev/qrev-dap")]
     yield None if package.read(adapter) == ADAPTER.read_bytes() and rights == [0o755] * 3 else \
-        f"vsix: the adapter isn't the released one, or it and what starts it have the rights {[oct(each) for each in rights]}"
+        f"vsix: the adapter isn't the released one, or it and what starts it have the rights " \
+        f"{[oct(each) for each in rights]}"
 
 
-def manifest_faults(manifest: dict, names: list[str]) -> Iterator[str | None]:
+def manifest_faults(manifest: dict[str, Any], names: list[str]) -> Iterator[str | None]:
     """The manifest of the extension, by what VS Code's reference says that it may have."""
     given = manifest["contributes"]
     yield None if set(manifest) <= MEMBERS else f"vsix: members {set(manifest) - MEMBERS}"
-    wrong = [(kind, set(each) - CONTRIBUTED[kind]) for kind in CONTRIBUTED for each in given[kind] if set(each) - CONTRIBUTED[kind]]
+    wrong = [(kind, set(each) - CONTRIBUTED[kind]) for kind in CONTRIBUTED for each in given[kind]
+             if set(each) - CONTRIBUTED[kind]]
     yield f"vsix: {wrong}" if wrong else None
     yield None if set(given) == {*CONTRIBUTED, "menus", "configuration"} and set(given["menus"]) <= MENUS else \
         f"vsix: contributes {sorted(given)}, menus {sorted(given['menus'])}"
-    files = [manifest["main"], given["languages"][0]["configuration"], given["grammars"][0]["path"], given["debuggers"][0]["program"]]
+    files = [manifest["main"], given["languages"][0]["configuration"], given["grammars"][0]["path"],
+             given["debuggers"][0]["program"]]
     absent = [file for file in files if f"extension/{file.removeprefix('./')}" not in names]
     yield f"vsix: {absent} aren't in it" if absent else None
     yield None if re.fullmatch(r"\^\d+\.\d+\.\d+", manifest["engines"]["vscode"]) else f"vsix: {manifest['engines']}"
@@ -93,11 +104,11 @@ def manifest_faults(manifest: dict, names: list[str]) -> Iterator[str | None]:
     yield f"vsix: it isn't started by {missing}" if missing else None
 
 
-def code_fault(folder: str, seconds: float) -> object:
+def code_fault(folder: str, seconds: float) -> str | Skipped | None:
     """What the extension's code does otherwise than it must, with a stand-in for VS Code's module."""
     if not shutil.which("node"):
         return Skipped("node")
-    run = subprocess.run(["node", str(TOP / "editors" / "vscode-test.js"), folder, str(SQUARES)], capture_output=True, text=True,
-                         timeout=4 * seconds)
+    run = subprocess.run(["node", str(TOP / "editors" / "vscode-test.js"), folder, str(SQUARES)], capture_output=True,
+                         text=True, timeout=4 * seconds)
     return None if run.returncode == 0 and re.search(r"^[1-9]\d* passed, 0 failed$", run.stdout, re.MULTILINE) else \
         f"vsix: {run.stdout}{run.stderr}"

@@ -14,8 +14,8 @@ from typing import Any
 
 STATIC = pathlib.Path(__file__).resolve().parent / "static"
 # In the order in which each finds what it wants of the others.
-MODULES = ("program.js", "run.js", "memory.js", "causes.js", "ghost.js", "element.js", "source.js", "plot.js", "bands.js",
-           "timeline.js",
+MODULES = ("program.js", "run.js", "memory.js", "causes.js", "ghost.js", "element.js", "source.js", "plot.js",
+           "bands.js", "timeline.js",
            "code.js", "values.js", "tree.js", "cells.js", "output.js", "agreed.js", "keys.js", "app.js")
 STYLES, PAGE = "page.css", "index.html"
 IMPORT = re.compile(r"^import [^;]*;\n", re.MULTILINE)
@@ -53,10 +53,12 @@ def exported(told: dict[str, Any], streams: list[bytes]) -> str:
     run = "\n".join([packed(json.dumps(told).encode()), *map(packed, streams)])
     policy = POLICY.format(sum_of(code), sum_of(styles))
     return replaced(page, {
-        '<meta charset="utf-8">': f'<meta charset="utf-8">\n<meta http-equiv="Content-Security-Policy" content="{policy}">',
+        '<meta charset="utf-8">': f'<meta charset="utf-8">\n<meta http-equiv="Content-Security-Policy" '
+                                  f'content="{policy}">',
         f'<link rel="stylesheet" href="{STYLES}">': f"<style>{styles}</style>",
         '<script type="module" src="app.js"></script>':
-            f'<script type="application/octet-stream" id="run">\n{run}\n</script>\n<script type="module">{code}</script>'})
+            f'<script type="application/octet-stream" id="run">\n{run}\n</script>\n<script '
+            f'type="module">{code}</script>'})
 
 
 def replaced(page: str, parts: dict[str, str]) -> str:

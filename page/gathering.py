@@ -1,8 +1,8 @@
 """A run as arrays: the place of each state, and each value that a move set.
 
-One process of the debugger makes the moves one by one and tells the places. A second follows it, and is asked for the values
-that these places tell to have been set. Both keep no history. What they tell comes in parts, each behind a letter and its
-number of bytes, which the page reads while the rest is gathered:
+One process of the debugger makes the moves one by one and tells the places. A second follows it, and is asked for the
+values that these places tell to have been set. Both keep no history. What they tell comes in parts, each behind a
+letter and its number of bytes, which the page reads while the rest is gathered:
 
     B  how the run begins: its position, frames, temporaries, pokes        (JSON)
     D  the bytes of the data, and of the stack, in the first state

@@ -1,7 +1,7 @@
 """What the server holds: the session that the page leads, and the arrays of its run.
 
-Whatever the page does to the session is a line of the command language, and is kept. At each rest of its cursor the page is
-told what the session answers there, and compares that with what it shows.
+Whatever the page does to the session is a line of the command language, and is kept. At each rest of its cursor the
+page is told what the session answers there, and compares that with what it shows.
 """
 from __future__ import annotations
 
@@ -80,7 +80,8 @@ class Held:
 
     def told(self) -> dict[str, Any]:
         """The program as the page reads it, and the command that plays its script."""
-        return {**self.table.told(self.title, self.origins, self.lowering), "command": self.command(), "long": self.long is not None}
+        return {**self.table.told(self.title, self.origins, self.lowering), "command": self.command(),
+                "long": self.long is not None}
 
     @property
     def title(self) -> str:
@@ -108,7 +109,8 @@ class Held:
         return tuple(Poke(position, line) for position, line in sorted(self.gathering.pokes.items()))
 
     def go(self, position: int) -> dict[str, Any]:
-        """Leads the session to a state of the run that is shown, by steps and the pokes that were made on the way there."""
+        """Leads the session to a state of the run that is shown, by steps and the pokes that were made on the way
+        there."""
         self.session.go(Timeline(position, self.shown_pokes()).at(position))
         return self.answered()
 

@@ -38,9 +38,9 @@ class Pair:
         return int(found.group(1)) if found else None
 
     def told(self) -> dict[str, Any]:
-        return {"head": self.head, "number": self.number, "kinds": self.kinds, "none": list(NO_EVENT), "sides": [{"name": side, "event": self.events.get(side, ""),
-                                              "at": self.positions.get(side)}
-                                             for side in SIDES]}
+        return {"head": self.head, "number": self.number, "kinds": self.kinds, "none": list(NO_EVENT),
+                "sides": [{"name": side, "event": self.events.get(side, ""), "at": self.positions.get(side)}
+                          for side in SIDES]}
 
 
 def compared(program: str, words: Sequence[str]) -> Pair:

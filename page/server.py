@@ -1,7 +1,7 @@
 """The server of the page: on this machine alone, for one page, behind a token in the path.
 
-All that comes from the page is looked at before anything is done: where it is from, its token, its size, its shape. What is
-sent to the page is never markup: names, output and text are data.
+All that comes from the page is looked at before anything is done: where it is from, its token, its size, its shape.
+What is sent to the page is never markup: names, output and text are data.
 """
 from __future__ import annotations
 
@@ -25,8 +25,9 @@ TOKEN_BYTES = 16
 MOST_BODY = 1 << 16
 TYPES = {".html": "text/html; charset=utf-8", ".css": "text/css; charset=utf-8",
          ".js": "text/javascript; charset=utf-8"}
-POLICY = ("default-src 'none'; script-src 'self'; style-src 'self'; connect-src 'self'; img-src data:; base-uri 'none'; "
-          "form-action 'none'; frame-src {}; frame-ancestors {}; require-trusted-types-for 'script'")
+POLICY = (
+    "default-src 'none'; script-src 'self'; style-src 'self'; connect-src 'self'; img-src data:; base-uri 'none'; "
+    "form-action 'none'; frame-src {}; frame-ancestors {}; require-trusted-types-for 'script'")
 HEADERS = (("Cache-Control", "no-store"), ("X-Content-Type-Options", "nosniff"),
            ("Referrer-Policy", "no-referrer"), ("Cross-Origin-Resource-Policy", "same-origin"),
            ("Cross-Origin-Opener-Policy", "same-origin"))

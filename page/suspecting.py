@@ -26,5 +26,6 @@ def suspicions_of(gathering: Gathering) -> list[dict[str, Any]]:
     data = next(part[5:] for part in gathering.parts if part[:1] == b"D")
     follower = Follower(gathering.table, data, DEFAULT, roles_of(program, None), pokes=gathering.pokes)
     follower.follow(list(gathering.places), iter(gathering.values))
-    return [{"position": each.position, "line": each.instruction.line, "kind": each.kind, "text": each.text, "count": each.count}
+    return [{"position": each.position, "line": each.instruction.line, "kind": each.kind, "text": each.text,
+             "count": each.count}
             for each in follower.suspicions()]

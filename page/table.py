@@ -1,7 +1,7 @@
 """The places and temporaries of a program by numbers, and which temporaries a move sets.
 
-The page reads a run as arrays of these numbers. Two places that follow each other tell what the move between them set: the
-instruction's result, the phis behind a jump, the parameters behind a call, the caller's temporary behind a `ret`.
+The page reads a run as arrays of these numbers. Two places that follow each other tell what the move between them set:
+the instruction's result, the phis behind a jump, the parameters behind a call, the caller's temporary behind a `ret`.
 page/static/run.js works out the same from the same numbers, so only the values are sent.
 """
 from __future__ import annotations
@@ -100,8 +100,8 @@ class Table:
         return (result,) if result else ()
 
     def told(self, file: str, origins: Origins | None = None, lowering: Lowering | None = None) -> dict[str, Any]:
-        """The program as the page reads it: lines, functions with their blocks, data, addresses, where lines come from, and what the
-        names of a lowered text stand for."""
+        """The program as the page reads it: lines, functions with their blocks, data, addresses, where lines come from,
+        and what the names of a lowered text stand for."""
         program = self.program
         return {
             "lowered": lowering.told(self) if lowering else None,

@@ -1,8 +1,10 @@
-"""A run that is too long for arrays: an overview of whole stacks at equal distances, and windows of some thousand moves.
+"""A run that is too long for arrays: an overview of whole stacks at equal distances, and windows of some thousand
+moves.
 
-The overview is made by one process that runs to the end, and drawn while it comes. A process goes in some
-milliseconds, back and forward, to any position that it has been at, and beyond that at the speed of a run. So one that has been
-at the end gathers all windows, and another is led to the end in the background, for when the first was sent as much as it reads.
+The overview is made by one process that runs to the end, and drawn while it comes. A process goes in some milliseconds,
+back and forward, to any position that it has been at, and beyond that at the speed of a run. So one that has been at
+the end gathers all windows, and another is led to the end in the background, for when the first was sent as much as it
+reads.
 """
 from __future__ import annotations
 
@@ -98,7 +100,8 @@ def replaying(launch: Launch) -> Pipe:
 
 
 class Pool:
-    """Processes that stand somewhere in the run, each free for the next window: where it stands, and how far it has been."""
+    """Processes that stand somewhere in the run, each free for the next window: where it stands, and how far it has
+    been."""
 
     def __init__(self, launch: Launch, overview: Overview):
         self.launch, self.overview = launch, overview
@@ -107,8 +110,8 @@ class Pool:
         self.lock = threading.Lock()
 
     def take(self, base: int) -> tuple[int, int, Pipe]:
-        """The process that is soonest at a position, where it stands and how far it has been. Of several one is used up before the
-        next."""
+        """The process that is soonest at a position, where it stands and how far it has been. Of several one is used up
+        before the next."""
         def cost(been: int) -> float:
             return JUMP if been >= base else JUMP + (base - been) * FORWARD
         with self.lock:

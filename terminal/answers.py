@@ -87,8 +87,8 @@ def read_output(line: str) -> bytes:
 
 # What a refusal's code means: docs/LANGUAGE.md, "Refusals" and "Rules".
 REFUSALS = {
-    "L1": "a stray byte", "L2": "a sigil without a name", "L3": "a number out of range", "L4": "a string without an end",
-    "L5": "an escape that isn't known; octal ones are", "L6": "more than 2^20 bytes",
+    "L1": "a stray byte", "L2": "a sigil without a name", "L3": "a number out of range",
+    "L4": "a string without an end", "L5": "an escape that isn't known; octal ones are", "L6": "more than 2^20 bytes",
     "P1": "not in the grammar here", "P2": "a part of QBE's language that is left out here; `./qrev --lower` takes it",
     "P3": "the text ends too early", "P4": "the last block has no jump", "C1": "a global that is defined twice",
     "C2": "a label that is defined twice",

@@ -26,10 +26,10 @@ CHANGES = (*MOVES, "break", "watch", "delete")
 @command("why", "why [--inside] [%x | WIDTH ADDRESS | N ADDRESS | out N | jump | call | not @b | N | back]", "watch")
 def why(shell: Shell, rest: str) -> None:
     """Says where a value comes from: the instruction that set it, with its operands; `why N` asks on about the N-th of
-    them, `why back` comes back. Alone it is about the end of the run or, before that, about how the run came here.
-    `why out N` is about a byte of the output (the first is 0), `why jump` and `why call` about how control came here,
-    `why not @b` about why it didn't come to a block. `goto why` takes the session there. A function of the runtime counts as one
-    instruction; `--inside` looks into it."""
+    them, `why back` comes back. Alone it is about the end of the run or, before that, about how the run came here. `why
+    out N` is about a byte of the output (the first is 0), `why jump` and `why call` about how control came here, `why
+    not @b` about why it didn't come to a block. `goto why` takes the session there. A function of the runtime counts as
+    one instruction; `--inside` looks into it."""
     words = [word for word in rest.split() if word != INSIDE]
     shell.causes.is_inside = INSIDE in rest.split()
     rest = " ".join(words)
@@ -80,7 +80,8 @@ def asked(shell: Shell, words: list[str], rest: str) -> Cause:
             raise Wrong(f"{words[0]}: from 1 to {MOST_BYTES_ASKED} bytes were expected")
         width = words[0] if words[0] in FLOATS else ""
         return causes.of(causes.memory(shell.number(rest.partition(words[0])[2]), count, at, width))
-    raise Wrong(f"{rest}: %TEMPORARY, WIDTH ADDRESS, N ADDRESS, out N, jump, call, not @b, back or a number was expected")
+    raise Wrong(
+        f"{rest}: %TEMPORARY, WIDTH ADDRESS, N ADDRESS, out N, jump, call, not @b, back or a number was expected")
 
 
 def of_output(shell: Shell, text: str) -> Cause:
@@ -151,7 +152,8 @@ def readers(shell: Shell, rest: str) -> None:
 
 @command("writers", "writers [WIDTH | N] ADDRESS", "expression", is_repeated=False)
 def writers(shell: Shell, rest: str) -> None:
-    """Lists all stores, blits and pokes of the run that wrote there, also those that changed nothing, with positions."""
+    """Lists all stores, blits and pokes of the run that wrote there, also those that changed nothing, with
+    positions."""
     accesses(shell, rest, True)
 
 
@@ -303,4 +305,3 @@ def transcript_difference(file: str, answers: list[str]) -> list[str]:
         if now != before:
             return [f"{path.name} line {number}: now {now or 'the end'}, recorded {before or 'the end'}"]
     return [f"{path.name} is what the program answers"]
-

@@ -32,7 +32,8 @@ WIDTHS = {1: "b", 2: "h", 4: "w", 8: "l"}
 
 @dataclass(frozen=True)
 class Question:
-    """What can be asked of a state: `of` is temporary, memory, control, or call; the note says what it is in the list."""
+    """What can be asked of a state: `of` is temporary, memory, control, or call; the note says what it is in the
+    list."""
     of: str
     at: Timeline
     text: str = ""
@@ -116,8 +117,9 @@ class Causes:
 
     def address_told(self, value: int, width: str, at: Timeline, name: str = "", address: int = 0,
                      frame: Timeline | None = None) -> str | None:
-        """The name of an address in a state, and of what holds it: a temporary of the innermost frame, or of the one that is so in
-        another state; or eight bytes. If it was made in a slot whose frame is over, it is named by that, with what is there now."""
+        """The name of an address in a state, and of what holds it: a temporary of the innermost frame, or of the one
+        that is so in another state; or eight bytes. If it was made in a slot whose frame is over, it is named by that,
+        with what is there now."""
         found = self.frames.name(value, width, at)
         over = self.origins.over(value, frame or at, name, address) if width == "l" and (name or address) else None
         return over.long + (f"; now {found}" if found else "") if over else found
@@ -204,7 +206,8 @@ class Causes:
     def bytes_copied(self, at: Timeline, instruction: Instruction, wanted: tuple[int, int] | None) -> list[Question]:
         """What a call of memcpy or one of its kin copied to bytes that are asked about, where that is live."""
         operands = instruction.operands
-        if instruction.operation != "call" or not wanted or operands[0].text.split(".")[-1].lstrip("$") not in COPYING or \
+        if instruction.operation != "call" or not wanted or \
+                operands[0].text.split(".")[-1].lstrip("$") not in COPYING or \
                 self.lowered.is_own(operands[0].text):
             return []
         to, source = (self.operand_value(operand.text, at) for operand in operands[1:3])
@@ -225,8 +228,8 @@ class Causes:
     # Functions of the runtime, which count as instructions.
 
     def call_in_own(self, at: Timeline) -> tuple[Timeline, str]:
-        """Where the innermost frame belongs to the runtime: the state in which the program calls it, and the function that
-        it calls; else the state itself."""
+        """Where the innermost frame belongs to the runtime: the state in which the program calls it, and the function
+        that it calls; else the state itself."""
         frames = self.frames.where(at)
         if self.is_inside or self.lowered.is_own(frames[0].function):
             return at, ""
@@ -341,8 +344,9 @@ class Causes:
                         self.program.functions[function].definitions(name)}, key=lambda each: each[1])
         told = ", ".join(f"line {line} ({label})" for label, line in lines)
         question = self.control(at, self.frames.where(at)[0])
-        return Cause(at, [f"{name} is unset: nothing set it in this call of {function}, which began at #{entry.position}",
-                          f"  it is set at {told}", ASKED], [question])
+        return Cause(at,
+                     [f"{name} is unset: nothing set it in this call of {function}, which began at #{entry.position}",
+                      f"  it is set at {told}", ASKED], [question])
 
     def of_phi(self, question: Question, at: Timeline, phi: Instruction) -> Cause:
         """A phi that a jump went through: the value for the block that was left, and why that jump was taken."""
@@ -466,7 +470,7 @@ class Causes:
             data = min(self.program.data, key=lambda data: distance(number, data.address, data.size))
             return f"  the nearest data is {data.name}, of {data.size} bytes: {data.name}{number - data.address:+}"
         return f"  {address} is " + ("in the stack, above its top" if is_stack(address) else
-                                   "neither in the data nor in the stack")
+                                     "neither in the data nor in the stack")
 
     def stack_told(self, at: Timeline) -> list[str]:
         """Which allocs of the innermost frame took how much of the stack."""
@@ -474,7 +478,8 @@ class Causes:
         sites = {(label, index): instruction for label, index, instruction in self.program.functions[function].places()
                  if instruction.operation in ALLOCATIONS}
         counts = Counter(place for _, place in own_hits(self.program, self.scratch, at, function, list(sites)))
-        return [f"  this call of {function} has made by line {instruction.line}: {instruction.written()}: {counts[place]}"
+        return [f"  this call of {function} has made by line {instruction.line}: {instruction.written()}: "
+                f"{counts[place]}"
                 for place, instruction in sites.items()]
 
     def of_output(self, number: int, at: Timeline) -> Cause:
@@ -490,7 +495,8 @@ class Causes:
         shown = shown_bytes(written[number:number + 1])
         call, callee = self.call_in_own(there)
         if callee:
-            return self.executed(call, f"byte {number} of the output, {written[number]} ({shown}), was written by {callee}, "
+            return self.executed(call,
+                                 f"byte {number} of the output, {written[number]} ({shown}), was written by {callee}, "
                                  "called at")
         cause = self.executed(there, f"byte {number} of the output, {written[number]} ({shown}), was written by")
         _, instruction = self.innermost(there)
@@ -513,8 +519,8 @@ class Causes:
         return cause
 
     def writers(self, address: int, count: int, at: Timeline) -> tuple[list[tuple[int, set[int]]], set[int], bool]:
-        """The moves that wrote some bytes last, each with its bytes; the bytes that none wrote; and whether stores of the same
-        value were looked for."""
+        """The moves that wrote some bytes last, each with its bytes; the bytes that none wrote; and whether stores of
+        the same value were looked for."""
         left = set(range(count))
         writers: list[tuple[int, set[int]]] = []
         is_sure, high = True, at.position
@@ -573,7 +579,8 @@ class Causes:
         return found
 
     def covered(self, sites: list[Site], address: int, left: set[int], at: Timeline, low: int, found: Writers) -> bool:
-        """Adds stores by these sites, the latest first, until all bytes have one; False where too many were looked at."""
+        """Adds stores by these sites, the latest first, until all bytes have one; False where too many were looked
+        at."""
         looked, seen = 0, set()
         for block in self.accesses.blocks(sites, at, low):
             for access in self.accesses.looked_at(block, True, at):
@@ -646,4 +653,3 @@ class Causes:
         if instruction.operation == "ret":
             return self.executed(at, f"{head}: given back by")
         return self.executed(at, f"{head}: stored by", (question.address + min(span), max(span) - min(span) + 1))
-

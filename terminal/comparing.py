@@ -36,7 +36,8 @@ def shell_of(debugger: str, file: str, words: list[str], bounds: dict[str, int],
     source = pathlib.Path(file).read_bytes()
     pathlib.Path(place).write_bytes(source)
     renamed = lowered_of(file).renamed
-    launch = Launch(debugger, place, tuple(words), SLICE, bounds.get("--history"), Renaming(renamed) if renamed else None)
+    launch = Launch(debugger, place, tuple(words), SLICE, bounds.get("--history"), Renaming(renamed) if renamed
+                    else None)
     shell = Shell(launch, file, source, waiting, None, lowered=lowered)
     if shell.session.pipe.refused:
         print("\n".join(refusal(line, file, source) for line in shell.session.pipe.loaded))
@@ -76,8 +77,8 @@ def begin(sides: dict[str, Shell], pair: Pair) -> None:
 
 
 def held(debugger: str, program: str, given: Sequence[str], named: Sequence[str]) -> int:
-    """Compares two texts, and holds a session where they part; the status of the comparison. The texts are named otherwise where
-    they were lowered first."""
+    """Compares two texts, and holds a session where they part; the status of the comparison. The texts are named
+    otherwise where they were lowered first."""
     files, words = two_files(given)
     for file in filter(None, files):
         # One that can't be read is told by its name.
@@ -91,13 +92,15 @@ def held(debugger: str, program: str, given: Sequence[str], named: Sequence[str]
     with tempfile.TemporaryDirectory(prefix="qrev-") as place:
         try:
             for index, (side, file) in enumerate(zip(SIDES, files)):
-                sides[side] = shell_of(debugger, file, words, bounds, f"{place}/{side}.ssa", waiting, named[index:index + 1])
+                sides[side] = shell_of(debugger, file, words, bounds, f"{place}/{side}.ssa", waiting,
+                                       named[index:index + 1])
                 if sides[side].session.pipe.refused:
                     return pair.status
             sides["good"].other, sides["bad"].other = sides["bad"], sides["good"]
             waiting.install()
             begin(sides, pair)
-            prompt = Prompt(sides["bad"], sys.stdin.isatty(), {id(shell): f"({side}) " for side, shell in sides.items()})
+            prompt = Prompt(sides["bad"], sys.stdin.isatty(),
+                            {id(shell): f"({side}) " for side, shell in sides.items()})
             prompt.install()
             prompt.run()
         finally:

@@ -2,8 +2,8 @@
 
 Values are whole numbers without a bound. A temporary or a piece of memory counts as the signed number of its class;
 `u(..)` is the number without a sign. Equality looks at the bits of the narrower class, so that `%x == 4294967295` holds
-for -1. A temporary that holds a float counts as that, and memory as `d[$x]` and `s[$x]`; a number beside a single is made
-one before they are compared, so that `%x == 0.1` holds where `%x` is shown as 0.1.
+for -1. A temporary that holds a float counts as that, and memory as `d[$x]` and `s[$x]`; a number beside a single is
+made one before they are compared, so that `%x == 0.1` holds where `%x` is shown as 0.1.
 """
 from __future__ import annotations
 
@@ -141,8 +141,8 @@ class Parser:
 
 
 def number(word: str) -> int | float:
-    """The value of a number: decimal, hexadecimal, octal (0o), binary (0b), a character between single quotes, or a float as
-    0.5, 1e-5, inf and nan."""
+    """The value of a number: decimal, hexadecimal, octal (0o), binary (0b), a character between single quotes, or a
+    float as 0.5, 1e-5, inf and nan."""
     if len(word) == 3 and word[0] == word[2] == "'":
         return ord(word[1])
     try:

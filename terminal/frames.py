@@ -80,7 +80,8 @@ class Frames:
         found = [steps_begun(at)] if here in entries else []
         inside = Counter([returns[here]] if here in returns else [])
         at = at.at(found[0]) if found else at
-        hits = self.scratch.go(at).hits(False, [stop_line(place) for place in places]) if len(found) < len(frames) else ()
+        hits = self.scratch.go(at).hits(False, [stop_line(place)
+                                                for place in places]) if len(found) < len(frames) else ()
         for hit in hits:
             # Behind a poke the place is that of the state before, which comes next.
             if hit.stop is None or at.poke_at(hit.position - 1):
@@ -120,8 +121,8 @@ class Frames:
         return None
 
     def allocation(self, function: str, address: int, at: Timeline) -> str | None:
-        """The temporary of a frame whose alloc made the bytes at an address, and how far behind its begin they are; of one
-        that was made again since also when it was made."""
+        """The temporary of a frame whose alloc made the bytes at an address, and how far behind its begin they are; of
+        one that was made again since also when it was made."""
         sizes = allocations_of(self.program, function)
         if at not in self.allocated:
             self.allocated[at] = self.scratch.go(at).values(*sizes) if sizes else []
@@ -177,7 +178,8 @@ def steps_begun(at: Timeline) -> int:
 
 
 def allocations_of(program: Program, function: str) -> dict[str, int]:
-    """The temporaries of a function that an alloc gives, each with its number of bytes, or 2^64 where the text has none."""
+    """The temporaries of a function that an alloc gives, each with its number of bytes, or 2^64 where the text has
+    none."""
     found: dict[str, int] = {}
     for _, _, instruction in program.functions[function].places():
         if instruction.operation in ALLOCATIONS and instruction.result:

@@ -1,4 +1,5 @@
-"""Commands that users of gdb type by habit: runs to a place, stops that are switched off, commands at a stop, files of commands."""
+"""Commands that users of gdb type by habit: runs to a place, stops that are switched off, commands at a stop, files of
+commands."""
 from __future__ import annotations
 
 import pathlib
@@ -31,8 +32,8 @@ def advance(shell: Shell, rest: str) -> None:
 
 @command("until u", "until [PLACE]", "place")
 def until(shell: Shell, rest: str) -> None:
-    """Runs on to a line of this frame that comes after this one in the text: out of a loop, at its jump back. With a place it
-    runs there. In both cases it ends where the frame is over."""
+    """Runs on to a line of this frame that comes after this one in the text: out of a loop, at its jump back. With a
+    place it runs there. In both cases it ends where the frame is over."""
     session = shell.session
     frames = session.frames()
     if session.place.end or not frames:
@@ -50,7 +51,8 @@ def until(shell: Shell, rest: str) -> None:
 
 
 def place_behind_frame(shell: Shell) -> tuple[tuple[str, str, int], int] | None:
-    """Where the caller of the innermost frame goes on, and how many frames there are then; None for the outermost frame."""
+    """Where the caller of the innermost frame goes on, and how many frames there are then; None for the outermost
+    frame."""
     frames = shell.session.frames()
     if len(frames) < 2:
         return None
@@ -60,7 +62,8 @@ def place_behind_frame(shell: Shell) -> tuple[tuple[str, str, int], int] | None:
 def is_behind(shell: Shell, function: str, line: int) -> bool:
     """Whether the run stands in that function, at that line or one before it: it jumped back."""
     place = shell.session.place
-    return place.function == function and shell.session.program.line_of(place.function, place.label, place.index) <= line
+    return place.function == function and \
+        shell.session.program.line_of(place.function, place.label, place.index) <= line
 
 
 def later_blocks(shell: Shell, function: str, line: int) -> list[tuple[str, str, int]]:
@@ -109,8 +112,8 @@ def chosen(shell: Shell, rest: str) -> list[Stop]:
 
 @command("commands", "commands [N]", is_repeated=False)
 def commands(shell: Shell, rest: str) -> None:
-    """Takes lines up to `end`, and types them each time that stop N stops, or the last one that was set. Without lines, none are
-    typed any more."""
+    """Takes lines up to `end`, and types them each time that stop N stops, or the last one that was set. Without lines,
+    none are typed any more."""
     if not rest and not shell.runs.stops:
         raise Refused("there is no stop yet")
     stop = stop_named(shell, rest) if rest else shell.runs.stops[-1]
@@ -120,7 +123,8 @@ def commands(shell: Shell, rest: str) -> None:
 
 @command("source", "source FILE", "file", is_repeated=False)
 def source(shell: Shell, rest: str) -> None:
-    """Types the lines of a file, as if they were typed here. Empty lines, and those that begin with #, are passed over."""
+    """Types the lines of a file, as if they were typed here. Empty lines, and those that begin with #, are passed
+    over."""
     if not rest:
         raise Wrong("source FILE was expected")
     try:

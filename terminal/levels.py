@@ -1,7 +1,7 @@
 """Which hits of a run are in one frame of a function that may call itself.
 
-A run comes into another call of the function at its beginning, and out of it behind a place that calls it; going back, the
-other way round. So breakpoints at both tell the level by counting, and no frames are asked for.
+A run comes into another call of the function at its beginning, and out of it behind a place that calls it; going back,
+the other way round. So breakpoints at both tell the level by counting, and no frames are asked for.
 """
 from __future__ import annotations
 
@@ -70,7 +70,8 @@ def own_hits(program: Program, scratch: Scratch, at: Timeline, function: str,
             return
 
 
-def judged(program: Program, scratch: Scratch, function: str, wanted: list[CodePlace]) -> Iterator[tuple[int, CodePlace]]:
+def judged(program: Program, scratch: Scratch, function: str,
+           wanted: list[CodePlace]) -> Iterator[tuple[int, CodePlace]]:
     """The hits of a run back at wanted places that are in the frame from which it begins."""
     levels = Levels(program, function)
     places = list(dict.fromkeys([*wanted, *levels.places]))

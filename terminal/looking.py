@@ -254,8 +254,8 @@ def list_(shell: Shell, rest: str) -> None:
 
 @command("out", "out")
 def out(shell: Shell, rest: str) -> None:
-    """Shows all that the program has written up to here, each line behind the number of its first byte: `why out N` asks about
-    a byte."""
+    """Shows all that the program has written up to here, each line behind the number of its first byte: `why out N`
+    asks about a byte."""
     written = read_output(shell.session.ask("out")[0])
     shell.say(f"{len(written)} bytes")
     begin, digits = 0, len(str(len(written)))
@@ -267,8 +267,8 @@ def out(shell: Shell, rest: str) -> None:
 @command("info i", "info stops|locals|frame|display|checkpoints|functions|data|source|symbol ADDRESS|session",
          "info")
 def info(shell: Shell, rest: str) -> None:
-    """Shows the stops, the temporaries, the frame, what is displayed, the checkpoints, the functions, the data, the sources,
-    whose an address is, or how large the session is."""
+    """Shows the stops, the temporaries, the frame, what is displayed, the checkpoints, the functions, the data, the
+    sources, whose an address is, or how large the session is."""
     word, _, more = rest.partition(" ")
     known = {"stops": "stops", "breakpoints": "stops", "break": "stops", "b": "stops", "watchpoints": "stops",
              "temps": "temps", "display": "display", "frame": "frame", "f": "frame", "out": "out"}
@@ -319,8 +319,8 @@ OTHERS = {"functions": functions_told, "locals": locals_told, "data": data_told,
 
 @command("save", "save FILE | save breakpoints FILE", "file", is_repeated=False)
 def save(shell: Shell, rest: str) -> None:
-    """Writes the session's lines to a file: a script that leads to the same state, and says how to play it. With `breakpoints` it
-    writes commands that set the stops again, for `source`."""
+    """Writes the session's lines to a file: a script that leads to the same state, and says how to play it. With
+    `breakpoints` it writes commands that set the stops again, for `source`."""
     if not rest:
         raise Wrong("save FILE was expected")
     word, _, file = rest.partition(" ")
@@ -361,7 +361,8 @@ def short(name: str) -> str:
 
 HELP = "An empty line repeats. `help COMMAND` tells more; Ctrl-C stops a run; docs/TERMINAL.md has it all."
 TOPICS = {
-    "move": "step next until advance finish continue run start back reverse-next reverse-finish reverse goto checkpoint restart",
+    "move": "step next until advance finish continue run start back reverse-next reverse-finish reverse goto "
+            "checkpoint restart",
     "move by lines of a source": "step-line next-line reverse-step-line reverse-next-line",
     "look": "print x display undisplay bt up down frame temps list disas mem out info",
     "stop": "break tbreak watch ignore condition commands disable enable stops delete",

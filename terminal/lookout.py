@@ -1,7 +1,7 @@
 """Checks the run beside the session, so that its end can say whether something on the way was suspicious.
 
-The check is a process of its own (check/main), begun with the session and over the same text. It is of the program's own run:
-where values were set by hand it says nothing.
+The check is a process of its own (check/main), begun with the session and over the same text. It is of the program's
+own run: where values were set by hand it says nothing.
 """
 from __future__ import annotations
 
@@ -16,7 +16,8 @@ from .scratch import KEEPING, Launch
 from .timeline import Timeline
 
 CHECK = pathlib.Path(__file__).resolve().parent.parent / "check" / "main"
-# How many moves are looked at, some half a second's work, and how long the end of a run waits for it at most, in seconds.
+# How many moves are looked at, some half a second's work, and how long the end of a run waits for it at most, in
+# seconds.
 MOST = 50_000
 PATIENCE = 1.0
 # A suspicion: the position of the first move that is one at its place, and what is told of it.
@@ -28,14 +29,15 @@ class Lookout:
         """What the check writes goes into a folder of the session, so that nothing is left if it is ended."""
         words = [word for word in launch.words if not word.startswith(KEEPING)]
         self.process = subprocess.Popen(
-            [sys.executable, str(CHECK), "--debugger", launch.debugger, *(f"--lowered={file}" for file in lowered), "--",
-             launch.file, *words, "--limit", str(MOST)],
-            stdin=subprocess.DEVNULL, stdout=subprocess.PIPE, stderr=subprocess.DEVNULL, text=True, start_new_session=True,
-            env={**os.environ, "TMPDIR": folder})
+            [sys.executable, str(CHECK), "--debugger", launch.debugger, *(f"--lowered={file}" for file in lowered),
+             "--", launch.file, *words, "--limit", str(MOST)],
+            stdin=subprocess.DEVNULL, stdout=subprocess.PIPE, stderr=subprocess.DEVNULL, text=True,
+            start_new_session=True, env={**os.environ, "TMPDIR": folder})
         self.found: dict[int, list[str]] | None = None
 
     def suspicions(self, run: Timeline) -> dict[int, list[str]]:
-        """What is told of moves of the session's run, by their positions; nothing if they aren't known, or not in time."""
+        """What is told of moves of the session's run, by their positions; nothing if they aren't known, or not in
+        time."""
         if run.pokes or run.position > MOST:
             return {}
         if self.found is None:

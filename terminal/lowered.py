@@ -1,5 +1,6 @@
-"""What lower/qrev-lower says of the names of a text that it wrote: which functions aren't the program's own, which values
-are floats, and which names were made shorter. It stands in FILE.names beside the text (docs/REAL_COMPILERS.md)."""
+"""What lower/qrev-lower says of the names of a text that it wrote: which functions aren't the program's own, which
+values are floats, and which names were made shorter. It stands in FILE.names beside the text
+(docs/REAL_COMPILERS.md)."""
 from __future__ import annotations
 
 import pathlib

@@ -48,8 +48,8 @@ def by_many(shell: Shell, text: str, sign: int) -> None:
 
 @command("step s stepi si", "step [N]", "expression")
 def step(shell: Shell, rest: str) -> None:
-    """Moves forward by one instruction, or N. A call is entered; a jump is one move with the phis of its target. It passes
-    stops over."""
+    """Moves forward by one instruction, or N. A call is entered; a jump is one move with the phis of its target. It
+    passes stops over."""
     by_many(shell, rest, 1)
 
 
@@ -79,8 +79,8 @@ def continue_(shell: Shell, rest: str) -> None:
 
 @command("reverse rc reverse-continue", "reverse [N]", "expression")
 def reverse(shell: Shell, rest: str) -> None:
-    """Runs back to the stop before, or to the start. A watch stops before the change: the instruction that makes it comes
-    next."""
+    """Runs back to the stop before, or to the start. A watch stops before the change: the instruction that makes it
+    comes next."""
     repeated_runs(shell, rest, False)
 
 
@@ -122,8 +122,8 @@ def run(shell: Shell, rest: str) -> None:
 
 @command("goto", "goto N | goto why | goto suspect N", "expression", is_repeated=False)
 def goto(shell: Shell, rest: str) -> None:
-    """Goes to the position N, back or forward; `goto why` to that of the cause that was shown last, `goto suspect N` to that of the
-    N-th suspicion. Pokes behind it are taken back, and a line says so."""
+    """Goes to the position N, back or forward; `goto why` to that of the cause that was shown last, `goto suspect N` to
+    that of the N-th suspicion. Pokes behind it are taken back, and a line says so."""
     if rest == "why":
         if not shell.chain:
             raise Refused("nothing was asked by `why` yet")
@@ -176,12 +176,12 @@ def restart(shell: Shell, rest: str) -> None:
     go(shell, shell.checkpoints[rest])
 
 
-@command("set", "set %x EXPRESSION | set listsize N | set height N | set pagination on|off | set style enabled on|off", "expression",
-         is_repeated=False)
+@command("set", "set %x EXPRESSION | set listsize N | set height N | set pagination on|off | set style enabled on|off",
+         "expression", is_repeated=False)
 def set_(shell: Shell, rest: str) -> None:
-    """Sets a temporary of the innermost frame. That is a move, which `back` takes back. `set listsize N` has `list` show N lines;
-    a terminal has `height` lines, 0 for as many as there are; `pagination` stops at each full screen, and `style enabled` has
-    colours."""
+    """Sets a temporary of the innermost frame. That is a move, which `back` takes back. `set listsize N` has `list`
+    show N lines; a terminal has `height` lines, 0 for as many as there are; `pagination` stops at each full screen, and
+    `style enabled` has colours."""
     if rest.split()[:1] and rest.split()[0] in OPTIONS:
         OPTIONS[rest.split()[0]](shell, rest.partition(" ")[2].strip())
         return
@@ -232,8 +232,8 @@ OPTIONS = {"listsize": set_list_size, "height": set_height, "pagination": set_pa
 
 @command("poke", "poke WIDTH ADDRESS EXPRESSION", "expression", is_repeated=False)
 def poke(shell: Shell, rest: str) -> None:
-    """Writes to memory, WIDTH b, h, w or l, or s or d for a float. That is a move, which `back` takes back. An ADDRESS of
-    several words stands in parentheses."""
+    """Writes to memory, WIDTH b, h, w or l, or s or d for a float. That is a move, which `back` takes back. An ADDRESS
+    of several words stands in parentheses."""
     width, _, rest = rest.partition(" ")
     address, value = split_address(rest)
     if width not in BITS or not address or not value:

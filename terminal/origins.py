@@ -1,8 +1,8 @@
 """Which alloc an address on the stack was made by, and whether the frame of that alloc is over.
 
-The bytes of a frame that is over are those of later frames, so that the address alone would name a slot of another function.
-The way goes back along copies, sums, phis, arguments, results and memory, by what `why` knows of each. If it is lost, as behind
-a value that was set by hand, nothing is said.
+The bytes of a frame that is over are those of later frames, so that the address alone would name a slot of another
+function. The way goes back along copies, sums, phis, arguments, results and memory, by what `why` knows of each. If it
+is lost, as behind a value that was set by hand, nothing is said.
 """
 from __future__ import annotations
 
@@ -18,8 +18,8 @@ from .values import is_stack
 if TYPE_CHECKING:
     from .causes import Causes
 
-# How many instructions an address is followed through, and in how many of the first moves of a run; the same at a stop, where
-# nobody asked.
+# How many instructions an address is followed through, and in how many of the first moves of a run; the same at a stop,
+# where nobody asked.
 MOST_STEPS, MOST_MOVES = 40, 1_000_000
 MOST_AT_STOP, NEAR = 12, 100_000
 # How many runs to the place behind a call are looked at for the one that ended a frame.
@@ -38,7 +38,8 @@ class Slot:
 
 @dataclass(frozen=True)
 class Over:
-    """A slot of a frame that is over: where an address lies in it, and from which position on the frame is gone, if that is known."""
+    """A slot of a frame that is over: where an address lies in it, and from which position on the frame is gone, if
+    that is known."""
     function: str
     name: str
     offset: int
@@ -56,8 +57,8 @@ class Over:
 
 @dataclass(frozen=True)
 class Asked:
-    """A value on its way: a temporary of the innermost frame of a state, or eight bytes of memory there; and whether the way has
-    left the frames that were there when it began."""
+    """A value on its way: a temporary of the innermost frame of a state, or eight bytes of memory there; and whether
+    the way has left the frames that were there when it began."""
     at: Timeline
     name: str = ""
     address: int = 0
@@ -70,8 +71,8 @@ class Origins:
         self.known: dict[tuple[Asked, bool], Slot | None] = {}
 
     def over(self, value: int, at: Timeline, name: str = "", address: int = 0, is_asked: bool = True) -> Over | None:
-        """The slot that an address was made in, which is a temporary of the innermost frame of a state, or the eight bytes at an
-        address; None unless the frame of that slot is over there."""
+        """The slot that an address was made in, which is a temporary of the innermost frame of a state, or the eight
+        bytes at an address; None unless the frame of that slot is over there."""
         if not is_stack(value) or at.position > (MOST_MOVES if is_asked else NEAR):
             return None
         first = Asked(at, name, address)
@@ -119,7 +120,8 @@ class Origins:
 
     def is_own_slot(self, name: str, function: str) -> bool:
         """Whether the text alone says that a temporary holds a slot of its own frame."""
-        return all(each.operation in ALLOCATIONS for _, _, each in self.program.functions[function].definitions(name)) and \
+        return all(each.operation in ALLOCATIONS for _, _,
+                   each in self.program.functions[function].definitions(name)) and \
             all(name != parameter for _, parameter in self.program.functions[function].parameters)
 
     def made_of(self, instruction: Instruction, at: Timeline, is_outside: bool) -> Asked | None:
@@ -146,7 +148,8 @@ class Origins:
         _, instruction = self.causes.innermost(there)
         if instruction.operation == "blit":
             source, to = (self.causes.operand_value(operand.text, there) for operand in instruction.operands)
-            return None if source is None or to is None else Asked(there, address=source + asked.address - to, is_outside=True)
+            return None if source is None or to is None else \
+                Asked(there, address=source + asked.address - to, is_outside=True)
         if instruction.operation != "storel":
             return None
         is_same = self.causes.operand_value(instruction.operands[1].text, there) == asked.address

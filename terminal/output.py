@@ -1,7 +1,7 @@
 """Where a session's lines go: standard output, which at a terminal has colours and stops at each full screen.
 
-Colours are those of the terminal's own palette, by what a word of a line is: `%temporary`, `$name`, `@label`, `#position`, a
-text, a comment. So a line is the same line with and without, and nothing is told by a colour alone.
+Colours are those of the terminal's own palette, by what a word of a line is: `%temporary`, `$name`, `@label`,
+`#position`, a text, a comment. So a line is the same line with and without, and nothing is told by a colour alone.
 """
 from __future__ import annotations
 
@@ -18,11 +18,12 @@ MORE = "--Type RET for more, q to quit, c to continue without paging--"
 ERASED = "\x1b[A\r\x1b[K"
 RESET = "\x1b[0m"
 # The codes of what a word may be (ECMA-48, SGR).
-COLOURS = {"text": "32", "temporary": "36", "global": "33", "label": "35", "position": "1", "question": "1", "fault": "1;31",
-           "stop": "1", "comment": "2", "mark": "1;32"}
+COLOURS = {"text": "32", "temporary": "36", "global": "33", "label": "35", "position": "1", "question": "1",
+           "fault": "1;31", "stop": "1", "comment": "2", "mark": "1;32"}
 NAME = r"[A-Za-z._$][\w.$]*"
 WORDS = re.compile(rf"""(?P<text>"(?:[^"\\]|\\.)*")|(?P<temporary>%{NAME})|(?P<global>\${NAME})|(?P<label>@{NAME})"""
-                   r"|(?P<position>(?<![\w#])#\d+\b)|(?P<question>^ *\[\d+\])|(?P<fault>(?:(?<=^)|(?<=\d ))(?:fault [a-z ]+|halted in))"
+                   r"|(?P<position>(?<![\w#])#\d+\b)|(?P<question>^ *\[\d+\])|"
+                   r"(?P<fault>(?:(?<=^)|(?<=\d ))(?:fault [a-z ]+|halted in))"
                    r"|(?P<stop>^stop:)")
 # A line of the text, with its number: what stands behind # is a comment there.
 NUMBERED = re.compile(r"(?P<mark>[> ])(?P<number> *\d+  )(?P<code>.*)", re.DOTALL)

@@ -1,4 +1,5 @@
-"""What the full screen shows of a session, as lines: the text with its stops, values, frames, output. docs/TERMINAL.md has a picture."""
+"""What the full screen shows of a session, as lines: the text with its stops, values, frames, output. docs/TERMINAL.md
+has a picture."""
 from __future__ import annotations
 
 from dataclasses import dataclass
@@ -121,7 +122,8 @@ class Panes:
                 continue
             width = function.temporaries[name]
             is_new = not session.selected and bool(self.before) and self.before.get(name, value) != value
-            rows.append(row(f"{'*' if is_new else ' '}{name} = {brief(value, width, self.name(name, value, width))}", is_new))
+            rows.append(row(f"{'*' if is_new else ' '}{name} = {brief(value, width, self.name(name, value, width))}",
+                            is_new))
         rows += [row(f" {unset} unset")] * bool(unset)
         return rows + self.displays() or [row(" no temporaries")]
 
@@ -140,7 +142,8 @@ class Panes:
         for index, place in enumerate(session.frames()):
             line = session.program.line_of(place.function, place.label, place.index - (index > 0))
             mark = ">" if index == session.selected else " "
-            found.append(row(f"{mark}{index} {place.function} {place.label} {place.index}  line {line}", index == session.selected))
+            found.append(row(f"{mark}{index} {place.function} {place.label} {place.index}  line {line}",
+                             index == session.selected))
         return found or [row(" none")]
 
     def stops(self) -> list[Row]:

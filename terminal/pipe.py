@@ -1,7 +1,8 @@
 """The debugger at a pipe.
 
-A command's answer ends where that of the next line begins. So behind commands goes a line that is none: it changes nothing
-and is answered by `no: unknown command`, which no command of the language answers and no other answer contains as a line.
+A command's answer ends where that of the next line begins. So behind commands goes a line that is none: it changes
+nothing and is answered by `no: unknown command`, which no command of the language answers and no other answer contains
+as a line.
 """
 from __future__ import annotations
 
@@ -54,7 +55,8 @@ class Pipe:
             self.refused = end
 
     def widen(self) -> None:
-        """Lets more stand in the pipes than the system gives at first, so that neither side waits for the other often."""
+        """Lets more stand in the pipes than the system gives at first, so that neither side waits for the other
+        often."""
         for stream in (self.sink, self.source):
             try:
                 fcntl.fcntl(stream.fileno(), fcntl.F_SETPIPE_SZ, WIDE)
@@ -110,7 +112,8 @@ class Pipe:
         return answers
 
     def begin(self, *lines: str) -> bool:
-        """Sends commands whose answers `finish` takes, whenever they have come; False if there is no room for them at once."""
+        """Sends commands whose answers `finish` takes, whenever they have come; False if there is no room for them at
+        once."""
         sent = self.written("".join(f"{line}\n" for line in lines)) + MARK
         try:
             written = os.write(self.sink.fileno(), sent)

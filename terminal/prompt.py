@@ -141,4 +141,3 @@ class Prompt:
             readline.write_history_file(os.path.expanduser(HISTORY))
         except OSError:
             pass
-

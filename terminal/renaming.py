@@ -1,4 +1,5 @@
-"""Names that were made short in a text, so that it fits: people read and write the old ones, the debugger the new ones."""
+"""Names that were made short in a text, so that it fits: people read and write the old ones, the debugger the new
+ones."""
 from __future__ import annotations
 
 import re

@@ -23,8 +23,8 @@ STOPPED = "stopped by Ctrl-C"
 class Target:
     """A place, in a frame at a depth, at which a run ends.
 
-    A function that doesn't call itself has one frame there. Of another one its calls are counted along the run, where that
-    can be done, or else the frames at each hit.
+    A function that doesn't call itself has one frame there. Of another one its calls are counted along the run, where
+    that can be done, or else the frames at each hit.
     """
 
     def __init__(self, program: Program, function: str, label: str, index: int, depth: int):
@@ -62,8 +62,8 @@ class Target:
 
 
 class Places:
-    """Places at which a run ends: in any frame; or, if it is said where the frame's caller goes on and how many frames there are
-    then, in this frame, and there too."""
+    """Places at which a run ends: in any frame; or, if it is said where the frame's caller goes on and how many frames
+    there are then, in this frame, and there too."""
 
     def __init__(self, session: Session, places: list[CodePlace], behind: tuple[CodePlace, int] | None = None):
         self.places, self.behind = places, behind
@@ -162,7 +162,8 @@ class Runs:
             said = ": " + told.memory_change(stop.memory.value, now, stop.memory.width)
         return Outcome(f"{kind} {stop.number}, {stop.what}{said}", stop)
 
-    def run_filtered(self, is_forward: bool, target: Target | Places | None, suspicious: Suspicious | None = None) -> Outcome:
+    def run_filtered(self, is_forward: bool, target: Target | Places | None,
+                     suspicious: Suspicious | None = None) -> Outcome:
         here = self.session.timeline
         filter = Filter([stop for stop in self.active if stop.lines], self.session.program, is_forward)
         self.look_at_watches()

@@ -88,7 +88,8 @@ class Scratch:
 
     @property
     def history(self) -> int | None:
-        """Where the session keeps its last moves only, so does this one, a million at least; it begins anew for more."""
+        """Where the session keeps its last moves only, so does this one, a million at least; it begins anew for
+        more."""
         return max(SLICE, self.launch.history) if self.launch.history else None
 
     @property
@@ -140,7 +141,8 @@ class Scratch:
             self.after(answer, line)
 
     def ask(self, *lines: str) -> list[list[str]]:
-        """Answers of the process that is there. Where it is broken off it is gone, and the next question begins another."""
+        """Answers of the process that is there. Where it is broken off it is gone, and the next question begins
+        another."""
         return self.asked(sum(map(len, lines)) + 3 * len(lines), lambda pipe: pipe.ask(*lines))
 
     def ask_text(self, text: str) -> str:
@@ -300,7 +302,8 @@ class Scratch:
         return False
 
     def begin_anew(self) -> None:
-        """Another process that leads to here: where this one keeps no earlier moves, or was sent as much as it reads."""
+        """Another process that leads to here: where this one keeps no earlier moves, or was sent as much as it
+        reads."""
         here, stops = self.timeline, self.stops
         self.start()
         self.go(here)

@@ -1,4 +1,5 @@
-"""What a stop shows: the place, the lines of the text around it, the values of operands, and the place in the source."""
+"""What a stop shows: the place, the lines of the text around it, the values of operands, and the place in the
+source."""
 from __future__ import annotations
 
 import shutil
@@ -174,5 +175,5 @@ class Screen:
         beside = self.operands(place.function, instruction) + self.jump_said(place, instruction) if is_read else []
         source = self.map.place(instruction.line)
         lines = [f"  source: {source}"] if source else []
-        return lines + list(self.text_lines(instruction.line - AROUND, instruction.line + AROUND, instruction.line, beside))
-
+        return lines + list(self.text_lines(instruction.line - AROUND, instruction.line + AROUND, instruction.line,
+                                            beside))

@@ -56,7 +56,8 @@ class Session:
         return read_moved(self.change(line))
 
     def most_at_once(self, word: str) -> int:
-        """How many moves one line makes, so that Ctrl-C is heard; where copies of states are kept, all that go over what was run."""
+        """How many moves one line makes, so that Ctrl-C is heard; where copies of states are kept, all that go over
+        what was run."""
         ahead = MOST_MOVES if word == "back" else self.reached - self.timeline.position
         return max(self.launch.limit, min(ahead, MOST_MOVES) if self.launch.keeps_copies else 0)
 

@@ -126,7 +126,8 @@ class Shell:
         self.list_size = 11
         self.last = ""
         self.has_said_end = False
-        # The commands of a stop, while their lines are being typed; and how many files and stops the line at hand comes from.
+        # The commands of a stop, while their lines are being typed; and how many files and stops the line at hand comes
+        # from.
         self.gathering: list[str] | None = None
         self.nested = 0
         # The session of the other text, where two are compared.
@@ -291,11 +292,12 @@ class Shell:
         return f"{text} = {number if value.width else value.number}" + (f" ({', '.join(said)})" if said else "")
 
     def address_told(self, text: str, value: int, width: str) -> str | None:
-        """The name of an address that an expression gives: of a temporary, or of eight bytes of memory, also which slot of a frame
-        that is over it was made in."""
+        """The name of an address that an expression gives: of a temporary, or of eight bytes of memory, also which slot
+        of a frame that is over it was made in."""
         at, node = self.session.timeline, self.parsed(text)
         if node.kind == "temporary" and self.session.frames():
-            return self.causes.address_told(value, width, at, node.text, frame=self.frames.frame(at, self.session.selected))
+            return self.causes.address_told(value, width, at, node.text,
+                                            frame=self.frames.frame(at, self.session.selected))
         if node.kind == "memory" and node.text == "l":
             address = whole(evaluate(node.parts[0], FrameState(self))) % (1 << 64)
             return self.causes.address_told(value, width, at, address=address)

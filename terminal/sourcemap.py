@@ -39,7 +39,8 @@ class SourceMap:
         return self.lines[line - 1].split("\t") if 1 <= line <= len(self.lines) else []
 
     def place(self, line: int) -> str:
-        """`FILE:LINE`, and `: FILE:LINE:COLUMN` of the source if the map has that; nothing for a line without a place."""
+        """`FILE:LINE`, and `: FILE:LINE:COLUMN` of the source if the map has that; nothing for a line without a
+        place."""
         fields = self.fields(line)
         places = [f"{ESCAPE.sub(unescaped, fields[at])}:{fields[at + 1]}" for at in range(0, len(fields) - 1, 2)]
         if len(fields) == 5 and fields[4] != "0":
@@ -47,7 +48,8 @@ class SourceMap:
         return ": ".join(places)
 
     def origins(self, line: int) -> list[Line]:
-        """Where a line of the text comes from: of the source that its debug lines tell, and of the text that was lowered."""
+        """Where a line of the text comes from: of the source that its debug lines tell, and of the text that was
+        lowered."""
         fields = self.fields(line)
         return [Line(ESCAPE.sub(unescaped, fields[at]), int(fields[at + 1])) for at in (2, 0)
                 if len(fields) > at + 1 and fields[at] and fields[at + 1].isdigit()]
@@ -66,8 +68,8 @@ class SourceMap:
         return {file: len(numbers) for file, numbers in found.items()}
 
     def lines_from(self, file: str, number: int) -> tuple[Line, list[int]] | None:
-        """The least line of a file that isn't before a number, with the lines of the text that came from it. The file is
-        one that is told so, or ends so."""
+        """The least line of a file that isn't before a number, with the lines of the text that came from it. The file
+        is one that is told so, or ends so."""
         found: dict[Line, list[int]] = {}
         for line in range(1, len(self.lines) + 1):
             for origin in self.origins(line):
@@ -81,7 +83,8 @@ class SourceMap:
     def read(self, file: str) -> list[str]:
         """The lines of a source, which is looked for where its path leads and beside the text that was lowered."""
         texts = {pathlib.Path(ESCAPE.sub(unescaped, line.split("\t")[0])).parent for line in self.lines if "\t" in line}
-        for path in [pathlib.Path(file), *(folder / name for folder in texts for name in (file, os.path.basename(file)))]:
+        for path in [pathlib.Path(file),
+                     *(folder / name for folder in texts for name in (file, os.path.basename(file)))]:
             try:
                 return path.read_text(errors="replace").splitlines()
             except OSError:

@@ -94,7 +94,8 @@ def goes_in(shell: Shell, index: int) -> bool:
 
 def is_over(shell: Shell, outcome: Outcome) -> bool:
     """Whether moves end for another reason than a line."""
-    return bool(outcome.stop or outcome.refusal or outcome.reason or shell.session.place.end or shell.waiting.is_pressed)
+    return bool(outcome.stop or outcome.refusal or outcome.reason or shell.session.place.end
+                or shell.waiting.is_pressed)
 
 
 def to_other_line(shell: Shell, move: Callable[[], Outcome]) -> Outcome:
@@ -111,8 +112,8 @@ def to_other_line(shell: Shell, move: Callable[[], Outcome]) -> Outcome:
 
 
 def to_beginning(shell: Shell, is_in: bool) -> tuple[Outcome, bool]:
-    """Goes back to the first place of the line of the source, in the frame that is there, or in that of a call on the way if
-    calls are gone into; whether that is another place."""
+    """Goes back to the first place of the line of the source, in the frame that is there, or in that of a call on the
+    way if calls are gone into; whether that is another place."""
     line, depth, begun = source_here(shell), len(shell.session.frames()), shell.session.timeline
     while True:
         before = shell.session.timeline
@@ -185,6 +186,6 @@ def reverse_next_line(shell: Shell, rest: str) -> None:
 
 @command("reverse-step-line rsl", "reverse-step-line [N]", "expression")
 def reverse_step_line(shell: Shell, rest: str) -> None:
-    """Moves back to the beginning of the line of the source, and from there to that of the line before, or of N, also into
-    calls from behind."""
+    """Moves back to the beginning of the line of the source, and from there to that of the line before, or of N, also
+    into calls from behind."""
     repeated(shell, rest, lambda: back_by_line(shell, True))

@@ -71,13 +71,14 @@ def add_breakpoint(shell: Shell, rest: str, is_once: bool) -> None:
             if name not in known:
                 raise Wrong(f"{name}: {place[0]} has no such temporary")
     line = shell.session.program.line_of(*place)
-    stop = Stop(f"{place[0]} {place[1]} {place[2]} (line {line})", [f"break {place[0]} {place[1]} {place[2]}"], [], place,
-                condition, text, is_once=is_once)
+    stop = Stop(f"{place[0]} {place[1]} {place[2]} (line {line})", [f"break {place[0]} {place[1]} {place[2]}"], [],
+                place, condition, text, is_once=is_once)
     stop.typed = f"{'tbreak' if is_once else 'break'} {' '.join(map(str, place))}" + (f" if {text}" if text else "")
     shell.say(f"break {shell.runs.add(stop)}")
 
 
-@command("break b br", "break [LINE | FILE:LINE | $f | @b | $f @b [K] | suspect [KINDS]] [if CONDITION]", "place", is_repeated=False)
+@command("break b br", "break [LINE | FILE:LINE | $f | @b | $f @b [K] | suspect [KINDS]] [if CONDITION]", "place",
+         is_repeated=False)
 def break_(shell: Shell, rest: str) -> None:
     """A breakpoint at a line of the text or of a source, a function, a label, or the K-th instruction behind a label.
     With a condition it stops only where that holds: `b @loop if %i > 3`, also `if depth == 2` for one depth of frames.

@@ -17,8 +17,8 @@ MOST_NUMBER = 8
 
 @dataclass
 class Stop:
-    """A stop: the lines that make it, and the debugger's numbers of them, none while it is switched off. Its own number is the
-    first of those that it had first. `typed` is the line that sets it again, unless it is about one frame."""
+    """A stop: the lines that make it, and the debugger's numbers of them, none while it is switched off. Its own number
+    is the first of those that it had first. `typed` is the line that sets it again, unless it is about one frame."""
     what: str
     lines: list[str]
     numbers: list[int]
@@ -54,7 +54,8 @@ class Stop:
         if not self.is_on:
             parts.append("switched off")
         if self.commands:
-            parts.append(f"types {len(self.commands)} lines" if len(self.commands) > 1 else f"types `{self.commands[0]}`")
+            parts.append(f"types {len(self.commands)} lines" if len(self.commands) > 1
+                         else f"types `{self.commands[0]}`")
         if self.hits:
             parts.append(f"stopped {self.hits} times" if self.hits > 1 else "stopped once")
         return ", ".join(parts)
@@ -62,8 +63,8 @@ class Stop:
 
 @dataclass
 class SuspicionStop(Stop):
-    """A stop before each move that is suspicious, of these kinds. The debugger knows nothing of it: which moves these are is found
-    out by a check of the run (suspecting.py)."""
+    """A stop before each move that is suspicious, of these kinds. The debugger knows nothing of it: which moves these
+    are is found out by a check of the run (suspecting.py)."""
     kinds: frozenset[str] = frozenset()
     is_set: bool = True
 

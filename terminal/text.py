@@ -1,6 +1,7 @@
 """A reader of program texts: where each instruction stands, what its operands are, and where the data lies.
 
-It reads texts that the debugger has accepted, by the grammar of docs/LANGUAGE.md, and refuses nothing on its own account.
+It reads texts that the debugger has accepted, by the grammar of docs/LANGUAGE.md, and refuses nothing on its own
+account.
 """
 from __future__ import annotations
 
@@ -224,7 +225,8 @@ class Reader:
                 size += item_size(letter, token, is_first)
                 is_first = False
         end = self.data[-1].address + self.data[-1].size if self.data else DATA
-        self.data.append(Data(name.text, name.line, -(-end // alignment) * alignment, size, tuple(pointers), self.section))
+        self.data.append(Data(name.text, name.line, -(-end // alignment) * alignment, size, tuple(pointers),
+                              self.section))
 
     def read_function(self) -> None:
         type = self.take().text if self.token.kind == "word" else None
@@ -353,7 +355,8 @@ class Program:
         return self.functions[function].at(label, index).line
 
     def place_at(self, line: int) -> tuple[str, str, int] | None:
-        """The first place at that line or behind it; a phi stands for its block, a function's line for its first block."""
+        """The first place at that line or behind it; a phi stands for its block, a function's line for its first
+        block."""
         lines = {}
         for function in self.functions.values():
             lines[function.line] = (function.name, function.first, 0)

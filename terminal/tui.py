@@ -1,4 +1,5 @@
-"""`tui`: a session on a full screen, by curses. Each key is a line of the prompt, and what it says stands below the panes."""
+"""`tui`: a session on a full screen, by curses. Each key is a line of the prompt, and what it says stands below the
+panes."""
 from __future__ import annotations
 
 import os
@@ -15,11 +16,13 @@ from .scratch import Refused
 from .shell import Leave, Shell, command
 
 # What a key types. Those that aren't here are about the screen itself (`Screenful.own`).
-TYPED = {"s": "step", "b": "back", "n": "next", "N": "reverse-next", "p": "reverse-next", "c": "continue", "r": "reverse",
-         "f": "finish", "F": "reverse-finish", "l": "next-line", "L": "reverse-next-line", "u": "up", "d": "down", "w": "why",
-         "W": "why back", "g": "goto why", "i": "info stops", **{str(number): f"why {number}" for number in range(1, 10)}}
-KEYS: tuple[str, ...] = ("? keys", "q leave", "s step", "b back", "n next", "N back over", "c continue", "r reverse", "space breakpoint", "w why",
-        "1-9 why N", ": command", "f finish", "F back out", "u/d frame", "g goto why")
+TYPED = {"s": "step", "b": "back", "n": "next", "N": "reverse-next", "p": "reverse-next", "c": "continue",
+         "r": "reverse", "f": "finish", "F": "reverse-finish", "l": "next-line", "L": "reverse-next-line", "u": "up",
+         "d": "down", "w": "why", "W": "why back", "g": "goto why", "i": "info stops",
+         **{str(number): f"why {number}" for number in range(1, 10)}}
+KEYS: tuple[str, ...] = ("? keys", "q leave", "s step", "b back", "n next", "N back over", "c continue", "r reverse",
+                         "space breakpoint", "w why", "1-9 why N", ": command", "f finish", "F back out", "u/d frame",
+                         "g goto why")
 HELP = """s, b        a step, a step back             n, N     the same over calls
 c, r        run on, run back to a stop      f, F     out of the frame, back to its call
 l, L        the next line of a source, back u, d     the frame that called, was called
@@ -73,7 +76,8 @@ class Screenful:
         if width <= 0 or not 0 <= y < self.size[0]:
             return
         try:
-            self.window.addnstr(y, x, "".join(letter if letter.isprintable() else "?" for letter in text), width, attribute)
+            self.window.addnstr(y, x, "".join(letter if letter.isprintable() else "?" for letter in text), width,
+                                attribute)
         except curses.error:
             # The last cell of the screen can't be left behind.
             pass
@@ -89,7 +93,8 @@ class Screenful:
         if at > width > 2:
             self.put(y, x + width - 2, 2, "..", base)
 
-    def put_pane(self, y: int, x: int, height: int, width: int, title: str, rows: list[Row], from_end: bool = False) -> None:
+    def put_pane(self, y: int, x: int, height: int, width: int, title: str, rows: list[Row],
+                 from_end: bool = False) -> None:
         """A pane below its title."""
         if height < 1:
             return
@@ -107,7 +112,7 @@ class Screenful:
         rows, columns = self.size
         self.window.erase()
         if rows < LEAST_ROWS or columns < LEAST_COLUMNS:
-            self.put(0, 0, columns, f"the screen is too small; q leaves"[:columns])
+            self.put(0, 0, columns, "the screen is too small; q leaves"[:columns])
         else:
             self.put(0, 0, columns, f" {self.panes.title()}".ljust(columns), curses.A_REVERSE)
             said = self.draw_said(rows, columns)
@@ -307,7 +312,8 @@ def without_place(lines: list[str]) -> list[str]:
 
 
 def shares(height: int, wanted: list[int]) -> list[int]:
-    """How many rows each pane gets, with its title: what it wants, the first ones a third at least, and the rest for values."""
+    """How many rows each pane gets, with its title: what it wants, the first ones a third at least, and the rest for
+    values."""
     sizes = [0] * len(wanted)
     left = height
     for index in (3, 2, 1):
@@ -342,8 +348,8 @@ def hide_cursor() -> None:
 
 @command("tui", "tui", is_repeated=False)
 def tui(shell: Shell, rest: str) -> None:
-    """The full screen: the text with the line that comes next, values, frames, output and stops, which follow the session. `?` lists
-    its keys, `q` leads back to the prompt."""
+    """The full screen: the text with the line that comes next, values, frames, output and stops, which follow the
+    session. `?` lists its keys, `q` leads back to the prompt."""
     if rest not in ("", "enable"):
         raise Wrong(f"{rest}: nothing more was expected")
     if curses is None:

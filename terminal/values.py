@@ -33,7 +33,8 @@ def is_readable(byte: int) -> bool:
 
 def shown_bytes(text: bytes) -> str:
     """Bytes between quotes, those that aren't printable in octal."""
-    return '"' + "".join(ESCAPES.get(byte) or (chr(byte) if 32 <= byte < 127 else f"\\{byte:03o}") for byte in text) + '"'
+    return '"' + "".join(ESCAPES.get(byte) or (chr(byte) if 32 <= byte < 127 else f"\\{byte:03o}")
+                         for byte in text) + '"'
 
 
 def as_text(value: int) -> str | None:

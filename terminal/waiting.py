@@ -59,7 +59,8 @@ class Waiting:
             raise Interrupted
 
     def tell(self, position: int, what: str = "", target: int | None = None) -> None:
-        """Shows how far a run is that takes over a second; with a target, how much of it that is and how long it still takes."""
+        """Shows how far a run is that takes over a second; with a target, how much of it that is and how long it still
+        takes."""
         now = time.monotonic()
         if self.first is None:
             self.first, self.begun = position, min(self.begun, now)

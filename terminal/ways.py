@@ -19,8 +19,8 @@ MOST_TOLD = 200
 
 @command("path", "path [$f]", "place", is_repeated=False)
 def path(shell: Shell, rest: str) -> None:
-    """Shows the blocks through which the call of the selected frame went up to here, with rounds of a loop as one line; of $f the
-    innermost call of it, or the last one that is over."""
+    """Shows the blocks through which the call of the selected frame went up to here, with rounds of a loop as one line;
+    of $f the innermost call of it, or the last one that is over."""
     function, at = call_of(shell, rest.strip())
     blocks = blocks_of(shell, function, at)
     rounds = folded([label for _, label in blocks])
@@ -79,7 +79,8 @@ def blocks_of(shell: Shell, function: Function, at: Timeline) -> list[tuple[int,
 
 
 def folded(labels: Sequence[str]) -> list[tuple[list[str], int]]:
-    """The same labels, where what comes several times in a row is one entry with its number. The shortest round counts."""
+    """The same labels, where what comes several times in a row is one entry with its number. The shortest round
+    counts."""
     found: list[tuple[list[str], int]] = []
     at = 0
     while at < len(labels):
@@ -125,13 +126,15 @@ def why_not(shell: Shell, label: str) -> Cause:
     cause = Cause(at, [])
     for place in jumps:
         tell_jump(shell, cause, function, at.at(reached[place]) if place in reached else None, place, label)
-    here = f"control came to {label} at #{reached[label, 0]}, and since then it could have by" if (label, 0) in reached else \
+    here = f"control came to {label} at #{reached[label, 0]}, and since then it could have by" \
+        if (label, 0) in reached else \
         f"control didn't come to {label} in this call of {function.name}; it could have by"
     cause.lines.insert(0, here)
     return cause
 
 
-def last_times(shell: Shell, function: Function, at: Timeline, places: list[tuple[str, int]]) -> dict[tuple[str, int], int]:
+def last_times(shell: Shell, function: Function, at: Timeline,
+               places: list[tuple[str, int]]) -> dict[tuple[str, int], int]:
     """For each place of a call, the last position at which it stood there, if it did."""
     found: dict[tuple[str, int], int] = {}
     for first in range(0, len(places), MOST_STOPS // 2):
@@ -144,12 +147,14 @@ def last_times(shell: Shell, function: Function, at: Timeline, places: list[tupl
     return found
 
 
-def tell_jump(shell: Shell, cause: Cause, function: Function, there: Timeline | None, place: tuple[str, int], label: str) -> None:
+def tell_jump(shell: Shell, cause: Cause, function: Function, there: Timeline | None, place: tuple[str, int],
+              label: str) -> None:
     """Adds a jump to what is told, with the value by which it went another way, which can be asked about."""
     block, index = place
     jump = function.at(block, index)
     if there is None:
-        cause.lines.append(f"  line {jump.line}: {jump.written()}  of {block}, which control didn't come to in this call")
+        cause.lines.append(
+            f"  line {jump.line}: {jump.written()}  of {block}, which control didn't come to in this call")
         return
     causes = shell.causes
     cause.lines.append(causes.line_told(there, *causes.innermost(there)))

@@ -1,19 +1,22 @@
-"""The rules of open bits beside arithmetic that knows nothing of them: tests/reference, which was written from the pages.
+"""The rules of open bits beside arithmetic that knows nothing of them: tests/reference, which was written from the
+pages.
 
-The law: whatever the open bits of the operands are, the bits of the result that aren't open are the same. And where a rule is
-exact, each open bit does differ for some two fillings.
+The law: whatever the open bits of the operands are, the bits of the result that aren't open are the same. And where a
+rule is exact, each open bit does differ for some two fillings.
 """
 from __future__ import annotations
 
 import random
+from functools import partial
 from typing import Callable, Iterator
 
 from reference.machine import Fault, result_of
 
 from check.shadow import BITS, MASK, open_by, open_of_difference, open_of_extension
 
-OPERATIONS = ("add sub mul and or xor shl shr sar div rem udiv urem ceq cne csle cslt csge csgt cule cult cuge cugt neg "
-              "extsw extuw extsh extuh extsb extub").split()
+OPERATIONS = (
+    "add sub mul and or xor shl shr sar div rem udiv urem ceq cne csle cslt csge csgt cule cult cuge cugt neg "
+    "extsw extuw extsh extuh extsb extub").split()
 # Of these each open bit differs for some filling of the operands, unless both are open in many bits.
 EXACT = frozenset("and or xor extsw extuw extsh extuh extsb extub ceq cne".split())
 FILLINGS = 24
@@ -23,7 +26,8 @@ Case = tuple[str, Callable[[], str | None]]
 def drawn(random_: random.Random, width: str) -> tuple[int, int]:
     """A value and its open bits, of a shape that matters: few bits, many, a part, an extreme."""
     mask = MASK[width]
-    value = random_.choice((random_.getrandbits(64), random_.getrandbits(6), -random_.getrandbits(6), 0, 1 << BITS[width] - 1)) & mask
+    value = random_.choice((random_.getrandbits(64), random_.getrandbits(6), -random_.getrandbits(6), 0,
+                            1 << BITS[width] - 1)) & mask
     some = 1 << random_.randrange(BITS[width]) | 1 << random_.randrange(BITS[width])
     bits = random_.choice((0, some, 0xff, mask & ~0xff, mask, random_.getrandbits(64))) & mask
     return value, bits
@@ -66,7 +70,8 @@ def filled_fault(random_: random.Random, operation: str, width: str, left: tuple
     """Whether results for fillings differ in another bit than those that the rule says, or in too few of them."""
     name = f"{operation}{width}" if operation[0] == "c" else operation
     is_unary = operation == "neg" or operation.startswith("ext")
-    differ, first = 0, None
+    first: int | None = None
+    differ = 0
     for a in fillings(random_, *left):
         for b in [0] if is_unary else fillings(random_, *right):
             try:
@@ -85,4 +90,4 @@ def filled_fault(random_: random.Random, operation: str, width: str, left: tuple
 
 def cases(count: int) -> Iterator[Case]:
     for operation in OPERATIONS:
-        yield f"bits {operation}", lambda operation=operation: operation_fault(operation, count // len(OPERATIONS))
+        yield f"bits {operation}", partial(operation_fault, operation, count // len(OPERATIONS))

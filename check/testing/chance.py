@@ -9,11 +9,11 @@ from hostile_tests.programs import random_program
 
 
 def random_files(place: pathlib.Path, word: str, count: int) -> Iterator[tuple[int, pathlib.Path, bytes, list[str]]]:
-    """The number of each, its file, which is there until the next is wanted, its text, and the arguments of its entry."""
+    """The number of each, its file, which is there until the next is wanted, its text, and the arguments of its
+    entry."""
     for number in range(count):
         text, arguments = random_program(random.Random(f"{word} {number}"))
-        source = text if isinstance(text, bytes) else text.encode()
         file = place / f"{word}-{number}.ssa"
-        file.write_bytes(source)
-        yield number, file, source, list(map(str, arguments))
+        file.write_bytes(text)
+        yield number, file, text, list(map(str, arguments))
         file.unlink()

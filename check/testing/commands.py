@@ -6,6 +6,7 @@ import pathlib
 import re
 import subprocess
 import tempfile
+from functools import partial
 from typing import Callable, Iterator
 
 from .texts import TEXTS, run
@@ -36,7 +37,7 @@ export function w $main() {
 """
 TAKES = ROUNDS.replace("$main()", "$main(w %n, l %p)")
 # Words, the status, and what is written to standard output and error.
-COMMANDS: list[tuple[str, list[str], int, str, str]] = [
+COMMANDS: list[tuple[str, list[str], int, str | None, str]] = [
     ("first session", [SQUARES], 3, FIRST, ""),
     ("none", [str(EXAMPLES / "sum.ssa")], 0, "no suspicion in 2 moves, done 5\n", ""),
     ("limit", [SQUARES, "--limit", "44"], 5, "no suspicion in 44 moves, limit at $fill\n", ""),
@@ -50,16 +51,20 @@ COMMANDS: list[tuple[str, list[str], int, str, str]] = [
     ("no words", [], 64, "", "qrev: a program was expected: ./qrev --check FILE [ARGS..]\n"),
     ("unknown kind", [SQUARES, "--kinds", "bonds"], 64, "", "qrev: bonds: no kind of suspicion; the kinds are "),
     ("unknown form", [SQUARES, "--format", "xml"], 64, "", "qrev: --format xml: text, gnu or json was expected\n"),
-    ("gnu", [SQUARES, "--format", "gnu"], 3, f"{SQUARES}:18: warning: bounds: storew at the end of $squares (16 bytes), into $bias+0 "
+    ("gnu", [SQUARES, "--format", "gnu"], 3,
+     f"{SQUARES}:18: warning: bounds: storew at the end of $squares (16 bytes), into $bias+0 "
      "[#44 $fill @body 4]\n", ""),
     ("gnu, a fault", [DIVISION, "--format=gnu"], 4,
      f"{DIVISION}:3: error: fault division by zero [#0 $main @start 0]\n", ""),
     ("gnu, none", [str(EXAMPLES / "sum.ssa"), "--format", "gnu"], 0, "", ""),
     ("no limit", [SQUARES, "--limit", "0"], 64, "", "qrev: --limit 0: a number from 1 to "),
-    ("heap of no function", [SQUARES, "--heap", "take=nothing"], 64, "", "qrev: take=nothing: the program has no function nothing\n"),
-    ("heap of another shape", [SQUARES, "--heap", "take=fill"], 64, "", "qrev: take=fill: a function (l) that gives l was expected\n"),
+    ("heap of no function", [SQUARES, "--heap", "take=nothing"], 64, "",
+     "qrev: take=nothing: the program has no function nothing\n"),
+    ("heap of another shape", [SQUARES, "--heap", "take=fill"], 64, "",
+     "qrev: take=fill: a function (l) that gives l was expected\n"),
     ("heap in no role", [SQUARES, "--heap", "lend=fill"], 64, "", "qrev: lend=fill: ROLE=FUNCTION was expected"),
-    ("heap and none", [SQUARES, "--heap", "take=fill", "--no-heap"], 64, "", "qrev: --heap and --no-heap exclude each other\n"),
+    ("heap and none", [SQUARES, "--heap", "take=fill", "--no-heap"], 64, "",
+     "qrev: --heap and --no-heap exclude each other\n"),
     ("bad exception", [SQUARES, "--except", "bounds"], 64, "", "qrev: --except bounds: KIND:$NAME was expected"),
     ("no heap", [str(TEXTS / "heap-off-by-one.ssa"), "--no-heap"], 0, "no suspicion in 24 moves, done 0\n", ""),
     ("named heap", [str(TEXTS / "heap-off-by-one.ssa"), "--heap", "take=malloc"], 3, None, ""),
@@ -79,7 +84,8 @@ Case = tuple[str, Callable[[], str | None]]
 def command_fault(program: str, words: list[str], status: int, out: str | None, errors: str) -> str | None:
     told = run(program, *words)
     same = told.returncode == status and (out is None or told.stdout == out) and told.stderr.startswith(errors)
-    return None if same and bool(told.stderr) == bool(errors) else f"{told.returncode}, {told.stdout!r} and {told.stderr!r}"
+    return None if same and bool(told.stderr) == bool(errors) else \
+        f"{told.returncode}, {told.stdout!r} and {told.stderr!r}"
 
 
 def help_fault(program: str) -> str | None:
@@ -101,7 +107,8 @@ def written_fault(program: str, text: str, words: list[str], status: int, last: 
         file.write_text(text)
         told = run(program, str(file), *words)
     lines = told.stdout.splitlines()
-    return None if (told.returncode, lines[-1:]) == (status, [last]) else f"{told.returncode}, {told.stdout!r} and {told.stderr!r}"
+    return None if (told.returncode, lines[-1:]) == (status, [last]) else \
+        f"{told.returncode}, {told.stdout!r} and {told.stderr!r}"
 
 
 def count_fault(program: str) -> str | None:
@@ -138,10 +145,12 @@ def lowered_fault(program: str) -> str | None:
     with tempfile.TemporaryDirectory(prefix="check-") as place:
         folder = pathlib.Path(place)
         (folder / "a.ssa").write_text(text)
-        subprocess.run([str(TOP / "lower" / "qrev-lower"), "--link", "--output", "out.ssa", "a.ssa"], cwd=folder, check=True)
+        subprocess.run([str(TOP / "lower" / "qrev-lower"), "--link", "--output", "out.ssa", "a.ssa"], cwd=folder,
+                       check=True)
         told = run(program, str(folder / "out.ssa"))
     lines = told.stdout.splitlines()
-    well = len(lines) == 3 and lines[0].endswith("  (a.ssa:7)") and lines[1].startswith("  bounds: storew at the end of $small")
+    well = len(lines) == 3 and lines[0].endswith("  (a.ssa:7)") and \
+        lines[1].startswith("  bounds: storew at the end of $small")
     return None if well else f"{told.stdout!r} and {told.stderr!r}"
 
 
@@ -152,7 +161,8 @@ def long_name_fault(program: str) -> str | None:
         file = pathlib.Path(place) / "text.ssa"
         file.write_text(text)
         told = run(program, str(file))
-    well = told.returncode == 2 and not told.stdout and told.stderr.count("\n") == 1 and "has a name of 301 bytes" in told.stderr
+    well = told.returncode == 2 and not told.stdout and told.stderr.count("\n") == 1 and \
+        "has a name of 301 bytes" in told.stderr
     return None if well else f"{told.returncode}, {told.stdout!r} and {told.stderr!r}"
 
 
@@ -170,7 +180,7 @@ def page_faults(program: str, page: pathlib.Path) -> Iterator[Case]:
     for number, (words, block) in enumerate(blocks, 1):
         shown = "".join(line[4:] + "\n" for line in block.splitlines())
         words_ = [str(TOP / word) if word.startswith("examples/") else word for word in words.split()]
-        yield f"page {page.name} {number}", lambda words_=words_, shown=shown: shown_fault(program, words_, shown)
+        yield f"page {page.name} {number}", partial(shown_fault, program, words_, shown)
 
 
 def shown_fault(program: str, words: list[str], shown: str) -> str | None:
@@ -180,11 +190,11 @@ def shown_fault(program: str, words: list[str], shown: str) -> str | None:
 
 def cases(program: str) -> Iterator[Case]:
     for name, *command in COMMANDS:
-        yield f"command {name}", lambda command=command: command_fault(program, *command)
+        yield f"command {name}", partial(command_fault, program, *command)
     for name, *written in WRITTEN:
-        yield f"command {name}", lambda written=written: written_fault(program, *written)
+        yield f"command {name}", partial(written_fault, program, *written)
     for name, call in (("help", help_fault), ("count", count_fault), ("json", json_fault), ("lowered", lowered_fault),
                        ("wide", wide_fault), ("long name", long_name_fault)):
-        yield f"command {name}", lambda call=call: call(program)
+        yield f"command {name}", partial(call, program)
     for page in (TOP / "README.md", TOP / "docs" / "CHECKING.md"):
         yield from page_faults(program, page)

@@ -5,6 +5,7 @@ import pathlib
 import subprocess
 import sys
 import tempfile
+from functools import partial
 from typing import Callable, Iterator
 
 from check.fast import KINDS
@@ -42,7 +43,8 @@ GOING_ON: list[tuple[str, list[str], list[str], int, str, int]] = [
     ("is over before", ["--full", "68"], [], 11, STORE + "1 suspicion in 68 moves, done 0\n", 3),
     ("counts what was told before", ["--full", "70"], [], 13,
      STORE[:-1] + "  (3 times)\n1 suspicion in 80 moves, 70 of them for all kinds, done 0\n", 3),
-    ("does not go on for other kinds", ["--full", "20"], ["--kinds", "undef"], 11, "no suspicion in 20 moves, limit at $main\n", 5),
+    ("does not go on for other kinds", ["--full", "20"], ["--kinds", "undef"], 11,
+     "no suspicion in 20 moves, limit at $main\n", 5),
     ("goes on for its kinds", ["--full", "20"], ["--kinds", "bounds"], 11,
      STORE + "1 suspicion in 68 moves, 20 of them for all kinds, done 0\n", 3),
     ("goes on, but for an object", ["--full", "20"], ["--except", "bounds:$a"], 11,
@@ -73,7 +75,8 @@ def row_fault(program: str, beside: str, lines: list[str]) -> str | None:
         return same_fault(program, file)
 
 
-def going_on_fault(program: str, before: list[str], behind: list[str], rounds: int, told: str, status: int) -> str | None:
+def going_on_fault(program: str, before: list[str], behind: list[str], rounds: int, told: str,
+                   status: int) -> str | None:
     with tempfile.TemporaryDirectory(prefix="check-") as place:
         file = pathlib.Path(place) / "late.ssa"
         file.write_text(LATE.replace("ROUNDS", str(rounds)))
@@ -84,8 +87,8 @@ def going_on_fault(program: str, before: list[str], behind: list[str], rounds: i
 
 def cases(program: str) -> Iterator[Case]:
     for file in [*sorted(TEXTS.glob("*.ssa")), *sorted((TOP / "examples").glob("*.ssa"))]:
-        yield f"fast {file.stem}", lambda file=file: same_fault(program, file)
+        yield f"fast {file.stem}", partial(same_fault, program, file)
     for name, *row in ROWS:
-        yield f"fast row {name}", lambda row=row: row_fault(program, *row[:2])
+        yield f"fast row {name}", partial(row_fault, program, *row[:2])
     for name, *case in GOING_ON:
-        yield f"fast {name}", lambda case=case: going_on_fault(program, *case)
+        yield f"fast {name}", partial(going_on_fault, program, *case)

@@ -1,8 +1,8 @@
-"""Nothing rests on what is open: if no use of open bits is suspected in a run, it goes the same way with any values in the fresh
-bytes of slots, and above parts of words behind calls.
+"""Nothing rests on what is open: if no use of open bits is suspected in a run, it goes the same way with any values in
+the fresh bytes of slots, and above parts of words behind calls.
 
-The debugger itself is the judge: after each `alloc` the new bytes are poked, after each call and return the bits above a part
-are set, and the run must end the same, with the same output.
+The debugger itself is the judge: after each `alloc` the new bytes are poked, after each call and return the bits above
+a part are set, and the run must end the same, with the same output.
 """
 from __future__ import annotations
 
@@ -17,7 +17,7 @@ from terminal.pipe import Pipe
 from terminal.scratch import SLICE, Launch
 from terminal.text import Instruction, Program
 
-from ..following import Follower
+from ..following import Follower, Read
 from ..heap import roles_of
 from ..kinds import DEFAULT
 from ..shadow import PART_BITS
@@ -51,9 +51,10 @@ class Filler(Follower):
         """Sets a temporary of the innermost frame that was passed as a part, with other bits above it."""
         bits, value = PART_BITS.get(kind), self.frames[-1].values.get(name)
         if bits and value is not None:
-            self.lines.append((self.position + 1, f"set {name} {self.drawn(32) >> bits << bits | value & (1 << bits) - 1}"))
+            self.lines.append((self.position + 1,
+                               f"set {name} {self.drawn(32) >> bits << bits | value & (1 << bits) - 1}"))
 
-    def call(self, instruction: Instruction, reads: list, there: int, values: Iterator[int]) -> None:
+    def call(self, instruction: Instruction, reads: list[Read], there: int, values: Iterator[int]) -> None:
         depth = len(self.frames)
         super().call(instruction, reads, there, values)
         if len(self.frames) > depth:
@@ -62,7 +63,7 @@ class Filler(Follower):
                 if [other for _, other in parameters].count(name) == 1:
                     self.filled(name, kind)
 
-    def leave(self, instruction: Instruction, reads: list, values: Iterator[int]) -> None:
+    def leave(self, instruction: Instruction, reads: list[Read], values: Iterator[int]) -> None:
         frame = self.frames[-1]
         super().leave(instruction, reads, values)
         if frame.call and frame.call.result and len(self.frames) and reads:
@@ -87,7 +88,8 @@ def run_fault(program: str, file: pathlib.Path, source: bytes, words: list[str],
     lines = [line for line in follower.lines if line[0] < len(gathered.places) - 1][:MOST_FILLED]
     end, output = ended(launch, lines)
     if (end, output) != (gathered.end, gathered.output):
-        return f"{end!r} and {output!r} in place of {gathered.end!r} and {gathered.output!r}, after {lines[:6]}", len(lines)
+        fault = f"{end!r} and {output!r} in place of {gathered.end!r} and {gathered.output!r}, after {lines[:6]}"
+        return fault, len(lines)
     return None, len(lines)
 
 

@@ -1,5 +1,5 @@
-"""Quick steps change nothing: a run that is followed with them has the suspicions, the shadows and the memory of one that is followed
-without, for all texts, examples and stories, and random programs.
+"""Quick steps change nothing: a run that is followed with them has the suspicions, the shadows and the memory of one
+that is followed without, for all texts, examples and stories, and random programs.
 """
 from __future__ import annotations
 
@@ -48,8 +48,9 @@ def told(shadow: Any) -> str:
 def state_of(follower: Follower) -> list[Any]:
     """All that a follower knows at the end of a run."""
     memory = follower.memory
-    return [[each.lines(None) for each in follower.suspicions()], [each.count for each in follower.suspicions()],
-            [(frame.function.name, frame.values, {name: told(shadow) for name, shadow in frame.shadows.items()}, frame.slots, frame.floor)
+    return [[each.lines() for each in follower.suspicions()], [each.count for each in follower.suspicions()],
+            [(frame.function.name, frame.values, {name: told(shadow) for name, shadow in frame.shadows.items()},
+              frame.slots, frame.floor)
              for frame in follower.frames],
             memory.top, memory.data, memory.stack[:memory.top], memory.open_data, memory.open_stack,
             {place: made_told(made) for place, made in memory.made.items()},

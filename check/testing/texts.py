@@ -6,6 +6,7 @@ import re
 import subprocess
 import sys
 import tempfile
+from functools import partial
 from typing import Callable, Iterator
 
 from .rows import ROWS, text_of
@@ -20,8 +21,8 @@ Case = tuple[str, Callable[[], str | None]]
 
 
 def run(program: str, *words: str) -> subprocess.CompletedProcess[str]:
-    return subprocess.run([sys.executable, str(MAIN), "--debugger", program, *CHECKER, "--", *words], capture_output=True, text=True,
-                          timeout=SECONDS)
+    return subprocess.run([sys.executable, str(MAIN), "--debugger", program, *CHECKER, "--", *words],
+                          capture_output=True, text=True, timeout=SECONDS)
 
 
 def found_in(lines: list[str]) -> list[tuple[str, int, str]]:
@@ -57,6 +58,6 @@ def row_fault(program: str, beside: str, lines: list[str], wanted: list[tuple[in
 
 def cases(program: str) -> Iterator[Case]:
     for file in sorted(TEXTS.glob("*.ssa")):
-        yield f"text {file.stem}", lambda file=file: text_fault(program, file)
+        yield f"text {file.stem}", partial(text_fault, program, file)
     for name, *row in ROWS:
-        yield f"row {name}", lambda row=row: row_fault(program, *row)
+        yield f"row {name}", partial(row_fault, program, *row)

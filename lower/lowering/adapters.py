@@ -1,12 +1,15 @@
 """Functions that stand between a call by an address and functions of another shape than the call has.
 
-Native code passes arguments in registers, so that a function may be called with an environment, with dots or with longer
-values than it takes. Here a call must have the shape of the function: so an adapter compares the address with those of the
-functions that have another shape, and calls these by their names.
+Native code passes arguments in registers, so that a function may be called with an environment, with dots or with
+longer values than it takes. Here a call must have the shape of the function: so an adapter compares the address with
+those of the functions that have another shape, and calls these by their names.
 """
 from .linking import Program
 from .symbols import Signature, Symbol, Unit
 from .tree import Aggregate, Block, Call, Function, Instruction, Jump, Text
+
+# The shape of a call: what it gives and takes, whether it has dots, and the size and the alignment of its aggregates.
+Shape = tuple[Signature, bool, tuple[tuple[int, int], ...]]
 
 
 class Adapters:
@@ -15,14 +18,15 @@ class Adapters:
     def __init__(self, program: Program, addressed: list[Symbol]):
         self.program, self.addressed = program, addressed
         self.unit = Unit(Text("adapters", [], {}, []), False)
-        self.by_shape: dict[tuple, Symbol | None] = {}
+        self.by_shape: dict[Shape, Symbol | None] = {}
 
     def adapter(self, signature: Signature, has_dots: bool, aggregates: dict[str, Aggregate]) -> Symbol | None:
         """The adapter for calls of a shape, or None where none is needed."""
-        named = {name: aggregates[name] for name in (signature.returns, *signature.parameters) if name in aggregates}
+        named = {name: aggregates[name] for name in (signature.returns, *signature.parameters)
+                 if name is not None and name in aggregates}
         key = (signature, has_dots, tuple((item.size, item.alignment) for item in named.values()))
         if key not in self.by_shape:
-            others = [symbol for symbol in self.addressed if self.is_other(symbol.signature, signature, has_dots)]
+            others = [symbol for symbol in self.addressed if self.is_other(symbol.shape(), signature, has_dots)]
             self.by_shape[key] = self.made(signature, others, named) if others else None
         return self.by_shape[key]
 
@@ -39,7 +43,8 @@ class Adapters:
         return len(has.parameters) == count
 
     def made(self, signature: Signature, others: list[Symbol], aggregates: dict[str, Aggregate]) -> Symbol:
-        parameters = [("l", "%function")] + [(kind, f"%a{number}") for number, kind in enumerate(signature.parameters, 1)]
+        parameters = [("l", "%function")] + [(kind, f"%a{number}") for number,
+                                             kind in enumerate(signature.parameters, 1)]
         environment = "%environment" if signature.has_environment else None
         blocks = []
         for number, symbol in enumerate(others, 1):
@@ -54,14 +59,14 @@ class Adapters:
         # The address comes first of the parameters, and the environment behind it.
         if environment is not None:
             parameters.insert(1, ("l", environment))
-        function = Function(0, name, False, signature.returns, parameters, None, False, blocks, aggregates, set(), set(),
-                            blocks)
+        function = Function(0, name, False, signature.returns, parameters, None, False, blocks, aggregates, set(),
+                            set(), blocks)
         kinds = tuple(kind for kind, _ in parameters)
         return Symbol(name, self.unit, function, Signature(signature.returns, kinds), name=name)
 
-    def calling(self, label: str, target: str, number: int, signature: Signature, parameters: list,
-                environment: str | None) -> Block:
+    def calling(self, label: str, target: str, number: int, signature: Signature,
+                parameters: list[tuple[str, str]], environment: str | None) -> Block:
         """A block that calls a function with all that the adapter was given, and gives back what that gives."""
         result = f"%given{number}" if signature.returns else None
-        call = Call(0, None, result, signature.returns, target, parameters[1:], environment, None)
+        call = Call(0, None, result, signature.returns, target, [*parameters[1:]], environment, None)
         return Block(0, label, [], [call], Jump(0, None, "ret", result, ()))

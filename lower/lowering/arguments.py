@@ -1,15 +1,15 @@
-"""What a program is given: its command line as texts, which native code finds in the `argc` and `argv` of its `main`, and its
-input.
+"""What a program is given: its command line as texts, which native code finds in the `argc` and `argv` of its `main`,
+and its input.
 
-The debugger gives the entry numbers. So the entry is written without parameters, and sets them at its beginning: the count,
-and the address of a table of texts, of which the first is the program's name and the last is followed by 0.
+The debugger gives the entry numbers. So the entry is written without parameters, and sets them at its beginning: the
+count, and the address of a table of texts, of which the first is the program's name and the last is followed by 0.
 """
 import os
 
 from .refusals import Refused
 from .runtime import Runtime
 from .symbols import Signature, Symbol, Unit
-from .tree import Data, Function, Instruction, Item, Text
+from .tree import Data, Function, Instruction, Item, Text, Value
 
 TABLE = "$arguments"
 # The runtime's function that gives the input, and its data.
@@ -35,13 +35,13 @@ def give_arguments(entry: Symbol, words: list[str]) -> None:
     function = entry.definition
     if not isinstance(function, Function) or len(function.parameters) > 2 or \
             any(kind not in ("w", "l") for kind, _ in function.parameters) or function.has_dots or function.environment:
-        raise Refused(entry.unit.text.path, function.line, f"{entry.raw} isn't a function of argc and argv")
-    values = [len(words), TABLE]
+        raise Refused(entry.home().text.path, entry.defined().line, f"{entry.raw} isn't a function of argc and argv")
+    values: list[Value] = [len(words), TABLE]
     sets = [Instruction(function.line, None, name, kind, "copy", [value])
             for (kind, name), value in zip(function.parameters, values)]
     function.blocks[0].instructions[:0] = sets
     if len(sets) == 2:
-        entry.unit.scope[TABLE] = table_of(words).own[TABLE]
+        entry.home().scope[TABLE] = table_of(words).own[TABLE]
         function.addresses.add(TABLE)
     function.parameters = []
     entry.signature = Signature(function.returns, ())
@@ -51,7 +51,7 @@ def give_input(runtime: Runtime, given: bytes) -> None:
     """Puts the bytes that the program reads into the runtime's data."""
     if not given:
         return
-    unit = runtime.symbol(TAKE_INPUT).unit
+    unit = runtime.symbol(TAKE_INPUT).home()
     for raw, items in ((INPUT, [Item(0, "b", given.decode("latin-1"))]),
                        (INPUT_END, [Item(0, "l", INPUT, True, len(given))])):
         definition = unit.own[raw].definition

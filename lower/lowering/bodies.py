@@ -1,12 +1,13 @@
 """Reads the bodies of functions: parameters, blocks, phis, instructions and jumps."""
 from collections.abc import Callable
-from typing import NoReturn
+from typing import NoReturn, TypeVar, cast
 
 from .instructions import CLASSES, SUBWORDS, WITH_RESULT, WITHOUT_RESULT, NAMES
 from .refusals import Refused
 from .tokens import Tokens
 from .tree import Aggregate, Block, Call, Instruction, Jump, Phi, Place, Value
 
+T = TypeVar("T")
 KINDS = frozenset(CLASSES + SUBWORDS)
 SHOWN = {"%": "a temporary", "$": "a global", "@": "a label", ":": "a type", "newline": "the end of the line",
          "end": "the end of the text", "number": "a number", "string": "a string", "float": "a floating constant"}
@@ -17,6 +18,8 @@ class BodyReader:
 
     def __init__(self, tokens: Tokens, path: str):
         self.kinds, self.values, self.lines, self.cut_numbers = tokens
+        # The same values, of names, words and strings, and of numbers: the kind of a token tells which it is.
+        self.words, self.numbers = cast(list[str], self.values), cast(list[int], self.values)
         self.path = path
         self.at = 0
         self.aggregates: dict[str, Aggregate] = {}
@@ -53,11 +56,15 @@ class BodyReader:
         kind, value = self.kinds[self.at], self.values[self.at]
         return f"`{value}`" if kind in "%$@:" or kind == "word" else SHOWN.get(kind, f"`{kind}`")
 
-    def expect(self, kind: str, what: str | None = None) -> str | int | None:
+    def expect(self, kind: str, what: str | None = None) -> str:
         if self.kinds[self.at] != kind:
             self.refuse(f"{what or SHOWN.get(kind, f'`{kind}`')} expected, and {self.shown()} is there")
         self.at += 1
-        return self.values[self.at - 1]
+        return self.words[self.at - 1]
+
+    def expect_number(self, what: str | None = None) -> int:
+        self.expect("number", what)
+        return self.numbers[self.at - 1]
 
     def expect_over_lines(self, kind: str, what: str | None = None) -> None:
         self.skip_newlines()
@@ -82,7 +89,7 @@ class BodyReader:
 
     def read_kind(self) -> str:
         """A class, a sub-word type or the name of an aggregate."""
-        kind, value = self.kinds[self.at], self.values[self.at]
+        kind, value = self.kinds[self.at], self.words[self.at]
         if kind == ":":
             self.at += 1
             self.used_aggregates[value] = self.aggregate(value)
@@ -102,17 +109,19 @@ class BodyReader:
             return self.read_address(self.expect("$"))
         if kind == "$":
             self.at += 1
-            return self.read_address(value)
+            return self.read_address(self.words[self.at - 1])
         self.refuse(f"a value expected, and {self.shown()} is there")
 
     def read_address(self, name: str) -> str:
         self.addresses.add(name)
         return name
 
-    def read_list(self, read_one: Callable[[str | None], Value]) -> tuple[Value | None, int | None]:
+    def read_list(self, read_one: Callable[[str | None], T]) -> tuple[T | None, int | None]:
         """The parts of a parenthesis, each read by a call with its type; the value of `env`, and how many stand before
         the dots."""
-        environment, dots, count = None, None, 0
+        environment: T | None = None
+        dots: int | None = None
+        count = 0
         self.expect("(")
         while self.kinds[self.at] != ")":
             if self.kinds[self.at] == "...":
@@ -173,7 +182,7 @@ class BodyReader:
         return blocks
 
     def begin_block(self, blocks: list[Block], labels: set[str], is_open: bool) -> None:
-        name, line = self.values[self.at], self.lines[self.at]
+        name, line = self.words[self.at], self.lines[self.at]
         self.at += 1
         if name in labels:
             self.refuse(f"the block {name} is defined a second time", line)
@@ -185,7 +194,7 @@ class BodyReader:
 
     def read_line(self, block: Block, is_first: bool) -> bool:
         """An instruction, a phi or a jump. Whether the block goes on."""
-        kind, word = self.kinds[self.at], self.values[self.at]
+        kind, word = self.kinds[self.at], self.words[self.at]
         if kind == "%":
             self.read_result(block, is_first)
             return True
@@ -207,11 +216,11 @@ class BodyReader:
 
     def read_result(self, block: Block, is_first: bool) -> None:
         at, line = self.at, self.lines[self.at]
-        result = self.values[at]
+        result = self.words[at]
         self.at += 1
         self.expect("=")
         cls = self.read_kind()
-        word = self.values[self.at] if self.kinds[self.at] == "word" else None
+        word = self.words[self.at] if self.kinds[self.at] == "word" else ""
         if word == "call":
             block.instructions.append(self.read_call(result, cls, line))
             return
@@ -245,7 +254,7 @@ class BodyReader:
         return operands
 
     def read_sources(self) -> list[tuple[str, Value]]:
-        sources = []
+        sources: list[tuple[str, Value]] = []
         while self.kinds[self.at] != "newline":
             label = self.expect("@")
             sources.append((label, self.read_value()))
@@ -268,10 +277,10 @@ class BodyReader:
 
     def read_call(self, result: str | None, kind: str | None, line: int) -> Call:
         self.at += 1
-        target = self.values[self.at]
+        target: Value = self.words[self.at]
         if self.kinds[self.at] == "$":
+            self.callees.add(self.words[self.at])
             self.at += 1
-            self.callees.add(target)
         else:
             target = self.read_value()
         arguments: list[tuple[str, Value]] = []
@@ -298,7 +307,7 @@ class BodyReader:
         self.place = Place(self.file, line, column)
 
     def read_place_number(self, what: str) -> int:
-        number = self.expect("number", what)
+        number = self.expect_number(what)
         if not 0 <= number < 1 << 29:
             self.refuse(f"{what} is too large", self.lines[self.at - 1])
         return number
@@ -314,9 +323,9 @@ class BodyReader:
             first = self.expect("@")
             self.expect(",")
             return Jump(line, self.place, word, value, (first, self.expect("@")))
-        value = None
+        returned: Value | None = None
         if word == "ret" and self.kinds[self.at] != "newline":
             if self.returns is None:
                 self.refuse("`ret` has a value, and the function no return type", line)
-            value = self.read_value()
-        return Jump(line, self.place, word, value, ())
+            returned = self.read_value()
+        return Jump(line, self.place, word, returned, ())

@@ -1,5 +1,5 @@
-"""Writes calls: arguments in the shape that the called function has, results that are aggregates in memory of the caller,
-and what stands behind dots in cells of 8 bytes."""
+"""Writes calls: arguments in the shape that the called function has, results that are aggregates in memory of the
+caller, and what stands behind dots in cells of 8 bytes."""
 from .adapters import Adapters
 from .instructions import CARRIED, class_of
 from .linking import Program
@@ -15,8 +15,8 @@ class CallWriter:
 
     def __init__(self, program: Program, adapters: Adapters, symbol: Symbol, report: Report):
         self.program, self.adapters, self.symbol, self.report = program, adapters, symbol, report
-        self.function = symbol.definition
-        self.unit = symbol.unit
+        self.function = symbol.function()
+        self.unit = symbol.home()
         self.texts: list[str] = []
         self.origins: list[tuple[int, Place | None]] = []
         self.origin: tuple[int, Place | None] = (self.function.line, None)
@@ -42,7 +42,7 @@ class CallWriter:
         return "alloc4" if alignment <= 4 else "alloc8" if alignment <= 8 else "alloc16"
 
     def operand(self, value: Value) -> str:
-        if type(value) is int:
+        if isinstance(value, int):
             return str(value)
         return value if value[0] == "%" else self.program.address_name(self.unit, value)
 
@@ -76,13 +76,13 @@ class CallWriter:
         if target is None:
             self.write_indirect(call)
             return
-        signature = target.signature
+        signature = target.shape()
         if call.kind is not None and call.kind.startswith(":") != signature.gives_aggregate() or \
                 call.kind is None and signature.gives_aggregate():
             self.write_with_other_result(call, target)
             return
         arguments = self.arguments_for(call, target)
-        slot = self.slot_for(call.kind) if signature.gives_aggregate() else None
+        slot = self.slot_for(call.result_kind()) if signature.gives_aggregate() else None
         text = f"call {target.name}({', '.join(([f'l {slot}'] if slot else []) + arguments)})"
         self.finish_call(call, signature, slot, text, target.name)
 
@@ -105,37 +105,38 @@ class CallWriter:
         gives = signature.carried_result()
         if gives is None:
             self.emit("\t" + text)
-            self.assign(call.result, carried_class(call.kind), "copy 0")
+            self.assign(call.result, carried_class(call.result_kind()), "copy 0")
             self.note(f"a result of {name}, which gives none: 0", Weight.OTHER)
             return
-        wanted = carried_class(call.kind)
-        if is_float(call.kind) != is_float(signature.returns):
-            self.note(f"the result of {name} is a {signature.returns} that is taken as a {call.kind}", Weight.OTHER)
+        kind = call.result_kind()
+        wanted = carried_class(kind)
+        if is_float(kind) != is_float(signature.returns):
+            self.note(f"the result of {name} is a {signature.returns} that is taken as a {kind}", Weight.OTHER)
         elif wanted != gives:
             self.note(f"the result of {name} is a {gives} that is taken as a {wanted}: "
                       + ("extended by zeros" if wanted == "l" else "cut"))
             self.report.count("results fitted to another class")
         if wanted == gives:
             # A sub-word type stays, so that the result is fitted to it.
-            self.assign(call.result, CARRIED[call.kind], text)
+            self.assign(call.result, CARRIED[kind], text)
         else:
             self.take_result(call.result, wanted, gives, text)
 
     def write_with_other_result(self, call: Call, target: Symbol) -> None:
         """Where only one of the call and the function has a result in memory."""
-        name, returns = target.name, target.signature.returns
+        name, returns = target.name, target.shape().returns
         arguments = self.arguments_for(call, target)
         self.note(f"{name} gives its result otherwise than the call takes it", Weight.OTHER)
-        if target.signature.gives_aggregate():
+        if returns is not None and returns.startswith(":"):
             slot = self.fresh("slot")
             # As much as a load of the result wants, at least.
-            self.slots.append((slot, "alloc16", max(target.definition.aggregates[returns].size, 8)))
+            self.slots.append((slot, "alloc16", max(target.function().aggregates[returns].size, 8)))
             self.emit(f"\tcall {name}({', '.join([f'l {slot}'] + arguments)})")
             if call.result is not None:
-                cls = carried_class(call.kind)
+                cls = carried_class(call.result_kind())
                 self.assign(call.result, cls, f"{'loadl' if cls == 'l' else 'loaduw'} {slot}")
             return
-        slot = self.slot_for(call.kind)
+        slot = self.slot_for(call.result_kind())
         self.emit(f"\tcall {name}({', '.join(arguments)})")
         if call.result is not None:
             self.assign(call.result, "l", f"copy {slot}")
@@ -144,7 +145,8 @@ class CallWriter:
 
     def arguments_for(self, call: Call, target: Symbol) -> list[str]:
         """The arguments, in the shape of a function: its environment, its parameters, and the cells of the others."""
-        name, signature, written = target.name, target.signature, []
+        name, signature = target.name, target.shape()
+        written: list[str] = []
         if signature.has_environment:
             written.append(f"l {0 if call.environment is None else self.operand(call.environment)}")
             if call.environment is None:
@@ -170,9 +172,10 @@ class CallWriter:
         """A note where the function takes what is behind the dots in another order than that of the arguments."""
         for index, (cls, (kind, _)) in enumerate(zip(taken_by(target), arguments)):
             if is_float(cls) != is_float(kind):
-                self.note(f"argument {index + 1} behind the dots of {target.name} is a {kind}, and its `vaarg` there takes a "
-                          f"{cls}: native code takes floats and integers from registers of their own",
-                          Weight.APART if self.symbol in self.program.reached else Weight.OTHER)
+                self.note(
+                    f"argument {index + 1} behind the dots of {target.name} is a {kind}, and its `vaarg` there takes a "
+                    f"{cls}: native code takes floats and integers from registers of their own",
+                    Weight.APART if self.symbol in self.program.reached else Weight.OTHER)
                 return
 
     def fitted(self, kind: str, value: Value, wanted: str, number: int, target: Symbol) -> str:
@@ -230,7 +233,7 @@ class CallWriter:
         """A call by an address: by an adapter, where functions of other shapes may stand behind it."""
         kinds = tuple(kind for kind, _ in call.arguments)
         signature = Signature(call.kind, kinds, call.environment is not None, False)
-        slot = self.slot_for(call.kind) if signature.gives_aggregate() else None
+        slot = self.slot_for(call.result_kind()) if signature.gives_aggregate() else None
         arguments = [f"l {slot}"] if slot else []
         if call.environment is not None:
             arguments.append(f"l {self.operand(call.environment)}")
@@ -250,9 +253,9 @@ class CallWriter:
 
 def taken_by(target: Symbol) -> list[str]:
     """The classes that a function takes of what is behind its dots, as far as its first block tells."""
-    block = target.definition.blocks[0]
+    block = target.function().blocks[0]
     return [each.cls for each in block.instructions if isinstance(each, Instruction) and each.name == "vaarg"]
 
 
-def is_float(kind: str) -> bool:
+def is_float(kind: str | None) -> bool:
     return kind in ("s", "d")

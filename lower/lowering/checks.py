@@ -1,4 +1,6 @@
 """What QBE refuses of a function that was read: labels, classes and phis."""
+from typing import NoReturn
+
 from .instructions import WITH_RESULT, WITHOUT_RESULT, class_of
 from .refusals import Refused
 from .tree import Block, Call, Function, Instruction, Phi, Value
@@ -12,19 +14,19 @@ class Checker:
         self.function, self.path = function, path
         self.classes = function.classes
 
-    def refuse(self, line: int, what: str) -> None:
+    def refuse(self, line: int, what: str) -> NoReturn:
         raise Refused(self.path, line, what)
 
     def check(self) -> None:
         self.collect_classes()
         self.check_labels()
         predecessors = predecessors_of(self.function.blocks)
-        returned = class_of(self.function.returns) if self.function.returns else None
+        returned = class_of(self.function.returns) if self.function.returns else ""
         for block in self.function.blocks:
             for phi in block.phis:
                 self.check_phi(phi, predecessors[block.name])
             for instruction in block.instructions:
-                if type(instruction) is Instruction:
+                if isinstance(instruction, Instruction):
                     self.check_instruction(instruction)
                 else:
                     self.check_call(instruction)
@@ -45,7 +47,8 @@ class Checker:
                 self.define(phi.result, phi.cls, phi.line)
             for instruction in block.instructions:
                 if instruction.result is not None:
-                    kind = instruction.cls if type(instruction) is Instruction else class_of(instruction.kind)
+                    kind = instruction.cls if isinstance(instruction, Instruction) \
+                        else class_of(instruction.result_kind())
                     self.define(instruction.result, kind, instruction.line)
 
     def define(self, name: str, cls: str, line: int) -> None:

@@ -5,6 +5,7 @@ import os
 import pathlib
 import stat
 import sys
+from typing import NoReturn
 
 from .arguments import give_arguments, give_input
 from .ends import has_ends, is_named, wrapped
@@ -25,7 +26,7 @@ BAD_COMMAND_LINE, NOT_READ, LEFT_OVER = 64, 2, 1
 
 
 class Parser(argparse.ArgumentParser):
-    def error(self, message: str):
+    def error(self, message: str) -> NoReturn:
         self.exit(BAD_COMMAND_LINE, f"qrev-lower: {message}\n")
 
 
@@ -76,11 +77,12 @@ class Lowering:
         self.entry = self.entry_symbol("$" + entry)
         if is_linked and self.entry is None:
             raise Refused(texts[0].path, 1, f"no text exports a function ${entry}")
-        if self.entry is not None and (words is not None or has_ends(self.program)) and is_named(self.program, self.entry):
+        if self.entry is not None and (words is not None or has_ends(self.program)) \
+                and is_named(self.program, self.entry):
             self.entry = wrapped(self.program, self.entry)
         if words is not None and self.entry is not None:
             give_arguments(self.entry, [pathlib.Path(texts[0].path).stem, *words])
-        if is_linked:
+        if is_linked and self.entry is not None:
             self.program.keep_from(self.entry)
         else:
             self.keep_all()
@@ -112,7 +114,8 @@ class Lowering:
         renamed = squeeze_names(self.chunks)
         self.report.count("temporaries and labels with short names, to fit", len(renamed))
         if self.is_linked and self.entry is not None and size_of_text(self.chunks) > MOST_BYTES:
-            self.report.count("functions that no call can reach, cut to fit", cut_unreached(self.chunks, self.entry.name))
+            self.report.count("functions that no call can reach, cut to fit",
+                              cut_unreached(self.chunks, self.entry.name))
         return renamed
 
     def entry_symbol(self, raw: str) -> Symbol | None:
@@ -152,8 +155,9 @@ def write_all(lowering: Lowering, output: str | None, map_path: str | None) -> N
         sys.stdout.buffer.flush()
     else:
         pathlib.Path(output).write_bytes(text)
-    if map_path or beside:
-        pathlib.Path(map_path or beside).write_bytes(lowering.map.encode(ENCODING))
+    map_file = map_path or beside
+    if map_file:
+        pathlib.Path(map_file).write_bytes(lowering.map.encode(ENCODING))
     if beside:
         pathlib.Path(beside.removesuffix(".map") + ".names").write_bytes(lowering.meanings.encode(ENCODING))
 
@@ -164,7 +168,8 @@ def main(words: list[str]) -> int:
     given = options().parse_args(words)
     try:
         input_bytes = pathlib.Path(given.input).read_bytes() if given.input is not None else b""
-        lowering = Lowering([read_text(path) for path in given.files], given.entry, given.link, given.arguments, input_bytes)
+        lowering = Lowering([read_text(path) for path in given.files], given.entry, given.link, given.arguments,
+                            input_bytes)
         write_all(lowering, given.output, given.map)
     except Refused as refused:
         print(refused, file=sys.stderr)

@@ -97,6 +97,7 @@ def constant_bits(text: str) -> int:
     match, fraction_of = HEXADECIMAL.fullmatch(body), hexadecimal_fraction
     if not match:
         match, fraction_of = DECIMAL.fullmatch(body), decimal_fraction
+    assert match is not None
     whole, part, power = match.groups()
     value = fraction_of(whole, part, power_of(power))
     return sign | rounded(value.numerator, value.denominator, target)

@@ -1,5 +1,6 @@
 """Writes data in the language of qrev, an object on a line."""
 import re
+from collections.abc import Callable
 
 from .tree import Data, Item
 
@@ -15,7 +16,7 @@ DEFAULT_ALIGNMENT = 16
 
 def size_of(item: Item) -> int:
     if item.letter == "z":
-        return item.value
+        return int(item.value)
     if type(item.value) is str and not item.is_global:
         return len(item.value)
     return SIZES[item.letter]
@@ -47,23 +48,23 @@ def fields_of(items: list[Item]) -> list[tuple[str, list[Item]]]:
     return fields
 
 
-def escape(match: re.Match) -> str:
-    byte = match.group()
+def escape(match: re.Match[str]) -> str:
+    byte: str = match.group()
     return ESCAPES.get(byte) or (f"\\{ord(byte):03o}" if match.group(1) else f"\\{ord(byte):o}")
 
 
-def written_item(item: Item, name_of, address_of) -> str:
+def written_item(item: Item, name_of: Callable[[str], str], address_of: Callable[[str], int]) -> str:
     """An item. The language has addresses of 8 bytes: a shorter one is written as its number."""
     if not item.is_global:
-        return str(item.value) if type(item.value) is int else f'"{ESCAPED.sub(escape, item.value)}"'
+        return str(item.value) if isinstance(item.value, int) else f'"{ESCAPED.sub(escape, item.value)}"'
     if item.letter != "l":
         mask = (1 << 8 * SIZES[item.letter]) - 1
-        return str(address_of(item.value) + item.offset & mask)
+        return str(address_of(str(item.value)) + item.offset & mask)
     behind = f" + {item.offset & WHOLE}" if item.offset else ""
-    return name_of(item.value) + behind
+    return name_of(str(item.value)) + behind
 
 
-def written_data(data: Data, name: str, name_of, address_of) -> str:
+def written_data(data: Data, name: str, name_of: Callable[[str], str], address_of: Callable[[str], int]) -> str:
     """The line of an object; its globals are told by two calls, as names and as addresses."""
     fields = []
     for letter, items in fields_of(data.items):

@@ -1,5 +1,5 @@
-"""What runs before the entry and behind it: the functions of the sections `.preinit_array`, `.init_array` and `.fini_array`,
-as a linker and a C library have it, and those of `atexit`."""
+"""What runs before the entry and behind it: the functions of the sections `.preinit_array`, `.init_array` and
+`.fini_array`, as a linker and a C library have it, and those of `atexit`."""
 from __future__ import annotations
 
 from typing import TYPE_CHECKING, NamedTuple
@@ -64,7 +64,8 @@ class Ends:
         self.finalizers: Symbol | None = None
 
     def of(self, section: str) -> list[Symbol]:
-        """The functions of a section, of the texts of which something is kept, in the order in which a linker puts them."""
+        """The functions of a section, of the texts of which something is kept, in the order in which a linker puts
+        them."""
         program, found = self.program, []
         kept = {symbol.unit for symbol in program.kept}
         for unit in program.units:
@@ -111,7 +112,7 @@ class Ends:
         names = []
         for number, symbol in enumerate(self.of(section)):
             names.append(f"${section[1:]}.{number}")
-            user.unit.scope[names[-1]] = symbol
+            user.home().scope[names[-1]] = symbol
         return names
 
     def fill_calls(self) -> None:
@@ -123,7 +124,7 @@ class Ends:
             return
         function.callees = set(names)
         function.blocks[0].instructions = [
-            Call(function.line, None, None, None, name, zeros(array.unit.scope[name]), None, None) for name in names]
+            Call(function.line, None, None, None, name, zeros(array.home().scope[name]), None, None) for name in names]
 
 
 def is_named(program: Program, symbol: Symbol) -> bool:
@@ -139,11 +140,11 @@ def has_ends(program: Program) -> bool:
 
 
 def wrapped(program: Program, entry: Symbol) -> Symbol:
-    """A function in the place of an entry that may be called again, so that its arguments are set once, and that what runs
-    before and behind it does so once."""
+    """A function in the place of an entry that may be called again, so that its arguments are set once, and that what
+    runs before and behind it does so once."""
     function = entry.definition
     assert isinstance(function, Function)
-    unit = Unit(Text(entry.unit.text.path, [], {}, []), False)
+    unit = Unit(Text(entry.home().text.path, [], {}, []), False)
     unit.scope[INNER] = entry
     result = "%given" if function.returns else None
     arguments: list[tuple[str, Value]] = [(kind, name) for kind, name in function.parameters]

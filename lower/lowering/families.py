@@ -1,8 +1,9 @@
-"""Functions that share state, as an allocator's, and that the runtime has too: all are the text's own, or all the runtime's.
+"""Functions that share state, as an allocator's, and that the runtime has too: all are the text's own, or all the
+runtime's.
 
-A definition of the text goes before the runtime's. But where one of a family comes to a function from outside, or asks the
-system for more memory at once than there is, the runtime's are taken for all of the family: a block of one heap that is
-given back to another would be a fault that the program doesn't have.
+A definition of the text goes before the runtime's. But where one of a family comes to a function from outside, or asks
+the system for more memory at once than there is, the runtime's are taken for all of the family: a block of one heap
+that is given back to another would be a fault that the program doesn't have.
 """
 from __future__ import annotations
 
@@ -17,8 +18,9 @@ from .tree import Call, Data, Function, Instruction, Value
 if TYPE_CHECKING:
     from .linking import Program
 
-HEAP = ("$malloc $calloc $realloc $free $reallocarray $aligned_alloc $posix_memalign $memalign $malloc_usable_size".split(),
-        "$rt.malloc $rt.calloc $rt.realloc $rt.free".split())
+HEAP = (
+    "$malloc $calloc $realloc $free $reallocarray $aligned_alloc $posix_memalign $memalign $malloc_usable_size".split(),
+    "$rt.malloc $rt.calloc $rt.realloc $rt.free".split())
 HEAP_NAMES = frozenset(HEAP[0] + HEAP[1])
 # What gives memory of the system.
 MAPPING = frozenset(("$mmap", "$brk", "$sbrk", "$syscall", "$rt.syscall1", "$rt.syscall6"))
@@ -80,7 +82,7 @@ class Families:
         if not isinstance(definition, Data) or symbol.is_of_runtime():
             return False
         return all(item.letter == "z" or item.value == 0 for item in definition.items) or \
-            symbol.raw in self.program.stored_in(symbol.unit)
+            symbol.raw in self.program.stored_in(symbol.home())
 
     def why_not_own(self, symbol: Symbol) -> str | None:
         """Why a function of a text can't be its own, or None."""
@@ -112,12 +114,13 @@ class Families:
         for call in calls_of(symbol.definition):
             given = [value if isinstance(value, int) else numbers.get(value, 0) for _, value in call.arguments]
             sizes = [size for size in given if LARGEST_MAPPING < size < MOST_SIZE]
-            if sizes and type(call.target) is str and call.target[0] == "$" and self.leads_to_memory(symbol, call.target):
+            if sizes and type(call.target) is str and call.target[0] == "$" \
+                    and self.leads_to_memory(symbol, call.target):
                 yield max(sizes)
 
     def constant_data(self, symbol: Symbol, raw: str) -> int:
         """The number that data of a text begins with and keeps, else 0."""
-        found = self.program.resolve(symbol.unit, raw)
+        found = self.program.resolve(symbol.home(), raw)
         definition = found.definition
         if not isinstance(definition, Data) or not definition.items or self.is_state(found) or found.is_of_runtime():
             return 0
@@ -125,7 +128,7 @@ class Families:
         return value if isinstance(value, int) and definition.items[0].letter == "l" else 0
 
     def leads_to_memory(self, symbol: Symbol, raw: str) -> bool:
-        target = self.program.resolve(symbol.unit, raw)
+        target = self.program.resolve(symbol.home(), raw)
         return any(other.raw in MAPPING for other in self.program.reached_from([target], self.beside))
 
 

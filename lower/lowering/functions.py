@@ -110,10 +110,12 @@ class FunctionWriter(CallWriter):
             self.cells = self.fresh(CELLS[1:])
             parameters.append(f"l {self.cells}")
             self.report.count("functions with dots, which take the address of cells")
-        if not self.symbol.is_of_runtime() and {function.returns, *(kind for kind, _ in function.parameters)} & set(SUBWORDS):
-            self.report.count("functions with sub-word types, whose values are extended (native code leaves the upper bits)")
-        gives = self.symbol.signature.carried_result()
-        if gives is not None:
+        if not self.symbol.is_of_runtime() \
+                and {function.returns, *(kind for kind, _ in function.parameters)} & set(SUBWORDS):
+            self.report.count(
+                "functions with sub-word types, whose values are extended (native code leaves the upper bits)")
+        gives = self.symbol.shape().carried_result()
+        if gives is not None and function.returns is not None:
             gives = CARRIED[function.returns]
         return f"function {gives + ' ' if gives else ''}{self.symbol.name}({', '.join(parameters)}) {{"
 
@@ -130,7 +132,7 @@ class FunctionWriter(CallWriter):
             self.write_phi(phi)
         for instruction in block.instructions:
             self.origin = (instruction.line, instruction.place)
-            if type(instruction) is Instruction:
+            if isinstance(instruction, Instruction):
                 self.write_instruction(instruction)
             else:
                 self.write_call(instruction)
@@ -146,8 +148,9 @@ class FunctionWriter(CallWriter):
         self.origin = (jump.line, jump.place)
         if jump.name == "on":
             return
-        if jump.name == "ret" and self.hidden is not None and jump.value is not None:
-            size = self.function.aggregates[self.function.returns].size
+        returns = self.function.returns
+        if jump.name == "ret" and self.hidden is not None and jump.value is not None and returns is not None:
+            size = self.function.aggregates[returns].size
             self.emit(f"\tblit {self.operand(jump.value)}, {self.hidden}, {size}")
             self.emit("\tret")
             return
@@ -174,7 +177,7 @@ class FunctionWriter(CallWriter):
             operands = ", ".join([operand(value) for value in instruction.operands])
             self.assign(result, plain[0], f"{plain[1]} {operands}")
         elif key in FLOAT_CALLS:
-            self.write_float(instruction, *FLOAT_CALLS[key])
+            self.write_float(instruction, result, *FLOAT_CALLS[key])
         elif name == "neg":
             value = operand(instruction.operands[0])
             if instruction.cls in FLOATS:
@@ -183,25 +186,25 @@ class FunctionWriter(CallWriter):
             else:
                 self.assign(result, instruction.cls, f"neg {value}")
         else:
-            self.write_vaarg(instruction)
+            self.write_vaarg(instruction, result)
 
-    def write_float(self, instruction: Instruction, function: str, gives: str) -> None:
+    def write_float(self, instruction: Instruction, result: str, function: str, gives: str) -> None:
         target = self.program.runtime_symbol(function)
         arguments = ", ".join(f"{kind} {self.operand(value)}" for kind, value
-                              in zip(target.signature.parameters, instruction.operands))
+                              in zip(target.shape().parameters, instruction.operands))
         self.report.count("float instructions, by calls of the runtime")
         wanted = CARRIED[instruction.cls]
-        self.take_result(instruction.result, wanted, gives, f"call {target.name}({arguments})")
+        self.take_result(result, wanted, gives, f"call {target.name}({arguments})")
 
     def write_vastart(self, instruction: Instruction) -> None:
         self.emit(f"\tstorel {self.cells}, {self.operand(instruction.operands[0])}")
 
-    def write_vaarg(self, instruction: Instruction) -> None:
+    def write_vaarg(self, instruction: Instruction, result: str) -> None:
         """The next cell, from the list that the address leads to, which goes on by a cell."""
         list_address = self.operand(instruction.operands[0])
         cell, behind = self.fresh("cell"), self.fresh("behind")
         self.emit(f"\t{cell} =l loadl {list_address}")
         self.emit(f"\t{behind} =l add {cell}, 8")
         self.emit(f"\tstorel {behind}, {list_address}")
-        self.assign(instruction.result, CARRIED[instruction.cls], f"{LOADS[instruction.cls]} {cell}")
+        self.assign(result, CARRIED[instruction.cls], f"{LOADS[instruction.cls]} {cell}")
         self.report.count("`vaarg` as loads of cells")

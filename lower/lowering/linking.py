@@ -17,8 +17,8 @@ from .tree import Block, Call, Data, Definition, Function, Text, Value
 
 # What the mathematical library of C has beyond what is exact.
 INEXACT = frozenset(f"${name}{end}" for end in ("", "f") for name in (
-    "sin cos tan asin acos atan atan2 sinh cosh tanh asinh acosh atanh exp exp2 expm1 log log2 log10 log1p pow cbrt hypot "
-    "erf erfc tgamma lgamma fma").split())
+    "sin cos tan asin acos atan atan2 sinh cosh tanh asinh acosh atanh exp exp2 expm1 log log2 log10 log1p pow cbrt "
+    "hypot erf erfc tgamma lgamma fma").split())
 # The runtime's own function in the place of the built-in one, where its result or its address is used.
 COUNTED_PUTS = "$puts.counted"
 
@@ -57,8 +57,9 @@ class Program:
     def export(self, symbol: Symbol) -> None:
         known = self.exported.setdefault(symbol.raw, symbol)
         if known is not symbol:
-            raise Refused(symbol.unit.text.path, symbol.definition.line,
-                          f"{symbol.raw} is exported a second time, after {known.unit.text.path}:{known.definition.line}")
+            first = f"{known.home().text.path}:{known.defined().line}"
+            raise Refused(symbol.home().text.path, symbol.defined().line,
+                          f"{symbol.raw} is exported a second time, after {first}")
 
     # What names stand for.
 
@@ -121,7 +122,7 @@ class Program:
     def references_of(self, symbol: Symbol) -> Iterable[Symbol]:
         if symbol.definition is None:
             return []
-        return [self.resolve(symbol.unit, raw) for raw in sorted(references(symbol.definition))]
+        return [self.resolve(symbol.home(), raw) for raw in sorted(references(symbol.definition))]
 
     def reached_from(self, symbols: Iterable[Symbol], beside: Iterable[Symbol] = ()) -> dict[Symbol, None]:
         """What these name, and what that names, and so on; not by way of those beside."""
@@ -154,7 +155,7 @@ class Program:
             if symbol.name != symbol.raw:
                 self.report.count("names that were changed")
                 if symbol.unit is not None and not symbol.is_of_runtime():
-                    self.report.note(symbol.unit.text.path, symbol.definition.line,
+                    self.report.note(symbol.unit.text.path, symbol.defined().line,
                                      f"{symbol.raw} is written as {symbol.name}")
 
     # What would halt.
@@ -170,8 +171,8 @@ class Program:
         self.outside.clear()
         self.report.count("functions that need the system, replaced by the runtime's", len(found))
         for symbol, why in found:
-            self.report.note(symbol.unit.text.path, symbol.definition.line, f"{symbol.raw} {why}: the runtime's is taken",
-                             Weight.OTHER)
+            self.report.note(symbol.home().text.path, symbol.defined().line,
+                             f"{symbol.raw} {why}: the runtime's is taken", Weight.OTHER)
 
     def note_state_left(self) -> None:
         """A note for each function that is kept and looks at what a replaced one changed."""
@@ -180,7 +181,7 @@ class Program:
                 continue
             shared = next((symbol for symbol in self.references_of(user) if symbol in self.left_state), None)
             if shared is not None:
-                self.report.note(user.unit.text.path, user.definition.line,
+                self.report.note(user.unit.text.path, user.defined().line,
                                  f"{user.raw} uses {shared.raw}, which functions that were replaced don't change",
                                  Weight.OTHER)
 
@@ -194,28 +195,33 @@ class Program:
         for user in self.reached:
             if not isinstance(user.definition, Function) or user.is_of_runtime():
                 continue
+            unit = user.home()
             for call in calls_of(user.definition):
-                if call.target in CALLERS and call.arguments and self.resolve(user.unit, call.target).is_of_runtime():
+                target = call.target
+                if isinstance(target, str) and target in CALLERS and call.arguments and \
+                        self.resolve(unit, target).is_of_runtime():
                     number = constant(user.definition, call.arguments[0][1])
                     if number is not None and number not in ANSWERED:
-                        self.report.note(user.unit.text.path, call.line, told(number), Weight.OTHER)
+                        self.report.note(unit.text.path, call.line, told(number), Weight.OTHER)
 
     def weight_in(self, symbol: Symbol) -> Weight:
         """What it means that something halts in what a symbol stands for."""
         return Weight.HALTS if symbol in self.reached else Weight.OTHER
 
     def note_outside(self) -> None:
-        """A note for each function from outside, at its first use in the texts: one that can be reached, if there is one."""
+        """A note for each function from outside, at its first use in the texts: one that can be reached, if there is
+        one."""
         told: set[Symbol] = set()
         order = {unit: number for number, unit in enumerate(self.units)}
         users = [user for user in self.kept if user.unit in order]
-        users.sort(key=lambda user: (user not in self.reached, order[user.unit], user.definition.line))
+        users.sort(key=lambda user: (user not in self.reached, order[user.home()], user.defined().line))
         for user in users:
             fresh = [symbol for symbol in self.references_of(user) if symbol.is_outside() and symbol not in told]
-            lines = lines_of_use(user.definition) if fresh else {}
+            lines = lines_of_use(user.defined()) if fresh else {}
             for symbol in sorted(fresh, key=lambda symbol: lines[symbol.raw]):
-                why = "isn't exact, so that the runtime doesn't have it" if symbol.raw in INEXACT else "is defined nowhere"
-                self.report.note(user.unit.text.path, lines[symbol.raw], f"{symbol.raw} {why}: a function that halts",
+                why = "isn't exact, so that the runtime doesn't have it" if symbol.raw in INEXACT else \
+                    "is defined nowhere"
+                self.report.note(user.home().text.path, lines[symbol.raw], f"{symbol.raw} {why}: a function that halts",
                                  self.weight_in(symbol))
             told.update(fresh)
         self.report.count("functions from outside, which halt", len(told))
@@ -229,13 +235,14 @@ def name_order(symbol: Symbol, program: Program) -> int:
     return 2 if symbol.is_of_runtime() else 1
 
 
-def lines_of_use(definition: Definition) -> dict[str, int]:
+def lines_of_use(definition: Definition) -> dict[Value | None, int]:
     """The line at which a definition first names each global."""
+    named: list[tuple[Value | None, int]]
     if isinstance(definition, Data):
         named = [(item.value, item.line) for item in definition.items if item.is_global]
     else:
         named = [(value, line) for block in definition.blocks for value, line in values_of(block)]
-    found: dict[str, int] = {}
+    found: dict[Value | None, int] = {}
     for value, line in named:
         found.setdefault(value, line)
     return found

@@ -4,7 +4,8 @@ Each line is a kind and words, with tabulators between:
 
     outside $f                a function from outside, which halts
     runtime $f                a function of the runtime, or data of it
-    instruction $f NAME C C*  the runtime's function for an instruction on floats: the classes of its result and its operands
+    instruction $f NAME C C*  the runtime's function for an instruction on floats: the classes of its result and its
+                              operands
     result $f C               a function that gives a float: s or d
     float $f %x C             a temporary that holds a float
     data $x OFFSET C COUNT    floats in data, from an offset on
@@ -66,7 +67,8 @@ def told_data(symbol: Symbol, data: Data) -> Iterator[str]:
 def told_stores(chunk: "Chunk", function: Function, before: int) -> Iterator[str]:
     """The stores of constants of floats, by the lines of the text, of which so many stand before the function's."""
     stores = {each.line: each.name[-1] for block in function.blocks for each in block.instructions
-              if isinstance(each, Instruction) and each.name in ("stores", "stored") and isinstance(each.operands[0], int)}
+              if isinstance(each, Instruction) and each.name in ("stores", "stored")
+              and isinstance(each.operands[0], int)}
     for index, (text, (origin, _)) in enumerate(zip(chunk.texts, chunk.origins) if stores else ()):
         if origin in stores and text.lstrip().startswith("store"):
             yield line("stored", before + index + 1, stores[origin])

@@ -12,8 +12,8 @@ class Names:
         self.taken: set[str] = set()
 
     def give(self, raw: str) -> str:
-        """A name that no other has. Each other byte becomes a dot and two hexadecimal digits, and a number is put behind
-        a name that is taken."""
+        """A name that no other has. Each other byte becomes a dot and two hexadecimal digits, and a number is put
+        behind a name that is taken."""
         name = raw if LAWFUL.fullmatch(raw) else \
             "$" + (OTHER.sub(lambda match: f".{ord(match.group()):02x}", raw[1:]) or ".")
         given, number = name, 1

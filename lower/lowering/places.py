@@ -61,8 +61,9 @@ class Places:
         """The line of the lowered text at which a place stands: its instruction or its jump."""
         match = PLACE.search(place)
         function = self.functions.get(match.group(1)) if match else None
-        block = next((block for block in function.blocks if block.name == match.group(2)), None) if function else None
-        if block is None or int(match.group(3)) > len(block.instructions):
+        block = next((block for block in function.blocks if block.name == match.group(2)), None) \
+            if match and function else None
+        if match is None or block is None or int(match.group(3)) > len(block.instructions):
             return None
         index = int(match.group(3))
         return block.instructions[index].line if index < len(block.instructions) else block.jump.line

@@ -31,7 +31,7 @@ class TextReader(BodyReader):
         definitions: list[Definition] = []
         while True:
             links = self.read_links()
-            line, kind, word = self.line(), self.kind(), self.values[self.at]
+            line, kind, word = self.line(), self.kind(), self.words[self.at]
             self.at += 1
             if kind == "end":
                 if links.are_any:
@@ -57,7 +57,7 @@ class TextReader(BodyReader):
         links = Links()
         while True:
             self.skip_newlines()
-            word = self.values[self.at] if self.kind() == "word" else None
+            word = self.words[self.at] if self.kind() == "word" else None
             if word not in ("export", "thread", "section"):
                 return links
             self.at += 1
@@ -115,7 +115,7 @@ class TextReader(BodyReader):
         if self.kind() == "number":
             if not alignment:
                 self.refuse("an opaque type needs an alignment")
-            size = self.expect("number")
+            size = self.expect_number()
             self.expect_over_lines("}")
             self.aggregates[name] = Aggregate(name, size, alignment, "opaque")
         elif self.kind() == "{":
@@ -127,7 +127,7 @@ class TextReader(BodyReader):
     def read_alignment_of_type(self) -> int:
         """The power of two that QBE makes of it: the greatest that isn't above, without the sign, and 1 for 0."""
         self.skip_newlines()
-        number = self.expect("number", "the alignment")
+        number = self.expect_number("the alignment")
         return 1 << max(number.bit_length() - 1, 0)
 
     def read_union(self, name: str, alignment: int) -> Aggregate:
@@ -150,7 +150,7 @@ class TextReader(BodyReader):
                 break
             field_size, field_alignment = self.read_field()
             self.skip_newlines()
-            count = self.expect("number") if self.kind() == "number" else 1
+            count = self.expect_number() if self.kind() == "number" else 1
             size = -(-size // field_alignment) * field_alignment + max(count, 0) * field_size
             alignment = max(alignment, field_alignment)
             self.skip_newlines()
@@ -164,10 +164,10 @@ class TextReader(BodyReader):
         if self.kind() == ":":
             aggregate = self.aggregate(self.expect(":"))
             return aggregate.size, aggregate.alignment
-        if self.kind() != "word" or self.values[self.at] not in SIZES:
+        if self.kind() != "word" or self.words[self.at] not in SIZES:
             self.refuse("the type of a field expected")
         self.at += 1
-        size = SIZES[self.values[self.at - 1]]
+        size = SIZES[self.words[self.at - 1]]
         return size, size
 
     # Data.
@@ -192,7 +192,7 @@ class TextReader(BodyReader):
     def read_alignment_of_data(self) -> int:
         self.skip_newlines()
         line = self.line()
-        alignment = self.expect("number", "the alignment")
+        alignment = self.expect_number("the alignment")
         if alignment < 0 or alignment & alignment - 1:
             self.refuse("the alignment isn't a power of two", line)
         if alignment > MOST_ALIGNMENT:
@@ -205,7 +205,7 @@ class TextReader(BodyReader):
             self.skip_newlines()
             if self.kind() == "}":
                 break
-            word = self.values[self.at]
+            word = self.words[self.at]
             letter = LETTERS.get(word) if self.kind() == "word" else None
             if letter is None:
                 self.refuse("the size of a part of the data expected")
@@ -245,13 +245,13 @@ class TextReader(BodyReader):
         self.at += 1
         if kind == "string" and letter != "b":
             self.refuse("strings are only supported for `b`", line)
-        if letter == "z" and (kind != "number" or value < 0):
+        if letter == "z" and (kind != "number" or self.numbers[self.at - 1] < 0):
             self.refuse("a number of zeros expected", line)
         if kind != "$":
             return Item(line, letter, value)
-        self.addresses.add(value)
+        self.addresses.add(self.words[self.at - 1])
         offset = 0
         if self.kind() == "+":
             self.at += 1
-            offset = self.expect("number", "what is added to the address")
+            offset = self.expect_number("what is added to the address")
         return Item(line, letter, value, True, offset)

@@ -15,8 +15,8 @@ ENCODING = "latin-1"
 # What functions take and give that are about floats: in the runtime these are their bits. Each name has a sister for
 # singles, which ends in `f`.
 FLOATING = {
-    "d(d)": "fabs floor ceil trunc round rint nearbyint sqrt", "d(dd)": "fmod copysign fmin fmax", "d(dw)": "ldexp scalbn",
-    "d(dl)": "frexp modf",
+    "d(d)": "fabs floor ceil trunc round rint nearbyint sqrt", "d(dd)": "fmod copysign fmin fmax",
+    "d(dw)": "ldexp scalbn", "d(dl)": "frexp modf",
 }
 
 
@@ -49,14 +49,13 @@ class Runtime:
             for name in EXPORTED.findall(self.texts[path]):
                 self.places[name] = path
 
-    def symbol(self, name: str) -> Symbol | None:
-        path = self.places.get(name)
-        return None if path is None else self.unit(path).own[name]
+    def symbol(self, name: str) -> Symbol:
+        return self.unit(self.places[name]).own[name]
 
     def offered(self, name: str) -> Symbol | None:
-        """What texts are offered by a name: functions and data of C and of Hare's runtime. Other names with a dot are the
-        runtime's own."""
-        return self.symbol(name) if is_offered(name) else None
+        """What texts are offered by a name: functions and data of C and of Hare's runtime. Other names with a dot are
+        the runtime's own."""
+        return self.symbol(name) if is_offered(name) and name in self.places else None
 
     def unit(self, path: pathlib.Path) -> Unit:
         if path not in self.units:

@@ -38,9 +38,10 @@ def squeeze_spaces(chunks: list["Chunk"]) -> None:
 
 
 def squeeze_names(chunks: list["Chunk"]) -> dict[str, str]:
-    """Gives the shortest names to the temporaries and labels that are written most often; the old names of the new ones."""
+    """Gives the shortest names to the temporaries and labels that are written most often; the old names of the new
+    ones."""
     functions = [chunk for chunk in chunks if not chunk.texts[0].startswith(DATA)]
-    uses = Counter(name for chunk in functions for line in chunk.texts for name in LOCAL.findall(line))
+    uses: Counter[str] = Counter(name for chunk in functions for line in chunk.texts for name in LOCAL.findall(line))
     fresh = {"%": short_names(), "@": short_names()}
     new = {name: name[0] + next(fresh[name[0]]) for name, _ in uses.most_common()}
     for chunk in functions:

@@ -3,7 +3,7 @@ from dataclasses import dataclass, field
 from typing import NamedTuple
 
 from .instructions import CARRIED, class_of
-from .tree import Call, Definition, Function, Text
+from .tree import Call, Data, Definition, Function, Text
 
 # The last parameter of a function of the runtime that takes arguments behind dots: the address of their cells.
 CELLS = "%cells"
@@ -57,6 +57,29 @@ class Symbol:
     is_built_in: bool = False
     # The name in the text that is written, with its sigil.
     name: str = ""
+
+    def home(self) -> Unit:
+        """The text of what has a definition."""
+        assert self.unit is not None
+        return self.unit
+
+    def defined(self) -> Definition:
+        assert self.definition is not None
+        return self.definition
+
+    def function(self) -> Function:
+        """What it is defined as, where it is a function that is in a text."""
+        assert isinstance(self.definition, Function)
+        return self.definition
+
+    def data(self) -> Data:
+        assert isinstance(self.definition, Data)
+        return self.definition
+
+    def shape(self) -> Signature:
+        """The signature of a function that is in a text, is built in, or was called."""
+        assert self.signature is not None
+        return self.signature
 
     def is_function(self) -> bool:
         return not self.is_data()

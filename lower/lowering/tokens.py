@@ -33,15 +33,16 @@ class Tokens(NamedTuple):
     """The tokens of a text, as three lists of one length; the last is the end."""
 
     kinds: list[str]
-    values: list[str | int | None]
+    # What has no value, as a newline, has an empty text.
+    values: list[str | int]
     lines: list[int]
     # The numbers of more than 64 bits, which are cut: their lines.
     cut_numbers: list[int]
 
 
-def escaped(match: re.Match) -> str:
+def escaped(match: re.Match[str]) -> str:
     """What an escape stands for: QBE hands strings to the assembler as they are, and so it reads them."""
-    body = match.group(1)
+    body: str = match.group(1)
     if body[0] in "0123456789":
         value = 0
         for digit in body:
@@ -72,13 +73,13 @@ def number_value(text: str) -> tuple[int, bool]:
     return (-number & LONG if text.startswith("-") else number), is_cut
 
 
-def classified(token: str) -> tuple[str, str | int | None, int]:
+def classified(token: str) -> tuple[str, str | int, int]:
     """The kind of a token, its value, and how many newlines are in it; the kind is `bad` for what is none."""
     first = token[0]
     if first in SYMBOLS:
         return token, token, 0
     if first in "\n#":
-        return "newline", None, token.count("\n")
+        return "newline", "", token.count("\n")
     if first in "%@:" or first == "$" and token[1:2] != '"':
         return (first if len(token) > 1 else "bad"), token, 0
     if first == "$" or first == '"' and len(token) > 1:
@@ -96,10 +97,12 @@ def classified(token: str) -> tuple[str, str | int | None, int]:
 def bad_token(token: str, text: str, path: str, line: int) -> Refused:
     first = token[0]
     if token in ("s_", "d_"):
-        return Refused(path, line, f"`{token}` is no word of the language: a float is written as in `{token}-3.5`, without "
+        return Refused(path, line,
+                       f"`{token}` is no word of the language: a float is written as in `{token}-3.5`, without "
                        "a space")
     if first == "-":
-        return Refused(path, line, "`-` begins no token without a digit; the sign of a float stands behind its letter, as "
+        return Refused(path, line,
+                       "`-` begins no token without a digit; the sign of a float stands behind its letter, as "
                        "in `d_-3.5`")
     if first == '"' or token == "$" and '$"' in text:
         return Refused(path, line, "the string has no end")
@@ -112,8 +115,8 @@ def bad_token(token: str, text: str, path: str, line: int) -> Refused:
 
 
 def tokens_of(text: str, path: str) -> Tokens:
-    """The tokens of a text, each of whose characters stands for a byte. What a token is is worked out once for all that are
-    written alike."""
+    """The tokens of a text, each of whose characters stands for a byte. What a token is is worked out once for all that
+    are written alike."""
     found = TOKEN.findall(text)
     known = {token: classified(token) for token in set(found)}
     newlines = {token: count for token, (_, _, count) in known.items()}
@@ -124,4 +127,4 @@ def tokens_of(text: str, path: str) -> Tokens:
         raise bad_token(found[at], text, path, lines[at])
     cut = {token for token in known if known[token][0] == "number" and number_value(token)[1]}
     cut_numbers = [line for token, line in zip(found, lines) if token in cut] if cut else []
-    return Tokens([*kinds, "end"], [known[token][1] for token in found] + [None], lines, cut_numbers)
+    return Tokens([*kinds, "end"], [known[token][1] for token in found] + [""], lines, cut_numbers)

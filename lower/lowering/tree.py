@@ -36,6 +36,11 @@ class Call:
     # How many arguments stand before the dots; None without dots.
     dots: int | None
 
+    def result_kind(self) -> str:
+        """What a call with a result gives."""
+        assert self.kind is not None
+        return self.kind
+
 
 @dataclass(slots=True)
 class Phi:
@@ -57,13 +62,17 @@ class Jump:
     labels: tuple[str, ...]
 
 
+# What a block has until its jump is read.
+OPEN = Jump(0, None, "open", None, ())
+
+
 @dataclass(slots=True)
 class Block:
     line: int
     name: str
     phis: list[Phi] = field(default_factory=list)
     instructions: list[Instruction | Call] = field(default_factory=list)
-    jump: Jump | None = None
+    jump: Jump = field(default_factory=lambda: OPEN)
 
 
 @dataclass(slots=True)

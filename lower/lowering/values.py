@@ -1,11 +1,11 @@
-"""What QBE refuses of the values of a function, once it dropped the blocks to which control can't come: temporaries that
-aren't in SSA form where it doesn't bring them into it, and stack slots that are read and never stored to.
+"""What QBE refuses of the values of a function, once it dropped the blocks to which control can't come: temporaries
+that aren't in SSA form where it doesn't bring them into it, and stack slots that are read and never stored to.
 
 QBE keeps a stack slot of the first block in a temporary where all its uses are loads and stores of one size. It then
 renames the temporaries that have several definitions, or one whose uses it can't see in one block; not those that a phi
 defines, and not the values of phis. What it didn't rename has to have one definition, before all uses.
 """
-from typing import NamedTuple
+from typing import NamedTuple, NoReturn
 
 from .instructions import ALLOCS, LOADS_BY_CLASS, STORES
 from .refusals import Refused
@@ -21,11 +21,11 @@ AT_THE_LABEL, AT_THE_JUMP = -1, 1 << 30
 
 
 class Use(NamedTuple):
-    """A use: the block and the index in it, the line, and the phi if it is a value of one; its block is the one from which
-    it comes then."""
+    """A use: the block and the index in it (`at`), the line, and the phi if it is a value of one; its block is the one
+    from which it comes then."""
 
     block: int
-    index: int
+    at: int
     line: int
     phi_block: int | None = None
 
@@ -44,7 +44,7 @@ def reachable(blocks: list[Block]) -> list[Block]:
 
 
 def operands_of(instruction: Instruction | Call) -> list[Value]:
-    if type(instruction) is Instruction:
+    if isinstance(instruction, Instruction):
         return instruction.operands
     values = [value for _, value in instruction.arguments] + [instruction.target]
     return values if instruction.environment is None else values + [instruction.environment]
@@ -76,7 +76,7 @@ class ValueChecker:
         # The blocks that are reached without a block.
         self.reached_without: dict[int, set[int]] = {}
 
-    def refuse(self, line: int, what: str) -> None:
+    def refuse(self, line: int, what: str) -> NoReturn:
         raise Refused(self.path, line, what)
 
     def check(self) -> None:
@@ -108,9 +108,9 @@ class ValueChecker:
                     uses.setdefault(value, []).append(Use(number, index, instruction.line))
             if instruction.result is not None:
                 definitions.setdefault(instruction.result, []).append((number, index))
-        value = block.jump.value
-        if type(value) is str and value[0] == "%":
-            uses.setdefault(value, []).append(Use(number, AT_THE_JUMP, block.jump.line))
+        left = block.jump.value
+        if type(left) is str and left[0] == "%":
+            uses.setdefault(left, []).append(Use(number, AT_THE_JUMP, block.jump.line))
 
     def collect_phi(self, number: int, phi: Phi) -> None:
         self.define(phi.result, number, AT_THE_LABEL)
@@ -141,15 +141,19 @@ class ValueChecker:
                     size = instruction.operands[0]
                     if type(size) is int and not 0 <= size < MOST_SLOT:
                         self.refuse(instruction.line, f"a slot of {size} bytes")
-                    if number == 0 and len(self.definitions[instruction.result]) == 1:
-                        self.check_slot(instruction)
+                    result = instruction.result
+                    if number == 0 and result is not None and len(self.definitions[result]) == 1:
+                        self.check_slot(result, instruction.line)
 
-    def check_slot(self, alloc: Instruction) -> None:
+    def check_slot(self, name: str, line: int) -> None:
         """A slot that is kept in a temporary is no longer defined by its `alloc`, but by its stores."""
-        name, uses = alloc.result, self.uses.get(alloc.result, [])
-        stores, loads, sizes, kinds = [], [], set(), set()
+        uses = self.uses.get(name, [])
+        stores: list[Use] = []
+        loads: list[Use] = []
+        sizes: set[int | None] = set()
+        kinds: set[str] = set()
         for use in uses:
-            instruction = self.blocks[use.block].instructions[use.index] if use.index < AT_THE_JUMP else None
+            instruction = self.blocks[use.block].instructions[use.at] if use.at < AT_THE_JUMP else None
             if type(instruction) is not Instruction:
                 return
             if instruction.name in STORES and instruction.operands[0] != name:
@@ -162,10 +166,10 @@ class ValueChecker:
         if None in sizes or len(sizes) > 1 or len(kinds) > 1:
             return
         if loads and not stores:
-            self.refuse(alloc.line, f"the slot {name} is read and never stored to")
+            self.refuse(line, f"the slot {name} is read and never stored to")
         # Here it has to have its address by then.
         self.check_dominated(name, self.definitions[name], uses)
-        self.definitions[name] = [(use.block, use.index) for use in stores]
+        self.definitions[name] = [(use.block, use.at) for use in stores]
         self.uses[name] = loads
 
     # Temporaries.
@@ -189,7 +193,7 @@ class ValueChecker:
         if first and not self.live_out(places, uses).isdisjoint(first):
             self.check_dominated(name, [], [use for use in uses if use.phi_block is not None])
         else:
-            left = [use for use in uses if use.index <= first.get(use.block, AT_THE_JUMP)]
+            left = [use for use in uses if use.at <= first.get(use.block, AT_THE_JUMP)]
             self.check_dominated(name, by_phis, left)
 
     def live_out(self, places: list[tuple[int, int]], uses: list[Use]) -> set[int]:
@@ -198,7 +202,7 @@ class ValueChecker:
         for block, index in places:
             first[block] = min(index, first.get(block, AT_THE_JUMP))
         live = {use.block for use in uses if use.phi_block is not None}
-        todo = [use.block for use in uses if use.index <= first.get(use.block, AT_THE_JUMP)]
+        todo = [use.block for use in uses if use.at <= first.get(use.block, AT_THE_JUMP)]
         seen: set[int] = set()
         while todo:
             block = todo.pop()
@@ -221,7 +225,7 @@ class ValueChecker:
     def is_before(self, place: tuple[int, int], use: Use) -> bool:
         block, index = place
         if use.block == block:
-            return index < use.index
+            return index < use.at
         return block == 0 or use.block not in self.without(block)
 
     def without(self, block: int) -> set[int]:

@@ -51,7 +51,7 @@ class ProgramWriter:
         for symbol in self.program.kept:
             if symbol.definition is not None:
                 for raw in sorted(symbol.definition.addresses):
-                    found[self.program.refer(symbol.unit, raw, True)] = None
+                    found[self.program.refer(symbol.home(), raw, True)] = None
         return list(found)
 
     def write(self) -> list[Chunk]:
@@ -90,7 +90,7 @@ class ProgramWriter:
     def write_function(self, symbol: Symbol, report: Report) -> None:
         writer = FunctionWriter(self.program, self.adapters, symbol, report)
         writer.write(self.program.ends if symbol is self.entry else None)
-        self.chunks.append(Chunk(symbol, writer.texts, writer.origins, symbol.unit.text.path))
+        self.chunks.append(Chunk(symbol, writer.texts, writer.origins, symbol.home().text.path))
 
     def write_outside(self, symbol: Symbol) -> None:
         """A function that halts, of the shape of its first call."""
@@ -106,7 +106,7 @@ class ProgramWriter:
     # Data.
 
     def data_chunk(self, symbol: Symbol) -> Chunk:
-        definition, unit = symbol.definition, symbol.unit
+        definition, unit = symbol.data(), symbol.home()
         text = written_data(definition, symbol.name, lambda raw: self.program.address_name(unit, raw),
                             lambda raw: self.addresses[self.program.refer(unit, raw, True)])
         return Chunk(symbol, [text], [(definition.line, None)], unit.text.path)
@@ -120,17 +120,18 @@ class ProgramWriter:
                 self.data.insert(self.data.index(symbols[start]) + 1, symbols[end])
 
     def fit_heap(self) -> None:
-        """Makes the heap as large as the other data leaves room for; without mappings of the system no larger than it is."""
+        """Makes the heap as large as the other data leaves room for; without mappings of the system no larger than it
+        is."""
         heap = next((symbol for symbol in self.data if symbol.raw == HEAP and symbol.is_of_runtime()), None)
         if heap is None:
             return
         others = self.data_end([symbol for symbol in self.data if symbol is not heap]) - FIRST_DATA
-        most = MOST_DATA if any(symbol.raw == MAPPED for symbol in self.data) else size_of_data(heap.definition)
+        most = MOST_DATA if any(symbol.raw == MAPPED for symbol in self.data) else size_of_data(heap.data())
         size = max(min(most, (MOST_DATA - others - PAGE) // PAGE * PAGE), 0)
-        heap.definition = with_items(heap.definition, [Item(heap.definition.line, "z", size)])
+        heap.definition = with_items(heap.data(), [Item(heap.data().line, "z", size)])
         for raw in HEAP_ENDS:
-            end = heap.unit.own[raw]
-            end.definition = with_items(end.definition, [Item(end.definition.line, "l", HEAP, True, size)])
+            end = heap.home().own[raw]
+            end.definition = with_items(end.data(), [Item(end.data().line, "l", HEAP, True, size)])
         # The heap is the last, so that it may be cut.
         self.data.remove(heap)
         self.data.append(heap)
@@ -139,10 +140,10 @@ class ProgramWriter:
         """Lays objects out as qrev does, and gives where they end."""
         at = FIRST_DATA
         for symbol in symbols:
-            alignment = symbol.definition.alignment or DEFAULT_ALIGNMENT
+            alignment = symbol.data().alignment or DEFAULT_ALIGNMENT
             at = -(-at // alignment) * alignment
             self.addresses[symbol] = at
-            at += size_of_data(symbol.definition)
+            at += size_of_data(symbol.data())
         return at
 
     def lay_out(self) -> None:
@@ -164,7 +165,7 @@ class ProgramWriter:
 
 def with_items(data: Data, items: list[Item]) -> Data:
     return Data(data.line, data.name, data.is_exported, data.section, data.alignment, items,
-                {item.value for item in items if item.is_global})
+                {str(item.value) for item in items if item.is_global})
 
 
 def size_of_text(chunks: list[Chunk]) -> int:
@@ -181,8 +182,9 @@ def escape(path: str) -> str:
 
 
 def map_of(chunks: list[Chunk]) -> str:
-    """A line for each line of the text: the file and the line that it comes from, and behind these the file, the line and
-    the column of the source that the debug lines tell, each behind a tabulator. A line without an origin is empty."""
+    """A line for each line of the text: the file and the line that it comes from, and behind these the file, the line
+    and the column of the source that the debug lines tell, each behind a tabulator. A line without an origin is
+    empty."""
     lines = []
     for chunk in chunks:
         # A path as its bytes, each a character, as the text itself is.

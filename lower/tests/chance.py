@@ -1,5 +1,5 @@
-"""Random programs beside native code: arithmetic of all classes, conversions, memory, joins, loops and calls, with what comes of
-it printed by the C library there and by the runtime here."""
+"""Random programs beside native code: arithmetic of all classes, conversions, memory, joins, loops and calls, with what
+comes of it printed by the C library there and by the runtime here."""
 import random
 
 from .native import is_there, native
@@ -59,8 +59,8 @@ class Body:
         self.known[kind].append(name)
 
     def step(self) -> None:
-        self.choice.choice((self.arithmetic, self.arithmetic, self.division, self.comparison, self.conversion, self.memory,
-                            self.join, self.call))()
+        self.choice.choice((self.arithmetic, self.arithmetic, self.division, self.comparison, self.conversion,
+                            self.memory, self.join, self.call))()
 
     def arithmetic(self) -> None:
         kind = self.choice.choice(KINDS)
@@ -92,10 +92,11 @@ class Body:
 
     def memory(self) -> None:
         """A store to a slot of 32 bytes, and a load from it."""
-        store, kind, size = self.choice.choice((("storeb", "w", 1), ("storeh", "w", 2), ("storew", "w", 4), ("storel", "l", 8),
-                                                ("stores", "s", 4), ("stored", "d", 8)))
-        load, gives, width = self.choice.choice((("loadsb", "w", 1), ("loadub", "l", 1), ("loadsh", "l", 2), ("loaduh", "w", 2),
-                                                 ("loadw", "w", 4), ("loadsw", "l", 4), ("loaduw", "l", 4), ("loadl", "l", 8)))
+        store, kind, size = self.choice.choice((("storeb", "w", 1), ("storeh", "w", 2), ("storew", "w", 4),
+                                                ("storel", "l", 8), ("stores", "s", 4), ("stored", "d", 8)))
+        load, gives, width = self.choice.choice((("loadsb", "w", 1), ("loadub", "l", 1), ("loadsh", "l", 2),
+                                                 ("loaduh", "w", 2), ("loadw", "w", 4), ("loadsw", "l", 4),
+                                                 ("loaduw", "l", 4), ("loadl", "l", 8)))
         self.made += 1
         for number, (text, bytes_of) in enumerate(((f"{store} {self.value(kind)}, ", size), ("", width))):
             self.lines.append(f"\t%p{self.made}.{number} =l add %slot, {self.choice.randrange(33 - bytes_of)}")

@@ -89,8 +89,9 @@ class Wrapper:
         fits.chmod(0o755)
         (self.top / "tmp").mkdir()
 
-    def run(self, *words: str, script: str = "continue\nout\n") -> subprocess.CompletedProcess:
-        return subprocess.run([str(self.top / "qrev"), *words], input=script, capture_output=True, text=True, cwd=self.top,
+    def run(self, *words: str, script: str = "continue\nout\n") -> subprocess.CompletedProcess[str]:
+        return subprocess.run([str(self.top / "qrev"), *words], input=script, capture_output=True, text=True,
+                              cwd=self.top,
                               timeout=self.running.seconds, env=os.environ | {"TMPDIR": str(self.top / "tmp")})
 
 
@@ -105,10 +106,11 @@ def wrapper_faults(running: Running) -> Results:
         lines = run.stdout.split("\n")
         yield "command/--lower", differ("run", (0, True, ['out 12 "argument 42\\012"', ""], ""),
                                         (run.returncode, lines[-3].endswith(" done 6"), lines[-2:], run.stderr))
-        for words in (["--memory", "2"], ["--memory=65536"], ["--history", "all"], ["--replay", "2"], ["--replay"], ["--replay=65536"]):
+        for words in (["--memory", "2"], ["--memory=65536"], ["--history", "all"], ["--replay", "2"], ["--replay"],
+                      ["--replay=65536"]):
             run = wrapper.run("--lower", "a.ssa", "b.ssa", "42", *words)
             yield f"command/--lower with {words}", differ("run", (0, ['out 12 "argument 42\\012"', ""], ""),
-                                                           (run.returncode, run.stdout.split("\n")[-2:], run.stderr))
+                                                          (run.returncode, run.stdout.split("\n")[-2:], run.stderr))
         run = wrapper.run("--lower", "b.ssa", "9", "--entry", "half")
         yield "command/--lower with an entry", differ("end", True, run.stdout.split("\n")[-3].endswith(" done 4"))
         (wrapper.top / "echo.ssa").write_text(ECHO)
@@ -120,12 +122,14 @@ def wrapper_faults(running: Running) -> Results:
         yield "command/--lower with texts for a main that calls itself", differ(
             "output", 'out 11 "again a bc "', run.stdout.split("\n")[-2])
         run = wrapper.run("--lower", "echo.ssa", "--")
-        yield "command/--lower without texts for main", differ("output", 'out 6 "echo|\\012"', run.stdout.split("\n")[-2])
+        yield "command/--lower without texts for main", \
+            differ("output", 'out 6 "echo|\\012"', run.stdout.split("\n")[-2])
         (wrapper.top / "read.ssa").write_text(READ)
         (wrapper.top / "given").write_bytes(b"Q\xff")
         for words in (["--input", "given", "read.ssa"], ["read.ssa", "--input=given", "--report"]):
             run = wrapper.run("--lower", *words)
-            yield f"command/--lower with an input {words[0]}", differ("output", 'out 3 "Q\\377\\377"', run.stdout.split("\n")[-2])
+            yield f"command/--lower with an input {words[0]}", \
+                differ("output", 'out 3 "Q\\377\\377"', run.stdout.split("\n")[-2])
         run = wrapper.run("--lower", "wrong.ssa", "1")
         told = "wrong.ssa:8: %y is used in `ret`, and nothing defines it\n"
         yield "command/--lower refuses", differ("run", (1, "", told), (run.returncode, run.stdout, run.stderr))
@@ -149,9 +153,9 @@ def compared_faults(running: Running) -> Results:
         (wrapper.top / "good.ssa").write_text(good)
         (wrapper.top / "bad.ssa").write_text(good.replace("%.47 =w add %.47, %.48", "%.47 =w sub %.47, %.48"))
 
-        def run(*words: str, script: str = "") -> subprocess.CompletedProcess:
-            return subprocess.run([str(wrapper.top / "qrev-compare"), "--lower", *words], input=script, capture_output=True,
-                                  text=True, cwd=wrapper.top, timeout=running.seconds,
+        def run(*words: str, script: str = "") -> subprocess.CompletedProcess[str]:
+            return subprocess.run([str(wrapper.top / "qrev-compare"), "--lower", *words], input=script,
+                                  capture_output=True, text=True, cwd=wrapper.top, timeout=running.seconds,
                                   env=os.environ | {"TMPDIR": str(wrapper.top / "tmp")})
 
         told = run("good.ssa", "bad.ssa")
@@ -160,20 +164,22 @@ def compared_faults(running: Running) -> Results:
         yield "command/compare --lower", differ("status", 1, told.returncode) or \
             differ("first", ["part at event 1", "good: return $sum 10"], lines[:2]) or \
             differ("bad", True, "bad: return $sum 4294967286" in lines) or \
-            differ("places", [f"{name}.ssa:51: ha/s/sum.ha:2:69: storew %.10, %binding.9" for name in ("good", "bad")], places)
+            differ("places", [f"{name}.ssa:51: ha/s/sum.ha:2:69: storew %.10, %binding.9" for name in ("good", "bad")],
+                   places)
         told = run("good.ssa", "bad.ssa", "--session", "bad", script="back 3\n")
         yield "command/compare --lower with a session", differ(
             "place", True, "    bad.ssa:96: ha/s/sum.ha:1:54: " in told.stdout.split("\n")[-2])
         told = run("good.ssa", "good.ssa", "--events=calls,end")
-        yield "command/compare --lower of the same", differ("told", (0, "same 3 events\n"), (told.returncode, told.stdout))
+        yield "command/compare --lower of the same", \
+            differ("told", (0, "same 3 events\n"), (told.returncode, told.stdout))
         told = run("good.ssa", "none.ssa")
         yield "command/compare --lower without a text", differ("told", (2, ""), (told.returncode, told.stdout))
         yield "command/compare --lower leaves nothing", differ("files", [], list((wrapper.top / "tmp").iterdir()))
 
 
 def map_fault(running: Running) -> str | None:
-    """The map has a line for each line of the text, also where --map and --output say its place, and a pipe has none. What
-    the names stand for is beside the text."""
+    """The map has a line for each line of the text, also where --map and --output say its place, and a pipe has none.
+    What the names stand for is beside the text."""
     with tempfile.TemporaryDirectory(prefix="lower-") as place:
         folder = pathlib.Path(place)
         (folder / "a.ssa").write_text(TEXT)
@@ -184,7 +190,7 @@ def map_fault(running: Running) -> str | None:
         files = sorted(path.name for path in folder.iterdir())
         text, found = (folder / "one.ssa").read_bytes(), (folder / "one.ssa.map").read_text()
     return differ("files", ["a.ssa", "one.ssa", "one.ssa.map", "one.ssa.names", "two.map", "two.ssa",
-                             "two.ssa.names"], files) or \
+                            "two.ssa.names"], files) or \
         differ("pipe", text, piped) or differ("lines", text.count(b"\n"), found.count("\n")) or \
         differ("first", "a.ssa\t2", found.split("\n")[0])
 
@@ -223,7 +229,7 @@ def timed(folder: pathlib.Path) -> float:
     process.returncode = os.waitstatus_to_exitcode(status)
     if process.returncode:
         raise RuntimeError(f"status {process.returncode}")
-    return usage.ru_utime + usage.ru_stime
+    return float(usage.ru_utime + usage.ru_stime)
 
 
 def results(running: Running) -> Results:

@@ -23,7 +23,8 @@ def value(name: str, instruction: str, returns: str, wanted: int, before: str = 
     """An instruction whose result is what the program gives."""
     carried = {"s": "w", "d": "l"}.get(returns)
     cast = f"\n%bits ={carried} cast %x\nret %bits" if carried else "\nret %x"
-    return Case(name, in_main(f"{before}\n%x ={returns} {instruction}{cast}".strip(), carried or returns), f"done {wanted}")
+    return Case(name, in_main(f"{before}\n%x ={returns} {instruction}{cast}".strip(), carried or returns),
+                f"done {wanted}")
 
 
 # 1.5 is 0x3fc00000 and 0x3ff8000000000000, 2.25 is 0x40100000 and 0x4002000000000000.
@@ -147,7 +148,8 @@ function :{name} $make.{name}(l %from) {{
 	ret %from
 }}
 """ for name in ("pair", "bytes", "nested", "opaque", "either", "over")) + """
-data $bytes = align 16 { b 1 2 3 4 5 6 7 8 9 10 11 12 13 14 15 16 17 18 19 20 21 22 23 24 25 26 27 28 29 30 31 32 33 34 }
+data $bytes = align 16 { b 1 2 3 4 5 6 7 8 9 10 11 12 13 14 15 16 17 18 19 20 21 22 23 24 25 26 27 28 29 30 \
+31 32 33 34 }
 function w $last(l %p) {
 @start
 	%end =l add %p, 40
@@ -632,6 +634,7 @@ def same_fault(running: Running, text: str, script: str) -> str | None:
 
 def results(running: Running) -> Results:
     for path in sorted((TOP / "examples").glob("*.ssa")):
-        yield f"constructs/{path.name} stays", same_fault(running, path.read_text(), path.with_suffix(".script").read_text())
+        yield f"constructs/{path.name} stays", same_fault(running, path.read_text(),
+                                                          path.with_suffix(".script").read_text())
     for case in CASES:
         yield f"constructs/{case.name}", fault(running, case)

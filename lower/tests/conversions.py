@@ -1,7 +1,7 @@
 """Conversions of floats and integers against the processor, by records of an operand and all its results.
 
-What doesn't fit an integer gives what Intel's manual calls the indefinite integer, the least of its type, for signed ones;
-for unsigned ones the low half of a long word, and for long ones what the sequence of QBE's code for x86-64 gives.
+What doesn't fit an integer gives what Intel's manual calls the indefinite integer, the least of its type, for signed
+ones; for unsigned ones the low half of a long word, and for long ones what the sequence of QBE's code for x86-64 gives.
 """
 import math
 import random
@@ -34,7 +34,7 @@ CARRIED = {"w": "w", "s": "w", "l": "l", "d": "l"}
 def truncated(value: float) -> int:
     """The bits of a double as a single."""
     if math.isnan(value) or math.isinf(value) or value == 0:
-        return struct.unpack("<I", struct.pack("<f", value))[0]
+        return int(struct.unpack("<I", struct.pack("<f", value))[0])
     numerator, denominator = value.as_integer_ratio()
     return signed_single(numerator, -(denominator.bit_length() - 1))
 
@@ -93,7 +93,8 @@ def operands() -> list[int]:
     """Edges of both formats and of the integers, and values about where conversions begin and cease to fit."""
     choice = random.Random(3)
     found = edges(52, 11) + edges(23, 8)
-    found += [number + step & LONG for power in range(65) for number in (1 << power, -1 << power) for step in (-1, 0, 1)]
+    found += [number + step & LONG for power in range(65) for number in (1 << power, -1 << power)
+              for step in (-1, 0, 1)]
     found += [bits_of(math.ldexp(sign * part, power)) + step for power in (0, 23, 24, 31, 32, 52, 53, 62, 63, 64)
               for sign in (1, -1) for part in (0.5, 0.75, 1.0, 1.5) for step in (-1, 0, 1)]
     found += [struct.unpack("<I", struct.pack("<f", math.ldexp(sign, power)))[0] + step
@@ -120,12 +121,13 @@ def program(records: list[bytes]) -> str:
     for cls, carried in CARRIED.items():
         lines += [f"function l $check{cls}({cls} %value, l %at, w %index, w %number) {{", "@start",
                   f"\t%found ={carried} {'cast' if cls in 'sd' else 'copy'} %value",
-                  f"\t%wanted ={carried} load{'uw' if carried == 'w' else 'l'} %at", f"\t%behind =l add %at, {SIZES[cls]}",
-                  f"\t%is.same =w ceq{carried} %found, %wanted", "\tjnz %is.same, @same, @other", "@same", "\tret %behind",
-                  "@other"]
+                  f"\t%wanted ={carried} load{'uw' if carried == 'w' else 'l'} %at",
+                  f"\t%behind =l add %at, {SIZES[cls]}", f"\t%is.same =w ceq{carried} %found, %wanted",
+                  "\tjnz %is.same, @same, @other", "@same", "\tret %behind", "@other"]
         if cls in "sd":
             lines += [f"\t%other ={cls} load{cls} %at", f"\t%one =w cuo{cls} %other, %other",
-                      f"\t%two =w cuo{cls} %value, %value", "\t%both =w and %one, %two", "\tjnz %both, @same, @told", "@told"]
+                      f"\t%two =w cuo{cls} %value, %value", "\t%both =w and %one, %two", "\tjnz %both, @same, @told",
+                      "@told"]
         lines += ["\t%written =w call $printf(l $format, ..., w %index, w %number)", "\tret %behind", "}"]
     return "\n".join(lines) + '\ndata $format = { b "%d %d\\n\\0" }\ndata $records = align 8 { b ' + \
         string_of(b"".join(records)) + " }\n"

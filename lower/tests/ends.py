@@ -148,6 +148,6 @@ def results(running: Running) -> Results:
     # A linker puts what has a number first; this text runs through both arrays forward.
     yield "ends/a start of the text's own", fault(running, own, "exit 7", "2 1 main 3 4 ", "--link", "--entry", "begin",
                                                   words=("0",))
-    yield "ends/main calls itself", fault(running, {"a.ssa": TELL + AGAIN}, "done 42", "2 1 main main main A 4 3 ", "--link",
-                                          words=("2",))
+    yield "ends/main calls itself", fault(running, {"a.ssa": TELL + AGAIN}, "done 42", "2 1 main main main A 4 3 ",
+                                          "--link", words=("2",))
     yield "ends/empty arrays", fault(running, {"a.ssa": EMPTY}, "done 0", "", "--link")

@@ -1,7 +1,7 @@
 """Floats against the processor: pairs of operands with the bits of their results, compared by a text of QBE in batches.
 
-Doubles are worked out by Python's floats, which are the processor's; singles exactly, in whole numbers, and rounded once.
-A record that is planted with a wrong result must be told, and no other may be.
+Doubles are worked out by Python's floats, which are the processor's; singles exactly, in whole numbers, and rounded
+once. A record that is planted with a wrong result must be told, and no other may be.
 """
 import itertools
 import math
@@ -90,15 +90,15 @@ COMPARISONS = ("eq", "ne", "lt", "le", "gt", "ge", "o", "uo")
 
 
 def double(bits: int) -> float:
-    return struct.unpack("<d", struct.pack("<Q", bits))[0]
+    return float(struct.unpack("<d", struct.pack("<Q", bits))[0])
 
 
 def bits_of(value: float) -> int:
-    return struct.unpack("<Q", struct.pack("<d", value))[0]
+    return int(struct.unpack("<Q", struct.pack("<d", value))[0])
 
 
 def single(bits: int) -> float:
-    return struct.unpack("<f", struct.pack("<I", bits))[0]
+    return float(struct.unpack("<f", struct.pack("<I", bits))[0])
 
 
 # Singles, exactly.
@@ -153,9 +153,10 @@ def single_quotient(a: int, b: int) -> int:
     return (a ^ b) & 1 << 31 | single_of(abs(first), first_power - second_power, abs(second))
 
 
-def exact_single(exactly: Callable[[int, int], int], whole: Callable[[float, float], float]) -> Callable[[int, int], int]:
-    """The bits of a result of singles: exactly where it is finite, and by the rules for infinities and NaN, which are those
-    of doubles, where it isn't."""
+def exact_single(exactly: Callable[[int, int], int],
+                 whole: Callable[[float, float], float]) -> Callable[[int, int], int]:
+    """The bits of a result of singles: exactly where it is finite, and by the rules for infinities and NaN, which are
+    those of doubles, where it isn't."""
     def result(a: int, b: int) -> int:
         if a & 0x7F800000 == 0x7F800000 or b & 0x7F800000 == 0x7F800000 or whole is divided and not b & 0x7FFFFFFF:
             value = whole(single(a), single(b))
@@ -216,7 +217,8 @@ def edges(fraction_bits: int, exponent_bits: int) -> list[int]:
 
 
 def operands(count: int, fraction_bits: int, exponent_bits: int, seed: int) -> Iterable[tuple[int, int]]:
-    """Pairs of all kinds: edges with edges, any bits, near exponents, near values, few bits, small and great results."""
+    """Pairs of all kinds: edges with edges, any bits, near exponents, near values, few bits, small and great
+    results."""
     choice = random.Random(seed)
     ends = edges(fraction_bits, exponent_bits)
     yield from itertools.product(ends, ends)
@@ -246,7 +248,8 @@ def operands(count: int, fraction_bits: int, exponent_bits: int, seed: int) -> I
         elif kind == 6:
             yield choice.choice(ends), choice.getrandbits(width)
         else:
-            yield value(choice.randrange(3), any_bits), value(bias + choice.randint(-2, 2), choice.getrandbits(fraction_bits))
+            yield value(choice.randrange(3), any_bits), \
+                value(bias + choice.randint(-2, 2), choice.getrandbits(fraction_bits))
 
 
 # Batches.
@@ -264,11 +267,12 @@ def pair_program(cls: str, records: list[bytes]) -> str:
         lines += [f"\t%is{number} =w c{comparison}{cls} %a, %b", f"\t%bit{number} =w shl %is{number}, {number}",
                   f"\t%sum =w or %sum, %bit{number}"]
     text = PAIR_PROGRAM.replace("COMPARISONS", "\n".join(lines)).replace("COUNT", str(len(records)))
-    for name, put in (("loadT", f"load{cls}"), ("loadI", f"load{carried}"), ("ceqT", f"ceq{cls}"), ("ceqI", f"ceq{carried}"),
-                      ("cuoT", f"cuo{cls}"), ("SIZE", str(size))):
+    for name, put in (("loadT", f"load{cls}"), ("loadI", f"load{carried}"), ("ceqT", f"ceq{cls}"),
+                      ("ceqI", f"ceq{carried}"), ("cuoT", f"cuo{cls}"), ("SIZE", str(size))):
         text = text.replace(name, put)
     for letter, put in (("T", cls), ("I", carried)):
-        text = text.replace(f"={letter} ", f"={put} ").replace(f"({letter} ", f"({put} ").replace(f", {letter} ", f", {put} ")
+        text = text.replace(f"={letter} ", f"={put} ")
+        text = text.replace(f"({letter} ", f"({put} ").replace(f", {letter} ", f", {put} ")
     return text + "data $records = align 8 { b " + string_of(b"".join(records)) + " }\n"
 
 
@@ -296,7 +300,8 @@ def batch_fault(running: Running, cls: str, records: list[bytes]) -> str | None:
     return f"{len(others)} records, the first {others[0]}: {records[int(others[0].split()[0])].hex()}"
 
 
-def batches(running: Running, cls: str, make: Callable[[int, int], bytes], at_once: int, pairs: Iterable[tuple[int, int]]) \
+def batches(running: Running, cls: str, make: Callable[[int, int], bytes], at_once: int,
+            pairs: Iterable[tuple[int, int]]) \
         -> Results:
     everything = iter(pairs)
     number = 0

@@ -1,4 +1,5 @@
-"""printf against that of the C library: formats with all flags, widths, precisions and lengths, and values of all kinds."""
+"""printf against that of the C library: formats with all flags, widths, precisions and lengths, and values of all
+kinds."""
 import ctypes
 import math
 import random
@@ -11,11 +12,11 @@ from .running import Results, Running
 COUNT, AT_ONCE = 6000, 1000
 LENGTHS = {"": 32, "hh": 32, "h": 32, "l": 64, "ll": 64, "z": 64, "j": 64, "t": 64}
 STRINGS = ("", "a", "word", "several words", "x" * 30)
-INTEGERS = (0, 1, 7, 8, 9, 10, 63, 100, 127, 128, 255, 256, 32767, 32768, 65535, 65536, 2 ** 31 - 1, 2 ** 31, 2 ** 32 - 1,
-            2 ** 32, 2 ** 63 - 1, 2 ** 63, 2 ** 64 - 1)
-FLOATS = (0.0, -0.0, 1.0, 0.5, 1.5, 2.5, 3.5, 0.125, 0.375, 9.5, 9.995, 99.5, 999999.5, 999999.4, 9999995.0, 0.0001, 0.00001,
-          0.00009999995, 0.1, 1e15, 1e16, 1e21, 1e22, 1e23, 1e100, 1.7976931348623157e308, 2.2250738585072014e-308, 5e-324,
-          123456789.0, 3.141592653589793, float("inf"), float("-inf"), float("nan"))
+INTEGERS = (0, 1, 7, 8, 9, 10, 63, 100, 127, 128, 255, 256, 32767, 32768, 65535, 65536, 2 ** 31 - 1, 2 ** 31,
+            2 ** 32 - 1, 2 ** 32, 2 ** 63 - 1, 2 ** 63, 2 ** 64 - 1)
+FLOATS = (0.0, -0.0, 1.0, 0.5, 1.5, 2.5, 3.5, 0.125, 0.375, 9.5, 9.995, 99.5, 999999.5, 999999.4, 9999995.0, 0.0001,
+          0.00001, 0.00009999995, 0.1, 1e15, 1e16, 1e21, 1e22, 1e23, 1e100, 1.7976931348623157e308,
+          2.2250738585072014e-308, 5e-324, 123456789.0, 3.141592653589793, float("inf"), float("-inf"), float("nan"))
 
 
 class Format(NamedTuple):
@@ -82,8 +83,8 @@ def made(choice: random.Random) -> Format:
 
 
 def by_python(form: Format) -> bytes:
-    """What Python makes of the flag `#` with g. The C library drops the zeros there where the value is rounded up to a power
-    of ten, `1.e+06` for 999999.5: its standard keeps them."""
+    """What Python makes of the flag `#` with g. The C library drops the zeros there where the value is rounded up to a
+    power of ten, `1.e+06` for 999999.5: its standard keeps them."""
     value = double(form.arguments[-1][1])
     signed = [bits - (bits >> 31 << 32) for _, bits in form.arguments[:-1]]
     text = form.text.replace("l", "")
@@ -98,7 +99,7 @@ def by_the_library(form: Format) -> bytes:
     if "#" in form.text and form.text[-1] in "gG" and math.isfinite(double(form.arguments[-1][1])):
         return by_python(form)
     library = ctypes.CDLL(None)
-    arguments = []
+    arguments: list[ctypes.c_double | ctypes.c_char_p | ctypes.c_uint32 | ctypes.c_uint64] = []
     for kind, bits in form.arguments:
         if kind == "d":
             arguments.append(ctypes.c_double(double(bits)))
@@ -117,8 +118,8 @@ def program(forms: list[Format]) -> str:
     lines = ["export function w $main() {", "@start", "\t%sum0 =w copy 0"]
     data = [f"data $text{number} = {{ b {string_of(text.encode())} 0 }}" for number, text in enumerate(STRINGS)]
     for index, form in enumerate(forms):
-        arguments = "".join(f", l {f'$text{bits}' if bits < len(STRINGS) else 0}" if kind == "text" else f", {kind} {bits}"
-                            for kind, bits in form.arguments)
+        arguments = "".join(f", l {f'$text{bits}' if bits < len(STRINGS) else 0}" if kind == "text"
+                            else f", {kind} {bits}" for kind, bits in form.arguments)
         lines.append(f"\t%r{index} =w call $printf(l $f{index}, ...{arguments})")
         lines.append(f"\t%sum{index + 1} =w add %sum{index}, %r{index}")
         data.append(f"data $f{index} = {{ b {string_of(f'|{form.text}|'.encode())} 10 0 }}")
@@ -131,8 +132,8 @@ def memory_program(forms: list[Format], sizes: list[int]) -> str:
     data = [f"data $text{number} = {{ b {string_of(text.encode())} 0 }}" for number, text in enumerate(STRINGS)]
     data += ["data $to = { z 400 }", 'data $count = { b "|%d|\\n\\0" }']
     for index, (form, size) in enumerate(zip(forms, sizes)):
-        arguments = "".join(f", l {f'$text{bits}' if bits < len(STRINGS) else 0}" if kind == "text" else f", {kind} {bits}"
-                            for kind, bits in form.arguments)
+        arguments = "".join(f", l {f'$text{bits}' if bits < len(STRINGS) else 0}" if kind == "text"
+                            else f", {kind} {bits}" for kind, bits in form.arguments)
         lines.append(f"\t%m{index} =l call $memset(l $to, w 120, l 64)")
         lines.append(f"\t%r{index} =w call $snprintf(l $to, l {size}, l $f{index}, ...{arguments})")
         lines.append(f"\t%w{index} =l call $write(w 1, l $to, l 64)")
@@ -168,7 +169,8 @@ def batch_fault(running: Running, forms: list[Format]) -> str | None:
         if want != have:
             return f"{form}: {have!r} in place of {want!r}"
     total = sum(len(line) + 1 for line in wanted)
-    return None if run.end == f"done {total}" and len(given) == len(wanted) + 1 else f"{run.end}, and {total} bytes wanted"
+    return None if run.end == f"done {total}" and len(given) == len(wanted) + 1 else \
+        f"{run.end}, and {total} bytes wanted"
 
 
 def results(running: Running) -> Results:

@@ -1,5 +1,5 @@
-"""The functions of the C library against the machine's own: random calls in batches, by ctypes. Each batch is a text that
-makes the calls, compares what they give with what the library gave, and tells the numbers of those that differ."""
+"""The functions of the C library against the machine's own: random calls in batches, by ctypes. Each batch is a text
+that makes the calls, compares what they give with what the library gave, and tells the numbers of those that differ."""
 import ctypes
 import math
 import pathlib
@@ -22,21 +22,26 @@ TYPES = {"w": ctypes.c_int32, "l": ctypes.c_int64, "u": ctypes.c_uint64, "d": ct
          "p": ctypes.c_void_p, "b": ctypes.c_void_p, "e": ctypes.c_void_p, "v": None}
 
 
+# An argument: a number, or the bytes of a text.
+Given = int | bytes | float
+
+
 class Shape(NamedTuple):
     """A function: its name, what it gives and takes, and how arguments are made.
 
-    Kinds are w l d s, u for an l without a sign, p for a text (given back: its place in that text), b for a buffer with a
-    text that the function changes (given back: as p), and e for the address of a long that the function sets.
+    Kinds are w l d s, u for an l without a sign, p for a text (given back: its place in that text), b for a buffer with
+    a text that the function changes (given back: as p), and e for the address of a long that the function sets.
     """
 
     name: str
     gives: str
     takes: str
-    make: Callable[[random.Random], list]
+    make: Callable[[random.Random], list[Given]]
 
 
 class Record(NamedTuple):
-    """A call: its arguments as bits or texts, and what came of it: the result, the long that was set, the buffer, errno."""
+    """A call: its arguments as bits or texts, and what came of it: the result, the long that was set, the buffer,
+    errno."""
 
     arguments: list[int | bytes]
     result: int
@@ -50,12 +55,13 @@ class Record(NamedTuple):
 INTEGERS = (0, 1, -1, 2, 9, 10, 100, 255, 256, 2 ** 31 - 1, -2 ** 31, 2 ** 31, 2 ** 32, 2 ** 63 - 1, -2 ** 63)
 SPACES = (b"", b"", b"", b" ", b"\t\n ", b"\v\f\r")
 DIGITS = b"0123456789abcdefghijklmnopqrstuvwxyzABCDEFGHIJKLMNOPQRSTUVWXYZ"
-DOUBLES = (0.0, -0.0, 0.25, 0.5, -0.5, 0.75, 1.0, -1.0, 1.5, 2.5, -2.5, 3.0, 1e15, 4503599627370495.5, 4503599627370496.0,
-           1e300, 5e-324, 2.2250738585072014e-308, math.inf, -math.inf, math.nan)
+DOUBLES = (0.0, -0.0, 0.25, 0.5, -0.5, 0.75, 1.0, -1.0, 1.5, 2.5, -2.5, 3.0, 1e15, 4503599627370495.5,
+           4503599627370496.0, 1e300, 5e-324, 2.2250738585072014e-308, math.inf, -math.inf, math.nan)
 
 
 def integer(choice: random.Random) -> int:
-    return choice.choice(INTEGERS) if choice.random() < 0.3 else choice.getrandbits(64) - (1 << 63) >> choice.randrange(64)
+    return choice.choice(INTEGERS) if choice.random() < 0.3 else \
+        choice.getrandbits(64) - (1 << 63) >> choice.randrange(64)
 
 
 def numeral(choice: random.Random) -> bytes:
@@ -90,12 +96,14 @@ def decimal(choice: random.Random) -> bytes:
         point = choice.randrange(len(digits) + 1)
         return front + f"{digits[:point]}.{digits[point:]}e{choice.randrange(-340, 320)}".encode() + behind
     if kind < 0.8:
-        digits = "".join(choice.choice("0123456789abcdefABCDEF") for _ in range(choice.choice((1, 2, 13, 14, 16, 17, 30))))
+        digits = "".join(choice.choice("0123456789abcdefABCDEF")
+                         for _ in range(choice.choice((1, 2, 13, 14, 16, 17, 30))))
         point = choice.randrange(len(digits) + 1)
         power = choice.choice(("", "p3", "P-7", f"p{choice.randrange(-1150, 1100)}"))
         return front + f"0x{digits[:point]}.{digits[point:]}{power}".encode() + behind
-    return front + choice.choice((b"0", b"-0.0", b".", b".5", b"5.", b"inf", b"INFINITY", b"infin", b"nan", b"NaNa", b"e5", b"1e",
-                                  b"1e999999999", b"1e-999999999", b"0x", b"0x.", b"0x.8", b"0xp1", b"00012", b"0.000e9")) + behind
+    return front + choice.choice((b"0", b"-0.0", b".", b".5", b"5.", b"inf", b"INFINITY", b"infin", b"nan", b"NaNa",
+                                  b"e5", b"1e", b"1e999999999", b"1e-999999999", b"0x", b"0x.", b"0x.8", b"0xp1",
+                                  b"00012", b"0.000e9")) + behind
 
 
 def text(choice: random.Random, most: int = 24) -> bytes:
@@ -111,17 +119,17 @@ def double(choice: random.Random) -> float:
         return choice.randrange(-4000, 4000) / choice.choice((1, 2, 4, 8, 16))
     if kind < 0.75:
         return choice.uniform(-1, 1) * 2.0 ** choice.randint(-30, 60)
-    return struct.unpack("<d", struct.pack("<Q", choice.getrandbits(64)))[0]
+    return float(struct.unpack("<d", struct.pack("<Q", choice.getrandbits(64)))[0])
 
 
 def single(choice: random.Random) -> float:
     kind = choice.random()
     if kind < 0.7:
         try:
-            return struct.unpack("<f", struct.pack("<f", double(choice)))[0]
+            return float(struct.unpack("<f", struct.pack("<f", double(choice)))[0])
         except OverflowError:
             return math.inf
-    return struct.unpack("<f", struct.pack("<I", choice.getrandbits(32)))[0]
+    return float(struct.unpack("<f", struct.pack("<I", choice.getrandbits(32)))[0])
 
 
 def power(choice: random.Random) -> int:
@@ -135,7 +143,7 @@ def base(choice: random.Random) -> int:
 
 def shapes() -> list[Shape]:
     """All functions that are tried, with as many random calls of each as `results` asks for."""
-    def texts(name: str, gives: str, takes: str, *makers: Callable[[random.Random], int | bytes | float]) -> Shape:
+    def texts(name: str, gives: str, takes: str, *makers: Callable[[random.Random], Given]) -> Shape:
         return Shape(name, gives, takes, lambda choice: [make(choice) for make in makers])
 
     def size(choice: random.Random) -> int:
@@ -152,9 +160,11 @@ def shapes() -> list[Shape]:
               Shape("strtof", "s", "pe", lambda choice: [decimal(choice), 0]), texts("atof", "d", "p", decimal)]
     found += [texts("strcat", "b", "bp", text, text), texts("strncat", "b", "bpl", text, text, size),
               texts("strcpy", "b", "bp", text, text), texts("strncpy", "b", "bpl", text, text, size),
-              texts("stpcpy", "b", "bp", text, text), texts("strlen", "l", "p", text), texts("strnlen", "l", "pl", text, size),
-              texts("strchr", "p", "pw", text, byte), texts("strrchr", "p", "pw", text, byte),
-              texts("memchr", "p", "pwl", lambda choice: text(choice) + bytes(8), byte, lambda choice: choice.randrange(9)),
+              texts("stpcpy", "b", "bp", text, text), texts("strlen", "l", "p", text),
+              texts("strnlen", "l", "pl", text, size), texts("strchr", "p", "pw", text, byte),
+              texts("strrchr", "p", "pw", text, byte),
+              texts("memchr", "p", "pwl", lambda choice: text(choice) + bytes(8), byte,
+                    lambda choice: choice.randrange(9)),
               texts("strstr", "p", "pp", text, lambda choice: text(choice, 4)),
               texts("strspn", "l", "pp", text, lambda choice: text(choice, 4)),
               texts("strcspn", "l", "pp", text, lambda choice: text(choice, 4)),
@@ -163,11 +173,11 @@ def shapes() -> list[Shape]:
         "isalpha isdigit isalnum isspace isupper islower isxdigit iscntrl isprint isgraph ispunct isblank tolower "
         "toupper").split()]
     for end, kind, make in (("", "d", double), ("f", "s", single)):
-        found += [texts(name + end, kind, kind, make) for name in "fabs floor ceil trunc round rint nearbyint sqrt".split()]
+        found += [texts(name + end, kind, kind, make)
+                  for name in "fabs floor ceil trunc round rint nearbyint sqrt".split()]
         found += [texts(name + end, kind, kind * 2, make, make) for name in "fmod copysign fmin fmax".split()]
         found += [texts(name + end, kind, kind + "w", make, power) for name in ("ldexp", "scalbn")]
-        found += [Shape(name + end, kind, kind + "e", lambda choice, make=make: [make(choice), 0])
-                  for name in ("frexp", "modf")]
+        found += [texts(name + end, kind, kind + "e", make, lambda choice: 0) for name in ("frexp", "modf")]
     return found
 
 
@@ -178,24 +188,27 @@ def bits_of(kind: str, value: int | float | None) -> int:
     if kind in "ds":
         value = math.nan if value != value else value
         letters = ("<d", "<Q") if kind == "d" else ("<f", "<I")
-        return struct.unpack(letters[1], struct.pack(letters[0], value))[0] & (LONG if kind == "d" else 0xFFFFFFFF)
-    return (value or 0) & (LONG if kind in "lupb" else 0xFFFFFFFF)
+        return int(struct.unpack(letters[1], struct.pack(letters[0], value))[0]) & (LONG if kind == "d" else 0xFFFFFFFF)
+    return int(value or 0) & (LONG if kind in "lupb" else 0xFFFFFFFF)
 
 
-def asked(shape: Shape, given: list) -> Record:
+def asked(shape: Shape, given: list[Given]) -> Record:
     """What the machine's library does."""
     library = ctypes.CDLL("libm.so.6" if shape.gives in "ds" else None, use_errno=True)
     call = getattr(library, shape.name)
     call.restype, call.argtypes = TYPES[shape.gives], [TYPES[kind] for kind in shape.takes]
     buffer, place = ctypes.create_string_buffer(BUFFER), ctypes.c_int64(0)
-    arguments: list = []
+    arguments: list[int | float] = []
     kept = []
     for kind, value in zip(shape.takes, given):
-        if kind == "b":
+        if not isinstance(value, bytes):
+            arguments.append(ctypes.addressof(place) if kind == "e" else value)
+        elif kind == "b":
             ctypes.memmove(buffer, value + b"\0", len(value) + 1)
-        kept.append(ctypes.create_string_buffer(value) if kind == "p" else None)
-        arguments.append(ctypes.addressof(buffer) if kind == "b" else ctypes.addressof(place) if kind == "e" else
-                         ctypes.addressof(kept[-1]) if kind == "p" else value)
+            arguments.append(ctypes.addressof(buffer))
+        else:
+            kept.append(ctypes.create_string_buffer(value))
+            arguments.append(ctypes.addressof(kept[-1]))
     ctypes.set_errno(0)
     result = call(*arguments)
     if shape.gives in "pb":
@@ -203,11 +216,13 @@ def asked(shape: Shape, given: list) -> Record:
         result = result - arguments[0] + 1 if result else 0
     was_set = place.value & LONG
     if "e" in shape.takes and shape.takes[0] == "p":
-        was_set = was_set - arguments[0] + 1 & LONG if was_set else 0
-    bits = [bits_of(kind, value) if kind in "dswlu" else value for kind, value in zip(shape.takes, given)]
+        was_set = was_set - int(arguments[0]) + 1 & LONG if was_set else 0
+    bits: list[int | bytes] = [value if isinstance(value, bytes) else bits_of(kind, value)
+                               for kind, value in zip(shape.takes, given)]
     error = ctypes.get_errno() if shape.name.startswith(("strto", "ato")) and shape.gives not in "ds" else 0
     if shape.name.startswith("modf"):
-        was_set = bits_of(shape.gives, (ctypes.c_double if shape.gives == "d" else ctypes.c_float).from_buffer(place).value)
+        was_set = bits_of(shape.gives,
+                          (ctypes.c_double if shape.gives == "d" else ctypes.c_float).from_buffer(place).value)
     return Record(bits, bits_of(shape.gives, result), was_set, buffer.raw if "b" in shape.takes else b"", error)
 
 
@@ -241,15 +256,16 @@ def checked(shape: Shape, records: list[Record], pool: Pool) -> str:
         words += [record.result, record.was_set, pool.place(record.buffer) if record.buffer else 0, record.error]
     width = 8 * (len(shape.takes) + 4)
     data = f"data $records = {{ l {' '.join(map(str, words))} }}\n"
-    lines = ["export function w $main() {", "@start", "\t%bad =w copy 0", "\t%at =l copy $records", "\t%number =w copy 0",
-             "@loop", f"\t%is =w cultw %number, {len(records)}", "\tjnz %is, @call, @end", "@call", "\tstorel 0, $set",
-             "\t%errno =l call $__errno_location()", "\tstorew 0, %errno", "\t%first =l copy 0", *loading(shape)]
+    lines = ["export function w $main() {", "@start", "\t%bad =w copy 0", "\t%at =l copy $records",
+             "\t%number =w copy 0", "@loop", f"\t%is =w cultw %number, {len(records)}", "\tjnz %is, @call, @end",
+             "@call", "\tstorel 0, $set", "\t%errno =l call $__errno_location()", "\tstorew 0, %errno",
+             "\t%first =l copy 0", *loading(shape)]
     given = ", ".join(f"{'l' if kind in 'upbe' else kind} %v{index}" for index, kind in enumerate(shape.takes))
     gives = "l" if shape.gives in "upb" else shape.gives
     lines += [f"\t%r ={gives} call ${shape.name}({given})", *comparing(shape, len(shape.takes)),
               "\tjnz %differs, @differs, @next", "@differs", "\t%p =w call $printf(l $f, ..., w %number)",
-              "\t%bad =w add %bad, 1", "@next", f"\t%at =l add %at, {width}", "\t%number =w add %number, 1", "\tjmp @loop",
-              "@end", f"\tret {len(records)}", "}"]
+              "\t%bad =w add %bad, 1", "@next", f"\t%at =l add %at, {width}", "\t%number =w add %number, 1",
+              "\tjmp @loop", "@end", f"\tret {len(records)}", "}"]
     return data + "\n".join(lines) + "\n"
 
 
@@ -399,14 +415,16 @@ def sorting_fault(running: Running, seed: int) -> str | None:
 def random_fault(running: Running) -> str | None:
     """Sequences of several seeds, and that of no seed."""
     library = ctypes.CDLL(None)
-    body, wanted = [], []
+    body: list[str] = []
+    wanted: list[int] = []
     library.srand(1)
     for seed in (None, 0, 1, 42, 2 ** 31 - 1, 2 ** 31, 2 ** 32 - 1, 123456789):
         if seed is not None:
             library.srand(ctypes.c_uint32(seed))
             body.append(f"call $srand(w {seed})")
         for _ in range(40):
-            body += [f"%r{len(wanted)} =w call $rand()", f"%p{len(wanted)} =w call $printf(l $f, ..., w %r{len(wanted)})"]
+            body += [f"%r{len(wanted)} =w call $rand()",
+                     f"%p{len(wanted)} =w call $printf(l $f, ..., w %r{len(wanted)})"]
             wanted.append(library.rand())
     text = 'data $f = { b "%d " , b 0 }\nexport function w $main() {\n@start\n' + "\n".join(body) + "\n\tret 0\n}\n"
     lowered = running.lower_here(text)

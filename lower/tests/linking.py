@@ -128,7 +128,8 @@ export function w $main() {
 }
 """
 STEP = "export function w $step() {\n@start\n\t%a =w call $absent(l 1)\n\tret %a\n}\n"
-UNREACHED = "export function w $main() {\n@start\n\tret 3\n}\nfunction $f() {\n@start\n\tcall $getpriority()\n\tret\n}\n"
+UNREACHED = ("export function w $main() {\n@start\n\tret 3\n}\n"
+             "function $f() {\n@start\n\tcall $getpriority()\n\tret\n}\n")
 
 
 def linked_fault(running: Running) -> str | None:
@@ -153,7 +154,8 @@ def end_fault(running: Running, texts: dict[str, str], end: str, output: str = "
         -> str | None:
     lowered = running.lower(texts, "--link", *options)
     run = running.run(lowered.text)
-    return differ("status", status, lowered.status) or differ("end", end, run.end) or differ("output", output, run.output)
+    return differ("status", status, lowered.status) or differ("end", end, run.end) or \
+        differ("output", output, run.output)
 
 
 def outside_fault(running: Running) -> str | None:
@@ -168,7 +170,8 @@ def outside_fault(running: Running) -> str | None:
 
 
 def told_fault(running: Running) -> str | None:
-    """Each function from outside that can be reached is told without a report, once, at its first use that can be reached."""
+    """Each function from outside that can be reached is told without a report, once, at its first use that can be
+    reached."""
     lowered = running.lower({"a.ssa": TWICE.replace("$sprintf", "$absent"), "b.ssa": STEP})
     return differ("errors", "a.ssa:11: $missing is defined nowhere: a function that halts (would halt)\n"
                   "b.ssa:3: $absent is defined nowhere: a function that halts (would halt)\n", lowered.errors)
@@ -213,7 +216,8 @@ export function l $main() {
     wanted = ["1 arguments fitted to another class", "1 calls with arguments behind dots, in cells of memory",
               "2 debug lines as places of the map", "2 float instructions, by calls of the runtime",
               "1 float instructions, by their bits", "1 functions with dots, which take the address of cells",
-              "1 parameters that are aggregates, by address and copied", "a.ssa:17: argument 2 of $f is a l for a w: cut"]
+              "1 parameters that are aggregates, by address and copied",
+              "a.ssa:17: argument 2 of $f is a l for a w: cut"]
     return differ("status", 0, lowered.status) or differ("report", wanted, lowered.errors.split("\n")[:-1]) or \
         differ("end", f"done {(1 << 64) - 5}", running.run(lowered.text).end)
 
@@ -244,11 +248,13 @@ def order_fault(running: Running) -> str | None:
     """A call whose arguments behind dots stand in another order than that in which they are taken is told."""
     lowered = running.lower({"a.ssa": ORDER}, "--link", "--report")
     told = [line for line in lowered.errors.split("\n") if "behind the dots of $f" in line]
-    return differ("told", ["a.ssa:13: argument 1 behind the dots of $f is a w, and its `vaarg` there takes a d: native code "
-                           "takes floats and integers from registers of their own (native code differs)"], told) or \
+    return differ("told",
+                  ["a.ssa:13: argument 1 behind the dots of $f is a w, and its `vaarg` there takes a d: native code "
+                   "takes floats and integers from registers of their own (native code differs)"], told) or \
         differ("told without being asked", told, running.lower({"a.ssa": ORDER}, "--link").errors.split("\n")[:-1]) or \
         differ("status", 0, lowered.status) or differ("end", "done 7", running.run(lowered.text).end) or \
-        differ("where nothing calls it", "", running.lower({"a.ssa": ORDER.replace("$main", "$other") + RETURNS}).errors)
+        differ("where nothing calls it", "",
+               running.lower({"a.ssa": ORDER.replace("$main", "$other") + RETURNS}).errors)
 
 
 # Names that are the runtime's own: the text's are others, and one that it lacks is one from outside.
@@ -295,7 +301,8 @@ def results(running: Running) -> Results:
     yield "linking/told without being asked", told_fault(running)
     sine = running.lower({"a.ssa": TWICE.replace("$missing", "$sin").replace("call $step()", "copy 0")}, "--link")
     yield "linking/what isn't exact", differ(
-        "errors", "a.ssa:11: $sin isn't exact, so that the runtime doesn't have it: a function that halts (would halt)\n",
+        "errors",
+        "a.ssa:11: $sin isn't exact, so that the runtime doesn't have it: a function that halts (would halt)\n",
         sine.errors)
     yield "linking/not reached", unreached_fault(running)
     yield "linking/no entry", entry_fault(running)

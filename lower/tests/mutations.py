@@ -1,4 +1,5 @@
-"""Texts with a token taken out, doubled, moved or put in: each is refused with a line, or gives a text that qrev accepts."""
+"""Texts with a token taken out, doubled, moved or put in: each is refused with a line, or gives a text that qrev
+accepts."""
 import random
 import re
 
@@ -12,7 +13,7 @@ REFUSAL = re.compile(r"a\.ssa:[0-9]+: .")
 
 def pieces() -> list[list[str]]:
     texts = [case.text for case in CASES] + [path.read_text() for path in sorted((DATA / "real").glob("*.ssa"))
-                                            if path.stem != "sieve"]
+                                             if path.stem != "sieve"]
     return [TOKEN.findall(text) for text in texts]
 
 

@@ -1,6 +1,6 @@
-"""Native code of texts of QBE, by way of C: each function becomes one of C with the same temporaries and jumps, and data
-becomes what an assembler takes. gcc and the machine's C library do the rest, so that what comes of a text is seen without
-the lowering and its runtime. Not for aggregates and functions with dots of the text's own."""
+"""Native code of texts of QBE, by way of C: each function becomes one of C with the same temporaries and jumps, and
+data becomes what an assembler takes. gcc and the machine's C library do the rest, so that what comes of a text is seen
+without the lowering and its runtime. Not for aggregates and functions with dots of the text's own."""
 import pathlib
 import shutil
 import subprocess
@@ -17,13 +17,15 @@ TYPES = {"w": "unsigned int", "l": "unsigned long", "s": "float", "d": "double"}
 SIGNED = {"w": "int", "l": "long", "s": "float", "d": "double"}
 BINARY = {"add": "+", "sub": "-", "mul": "*", "and": "&", "or": "|", "xor": "^", "udiv": "/", "urem": "%"}
 COMPARED = {"eq": "==", "ne": "!=", "le": "<=", "lt": "<", "ge": ">=", "gt": ">"}
-LOADED = {"loadsb": "signed char", "loadub": "unsigned char", "loadsh": "short", "loaduh": "unsigned short", "loadsw": "int",
-          "loadw": "int", "loaduw": "unsigned int", "loadl": "unsigned long", "loads": "float", "loadd": "double"}
+LOADED = {"loadsb": "signed char", "loadub": "unsigned char", "loadsh": "short", "loaduh": "unsigned short",
+          "loadsw": "int", "loadw": "int", "loaduw": "unsigned int", "loadl": "unsigned long", "loads": "float",
+          "loadd": "double"}
 STORED = {"storeb": "unsigned char", "storeh": "unsigned short", "storew": "unsigned int", "storel": "unsigned long",
           "stores": "float", "stored": "double"}
-EXTENDED = {"extsb": "signed char", "extub": "unsigned char", "extsh": "short", "extuh": "unsigned short", "extsw": "int",
-            "extuw": "unsigned int", "exts": "double", "truncd": "float", "stosi": "S", "stoui": "U", "dtosi": "S",
-            "dtoui": "U", "swtof": "int", "uwtof": "unsigned int", "sltof": "long", "ultof": "unsigned long"}
+EXTENDED = {"extsb": "signed char", "extub": "unsigned char", "extsh": "short", "extuh": "unsigned short",
+            "extsw": "int", "extuw": "unsigned int", "exts": "double", "truncd": "float", "stosi": "S", "stoui": "U",
+            "dtosi": "S", "dtoui": "U", "swtof": "int", "uwtof": "unsigned int", "sltof": "long",
+            "ultof": "unsigned long"}
 SIZES = {"b": ".byte", "h": ".short", "w": ".int", "l": ".quad"}
 # What a runtime in the form of Hare's has in assembler, and the functions of C that it calls by its own names.
 HELPERS = r"""
@@ -111,7 +113,7 @@ class Translator:
         lines.append(f"{symbol}:")
         for item in data.items:
             if item.is_global:
-                lines.append(f"{SIZES[item.letter]} {self.symbol(item.value)}+{item.offset}")
+                lines.append(f"{SIZES[item.letter]} {self.symbol(str(item.value))}+{item.offset}")
             elif isinstance(item.value, str):
                 lines.append(".byte " + ",".join(str(ord(byte)) for byte in item.value))
             else:
@@ -148,20 +150,22 @@ class Translator:
         """A jump, behind what the phis of its target take."""
         target = next(each for each in self.blocks if each.name == label)
         taken = [(phi, dict(phi.sources)[block.name]) for phi in target.phis]
-        before = [f"{TYPES[phi.cls]} p{index} = {self.value(value, phi.cls)};" for index, (phi, value) in enumerate(taken)]
+        before = [f"{TYPES[phi.cls]} p{index} = {self.value(value, phi.cls)};" for index,
+                  (phi, value) in enumerate(taken)]
         after = [f"{self.name(phi.result)} = p{index};" for index, (phi, _) in enumerate(taken)]
         return " ".join(["{", *before, *after, f"goto {self.label(label)};", "}"])
 
     def jump(self, block: Block, jump: Jump) -> str:
         if jump.name in ("jmp", "on"):
             return self.go(block, jump.labels[0])
-        if jump.name == "jnz":
+        if jump.name == "jnz" and jump.value is not None:
             yes, no = (self.go(block, label) for label in jump.labels)
             return f"if ({self.value(jump.value, 'w')}) {yes} else {no}"
         if jump.name == "hlt":
             return "__builtin_trap();"
         returns = self.in_function.returns
-        return "return;" if jump.value is None or not returns else f"return {self.value(jump.value, class_of(returns))};"
+        return "return;" if jump.value is None or not returns else \
+            f"return {self.value(jump.value, class_of(returns))};"
 
     def instruction(self, each: Instruction) -> str:
         name, cls = each.name, each.cls
@@ -191,7 +195,8 @@ class Translator:
         first = self.value(each.operands[0], cls)
         if name in ("shl", "shr", "sar"):
             amount = f"({self.value(each.operands[1], 'w')} & {63 if cls == 'l' else 31})"
-            return f"({SIGNED[cls] if name == 'sar' else TYPES[cls]})({first}) {'<<' if name == 'shl' else '>>'} {amount}"
+            return (f"({SIGNED[cls] if name == 'sar' else TYPES[cls]})({first}) {'<<' if name == 'shl' else '>>'} "
+                    f"{amount}")
         second = self.value(each.operands[1], cls)
         if name in ("div", "rem"):
             return f"({SIGNED[cls]})({first}) {'/' if name == 'div' else '%'} ({SIGNED[cls]})({second})"

@@ -1,5 +1,5 @@
-"""Places lead back: each line that the map leads from is the instruction that the compiler wrote, and the source place is
-that of the debug line before it. And a place of a session leads to its line by qrev-place and by editors/at-line."""
+"""Places lead back: each line that the map leads from is the instruction that the compiler wrote, and the source place
+is that of the debug line before it. And a place of a session leads to its line by qrev-place and by editors/at-line."""
 import pathlib
 import re
 import subprocess
@@ -68,8 +68,8 @@ def lower_to(running: Running, path: pathlib.Path, place: str) -> tuple[pathlib.
     return lowered, path.read_text()
 
 
-# Places of structval.ssa, worked out by hand: the line and the source place. The first two instructions of the first block
-# are a copy of an aggregate.
+# Places of structval.ssa, worked out by hand: the line and the source place. The first two instructions of the first
+# block are a copy of an aggregate.
 PLACES = [
     ("#5 $main @body.3 0", 26, "ha/s/structval.ha:3:42", "%field.10 =l add %object.9, 0"),
     ("$main @body.3 8", 39, "ha/s/structval.ha:3:77", "%.7 =:type.8 call $add(:type.8 %object.9, :type.8 %object.11)"),
@@ -105,6 +105,7 @@ def results(running: Running) -> Results:
     for name in ("list", "matrix", "structval", "tagged"):
         yield f"places/{name}", session_fault(running, REAL / f"{name}.ssa")
     for place, line, source, text in PLACES:
-        yield f"places/{place}", place_fault(running, [str(TOP / "editors" / "at-line"), "--place", "{place}", "{program}"],
+        yield f"places/{place}", place_fault(running,
+                                             [str(TOP / "editors" / "at-line"), "--place", "{place}", "{program}"],
                                              place, line, source, text)
     yield "places/a refusal", at_line_fault(running)

@@ -1,6 +1,6 @@
-"""Twelve programs that link an allocator, a formatter, finalizers and ends by a message, beside native code: by qbe where that
-is installed, else by way of C, and stored from there for machines without gcc. Each runs forward, back to #0 and forward
-again."""
+"""Twelve programs that link an allocator, a formatter, finalizers and ends by a message, beside native code: by qbe
+where that is installed, else by way of C, and stored from there for machines without gcc. Each runs forward, back to #0
+and forward again."""
 import json
 import re
 
@@ -18,7 +18,9 @@ THERE_AND_BACK = "continue\nout\nwhere\nreverse\ncontinue\nout\n"
 def texts_of(name: str) -> dict[str, str]:
     """The texts of a program, by their files: its own and those that its first line names."""
     own = (PROGRAMS / f"{name}.ssa").read_text()
-    names = WITH.match(own).group(1).split()
+    named = WITH.match(own)
+    assert named is not None, name
+    names = named.group(1).split()
     return {f"{name}.ssa": own} | {f"{other}.ssa": (DATA / "library" / f"{other}.ssa").read_text() for other in names}
 
 
@@ -56,7 +58,8 @@ def fault(running: Running, name: str, wanted: Ended) -> str | None:
 
 def results(running: Running) -> Results:
     known = stored()
-    yield "programs/all of them", differ("programs", NAMES, sorted(known)) or (None if len(NAMES) == 12 else f"{len(NAMES)}")
+    yield "programs/all of them", differ("programs", NAMES, sorted(known)) or \
+        (None if len(NAMES) == 12 else f"{len(NAMES)}")
     for name in NAMES:
         yield f"programs/{name}", fault(running, name, known[name])
     for name in NAMES:

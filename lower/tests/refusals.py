@@ -14,7 +14,8 @@ def in_main(*lines: str) -> str:
 
 def blocks(*lines: str) -> str:
     """A function whose second block begins on line 4."""
-    return "function w $main(w %a, l %b) {\n@start\n\tjnz %a, @one, @two\n" + "".join(line + "\n" for line in lines) + "}\n"
+    return "function w $main(w %a, l %b) {\n@start\n\tjnz %a, @one, @two\n" + \
+        "".join(line + "\n" for line in lines) + "}\n"
 
 
 # The text, the line that is told, and a part of what is said.
@@ -112,7 +113,8 @@ TEXTS = [
     # A slot that is kept in a temporary has its value from the store.
     (in_main("%p =l alloc4 4", "%x =w loadw %p", "storew 1, %p"), 4, "before it is defined"),
     # In a block to which control comes, and defined in one to which it doesn't.
-    (blocks("@one", "@two", "\t%x =w add %y, 1", "\tret %x", "@dead", "\t%y =w copy 7", "\tjmp @two"), 6, "before it is"),
+    (blocks("@one", "@two", "\t%x =w add %y, 1", "\tret %x", "@dead", "\t%y =w copy 7", "\tjmp @two"), 6,
+     "before it is"),
     # By a phi, which QBE doesn't rename, and in a block that has another way to it.
     (blocks("@one", "\t%x =w phi @start 1", "@two", "\tret %x"), 7, "before it is defined"),
     # A value of a phi isn't renamed either.
@@ -150,7 +152,8 @@ def refusal_fault(running: Running, text: str, line: int, said: str) -> str | No
     found = running.lower_here(text, is_linked=False)
     if not isinstance(found, str):
         return f"{text!r} is accepted"
-    return None if found.startswith(f"a.ssa:{line}: ") and said in found else f"{text!r}: {found!r}, and line {line} wanted"
+    return None if found.startswith(f"a.ssa:{line}: ") and said in found else \
+        f"{text!r}: {found!r}, and line {line} wanted"
 
 
 def command_fault(running: Running, name: str, text: str) -> str | None:
@@ -158,8 +161,9 @@ def command_fault(running: Running, name: str, text: str) -> str | None:
     with tempfile.TemporaryDirectory(prefix="lower-") as place:
         folder = pathlib.Path(place)
         (folder / name).write_text(text)
+        options: list[list[str]] = [[], ["--output", "out.ssa"]]
         runs = [subprocess.run([sys.executable, str(LOWER), *words, name], capture_output=True, text=True, cwd=folder,
-                               timeout=running.seconds) for words in ([], ["--output", "out.ssa"])]
+                               timeout=running.seconds) for words in options]
         for run in runs:
             if run.returncode != 1 or run.stdout or not run.stderr.startswith(f"{name}:3: "):
                 return f"status {run.returncode}, {run.stdout!r}, {run.stderr!r}"

@@ -56,8 +56,8 @@ class Run(NamedTuple):
         return ESCAPE.sub(unescaped, said[-1].partition('"')[2][:-1])
 
 
-def unescaped(match: re.Match) -> str:
-    body = match.group(1)
+def unescaped(match: re.Match[str]) -> str:
+    body: str = match.group(1)
     return chr(int(body, 8)) if len(body) == 3 else LETTERS[body]
 
 
@@ -117,7 +117,7 @@ class Running:
         return Run(run.stdout.decode("latin-1").split("\n")[:-1])
 
 
-def differ(what: str, wanted, given) -> str | None:
+def differ(what: str, wanted: object, given: object) -> str | None:
     return None if wanted == given else f"{what}: {given!r} in place of {wanted!r}"
 
 

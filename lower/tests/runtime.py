@@ -177,8 +177,8 @@ def copies_fault(running: Running, seed: int) -> str | None:
 
 
 class HeapText:
-    """Random malloc, calloc, realloc and free of 12 places, each block filled with its own byte, which is looked at before it
-    goes; `total` is the sum of all bytes that are seen."""
+    """Random malloc, calloc, realloc and free of 12 places, each block filled with its own byte, which is looked at
+    before it goes; `total` is the sum of all bytes that are seen."""
 
     def __init__(self, seed: int):
         self.choice = random.Random(seed)
@@ -299,7 +299,8 @@ export function w $main() {
 
 def small_heap_fault(running: Running) -> str | None:
     """The heap is what the data of the program leaves."""
-    text = "data $large = { z 900000 }\n" + in_main("%p =l call $malloc(l 100000)\nstorel 1, $large\n%q =l call $malloc(l 1)")
+    text = "data $large = { z 900000 }\n" + in_main(
+        "%p =l call $malloc(l 100000)\nstorel 1, $large\n%q =l call $malloc(l 1)")
     lowered = running.lower_here(text)
     if isinstance(lowered, str):
         return lowered

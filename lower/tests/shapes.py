@@ -1,5 +1,6 @@
-"""Random functions and calls of all shapes: classes, aggregates, environments, dots, by names and by addresses, with arguments
-of other classes and too many of them. Each function mixes all that it is given into a number, which Python works out too."""
+"""Random functions and calls of all shapes: classes, aggregates, environments, dots, by names and by addresses, with
+arguments of other classes and too many of them. Each function mixes all that it is given into a number, which Python
+works out too."""
 import random
 
 from .running import Results, Running, differ
@@ -8,8 +9,9 @@ PROGRAMS, FUNCTIONS, CALLS = 12, 12, 40
 LONG = (1 << 64) - 1
 SIZES = {"w": 4, "s": 4, "l": 8, "d": 8}
 # Types by their names: the text, the size, and the instruction that has memory for it.
-TYPES = {":small": ("{ b 3 }", 3, "alloc4"), ":pair": ("{ w, l }", 16, "alloc8"), ":three": ("{ d, s, h }", 16, "alloc8"),
-         ":big": ("{ l 5 }", 40, "alloc8"), ":wide": ("align 16 { l 2, b }", 32, "alloc16"),
+TYPES = {":small": ("{ b 3 }", 3, "alloc4"), ":pair": ("{ w, l }", 16, "alloc8"),
+         ":three": ("{ d, s, h }", 16, "alloc8"), ":big": ("{ l 5 }", 40, "alloc8"),
+         ":wide": ("align 16 { l 2, b }", 32, "alloc16"),
          ":dark": ("align 8 { 24 }", 24, "alloc8"), ":union": ("{ { b 5 } { w } }", 8, "alloc4")}
 FACTOR = 1099511628211
 
@@ -50,8 +52,8 @@ class Function:
     def ending(self) -> list[str]:
         if self.returns in TYPES:
             _, size, alloc = TYPES[self.returns]
-            return [f"\t%r =l {alloc} {size}", *(f"\t%a{at} =l add %r, {at}\n\tstoreb %t, %a{at}" for at in range(size)),
-                    "\tret %r"]
+            return [f"\t%r =l {alloc} {size}",
+                    *(f"\t%a{at} =l add %r, {at}\n\tstoreb %t, %a{at}" for at in range(size)), "\tret %r"]
         if self.returns in "wl":
             return ["\tret %t"]
         if self.returns == "d":
@@ -98,7 +100,9 @@ class Program:
     def __init__(self, seed: int):
         self.choice = random.Random(seed)
         self.functions = [Function(number, self.choice) for number in range(FUNCTIONS)]
-        self.lines, self.data, self.wanted = [], [], []
+        self.lines: list[str] = []
+        self.data: list[str] = []
+        self.wanted: list[str] = []
         for number in range(CALLS):
             self.call(number, self.choice.choice(self.functions))
 
@@ -109,6 +113,11 @@ class Program:
             content = choice.randbytes(TYPES[kind][1])
             self.data.append(f"data ${name} = align 16 {{ b {' '.join(map(str, content))} }}")
             return f"{kind} ${name}", content
+        return self.numeric(kind, name)
+
+    def numeric(self, kind: str, name: str) -> tuple[str, int]:
+        """An argument that is no aggregate, and its bits."""
+        choice = self.choice
         value = choice.getrandbits(8 * SIZES[kind])
         if choice.random() < 0.5:
             return f"{kind} {value}", value
@@ -118,18 +127,21 @@ class Program:
     def other(self, kind: str, name: str) -> tuple[str, int]:
         """An argument of the other integer class than the parameter's, which is cut or extended by zeros."""
         if kind == "w":
-            text, value = self.argument("l", name)
+            text, value = self.numeric("l", name)
             return text, value & 0xFFFFFFFF
-        return self.argument("w", name)
+        return self.numeric("w", name)
 
     def call(self, number: int, function: Function) -> None:
-        choice, arguments, values = self.choice, [], []
+        choice = self.choice
+        arguments: list[str] = []
+        values: list[int | bytes] = []
         for index, kind in enumerate(function.parameters):
             name = f"c{number}.a{index}"
-            text, value = self.other(kind, name) if kind in "wl" and choice.random() < 0.1 else self.argument(kind, name)
-            arguments.append(text)
-            values.append(value)
-        behind = [self.argument(kind, f"c{number}.v{index}") for index, kind in enumerate(function.behind or ())]
+            given: tuple[str, int | bytes] = \
+                self.other(kind, name) if kind in "wl" and choice.random() < 0.1 else self.argument(kind, name)
+            arguments.append(given[0])
+            values.append(given[1])
+        behind = [self.numeric(kind, f"c{number}.v{index}") for index, kind in enumerate(function.behind or ())]
         has_dots = function.behind is not None or choice.random() < 0.1
         environment = choice.getrandbits(64)
         written = [f"env {environment}"] * (function.has_environment or choice.random() < 0.1) + arguments
@@ -143,7 +155,8 @@ class Program:
         target = function.name
         if has_address:
             target = f"%g{number}"
-            self.lines += [f"\t%h{number} =l add $functions, {8 * int(function.name[2:])}", f"\t{target} =l loadl %h{number}"]
+            self.lines += [f"\t%h{number} =l add $functions, {8 * int(function.name[2:])}",
+                           f"\t{target} =l loadl %h{number}"]
         self.lines.append(f"\t%r{number} ={function.returns} call {target}({', '.join(written)})")
         self.tell(number, function, function.result(environment, values, [value for _, value in behind]))
 

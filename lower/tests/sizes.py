@@ -20,12 +20,13 @@ def text_of(functions: int, word: str) -> str:
 
 
 def table_text(functions: int, argument: str) -> str:
-    """Functions that a table alone names, of two parameters; $main calls one of the table that has one parameter, with its address
-    from there, and with a second argument if that is given."""
+    """Functions that a table alone names, of two parameters; $main calls one of the table that has one parameter, with
+    its address from there, and with a second argument if that is given."""
     parts = []
     for number in range(functions):
         lines = [f"\t%n{step} =l add %n{step - 1}, %m" for step in range(1, STEPS)]
-        parts.append(f"function l $f{number}(l %n0, l %m) {{\n@start\n" + "\n".join(lines) + f"\n\tret %n{STEPS - 1}\n}}\n")
+        parts.append(f"function l $f{number}(l %n0, l %m) {{\n@start\n"
+                     + "\n".join(lines) + f"\n\tret %n{STEPS - 1}\n}}\n")
     names = ", ".join(f"l $f{number}" for number in range(functions))
     return f"data $table = {{ l $one, {names} }}\n" + "".join(parts) + f"""function l $one(l %n) {{
 @start
@@ -50,7 +51,8 @@ def table_fault(running: Running, argument: str, status: int, end: str | None) -
     """A table of functions that only a call of another shape could enter is cut to fit, and the run is the same."""
     lowered = running.lower({"a.ssa": table_text(600, argument)}, "--link", "--report")
     fault = differ("status", status, lowered.status) or \
-        differ("functions that are cut", end is not None, "600 functions that no call can reach, cut to fit" in lowered.errors)
+        differ("functions that are cut", end is not None,
+               "600 functions that no call can reach, cut to fit" in lowered.errors)
     if fault or end is None:
         return fault
     return differ("size", True, len(lowered.text) <= 1 << 20) or differ("end", end, running.run(lowered.text).end) or \

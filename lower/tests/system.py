@@ -1,4 +1,5 @@
-"""The border at the operating system: an allocator, a formatter and an abort of the text's own, over calls of the system."""
+"""The border at the operating system: an allocator, a formatter and an abort of the text's own, over calls of the
+system."""
 import random
 
 from .running import DATA, Results, Running, differ
@@ -226,7 +227,8 @@ def text_of(name: str) -> str:
 
 def fault(running: Running, texts: dict[str, str], end: str, output: str, words: tuple[str, ...] = (), kept: str = "",
           note: str = "") -> str | None:
-    """What is wrong of a program that is linked: its end, its output, a definition that is kept, a line of the report."""
+    """What is wrong of a program that is linked: its end, its output, a definition that is kept, a line of the
+    report."""
     lowered = running.lower(texts, "--link", "--report")
     run = running.run(lowered.text, words=words)
     return differ("end", end, run.end) or differ("output", output, run.output) or \
@@ -262,16 +264,18 @@ def families(running: Running) -> Results:
         "\t%chunk.23 =", "\t%kept =l loadl $rt.chunk.size\n\t%chunk.23 =") + "data $rt.chunk.size = { l 2097152 }\n"
     yield "system/chunks of a size in data", fault(running, own | {"rt.ssa": kept}, "done 4950", "", ("100",), "", told)
     yield "system/their abort", fault(running, replaced, "fault halted", ABORTED, ("101",))
-    yield "system/an abort of the runtime", fault(running, {"oob.ssa": own["oob.ssa"]}, "fault halted", ABORTED, ("101",))
+    yield "system/an abort of the runtime", fault(running, {"oob.ssa": own["oob.ssa"]}, "fault halted", ABORTED,
+                                                  ("101",))
     yield "system/a heap with marks", fault(running, {"a.ssa": text_of("checked-heap.ssa")}, "done 42", "")
     checked = text_of("checked-heap.ssa").replace("$main", "$other")
     yield "system/calloc of the text's own heap", fault(running, {"a.ssa": checked, "b.ssa": OWN_CALLOC}, "done 42", "")
     yield "system/a heap without a realloc", fault(running, {"a.ssa": checked, "b.ssa": NO_REALLOC}, "done 42", "",
                                                    note="$malloc comes without a $realloc of the text's own")
     yield "system/a free of its own", fault(running, {"a.ssa": COUNTED_FREE}, "done 2", "")
-    yield "system/a heap with locks", fault(running, {"a.ssa": LOCKED}, "done 42", "", note="$free shares state with $malloc")
+    yield "system/a heap with locks", fault(running, {"a.ssa": LOCKED}, "done 42", "",
+                                            note="$free shares state with $malloc")
     yield "system/what looks at its data", fault(running, {"a.ssa": LOCKED}, "done 42", "",
-                                                  note="$heap_used uses $used, which functions that were replaced")
+                                                 note="$heap_used uses $used, which functions that were replaced")
 
 
 def results(running: Running) -> Results:

@@ -1,4 +1,5 @@
-"""What is done on the page: keys, the pointer, values by hand, the script, the exported file, texts that would be markup."""
+"""What is done on the page: keys, the pointer, values by hand, the script, the exported file, texts that would be
+markup."""
 from __future__ import annotations
 
 import json
@@ -8,7 +9,7 @@ import sys
 import tempfile
 import time
 from contextlib import contextmanager
-from typing import Iterator
+from typing import Any, Iterator
 
 from terminal.answers import read_place
 from terminal.pipe import Pipe
@@ -91,7 +92,8 @@ def keys(program: str) -> str | None:
 
 
 def pointer(program: str) -> str | None:
-    """A press in the timeline, in the overview, on a value, a byte of memory, of the output, a line's number, a plot, a cause."""
+    """A press in the timeline, in the overview, on a value, a byte of memory, of the output, a line's number, a plot, a
+    cause."""
     with opened(program, DIGITS) as browser:
         box = browser.run("(box => [box.left, box.top])(document.getElementById('timeline').getBoundingClientRect())")
         x = browser.run("app.timeline.x(101)")
@@ -107,7 +109,8 @@ def pointer(program: str) -> str | None:
         found["plot"] = browser.run("app.pins.length") == 1
         browser.run("app.go(20)")
         browser.click(".line.is-now .gutter")
-        found["line"] = browser.run("app.line === Number(document.querySelector('.line.is-now').dataset.line) && app.cursor > 20")
+        found["line"] = browser.run(
+            "app.line === Number(document.querySelector('.line.is-now').dataset.line) && app.cursor > 20")
         browser.run("app.ask(app.causes.root(app.run.moves))")
         browser.click(".node:not(.is-open)")
         found["cause"] = browser.run("app.walk.chosen !== app.walk.root && Boolean(app.walk.chosen.cause)")
@@ -115,7 +118,8 @@ def pointer(program: str) -> str | None:
         row = browser.run("app.timeline.rows.flames + app.timeline.rowTall * 1.5")
         browser.move(box[0] + x + 2, box[1] + row)
         tip = browser.run("document.getElementById('tip').textContent")
-        found["what a bar says"] = tip.startswith("#101 $number @digit 3  line 17: storeb %t2, %at.next\n$number, 60 moves from #71")
+        found["what a bar says"] = tip.startswith(
+            "#101 $number @digit 3  line 17: storeb %t2, %at.next\n$number, 60 moves from #71")
         browser.press_twice(box[0] + x, box[1] + row)
         found["a call as wide as the window"] = browser.run("app.view.map(Math.round)") == [70, 132]
         browser.wheel(box[0] + x, box[1] + row, 120)
@@ -136,7 +140,8 @@ def waited(browser: Browser, script: str, wanted: object, seconds: float = 10) -
 
 
 def by_hand(program: str) -> str | None:
-    """README's example set right by hand: it ends with 14, and the script of the page leads the debugger to the same place."""
+    """README's example set right by hand: it ends with 14, and the script of the page leads the debugger to the same
+    place."""
     with opened(program, SQUARES) as browser:
         browser.run("app.go(45)")
         browser.key("p")
@@ -155,8 +160,10 @@ def by_hand(program: str) -> str | None:
         # What was otherwise in the run before is struck out beside what it is.
         was = ("[...document.querySelectorAll('.temp')].filter(each => each.querySelector('.was')).map(each => "
                "[...each.querySelectorAll('.name, .was, .number')].map(one => one.textContent))")
-        cells = "[...document.querySelectorAll('.cell.is-other')].map(each => [each.querySelector('.was').textContent, each.textContent])"
-        for position, wanted in ((46, [[], [["16 ", "16 0"]]]), (88, [[["%bias", "16", "0"], ["%total", "30", "14"]], [["16 ", "16 0"]]])):
+        cells = ("[...document.querySelectorAll('.cell.is-other')].map(each => "
+                 "[each.querySelector('.was').textContent, each.textContent])")
+        for position, wanted in ((46, [[], [["16 ", "16 0"]]]),
+                                 (88, [[["%bias", "16", "0"], ["%total", "30", "14"]], [["16 ", "16 0"]]])):
             given = browser.run(f"(app.go({position}), [{was}, {cells}])")
             if given != wanted:
                 return f"at #{position} of the run before stand {given} and not {wanted}"
@@ -170,18 +177,22 @@ def by_hand(program: str) -> str | None:
         waited(browser, "document.getElementById('scripted').open", True)
         script = browser.run("document.getElementById('lines').textContent")
         place = played(program, SQUARES, str(script))
-        return None if given == f"is-rightsession {place}" else f"the page shows {given} and its script leads to {place}"
+        return None if given == f"is-rightsession {place}" else \
+            f"the page shows {given} and its script leads to {place}"
 
 
 def other_way(program: str) -> str | None:
-    """Where a value by hand has the run go another way, each round of a loop is beside the same round of the run before."""
+    """Where a value by hand has the run go another way, each round of a loop is beside the same round of the run
+    before."""
     with opened(program, SQUARES) as browser:
         browser.run("app.go(31)")
         browser.run("app.make('set %i 1')")
         waited(browser, "app.ghost !== null && app.run.isComplete", True)
-        # The states of the run before: the same place, in the same call, as often. The loop of $fill goes seven rounds and not five.
+        # The states of the run before: the same place, in the same call, as often. The loop of $fill goes seven rounds
+        # and not five.
         given = browser.run("[31, 32, 40, 49, 58, 68, 69, 70, 73, 107].map(each => app.ghost.stateOf(each))")
-        places = browser.run("[40, 49, 69, 70, 73].map(each => app.ghost.run.places[app.ghost.stateOf(each)] === app.run.places[each])")
+        places = browser.run(
+            "[40, 49, 69, 70, 73].map(each => app.ghost.run.places[app.ghost.stateOf(each)] === app.run.places[each])")
     wanted = [31, 31, 39, 48, -1, 49, 50, 51, 54, 88]
     return None if given == wanted and all(places) else f"{given} and not {wanted}, {places}"
 
@@ -316,8 +327,6 @@ def ended(program: str) -> str | None:
         browser.close()
 
 
-
-
 def side_by_side(program: str) -> str | None:
     """README's example beside the one that is right: each side where qrev-compare says that they part."""
     with tempfile.TemporaryDirectory(prefix="page-") as folder:
@@ -331,7 +340,8 @@ def side_by_side(program: str) -> str | None:
         try:
             with Serving(program, *words, options=("--compare", str(COMPARER))) as serving:
                 browser.open(serving.address)
-                ready = "[...document.querySelectorAll('iframe')].map(each => each.contentDocument?.documentElement?.dataset.ready).join()"
+                ready = ("[...document.querySelectorAll('iframe')].map(each => "
+                         "each.contentDocument?.documentElement?.dataset.ready).join()")
                 waited(browser, ready, "yes,yes")
                 sides = "[...document.querySelectorAll('iframe')].map(each => each.contentWindow.app"
                 given = browser.run(f"{sides}.cursor)"), browser.run("document.getElementById('head').textContent")
@@ -349,13 +359,16 @@ def side_by_side(program: str) -> str | None:
 
 
 def stepped(browser: Browser, sides: str) -> str | None:
-    """Both runs go together: by events from the first to the end, and where one is moved; not so where that is switched off."""
+    """Both runs go together: by events from the first to the end, and where one is moved; not so where that is switched
+    off."""
     waited(browser, "document.documentElement.dataset.ready", "yes")
     where = "document.getElementById('where').textContent"
     events = browser.run("pair.events.map(each => Array.from(each))")
     if not browser.run("pair.isAligned") or min(map(len, events)) < 4:
         return f"the events are {events}"
-    both = lambda: browser.run(f"{sides}.cursor)")  # noqa: E731
+
+    def both() -> Any:
+        return browser.run(f"{sides}.cursor)")
     browser.run(f"{sides}.go(0))")
     for number, wanted in enumerate(zip(*events)):
         browser.click("#next")
@@ -374,19 +387,23 @@ def stepped(browser: Browser, sides: str) -> str | None:
 
 
 FLOATY = TOP / "lower" / "test-data" / "real" / "floaty.ssa"
-# What stands in the page of a lowered text: the frames that are tabs, the temporaries, the cells on the stack, lines left out.
+# What stands in the page of a lowered text: the frames that are tabs, the temporaries, the cells on the stack, lines
+# left out.
 LOOKED = """({cursor: app.cursor, place: document.getElementById("place").textContent,
   tabs: [...document.querySelectorAll(".frame")].map(each => each.textContent),
   values: Object.fromEntries([...document.querySelectorAll(".temp")].map(each =>
     [each.querySelector(".name").textContent, each.querySelector(".number").textContent])),
-  cells: [...document.querySelectorAll(".object")].filter(each => each.querySelector(".name").textContent.startsWith("%object.12"))
+  cells: [...document.querySelectorAll(".object")]\
+.filter(each => each.querySelector(".name").textContent.startsWith("%object.12"))
     .flatMap(each => [...each.querySelectorAll(".cell")].map(cell => cell.textContent)),
   left: [...document.querySelectorAll(".is-folded")].map(each => each.textContent), rows: app.timeline.deepest,
-  sum: app.causes.of(app.causes.temporary(app.place.func.temporaries.find(([name]) => name === "%.36")?.[0] ?? "%.9", app.state)).verb})"""
+  sum: app.causes.of(app.causes.temporary(app.place.func.temporaries.find(\
+([name]) => name === "%.36")?.[0] ?? "%.9", app.state)).verb})"""
 
 
 def lowered_text(program: str) -> str | None:
-    """A lowered text: floats are decimals, a function of the runtime is one move and one cause, and `i` shows what it does."""
+    """A lowered text: floats are decimals, a function of the runtime is one move and one cause, and `i` shows what it
+    does."""
     with tempfile.TemporaryDirectory(prefix="page-") as folder:
         file = f"{folder}/floaty.ssa"
         subprocess.run([str(TOP / "lower" / "qrev-lower"), "--link", "--output", file, str(FLOATY)], check=True,
@@ -414,16 +431,19 @@ def lowered_text(program: str) -> str | None:
                 errors = browser.errors()
         finally:
             browser.close()
-    found = {"the end": end["values"].get("%.9") == "2.0" and end["cells"][:3] == ["1.0", "2.0", "3.0"] and len(end["left"]) == 2 and end["rows"] == 2,
-             "over the sum": behind["cursor"] > call + 20 and behind["values"]["%.36"] == "1.0" and behind["sum"] == "set by",
-             "back over it": before == call, "the own frame": inside["place"].startswith("$avg ") and inside["tabs"][-1] == "$float.add.d",
+    found = {"the end": end["values"].get("%.9") == "2.0" and end["cells"][:3] == ["1.0", "2.0", "3.0"]
+             and len(end["left"]) == 2 and end["rows"] == 2,
+             "over the sum": behind["cursor"] > call + 20 and behind["values"]["%.36"] == "1.0"
+             and behind["sum"] == "set by", "back over it": before == call,
+             "the own frame": inside["place"].startswith("$avg ") and inside["tabs"][-1] == "$float.add.d",
              "the runtime": unfolded["place"].startswith("$float.") and not unfolded["left"] and unfolded["rows"] > 4,
              "a move in it": after == call + 21}
     wrong = [name for name, holds in found.items() if not holds]
-    return f"{', '.join(wrong)}: {[end, behind, before, inside, unfolded, after]}" if wrong else "; ".join(errors) or None
+    return f"{', '.join(wrong)}: {[end, behind, before, inside, unfolded, after]}" if wrong else "; ".join(errors) or \
+        None
 
 
-CASES = {"keys": keys, "a lowered text": lowered_text, "pointer": pointer, "a value by hand and the script": by_hand, "another way by hand": other_way, "export": export,
-         "export's size": size,
+CASES = {"keys": keys, "a lowered text": lowered_text, "pointer": pointer, "a value by hand and the script": by_hand,
+         "another way by hand": other_way, "export": export, "export's size": size,
          "hostile texts": hostile, "the server ends": ended,
          "side by side": side_by_side}

@@ -1,7 +1,9 @@
-"""The page's causes against those of `why` at the terminal (terminal/causes.py): the same moves, the same next questions.
+"""The page's causes against those of `why` at the terminal (terminal/causes.py): the same moves, the same next
+questions.
 
-The page's modules answer in node, or in a browser where there is no node. Each question is about a random state of a run: every
-temporary of the function there, the way that led there, bytes of data and of the stack, the end, bytes of the output.
+The page's modules answer in node, or in a browser where there is no node. Each question is about a random state of a
+run: every temporary of the function there, the way that led there, bytes of data and of the stack, the end, bytes of
+the output.
 """
 from __future__ import annotations
 
@@ -122,7 +124,7 @@ def same(wanted: Any, given: Any) -> bool:
 
 
 def questions_of(program: Program, gathering: Gathering, chosen: random.Random, states: int,
-                 live: Callable) -> Iterator[Asked]:
+                 live: Live) -> Iterator[Asked]:
     """Questions about random states: temporaries, the way, bytes and words of memory, the end, the output."""
     moves = len(gathering.places) - 1
     last = moves - (gathering.places[-1] == gathering.table.end)
@@ -267,13 +269,14 @@ LOWERED = [*sorted((TOP / "lower" / "test-data" / "real").glob("*.ssa")),
 
 
 def of_lowered_texts(program: str) -> str | None:
-    """Texts that were lowered: a function of the runtime is one instruction, and what is read and set by it is asked about."""
+    """Texts that were lowered: a function of the runtime is one instruction, and what is read and set by it is asked
+    about."""
     with tempfile.TemporaryDirectory(prefix="page-") as folder:
         cases = []
         for text in LOWERED:
             file = f"{folder}/{text.stem}.ssa"
-            subprocess.run([str(TOP / "lower" / "qrev-lower"), "--link", "--output", file, str(text)], capture_output=True,
-                           stdin=subprocess.DEVNULL)
+            subprocess.run([str(TOP / "lower" / "qrev-lower"), "--link", "--output", file, str(text)],
+                           capture_output=True, stdin=subprocess.DEVNULL)
             cases.append(case_of(program, text.stem, file, (), STATES, 3, MOST_LOWERED))
         return faults([case for case in cases if case])
 
@@ -281,15 +284,19 @@ def of_lowered_texts(program: str) -> str | None:
 def float_texts(program: str) -> str | None:
     """Floats are written as at the terminal: doubles and singles of random bits, and those at the edges."""
     chosen = random.Random(4)
-    edges = [0, 1, 1 << 63, 0x3ff0000000000000, 0x7fefffffffffffff, 0x7ff0000000000000, 0xfff0000000000000, 0x7ff8000000000000,
-             0x4341c37937e08000, 0x4341c37937e07fff, 0x3f1a36e2eb1c432d, 0x3f1a36e2eb1c432c, 0x000fffffffffffff]
-    edges += [value >> 29 & 0xffffffff for value in edges] + [0x3dcccccd, 0x7f7fffff, 0x80000000, 0x7fc00000, 0x4b18967f]
-    asked = [[value, cls] for value in edges for cls in "ds"]
-    asked += [[chosen.getrandbits(64), "d"] for _ in range(2000)] + [[chosen.getrandbits(32), "s"] for _ in range(2000)]
-    asked += [[bits_of(chosen.randrange(-10 ** 9, 10 ** 9) / 10 ** chosen.randrange(12), cls), cls] for cls in "ds" for _ in range(1000)]
+    edges = [0, 1, 1 << 63, 0x3ff0000000000000, 0x7fefffffffffffff, 0x7ff0000000000000, 0xfff0000000000000,
+             0x7ff8000000000000, 0x4341c37937e08000, 0x4341c37937e07fff, 0x3f1a36e2eb1c432d, 0x3f1a36e2eb1c432c,
+             0x000fffffffffffff]
+    edges += [value >> 29 & 0xffffffff for value in edges] + [0x3dcccccd, 0x7f7fffff, 0x80000000, 0x7fc00000,
+                                                              0x4b18967f]
+    asked = [(value, cls) for value in edges for cls in "ds"]
+    asked += [(chosen.getrandbits(64), "d") for _ in range(2000)] + [(chosen.getrandbits(32), "s") for _ in range(2000)]
+    asked += [(bits_of(chosen.randrange(-10 ** 9, 10 ** 9) / 10 ** chosen.randrange(12), cls), cls) for cls in "ds"
+              for _ in range(1000)]
     call = "given.map(([value, cls]) => floatText(BigInt(value), cls))"
     found = evaluated(call, [[str(value), cls] for value, cls in asked])
-    wrong = [(value, cls, text, as_float(value, cls)) for (value, cls), text in zip(asked, found) if text != as_float(value, cls)]
+    wrong = [(value, cls, text, as_float(value, cls)) for (value, cls), text in zip(asked, found)
+             if text != as_float(value, cls)]
     return f"{wrong[0]} ({len(wrong)} of {len(asked)})" if wrong or len(found) != len(asked) else None
 
 
@@ -308,10 +315,13 @@ def event_counts(program: str) -> str | None:
                                   stdin=subprocess.DEVNULL, capture_output=True, text=True).stdout
             given.append({"told": table.told(file.stem), "stream": stream, "kinds": kinds.split(",")})
             wanted.append([file.stem, kinds, int(told.split()[1])])
-    call = ("given.map(({told, stream, kinds}) => { const run = runOf(told, Uint8Array.from(atob(stream), sign => sign.charCodeAt(0)));"
-            " return eventsOf(run, new Memory(run), run.program, kinds).length; })")
+    call = (
+        "given.map(({told, stream, kinds}) => { const run = runOf(told, "
+        "Uint8Array.from(atob(stream), sign => sign.charCodeAt(0)));"
+        " return eventsOf(run, new Memory(run), run.program, kinds).length; })")
     found = evaluated(call, given, (*CORE, "events.js"))
-    wrong = [f"{name}, {kinds}: {count} events and not {number}" for (name, kinds, number), count in zip(wanted, found) if count != number]
+    wrong = [f"{name}, {kinds}: {count} events and not {number}" for (name, kinds, number), count in zip(wanted, found)
+             if count != number]
     return "; ".join(wrong[:3]) or (None if len(found) == len(wanted) > 20 else f"{len(found)} counts")
 
 
@@ -323,7 +333,8 @@ def evaluated(call: str, given: Any, modules: tuple[str, ...] = CORE) -> Any:
         script = pathlib.Path(folder) / "asked.mjs"
         script.write_text(joined(modules) + "import {readFileSync} from 'node:fs';\n"
                           f"const given = JSON.parse(readFileSync(0, 'utf8'));\nconsole.log(JSON.stringify({call}));\n")
-        run = subprocess.run(["node", str(script)], input=json.dumps(given), capture_output=True, text=True, timeout=120)
+        run = subprocess.run(["node", str(script)], input=json.dumps(given), capture_output=True, text=True,
+                             timeout=120)
     if run.returncode:
         raise RuntimeError(run.stderr[-1500:])
     return json.loads(run.stdout)

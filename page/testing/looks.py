@@ -16,8 +16,10 @@ from .states import SHOWN, Answers, state_faults
 EXAMPLES = TOP / "examples"
 WIDTHS = ((2560, 1440), (1440, 900), (1280, 800), (800, 1200), (520, 1200))
 BOXES = """(() => {
-  const found = [], box = each => each.getBoundingClientRect(), name = each => each.id || each.className || each.tagName;
-  if (document.documentElement.scrollWidth > innerWidth) found.push(`the page is ${document.documentElement.scrollWidth} wide`);
+  const found = [], box = each => each.getBoundingClientRect(), \
+name = each => each.id || each.className || each.tagName;
+  if (document.documentElement.scrollWidth > innerWidth) \
+found.push(`the page is ${document.documentElement.scrollWidth} wide`);
   for (const section of document.querySelectorAll("section")) {
     const {width, height} = box(section);
     if (width < 190 || height < 60) found.push(`${section.className} is ${width} by ${height}`);
@@ -34,7 +36,8 @@ BOXES = """(() => {
     const isApart = a.left >= b.right - 1 || b.left >= a.right - 1 || a.top >= b.bottom - 1 || b.top >= a.bottom - 1;
     if (!isApart) found.push(`${name(one)} lies on ${name(other)}`);
   }
-  const line = box(document.querySelector(".line.is-now, .line.is-caller")), code = box(document.getElementById("code"));
+  const line = box(document.querySelector(".line.is-now, .line.is-caller")), \
+code = box(document.getElementById("code"));
   if (line.top < code.top - 1 || line.bottom > code.bottom + 1) found.push("the place is out of view");
   for (const each of document.querySelectorAll(".temp")) {
     const [label, number] = [each.querySelector(".name"), each.querySelector(".number")].map(box);
@@ -57,10 +60,12 @@ CONTRAST = """(() => {
   const found = [];
   for (const each of document.querySelectorAll("body *")) {
     const own = [...each.childNodes].some(node => node.nodeType === 3 && node.data.trim());
-    if (!own || !each.checkVisibility() || each.closest(".is-future, dialog, #tip, script, .heard, :disabled")) continue;
+    if (!own || !each.checkVisibility() || \
+each.closest(".is-future, dialog, #tip, script, .heard, :disabled")) continue;
     const [one, other] = [light(numbers(getComputedStyle(each).color)), light(ground(each))].sort((a, b) => b - a);
     const ratio = (one + .05) / (other + .05);
-    if (ratio < 4.5) found.push(`${each.className || each.tagName} ${each.textContent.slice(0, 20)}: ${ratio.toFixed(2)}`);
+    if (ratio < 4.5) \
+found.push(`${each.className || each.tagName} ${each.textContent.slice(0, 20)}: ${ratio.toFixed(2)}`);
   }
   return found;
 })()"""
@@ -152,7 +157,8 @@ def windows(program: str) -> str | None:
 
 
 def hide_unknown(shown: dict[str, Any], answers: Answers, position: int) -> None:
-    """What a window doesn't know is shown as such; in its place stands what the debugger answers, so that the rest is compared."""
+    """What a window doesn't know is shown as such; in its place stands what the debugger answers, so that the rest is
+    compared."""
     values = answers.state(position)["values"]
     for name, value in shown["values"].items():
         if value == "?":
@@ -171,8 +177,10 @@ ACTS = {"cursor to any place": "() => app.move(Math.floor(Math.random() * app.ru
         "a step": "() => app.move(app.cursor - 1)",
         "the whole run painted": "() => app.show(0, app.run.moves)", "counts of all lines": "() => app.code.heat()",
         "plots of all values": "() => app.values.sparks()",
-        "why of a value": "() => { app.move(Math.floor(Math.random() * app.run.moves)); app.ask(app.firstQuestion()); }"}
-# Work that is always the same, and what it takes where nothing else runs: so the bounds grow with the load of the machine.
+        "why of a value": "() => { app.move(Math.floor(Math.random() * app.run.moves)); app.ask(app.firstQuestion()); "
+                          "}"}
+# Work that is always the same, and what it takes where nothing else runs: so the bounds grow with the load of the
+# machine.
 WORK = """(() => { const all = [];
   for (let n = 0; n < 7; n++) {
     const begun = performance.now(), cells = new Float64Array(1 << 16);
@@ -198,13 +206,15 @@ def slowed(browser: Browser) -> float:
 
 
 def over(browser: Browser, acts: dict[str, str], most: float) -> list[str]:
-    """The acts that take longer than so many milliseconds of an idle machine; they are tried again before they count."""
+    """The acts that take longer than so many milliseconds of an idle machine; they are tried again before they
+    count."""
     slow: list[str] = []
     for _ in range(2):
         before = slowed(browser)
         taken = measured(browser, acts)
         bound = most * max(before, slowed(browser))
-        slow = [f"{name} takes {time} ms, and {bound:.0f} are the bound" for name, time in taken.items() if time > bound]
+        slow = [f"{name} takes {time} ms, and {bound:.0f} are the bound" for name, time in taken.items()
+                if time > bound]
         if not slow:
             break
     return slow
@@ -224,8 +234,8 @@ GROWING = """(() => { app.timeline.paint(); const {canvas} = app.timeline, bar =
 
 
 def times(program: str) -> str | None:
-    """A million moves: drawn while they are gathered, and all within ten times the budget, by the load of the machine, so that a
-    slow or a busy one passes and a square of the length doesn't."""
+    """A million moves: drawn while they are gathered, and all within ten times the budget, by the load of the machine,
+    so that a slow or a busy one passes and a square of the length doesn't."""
     with tempfile.TemporaryDirectory(prefix="page-") as folder, Serving(program, million(folder)) as serving:
         browser = Browser()
         try:
@@ -254,7 +264,8 @@ def slow_gathering(program: str, folder: str, seconds: float) -> str | None:
             tenth = browser.run("app.run.seconds")
         finally:
             browser.close()
-    return f"the moves are gathered in {seconds} s, and a tenth of them in {tenth} s" if seconds > 40 * max(tenth, .1) else None
+    return f"the moves are gathered in {seconds} s, and a tenth of them in {tenth} s" \
+        if seconds > 40 * max(tenth, .1) else None
 
 
 # Texts that an enemy would write: each by its name, with the most milliseconds of a move with all that it draws.
@@ -295,7 +306,8 @@ def enemy_texts() -> dict[str, str]:
 
 
 def enemies(program: str) -> str | None:
-    """Texts of great names, lines, places, objects and depths: the page comes, agrees with the session, and isn't slow."""
+    """Texts of great names, lines, places, objects and depths: the page comes, agrees with the session, and isn't
+    slow."""
     browser = Browser()
     try:
         with tempfile.TemporaryDirectory(prefix="page-") as folder:
@@ -316,5 +328,5 @@ def enemies(program: str) -> str | None:
     return None
 
 
-CASES = {"enemy texts": enemies, "boxes": boxes, "contrast": contrast, "screen readers": readers, "windows of a long run": windows,
-         "a million moves": times}
+CASES = {"enemy texts": enemies, "boxes": boxes, "contrast": contrast, "screen readers": readers,
+         "windows of a long run": windows, "a million moves": times}

@@ -21,8 +21,8 @@ GO = b'{"page": 1, "position": 45}'
 POKED = '{"page": 1, "position": 45, "line": "%s"}'
 
 
-def asked(port: int, method: str, path: str, headers: list[tuple[str, str]], body: bytes | None = None) -> tuple[int,
-        bytes]:
+def asked(port: int, method: str, path: str, headers: list[tuple[str, str]],
+          body: bytes | None = None) -> tuple[int, bytes]:
     """The status and the body that a request is answered with, which is sent as it stands."""
     connection = http.client.HTTPConnection("127.0.0.1", port, timeout=10)
     connection.putrequest(method, path, skip_host=True, skip_accept_encoding=True)
@@ -180,7 +180,8 @@ def ended(program: str) -> str | None:
     status = process.wait(10)
     process.stdout.close()
     left = [child for child in children if pathlib.Path(f"/proc/{child}/stat").exists()]
-    return None if status == 0 and not left and lines[2] == "until Ctrl-C\n" else f"status {status}, {left} left, {lines}"
+    return None if status == 0 and not left and lines[2] == "until Ctrl-C\n" else \
+        f"status {status}, {left} left, {lines}"
 
 
 def refused(program: str) -> str | None:

@@ -63,7 +63,7 @@ class Answers:
         values = {line.split(" ")[0]: read_value(line) for line in lines if line.startswith("%")}
         data = [[byte for at in range(0, min(each.size, 256), 256)
                  for byte in read_bytes(self.pipe.ask(f"mem {each.address} {min(each.size, 256)}")[0][0])]
-                 for each in self.text.data]
+                for each in self.text.data]
         return {"place": place, "frames": frames, "values": values, "data": data,
                 "output": len(read_output(self.pipe.ask("out")[0][0]))}
 

@@ -1,4 +1,5 @@
-"""A terminal as xterm is one, as far as a full screen needs it: what a program writes becomes letters in rows and columns."""
+"""A terminal as xterm is one, as far as a full screen needs it: what a program writes becomes letters in rows and
+columns."""
 from __future__ import annotations
 
 import codecs
@@ -73,8 +74,8 @@ class Cells:
         else:
             self.y = max(self.y - 1, 0)
 
-    def sequence(self, private: str | None, numbers: str | None, final: str | None, charset: str | None, kind: str | None,
-                 simple: str | None) -> None:
+    def sequence(self, private: str | None, numbers: str | None, final: str | None, charset: str | None,
+                 kind: str | None, simple: str | None) -> None:
         if charset:
             self.is_drawing = kind == "0"
         elif simple == "M":
@@ -102,7 +103,8 @@ class Cells:
             self.y = min(max(self.y + moves[final][0], 0), self.rows - 1)
             self.x = min(max(min(self.x, self.columns - 1) + moves[final][1], 0), self.columns - 1)
         elif final in "Hf":
-            self.y, self.x = min((given + [1])[0], self.rows) - 1, min((given + [1, 1])[1] if len(given) > 1 else 1, self.columns) - 1
+            self.y = min((given + [1])[0], self.rows) - 1
+            self.x = min((given + [1, 1])[1] if len(given) > 1 else 1, self.columns) - 1
         elif final == "G":
             self.x = min(count, self.columns) - 1
         elif final == "d":

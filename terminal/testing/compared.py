@@ -44,14 +44,16 @@ def lacking(text: str, *wanted: str) -> str | None:
 
 
 def parted(program: str) -> str | None:
-    """Both texts are shown where they part, with their values; `why` asks on about the bad one, `other` goes to the good one."""
+    """Both texts are shown where they part, with their values; `why` asks on about the bad one, `other` goes to the
+    good one."""
     with tempfile.TemporaryDirectory(prefix="compared-") as folder:
         good = pathlib.Path(folder) / "good.ssa"
         good.write_text(ACCOUNT.read_text().replace(LOADED, CALLED))
         shown = Compared(program, str(good), str(ACCOUNT), "--events", "writes")
         try:
             told = shown.wait_for(BAD)
-            fault = lacking(told, "part at event 1", "good: write $balance 63 00 00 00", "storew %t2, $balance    %t2=99",
+            fault = lacking(told, "part at event 1", "good: write $balance 63 00 00 00",
+                            "storew %t2, $balance    %t2=99",
                             "bad: write $balance 64 00 00 00", "storew %t2, $balance    %t2=100",
                             "write $balance 64 00 00 00, at #12, comes of", "[1] %t2 = 100")
             fault = fault or lacking(shown.do("why 1", BAD), "%t2 = 100 was set by", "[1] %t1 = 0")
@@ -104,7 +106,8 @@ def not_parted(program: str) -> str | None:
     with tempfile.TemporaryDirectory(prefix="compared-") as folder:
         wrong = pathlib.Path(folder) / "wrong.ssa"
         wrong.write_text("function $main() {\n@start\n\tjmp @nowhere\n}\n")
-        for words, status, wanted in (((str(SQUARES), str(SQUARES)), SAME, "same"), ((str(SQUARES), str(wrong)), REFUSED, "refused: C3"),
+        for words, status, wanted in (((str(SQUARES), str(SQUARES)), SAME, "same"),
+                                      ((str(SQUARES), str(wrong)), REFUSED, "refused: C3"),
                                       ((str(SQUARES), f"{folder}/none.ssa"), UNREAD, "none.ssa")):
             shown = Compared(program, *words)
             try:

@@ -1,4 +1,5 @@
-"""Tests of what a session at a terminal does besides its commands: Ctrl-C, completion, bad input, what breaks, and speed.
+"""Tests of what a session at a terminal does besides its commands: Ctrl-C, completion, bad input, what breaks, and
+speed.
 
 Each gives what is wrong, or None.
 """
@@ -13,6 +14,7 @@ import subprocess
 import sys
 import tempfile
 import time
+from typing import Callable
 
 from .harness import PROMPT, TOP, Held, Silent, Terminal, last_place
 from .sessions import EXAMPLES, SQUARES
@@ -162,8 +164,9 @@ def completed(program: str) -> str | None:
         for keys, wanted in (("conti\t\n", "#88 done 30"), ("watch w $bi\t\n", "watch 1: w $bias+0"),
                              ("reverse-c\t\n", "#44 $fill @body 4"),
                              ("p %squ\t\n", "%square = 16"), ("b $fi\t @bo\t\n", "$fill @body 0"),
-                             ("checkpoint here\n", "here"), ("restart he\t\n", "#44"), ("help undis\t\n", "undisplay [N]"),
-                             ("p $bias+%squ\t*2\n", "= 65584"), ("info chec\t\n", "here: #44")):
+                             ("checkpoint here\n", "here"), ("restart he\t\n", "#44"),
+                             ("help undis\t\n", "undisplay [N]"), ("p $bias+%squ\t*2\n", "= 65584"),
+                             ("info chec\t\n", "here: #44")):
             session.type(keys)
             answer = session.wait_for(PROMPT)
             session.place = last_place(answer) or session.place
@@ -223,7 +226,8 @@ def refused(program: str) -> str | None:
         for file, wanted, status in ((written(folder, "a.ssa", text), "a.ssa:14: C6: ", 1),
                                      (os.path.join(folder, "none.ssa"), "none.ssa: No such file or directory", 2),
                                      (written(folder, "c.ssa", text.replace("mul %i, %j", "copy d_-3.0")),
-                                      "c.ssa:14: L1: a constant of a float, which is left out here; `./qrev --lower`", 1),
+                                      "c.ssa:14: L1: a constant of a float, which is left out here; `./qrev --lower`",
+                                      1),
                                      (written(folder, "d.ssa", text.replace("mul %i, %j", "call $printf(l 0)")),
                                       "d.ssa:14: C9: a global that is nowhere defined; `./qrev --lower` has much", 1),
                                      (written(folder, "b.ssa", ""), "S1", 1)):
@@ -289,7 +293,7 @@ def narrow(program: str) -> str | None:
 def without_readline(program: str) -> str | None:
     with tempfile.TemporaryDirectory(prefix="plain-") as folder:
         written(folder, "readline.py", "raise ImportError('none here')\n")
-        session = Held(program, str(SQUARES), PYTHONPATH=folder)
+        session = Held(program, str(SQUARES), environment={"PYTHONPATH": folder})
         try:
             return missing(session.do("c"), "#88 done 30") or session.replayed_fault()
         finally:
@@ -299,7 +303,8 @@ def without_readline(program: str) -> str | None:
 def wrapped(program: str) -> str | None:
     """The script at the top starts the front end at a terminal; behind --plain, and with a script, it doesn't."""
     wrapper = str(TOP / "qrev")
-    for words in ([], ["--plain"], ["--prompt"]):
+    choices: tuple[list[str], ...] = ([], ["--plain"], ["--prompt"])
+    for words in choices:
         terminal = Terminal([wrapper, *words, str(SQUARES)], seconds=60)
         try:
             terminal.wait_for("#0 $main @start 0")
@@ -317,8 +322,10 @@ def wrapped(program: str) -> str | None:
     fault = missing(run.stderr, "lines are read plainly") or missing(run.stdout, "stop: end\n#88 done 30")
     if fault:
         return fault
-    run = subprocess.run([wrapper, "--prompt", str(SQUARES)], input="c\nwhy\n", capture_output=True, text=True, timeout=60)
-    return missing(run.stdout, "#88 done 30", "[1] %total = 30") or ("a prompt at a pipe" if PROMPT in run.stdout else None)
+    run = subprocess.run([wrapper, "--prompt", str(SQUARES)], input="c\nwhy\n", capture_output=True, text=True,
+                         timeout=60)
+    return missing(run.stdout, "#88 done 30", "[1] %total = 30") or \
+        ("a prompt at a pipe" if PROMPT in run.stdout else None)
 
 
 def memory_told(program: str) -> str | None:
@@ -337,7 +344,8 @@ def bounded(program: str) -> str | None:
             fault = missing(session.do("c"), "done 7") or missing(session.do("why"), "[1] %r = 7")
             fault = fault or missing(session.do("why w $first"), "line 5: storew 7, $first", "#1 $main @start 1")
             oldest = int(session.place[1:].split()[0]) - 10
-            fault = fault or missing(session.do("goto 5"), "keeps its last 10 moves, which end here", f"#{oldest} $main")
+            fault = fault or missing(session.do("goto 5"), "keeps its last 10 moves, which end here",
+                                     f"#{oldest} $main")
             return fault or session.replayed_fault()
         finally:
             session.close()
@@ -355,7 +363,8 @@ def fast(program: str) -> str | None:
                 for line, wanted in (("why", "[1] %r = 7"), ("why 1", "[1] w $first+0 = 7"),
                                      ("why 1", "line 5: storew 7, $first"),
                                      ("back", "%r=7"), ("why l %sum", "storel %new, %sum"), ("why %i", "for @body"),
-                                     ("why %sum", "line 4: %sum =l alloc8 8"), ("why w $first", "line 5: storew 7, $first")):
+                                     ("why %sum", "line 4: %sum =l alloc8 8"),
+                                     ("why w $first", "line 5: storew 7, $first")):
                     begun = processor_seconds(session)
                     fault = missing(session.do(line), wanted)
                     taken = processor_seconds(session) - begun
@@ -367,9 +376,10 @@ def fast(program: str) -> str | None:
 
 
 def followed(program: str) -> str | None:
-    """The process for questions keeps up with a long run at a terminal, and answers as one that goes there when it is asked."""
-    lines = ["step 20000000", "why", "why l %sum", "set %old 7", "step 10000000", "why l %sum", "back 25000000", "why l %sum",
-             "step 24000000", "why l %sum", "goto 100", "why l %sum"]
+    """The process for questions keeps up with a long run at a terminal, and answers as one that goes there when it is
+    asked."""
+    lines = ["step 20000000", "why", "why l %sum", "set %old 7", "step 10000000", "why l %sum", "back 25000000",
+             "why l %sum", "step 24000000", "why l %sum", "goto 100", "why l %sum"]
     with tempfile.TemporaryDirectory(prefix="long-") as folder:
         file = written(folder, "long.ssa", LONG.format(rounds=10_000_000))
         run = subprocess.run([sys.executable, str(TOP / "terminal" / "main"), "--debugger", program, "--", file],
@@ -501,7 +511,8 @@ def played(folder: str, words: list[str], lines: str, shown: str, place: str) ->
     """What a session over lowered texts shows otherwise, or where its saved script leads otherwise; or None."""
     scratch, script = pathlib.Path(folder) / "scratch", pathlib.Path(folder) / "saved.script"
     scratch.mkdir(exist_ok=True)
-    session = Terminal([str(TOP / "qrev"), "--lower", *words], seconds=60, folder=str(TOP), TMPDIR=str(scratch))
+    session = Terminal([str(TOP / "qrev"), "--lower", *words], seconds=60, folder=str(TOP),
+                       environment={"TMPDIR": str(scratch)})
     try:
         session.wait_for(PROMPT)
         session.type(lines)
@@ -532,16 +543,16 @@ def bare(program: str) -> str | None:
 
 
 def stops_kept(program: str) -> str | None:
-    """Stops that were written to a file are set again from it, and one that is about a frame is told as left out; a file that
-    reads itself ends, and what is wrong in a file is told with its place."""
+    """Stops that were written to a file are set again from it, and one that is about a frame is told as left out; a
+    file that reads itself ends, and what is wrong in a file is told with its place."""
     with tempfile.TemporaryDirectory(prefix="stops-") as place:
         file, own, wrong = (pathlib.Path(place) / name for name in ("stops", "own", "wrong"))
         own.write_text(f"source {own}\n")
         wrong.write_text("# a comment\n\np 1 + 1\nprint\np 3\n")
         session = Held(program, str(SQUARES))
         try:
-            for line in ("b 14 if %i > 2", "commands\np %i\nend", "tbreak $fill", "watch w $bias", "ignore 3 1", "disable 3",
-                         "watch %i", "goto 27", "watch w %place if 1"):
+            for line in ("b 14 if %i > 2", "commands\np %i\nend", "tbreak $fill", "watch w $bias", "ignore 3 1",
+                         "disable 3", "watch %i", "goto 27", "watch w %place if 1"):
                 session.do(line)
             told = session.do(f"save breakpoints {file}")
             if "4 stops" not in told or "left out, as it is about one frame: 4: %i of this call of $main" not in told:
@@ -566,13 +577,13 @@ def stops_kept(program: str) -> str | None:
 
 
 HABITS = {call.__name__.replace("_", " "): call for call in (
-    interrupted, interrupted_at_the_prompt, left, completed, bad_lines, refused, broken, narrow, without_readline, wrapped,
-    memory_told, bounded, fast, followed, suspected, deep, saved_and_compared, stops_kept, mapped, lowered, bare)}
+    interrupted, interrupted_at_the_prompt, left, completed, bad_lines, refused, broken, narrow, without_readline,
+    wrapped, memory_told, bounded, fast, followed, suspected, deep, saved_and_compared, stops_kept, mapped, lowered,
+    bare)}
 
 
-def tried(call, program: str) -> str | None:
+def tried(call: Callable[[str], str | None], program: str) -> str | None:
     try:
         return call(program)
     except (Silent, OSError, subprocess.SubprocessError) as error:
         return f"{error}"
-

@@ -14,7 +14,7 @@ import sys
 import tempfile
 import termios
 import time
-from typing import Callable
+from typing import Callable, Mapping
 
 from terminal.shell import FAULT
 
@@ -42,11 +42,11 @@ class Terminal:
     """A command at a terminal of its own."""
 
     def __init__(self, words: list[str], columns: int = 200, seconds: float = 30, folder: str = ".", rows: int = 40,
-                 **environment: str):
+                 environment: Mapping[str, str] | None = None):
         self.seconds, self.shown = seconds, ""
         self.home = tempfile.TemporaryDirectory(prefix="terminal-")
         variables = {**os.environ, "HOME": self.home.name, "TERM": "dumb", "INPUTRC": "/dev/null",
-                     "PYTHONDONTWRITEBYTECODE": "1", **environment}
+                     "PYTHONDONTWRITEBYTECODE": "1", **(environment or {})}
         variables.pop("COLUMNS", None)
         size = struct.pack("HHHH", rows, columns, 0, 0)
         # Tests run in threads: behind the fork nothing is done that could wait for one.
@@ -108,19 +108,21 @@ class Held(Terminal):
     """A session of the front end: lines are typed, and what each shows is kept."""
 
     def __init__(self, program: str, *words: str, columns: int = 200, memory: int = 512, folder: str = ".",
-                 lowered: tuple[str, ...] = (), has_lookout: bool = False, **environment: str):
+                 lowered: tuple[str, ...] = (), has_lookout: bool = False,
+                 environment: Mapping[str, str] | None = None):
         own = [sys.executable, str(FOLDER / "main"), "--debugger", program, "--memory", str(memory)]
         own += ["--lookout"] * has_lookout
         super().__init__([*own, *(f"--lowered={file}" for file in lowered), "--", *words], columns, folder=folder,
-                         **environment)
+                         environment=environment)
         self.program, self.words, self.folder = program, words, folder
         # How the debugger's own answers are read, where names of the text were made short.
         self.read: Callable[[str], str] = str
         self.told = self.wait_for(PROMPT)
-        self.place = last_place(self.told)
+        self.place = last_place(self.told) or ""
         end = time.monotonic() + self.seconds
         while has_lookout and self.is_checking() and time.monotonic() < end:
-            # What it finds is told if it is known in time; on a busy machine that may take longer than it is waited for.
+            # What it finds is told if it is known in time; on a busy machine that may take longer than it is waited
+            # for.
             time.sleep(0.02)
 
     def is_checking(self) -> bool:

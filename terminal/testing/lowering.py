@@ -1,5 +1,5 @@
-"""Sessions over texts of whole QBE that were lowered first: ends in functions that aren't the program's own, floats, and
-places of the source."""
+"""Sessions over texts of whole QBE that were lowered first: ends in functions that aren't the program's own, floats,
+and places of the source."""
 from __future__ import annotations
 
 import pathlib
@@ -7,6 +7,7 @@ import struct
 import subprocess
 import sys
 import tempfile
+from functools import partial
 from typing import Callable
 
 from terminal.lowered import lowered_of
@@ -34,7 +35,8 @@ export function w $main() {
 """
 ABSENT_LINES: Lines = [
     ("c", ["stop: end\n#4 halted in $fopen, which isn't there\n  source: a.ssa:6\n"]),
-    ("why", ["halted in $fopen, which isn't there, at #4, comes of\n  #2 $open @start 1", "[2] %m = 7  -> %a2 of $fopen"]),
+    ("why",
+     ["halted in $fopen, which isn't there, at #4, comes of\n  #2 $open @start 1", "[2] %m = 7  -> %a2 of $fopen"]),
     ("why 2", ["%m = 7 was set by\n", "%m =w add %k, 3"]), ("back", ["#3 $fopen @is.not.there 0"]),
     ("c", ["halted in $fopen, which isn't there"]), ("temps", ["%a2 = 7"]),
 ]
@@ -68,8 +70,8 @@ export function w $main() {
 }
 """
 SIGNAL_LINES: Lines = [
-    ("c", ["ended by a signal\n  source: a.ssa:5\n", "call $kill(w %pid, w 6)"]), ("bt", ["$abort @start 2", "$main @start 1"]),
-    ("why", ["ended by a signal, at #", "$abort @start 1"]),
+    ("c", ["ended by a signal\n  source: a.ssa:5\n", "call $kill(w %pid, w 6)"]),
+    ("bt", ["$abort @start 2", "$main @start 1"]), ("why", ["ended by a signal, at #", "$abort @start 1"]),
 ]
 
 NOWHERE = """
@@ -134,25 +136,27 @@ BITS = struct.unpack("<Q", struct.pack("<d", SUM))[0]
 FLOATS_LINES: Lines = [
     ("b $area @yes", []), ("c", [f"%y={SUM!r}"]), ("temps", ["%r = 0.75\n%k = 0.1\n%sq = 0.5625\n", "%n unset"]),
     ("p %y", [f"%y = {SUM!r}\n"]), ("p/x %y", [f"%y = 0x{BITS:x}\n"]), ("p/d %k", ["= 1036831949\n"]),
-    ("p %y > 1.3 && %y < 1.31", ["= 1"]), ("p %k == 0.1", ["= 1"]), ("p %kd == 0.1", ["= 0"]), ("p %r / 2", ["= 0.375\n"]),
-    ("p -%r * 1e2", ["= -75.0\n"]), ("p %r & 1", ["isn't an operation of floats"]), ("p u(%r)", ["= 4604930618986332160\n"]),
+    ("p %y > 1.3 && %y < 1.31", ["= 1"]), ("p %k == 0.1", ["= 1"]), ("p %kd == 0.1", ["= 0"]),
+    ("p %r / 2", ["= 0.375\n"]), ("p -%r * 1e2", ["= -75.0\n"]), ("p %r & 1", ["isn't an operation of floats"]),
+    ("p u(%r)", ["= 4604930618986332160\n"]),
     ("display %kd + 1", ["1: %kd + 1 = "]), ("x/2f %r", ["a whole number was expected"]),
     ("why", ["jnz %c, @yes, @no"]),
-    ("why %y", ["%y =d add %x, d_1.25", "[1] %x = "]), ("why 1", ["%x =d mul %sq, %kd", "[1] %sq = 0.5625\n  [2] %kd = "]),
-    ("why 2", ["%kd =d exts %k", "[1] %k = 0.1\n"]), ("why 1", ["%k = 0.1 is argument 2 of 2 of the call\n",
-                                                             "%r =d call $area(d %v, s s_0.1)"]),
+    ("why %y", ["%y =d add %x, d_1.25", "[1] %x = "]),
+    ("why 1", ["%x =d mul %sq, %kd", "[1] %sq = 0.5625\n  [2] %kd = "]),
+    ("why 2", ["%kd =d exts %k", "[1] %k = 0.1\n"]),
+    ("why 1", ["%k = 0.1 is argument 2 of 2 of the call\n", "%r =d call $area(d %v, s s_0.1)"]),
     ("why 1", ["%v =d loadd %p", "d frame 0 $main alloc %p+0 = 0.75\n"]),
     ("why 1", ["stored %sum, %p", "[1] %sum = 0.75\n"]), ("why 1", ["%sum =d add %a, %b", "[2] %b = 0.25\n"]),
     ("why 2", ["%b =d loadd %q", "d $table+8 = 0.25\n"]), ("why 1", ["so since the start"]),
     ("why %y", []), ("why --inside %y", ["was given back by", "$float."]), ("why %c", ["%c =w cltd %y, d_100.0"]),
     ("delete", []), ("undisplay", []), ("watch d $table", ["watch 2: d $table+0"]),
-    ("c", [f"stop: watch 2, d $table+0: 0.5 -> {SUM!r}"]), ("when %v > 0.5", ["1 time"]), ("set %r 3", []), ("p %r", ["%r = 3.0"]),
-    ("back", []), ("poke s $table+16 2.5", []), ("p s[$table+16]", ["= 2.5"]), ("back", []), ("c", ["done 1"]),
-    ("why w $to", ["stored by $memcpy, called at\n", "[1] w $text+0 = "]), ("why 1", ["so since the start: line 2, $text"]),
-    ("why --inside w $to", ["$copy.up"]),
+    ("c", [f"stop: watch 2, d $table+0: 0.5 -> {SUM!r}"]), ("when %v > 0.5", ["1 time"]), ("set %r 3", []),
+    ("p %r", ["%r = 3.0"]), ("back", []), ("poke s $table+16 2.5", []), ("p s[$table+16]", ["= 2.5"]), ("back", []),
+    ("c", ["done 1"]), ("why w $to", ["stored by $memcpy, called at\n", "[1] w $text+0 = "]),
+    ("why 1", ["so since the start: line 2, $text"]), ("why --inside w $to", ["$copy.up"]),
     ("why out 2", ["was written by $printf, called at\n", "[2] l frame 0 $main alloc %.cells.1+0"]),
-    ("why 2", ["stored %r, %.cells.1"]), ("goto why", []), ("bt", ["stored %r, %.cells.1"]), ("when %r > 1.3", ["1 time"]),
-    ("writers l $table", [f"%r={SUM!r}"]),
+    ("why 2", ["stored %r, %.cells.1"]), ("goto why", []), ("bt", ["stored %r, %.cells.1"]),
+    ("when %r > 1.3", ["1 time"]), ("writers l $table", [f"%r={SUM!r}"]),
 ]
 
 
@@ -193,10 +197,13 @@ export function w $main(w %n) {
 """
 SINGLES_LINES: Lines = [
     ("c", ["done 2"]), ("back", ["%j=2"]), ("temps", ["%x = 0.5\n%y unset\n%z = 0.5\n%r = -1.0\n%m = 1.0\n%v = 1.0\n"]),
-    ("why %i", ["%i =w stosi %v", "[1] %v = 1.0"]), ("why 1", ["%v =s loads %slot", "s frame 0 $main alloc %slot+0 = 1.0"]),
-    ("why 1", ["stores %m, %slot", "[1] %m = 1.0"]), ("why 1", ["%m =s neg %r"]), ("why 1", ["ret %b", "[1] %b = -1.0"]),
-    ("why 1", ["%b =s sub %a, s_1.5", "[1] %a = 0.5"]), ("why 1", ["%r =s call $less(s %z)", "[1] %z = 0.5"]),
-    ("why 1", ["%z =s phi @one %x, @two %y", "[1] %x = 0.5"]), ("why 1", ["%x =s copy s_0.5"]), ("why %c", ["%c =w cges %v, s_1.0"]),
+    ("why %i", ["%i =w stosi %v", "[1] %v = 1.0"]),
+    ("why 1", ["%v =s loads %slot", "s frame 0 $main alloc %slot+0 = 1.0"]),
+    ("why 1", ["stores %m, %slot", "[1] %m = 1.0"]), ("why 1", ["%m =s neg %r"]),
+    ("why 1", ["ret %b", "[1] %b = -1.0"]), ("why 1", ["%b =s sub %a, s_1.5", "[1] %a = 0.5"]),
+    ("why 1", ["%r =s call $less(s %z)", "[1] %z = 0.5"]),
+    ("why 1", ["%z =s phi @one %x, @two %y", "[1] %x = 0.5"]), ("why 1", ["%x =s copy s_0.5"]),
+    ("why %c", ["%c =w cges %v, s_1.0"]),
 ]
 
 # A function that the runtime calls.
@@ -217,8 +224,10 @@ export function w $main() {
 }
 """
 CALLED_LINES: Lines = [
-    ("b $compare", []), ("c", ["#"]), ("why %a", ["%a = ", "was given by $qsort, called at\n", "call $qsort(l $table, l 3,"]),
-    ("why call", ["$compare was called by $qsort, called at\n"]), ("why --inside %a", ["argument 1 of 2", "call %compare("]),
+    ("b $compare", []), ("c", ["#"]),
+    ("why %a", ["%a = ", "was given by $qsort, called at\n", "call $qsort(l $table, l 3,"]),
+    ("why call", ["$compare was called by $qsort, called at\n"]),
+    ("why --inside %a", ["argument 1 of 2", "call %compare("]),
     ("delete", []), ("c", ["done 1"]), ("why w $table", ["stored by $qsort, called at\n"]),
 ]
 
@@ -243,7 +252,8 @@ def large() -> str:
         steps = [f"\t{name}.{step} =l add {name}.{step - 1}, 1" for step in range(1, 100)]
         call = f"call $f{number + 1}(l {name}.99)" if number < 149 else f"copy {name}.99"
         parts.append("\n".join([f"function l $f{number}(l {name}.0) {{", f"@start.{number}", *steps,
-                                f"\t{name}.last =l {call}", f"\tjmp @end.{number}", f"@end.{number}", f"\tret {name}.last", "}"]))
+                                f"\t{name}.last =l {call}", f"\tjmp @end.{number}", f"@end.{number}",
+                                f"\tret {name}.last", "}"]))
     return "\n".join([*parts, "export function l $main() {", "@start", "\t%x =l call $f0(l 5)", "\tret %x", "}"]) + "\n"
 
 
@@ -252,11 +262,13 @@ LARGE_LINES: Lines = [
     ("info functions", [f"$f3(l {NAME}.0)"]), ("b $f3 @end.3", ["break 1: $f3 @end.3 0"]),
     ("b $f3 @start.3 2", ["break 2: $f3 @start.3 2"]),
     ("c", ["stop: break 2", "$f3 @start.3 2", "source: a.ssa:", f"{NAME}.3=l add {NAME}.2,1    {NAME}.2=304"]),
-    (f"p {NAME}.1 + 1", ["= 304"]), ("temps", [f"{NAME}.2 = 304\n{NAME}.3 unset"]), (f"watch {NAME}.5", [f"{NAME}.5 of this call"]),
-    ("c", ["unset -> 307"]), ("delete 2 3", []), (f"why {NAME}.5", [f"{NAME}.5 =l add {NAME}.4, 1", f"[1] {NAME}.4 = 306"]),
+    (f"p {NAME}.1 + 1", ["= 304"]), ("temps", [f"{NAME}.2 = 304\n{NAME}.3 unset"]),
+    (f"watch {NAME}.5", [f"{NAME}.5 of this call"]),
+    ("c", ["unset -> 307"]), ("delete 2 3", []),
+    (f"why {NAME}.5", [f"{NAME}.5 =l add {NAME}.4, 1", f"[1] {NAME}.4 = 306"]),
     ("bt 2", [f"call $f3(l {LONG}.2.99)"]), ("c", ["stop: break 1", "$f3 @end.3 0"]), (f"set {NAME}.last 7", []),
-    ("bt", ["$main @start 1"]), ("c", ["done 7"]), ("back", ["%x=7"]), (f"b $f2 if {LONG}.2.0 > 3", []), ("rc", ["stop: break 1"]),
-    ("d 1", []), ("rc", ["stop: break 4", "$f2 @start.2 0"]),
+    ("bt", ["$main @start 1"]), ("c", ["done 7"]), ("back", ["%x=7"]), (f"b $f2 if {LONG}.2.0 > 3", []),
+    ("rc", ["stop: break 1"]), ("d 1", []), ("rc", ["stop: break 4", "$f2 @start.2 0"]),
 ]
 
 
@@ -298,16 +310,17 @@ export function w $main() {
 """
 PLACES_LINES: Lines = [
     ("info source", ["here: p.c:6\np.c: 6 lines in the text\n"]), ("list", ["p.c\n", ">  6      int a = twice(3);\n"]),
-    ("list -ssa", ["%t =w copy 3"]), ("list p.c:2", ["  1  int twice(int x) {\n", "> 6"]), ("list 9", ["  9      return a;"]),
-    ("list $twice", ["function w $twice(w %x) {"]), ("list other.c:1", ["isn't found"]),
-    ("b p.c:7", ["break 1: $main @start 2"]), ("tbreak a.ssa:9", ["break 2: $twice @start 2"]),
-    ("b none.c:1", ["the sources are: p.c"]),
-    ("c", ["stop: break 2", "#4 $twice @start 2", "a.ssa:9: p.c:3\n"]), ("c", ["stop: break 1", "#5 $main @start 2"]), ("d", []),
-    ("next-line", ["#13 $main @start 4", "p.c:8\n"]), ("nl", ["#15 $main @start 6", "p.c:9\n"]),
-    ("reverse-next-line", ["#13 $main @start 4"]), ("rnl", ["#5 $main @start 2", "p.c:7:5\n"]), ("rnl", ["#0 $main @start 0"]),
-    ("step-line", ["#2 $twice @start 0", "p.c:2\n"]), ("sl", ["#4 $twice @start 2"]), ("sl", ["#5 $main @start 2"]),
-    ("nl", ["#13 $main"]), ("reverse-step-line", ["#8 $twice @start 2", "p.c:3\n"]), ("rsl", ["#6 $twice @start 0"]),
-    ("rsl", ["#5 $main @start 2"]), ("rsl", ["#4 $twice @start 2"]), ("nl 9", ["done 13"]), ("rnl", ["#15 $main @start 6"]),
+    ("list -ssa", ["%t =w copy 3"]), ("list p.c:2", ["  1  int twice(int x) {\n", "> 6"]),
+    ("list 9", ["  9      return a;"]), ("list $twice", ["function w $twice(w %x) {"]),
+    ("list other.c:1", ["isn't found"]), ("b p.c:7", ["break 1: $main @start 2"]),
+    ("tbreak a.ssa:9", ["break 2: $twice @start 2"]), ("b none.c:1", ["the sources are: p.c"]),
+    ("c", ["stop: break 2", "#4 $twice @start 2", "a.ssa:9: p.c:3\n"]), ("c", ["stop: break 1", "#5 $main @start 2"]),
+    ("d", []), ("next-line", ["#13 $main @start 4", "p.c:8\n"]), ("nl", ["#15 $main @start 6", "p.c:9\n"]),
+    ("reverse-next-line", ["#13 $main @start 4"]), ("rnl", ["#5 $main @start 2", "p.c:7:5\n"]),
+    ("rnl", ["#0 $main @start 0"]), ("step-line", ["#2 $twice @start 0", "p.c:2\n"]), ("sl", ["#4 $twice @start 2"]),
+    ("sl", ["#5 $main @start 2"]), ("nl", ["#13 $main"]), ("reverse-step-line", ["#8 $twice @start 2", "p.c:3\n"]),
+    ("rsl", ["#6 $twice @start 0"]), ("rsl", ["#5 $main @start 2"]), ("rsl", ["#4 $twice @start 2"]),
+    ("nl 9", ["done 13"]), ("rnl", ["#15 $main @start 6"]),
     ("goto 12", ["$abs @"]), ("rnl", ["#5 $main @start 2"]), ("nl 2", ["#15"]), ("reverse-n", ["#14 $main @start 5"]),
 ]
 
@@ -351,16 +364,17 @@ export function w $main() {
 }
 """
 CONSTANTS_LINES: Lines = [
-    ("c", ["done 2"]), ("why", ["[1] %i = 2"]), ("why 1", ["%i =w dtosi %v", "[1] %v = 2.5"]), ("why 1", ["%v =d loadd %p"]),
-    ("why 1", ["stored d_2.5, %p"]), ("back", []), ("why w %q", ["stores s_0.1, %q"]),
+    ("c", ["done 2"]), ("why", ["[1] %i = 2"]), ("why 1", ["%i =w dtosi %v", "[1] %v = 2.5"]),
+    ("why 1", ["%v =d loadd %p"]), ("why 1", ["stored d_2.5, %p"]), ("back", []), ("why w %q", ["stores s_0.1, %q"]),
 ]
 
-SESSIONS = {"constants": (CONSTANTS, CONSTANTS_LINES), "absent": (ABSENT, ABSENT_LINES), "freed": (FREED, FREED_LINES), "nowhere": (NOWHERE, NOWHERE_LINES), "signal": (SIGNAL, SIGNAL_LINES),
+SESSIONS = {"constants": (CONSTANTS, CONSTANTS_LINES), "absent": (ABSENT, ABSENT_LINES), "freed": (FREED, FREED_LINES),
+            "nowhere": (NOWHERE, NOWHERE_LINES), "signal": (SIGNAL, SIGNAL_LINES),
             "floats": (FLOATS, FLOATS_LINES), "singles": (SINGLES, SINGLES_LINES), "called": (CALLED, CALLED_LINES),
             "chain of floats": (chain(OPERATIONS), CHAIN_LINES), "short names": (large(), LARGE_LINES),
             "places": (PLACES, PLACES_LINES)}
 
 
 def cases(program: str) -> list[tuple[str, Callable[[], str | None]]]:
-    return [(f"lowered {name}", lambda text=text, lines=lines: session_fault(program, text, lines))
+    return [(f"lowered {name}", partial(session_fault, program, text, lines))
             for name, (text, lines) in SESSIONS.items()]

@@ -8,6 +8,7 @@ import pathlib
 import re
 import subprocess
 import tempfile
+from functools import partial
 from typing import Callable, Iterator
 
 from terminal.shell import COMMANDS
@@ -74,9 +75,9 @@ def cases(program: str) -> Iterator[tuple[str, Callable[[], str | None]]]:
                     # check/test runs these.
                     continue
                 if lines[0].startswith("$ ./qrev --lower "):
-                    yield f"{page.name}:{number}", lambda lines=lines: lowered_session_fault(program, lines)
+                    yield f"{page.name}:{number}", partial(lowered_session_fault, program, lines)
                 elif lines[0].startswith("$ ./qrev "):
                     words = tuple(lines[0].split()[2:])
-                    yield f"{page.name}:{number}", lambda lines=lines, words=words: session_fault(program, lines, words)
+                    yield f"{page.name}:{number}", partial(session_fault, program, lines, words)
     if PAGE.exists():
         yield "commands", table_fault

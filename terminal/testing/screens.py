@@ -29,9 +29,9 @@ QUIET, MOST_WAIT = 0.3, 1.5
 class Shown(Terminal):
     """A session at a terminal whose screen is kept."""
 
-    def __init__(self, program: str, *words: str, rows: int = ROWS, columns: int = COLUMNS, **environment: str):
-        super().__init__([sys.executable, str(FOLDER / "main"), "--debugger", program, "--", *words], columns, rows=rows,
-                         **{"TERM": "xterm-256color", **environment})
+    def __init__(self, program: str, *words: str, rows: int = ROWS, columns: int = COLUMNS):
+        super().__init__([sys.executable, str(FOLDER / "main"), "--debugger", program, "--", *words], columns,
+                         rows=rows, environment={"TERM": "xterm-256color"})
         self.cells = Cells(rows, columns)
         self.until(lambda text: PROMPT.strip() in text)
 
@@ -67,7 +67,8 @@ class Shown(Terminal):
     def press(self, keys: str, *wanted: str, absent: tuple[str, ...] = ()) -> str:
         """The screen once it has what is wanted behind some keys."""
         self.type(keys)
-        return self.until(lambda text: all(each in text for each in wanted) and not any(each in text for each in absent))
+        return self.until(lambda text: all(each in text for each in wanted)
+                          and not any(each in text for each in absent))
 
 
 def row_with(text: str, wanted: str) -> str:
@@ -78,7 +79,8 @@ def full_screen(program: str) -> str | None:
     """Text, values, frames, output and stops stand on the screen and follow each key; the prompt behind it is whole."""
     shown = Shown(program, str(EXAMPLES / "digits.ssa"))
     try:
-        text = shown.press("tui\n", "#0 $main @start 0", ">  34 ", "values", "frames", "output", "nothing yet", "? keys")
+        text = shown.press("tui\n", "#0 $main @start 0", ">  34 ", "values", "frames", "output", "nothing yet",
+                           "? keys")
         shown.press("s", "#1 $main @start 1", ">  35 ", "%count = %count+0")
         shown.press("ss", "#3 $main @loop 0", "*%place = $numbers+0")
         shown.press("b", "#2 $main @start 2", "-> @loop, %place=$numbers+0")
@@ -143,7 +145,8 @@ def stopped_on_screen(program: str) -> str | None:
 
 
 def no_screen(program: str) -> str | None:
-    """Where the terminal knows no more than lines the full screen is refused, and nothing has a colour or is held up."""
+    """Where the terminal knows no more than lines the full screen is refused, and nothing has a colour or is held
+    up."""
     session = Held(program, str(SQUARES))
     try:
         fault = missing(session.do("tui"), "needs a terminal")
@@ -154,15 +157,17 @@ def no_screen(program: str) -> str | None:
 
 
 def coloured(program: str) -> str | None:
-    """Names and positions have colours, which NO_COLOR and `set style enabled off` switch off; the letters are the same."""
+    """Names and positions have colours, which NO_COLOR and `set style enabled off` switch off; the letters are the
+    same."""
     plain = Held(program, str(SQUARES))
     told = {}
     try:
         told["dumb"] = plain.told + plain.do("bt") + plain.do("goto 44") + plain.do("why %place")
     finally:
         plain.close()
-    for name, environment in (("colours", {}), ("none", {"NO_COLOR": "1"})):
-        session = Held(program, str(SQUARES), TERM="xterm-256color", **environment)
+    environments: dict[str, dict[str, str]] = {"colours": {}, "none": {"NO_COLOR": "1"}}
+    for name, environment in environments.items():
+        session = Held(program, str(SQUARES), environment={"TERM": "xterm-256color", **environment})
         try:
             told[name] = session.told + session.do("bt") + session.do("goto 44") + session.do("why %place")
             if name == "colours":
@@ -186,8 +191,9 @@ def session_told(text: str) -> str:
 
 
 def paged(program: str) -> str | None:
-    """A long answer stops at each full screen: RET goes on, q ends it, c goes on to its end; `set pagination off` asks nothing."""
-    session = Held(program, str(EXAMPLES / "digits.ssa"), TERM="xterm-256color", NO_COLOR="1")
+    """A long answer stops at each full screen: RET goes on, q ends it, c goes on to its end; `set pagination off` asks
+    nothing."""
+    session = Held(program, str(EXAMPLES / "digits.ssa"), environment={"TERM": "xterm-256color", "NO_COLOR": "1"})
     more = "--Type RET for more, q to quit, c to continue without paging--"
     try:
         session.do("set height 12")
@@ -216,7 +222,7 @@ def paged(program: str) -> str | None:
         session.close()
 
 
-SCREENS = {"full": full_screen, "resized": resized, "stopped": stopped_on_screen, "none": no_screen, "colours": coloured,
-           "pager": paged}
+SCREENS = {"full": full_screen, "resized": resized, "stopped": stopped_on_screen, "none": no_screen,
+           "colours": coloured, "pager": paged}
 # What needs Python's curses, which a minimal one may lack.
 DRAWN = ("full", "resized", "stopped", "none")

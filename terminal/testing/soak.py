@@ -1,4 +1,5 @@
-"""Random sessions: any command in any state; the saved lines must lead the plain debugger to where the session stands."""
+"""Random sessions: any command in any state; the saved lines must lead the plain debugger to where the session
+stands."""
 from __future__ import annotations
 
 import os
@@ -36,9 +37,9 @@ LINES = {
         "p {temporary}", "p/x {temporary}+{number}", "x/{number}{width}x {address}", "bt", "up", "down", "temps", "l",
         "list {place}", "out", "display {temporary}", "undisplay", "info symbol {address}"),
     "asks": (
-        "why", "why {temporary}", "why {width} {address}", "why 1", "why 2", "why 3", "why back", "why jump", "why call",
-        "why out {number}", "readers {width} {address}", "writers {width} {address}", "when {temporary} == {number}",
-        "when w[{data}] == {number}"),
+        "why", "why {temporary}", "why {width} {address}", "why 1", "why 2", "why 3", "why back", "why jump",
+        "why call", "why out {number}", "readers {width} {address}", "writers {width} {address}",
+        "when {temporary} == {number}", "when w[{data}] == {number}"),
 }
 PARTS = {
     "address": ("{data}", "{temporary}", "{data}+{number}", "({temporary}+{number})", "16777216", "16777220"),
@@ -65,7 +66,8 @@ class Typist:
         }
 
     def __getitem__(self, part: str) -> str:
-        return self.chosen.choice(PARTS[part]).format_map(self) if part in PARTS else self.chosen.choice(self.names[part])
+        return self.chosen.choice(PARTS[part]).format_map(self) if part in PARTS else \
+            self.chosen.choice(self.names[part])
 
     def line(self) -> str:
         kind = self.chosen.choice(("moves", *LINES))

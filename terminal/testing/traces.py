@@ -1,12 +1,13 @@
 """What set each temporary and each byte, worked out along a run that is stepped through move by move.
 
-The front end finds the same by going back to breakpoints and watches. Here nothing is searched: the frames are kept as the
-moves go, and each notes what it set.
+The front end finds the same by going back to breakpoints and watches. Here nothing is searched: the frames are kept as
+the moves go, and each notes what it set.
 """
 from __future__ import annotations
 
 import random
 from dataclasses import dataclass
+from typing import Callable
 
 from check.shadow import Object
 from terminal.answers import Place, read_place, read_value
@@ -102,17 +103,26 @@ def note(frame: Frame, name: str | None, position: int) -> None:
         frame[name] = position
 
 
-def bytes_written(program: Program, instruction: Instruction, before: dict, after: dict) -> range:
+def bytes_written(program: Program, instruction: Instruction, before: dict[str, int | None],
+                  after: dict[str, int | None]) -> range:
     if instruction.operation in ALLOCATIONS:
-        size = instruction.operands[0].text
-        begin = after[instruction.result]
-        return range(begin, begin + int(before[size] if size in before else size))
+        text = instruction.operands[0].text
+        begin, taken = after[instruction.result or ""], before.get(text)
+        assert begin is not None
+        return range(begin, begin + (int(text) if taken is None else taken))
     size = STORED.get(instruction.operation) or (instruction.count if instruction.operation == "blit" else 0)
     if not size:
         return range(0)
     text = instruction.operands[1].text
-    begin = before[text] if text in before else program.addresses[text]
+    begin = address_of(program, before, text)
     return range(begin, begin + size)
+
+
+def address_of(program: Program, values: dict[str, int | None], text: str) -> int:
+    """That of an operand which a move reads or writes through: it is set."""
+    value = values[text] if text in values else program.addresses[text]
+    assert value is not None
+    return value
 
 
 def setter_faults(debugger: str, file: str, seed: int, questions: int) -> list[str]:
@@ -153,7 +163,7 @@ def memory_fault(shell: Shell, trace: Trace, position: int) -> str | None:
     if not size:
         return None
     text = instruction.operands[0].text
-    address = state.values[text] if text in state.values else shell.session.program.addresses[text]
+    address = address_of(shell.session.program, state.values, text)
     if None in shell.session.scratch.go(Timeline(position)).memory(address, size):
         # The load is a fault, and nothing has set dead bytes.
         return None
@@ -165,11 +175,12 @@ def memory_fault(shell: Shell, trace: Trace, position: int) -> str | None:
 
 
 def origin_faults(debugger: str, file: str, seed: int, questions: int) -> list[str]:
-    """Where an address on the stack isn't told to be of a frame that is over, with its slot and its end, as the shadow of the run
-    says that it is (check/following.py), which follows each address from its alloc on."""
+    """Where an address on the stack isn't told to be of a frame that is over, with its slot and its end, as the shadow
+    of the run says that it is (check/following.py), which follows each address from its alloc on."""
     shell, trace, chosen = begun(debugger, file, seed)
     try:
-        return [fault for _ in range(questions) for fault in origins_at(shell, trace, chosen.randrange(len(trace.states)))]
+        return [fault for _ in range(questions)
+                for fault in origins_at(shell, trace, chosen.randrange(len(trace.states)))]
     finally:
         shell.session.close()
 
@@ -182,9 +193,10 @@ def origins_at(shell: Shell, trace: Trace, position: int) -> list[str]:
     shadows, found = followed(shell, at, position, frozenset())[0].frames[-1].shadows, []
     for name, value in on_stack.items():
         made = shadows[name].made
-        is_over = isinstance(made, Object) and made.kind == "slot" and made.died is not None
-        # A move from the position at which a frame returned makes the next state, in which it is over.
-        wanted = (made.name, value - made.address, made.died + 1) if is_over else None
+        wanted = None
+        if isinstance(made, Object) and made.kind == "slot" and made.died is not None:
+            # A move from the position at which a frame returned makes the next state, in which it is over.
+            wanted = (made.name, value - made.address, made.died + 1)
         over = shell.causes.origins.over(value, at, name)
         given = (f"{over.function} {over.name}", over.offset, over.position) if over else None
         if wanted != given:
@@ -224,7 +236,7 @@ def touched(program: Program, trace: Trace, is_write: bool) -> list[tuple[range,
             size = instruction.count
         if size:
             text = instruction.operands[1 if is_write else 0].text
-            begin = state.values[text] if text in state.values else program.addresses[text]
+            begin = address_of(program, state.values, text)
             found.append((range(begin, begin + size), position))
     return found
 
@@ -237,14 +249,14 @@ def condition_faults(debugger: str, file: str, seed: int, questions: int) -> lis
         for _ in range(questions):
             position = chosen.randrange(len(trace.states))
             state = trace.states[position]
-            names = sorted(name for name, value in state.values.items() if value is not None)
-            if names:
-                name = chosen.choice(names)
+            values = {name: value for name, value in state.values.items() if value is not None}
+            if values:
+                name = chosen.choice(sorted(values))
                 function = state.frames[0].function
-                node = parse(f"u({name}) == {state.values[name]}")
+                node = parse(f"u({name}) == {values[name]}")
                 spans = held_spans(shell, Timeline(len(trace.states) - 1), [f"watch {function} {name}"],
                                    ["where", f"print {name}"], node, function)
-                wanted = spans_of(trace, function, name, state.values[name])
+                wanted = spans_of(trace, function, name, values[name])
                 found.append(None if spans == wanted else f"{name} of {function}: {spans} and not {wanted}")
         return [fault for fault in found if fault]
     finally:
@@ -254,10 +266,12 @@ def condition_faults(debugger: str, file: str, seed: int, questions: int) -> lis
 def spans_of(trace: Trace, function: str, name: str, value: int) -> list[tuple[int, int | None]]:
     """Where a temporary of the innermost frame of a function has a value, state by state."""
     spans: list[tuple[int, int | None]] = []
-    begin, live = None, []
+    begin: int | None = None
+    live: list[tuple[str, dict[str, int | None]]] = []
+    unset: dict[str, int | None] = {}
     for position, state in enumerate(trace.states):
         live = live[:len(state.frames) - 1] + [(state.frames[0].function, state.values)]
-        values = next((values for owner, values in reversed(live) if owner == function), {})
+        values = next((values for owner, values in reversed(live) if owner == function), unset)
         if values.get(name) == value and begin is None:
             begin = position
         elif values.get(name) != value and begin is not None:
@@ -323,7 +337,7 @@ def run_faults(debugger: str, file: str, seed: int, questions: int) -> list[str]
         shell.session.close()
 
 
-def first_where(trace: Trace, positions: range, holds) -> int | None:
+def first_where(trace: Trace, positions: range, holds: Callable[[State], bool]) -> int | None:
     return next((position for position in positions if holds(trace.states[position])), None)
 
 
@@ -331,7 +345,9 @@ def over(trace: Trace, position: int, chosen: random.Random) -> tuple[str, int |
     """Over a call, forward or back, or over another instruction."""
     depth, behind = len(trace.states[position].frames), range(position + 1, len(trace.states))
     before = range(position - 1, -1, -1)
-    is_same = lambda state: len(state.frames) <= depth
+
+    def is_same(state: State) -> bool:
+        return len(state.frames) <= depth
     if chosen.random() < 0.5:
         return "n", first_where(trace, behind, is_same)
     if trace.states[position - 1].frames and position and len(trace.states[position - 1].frames) < depth:
@@ -342,8 +358,11 @@ def over(trace: Trace, position: int, chosen: random.Random) -> tuple[str, int |
 def out_of(trace: Trace, position: int, chosen: random.Random) -> tuple[str, int | None]:
     depth = len(trace.states[position].frames)
     index = chosen.randrange(depth)
-    is_out = lambda state: len(state.frames) < depth - index
-    line, positions = chosen.choice((("fin", range(position + 1, len(trace.states))), ("rf", range(position - 1, -1, -1))))
+
+    def is_out(state: State) -> bool:
+        return len(state.frames) < depth - index
+    line, positions = chosen.choice((("fin", range(position + 1, len(trace.states))),
+                                     ("rf", range(position - 1, -1, -1))))
     select = f"frame {index}; " if index else ""
     return select + line, first_where(trace, positions, is_out) if depth - index > 1 else None
 
@@ -361,7 +380,8 @@ def at_condition(trace: Trace, position: int, chosen: random.Random) -> tuple[st
         top = state.frames[0]
         is_there = (top.function, top.label, top.index) == where
         return is_there and (state.values.get(name) == goal.values[name] if name else len(state.frames) == depth)
-    line, positions = chosen.choice((("c", range(position + 1, len(trace.states))), ("rc", range(position - 1, -1, -1))))
+    line, positions = chosen.choice((("c", range(position + 1, len(trace.states))),
+                                     ("rc", range(position - 1, -1, -1))))
     return f"b {' '.join(map(str, where))} if {condition}; {line}", first_where(trace, positions, holds)
 
 

@@ -1,6 +1,9 @@
 """Each allocation of a comparison refused in turn, by a library that is preloaded: want of memory is an answer."""
+from __future__ import annotations
+
 import pathlib
 import tempfile
+from collections.abc import Sequence
 from typing import NamedTuple
 
 from compare_tests.pairs import told_by_reference
@@ -38,12 +41,14 @@ class Asked(NamedTuple):
     seconds: float
 
 
-def fault_of(run, ample, told, status, kinds):
-    """What a run with a refused allocation tells otherwise than it may, or None; its kind is added to those that were seen."""
+def fault_of(run: Run, ample: bytes, told: bytes, status: int, kinds: set[str]) -> str | None:
+    """What a run with a refused allocation tells otherwise than it may, or None; its kind is added to those that were
+    seen."""
     if run.errors:
         return f"standard error: {quoted(run.errors)}"
     if not run.was_refused:
-        return None if (run.written, run.status) == (ample, status) else f"{quoted(run.written)}, though none was refused"
+        return None if (run.written, run.status) == (ample, status) else \
+            f"{quoted(run.written)}, though none was refused"
     if run.status == status:
         kinds.add("spared")
         return None if run.written == ample else f"{quoted(run.written)} with status {status}"
@@ -66,11 +71,11 @@ def fault_of(run, ample, told, status, kinds):
     return None
 
 
-def memory_fault(program, seconds, words):
+def memory_fault(program: str, seconds: float, words: Sequence[str]) -> str | None:
     """What is wrong of the runs with each allocation refused, or None."""
     ample, status = told_by_reference(GOOD, BAD, [*words, "--session", "bad"], SCRIPT)
     told, _ = told_by_reference(GOOD, BAD, words, b"")
-    kinds = set()
+    kinds: set[str] = set()
     with tempfile.TemporaryDirectory(prefix="compare-") as place, library() as made:
         files = [str(pathlib.Path(place) / name) for name in ("good.ssa", "bad.ssa")]
         for file, text in zip(files, (GOOD, BAD)):

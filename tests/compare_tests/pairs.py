@@ -1,6 +1,11 @@
-"""Pairs of texts: the stories with their mended texts, programs written anew, random ones; and what the reference tells."""
+"""Pairs of texts: the stories with their mended texts, programs written anew, random ones; and what the reference
+tells."""
+from __future__ import annotations
+
 import random
 import re
+from collections.abc import Iterable, Sequence
+from typing import NamedTuple, Optional, TypedDict
 
 from compare_tests.rewriting import rewritten
 from harness.running import EXAMPLES
@@ -25,23 +30,53 @@ MOST_MOVES = 20_000
 TooLong = compare.TooLong
 
 
-def told_by_reference(good, bad, words, script):
+class Asked(NamedTuple):
+    """A pair of texts, what is asked of it, and what must be told."""
+
+    name: str
+    good: bytes
+    bad: bytes
+    words: list[str]
+    script: bytes
+    told: Optional[bytes] = None  # what was worked out by hand
+    status: Optional[int] = None
+    start: bytes = b""            # what it must begin with, whatever the reference tells
+
+
+class Options(TypedDict, total=False):
+    """What the reference is told of the words."""
+
+    args: list[int]
+    events: list[str]
+    limit: int
+    history: int
+    session: str
+    entry: str
+
+
+def told_by_reference(good: bytes, bad: bytes, words: Sequence[str], script: bytes) -> tuple[bytes, int]:
     """What the reference tells, by the words behind the two files, and the status."""
-    given = {"args": []}
-    words = iter(words)
-    for word in words:
+    given: Options = {"args": []}
+    rest = iter(words)
+    for word in rest:
         if word == "--events":
-            given["events"] = next(words).split(",")
-        elif word in ("--limit", "--history"):
-            given[word[2:]] = int(next(words))
+            given["events"] = next(rest).split(",")
+        elif word == "--limit":
+            given["limit"] = int(next(rest))
+        elif word == "--history":
+            given["history"] = int(next(rest))
+        elif word == "--session":
+            given["session"] = next(rest)
+        elif word == "--entry":
+            given["entry"] = next(rest)
         elif word.startswith("--"):
-            given[word[2:]] = next(words)
+            raise ValueError(f"the reference has no {word}")
         else:
             given["args"].append(int(word))
     return compare.comparison(good, bad, script, most=MOST_MOVES, **given)
 
 
-def mended(name):
+def mended(name: str) -> bytes:
     text = (EXAMPLES / f"{name}.ssa").read_text()
     for old, new in MENDED[name]:
         if text.count(old) != 1:
@@ -50,32 +85,32 @@ def mended(name):
     return text.encode()
 
 
-def story_pairs():
-    """A name, both texts, words, a script."""
-    found = []
+def story_pairs() -> list[Asked]:
+    found: list[Asked] = []
     for name in MENDED:
         bad = (EXAMPLES / f"{name}.ssa").read_bytes()
         for events in EVENTS:
-            found.append((f"stories/{name}-{events}", mended(name), bad, ["--events", events], b""))
+            found.append(Asked(f"stories/{name}-{events}", mended(name), bad, ["--events", events], b""))
         for side in ("good", "bad"):
             script = b"where\nback\nlist\nreverse\ncontinue\nout\n"
-            found.append((f"stories/{name}-on-{side}", mended(name), bad, ["--session", side], script))
+            found.append(Asked(f"stories/{name}-on-{side}", mended(name), bad, ["--session", side], script))
     return found
 
 
-def example_pairs():
+def example_pairs() -> list[Asked]:
     """Each example that is short, next to itself written anew: the same."""
-    found = []
+    found: list[Asked] = []
     for path in sorted(EXAMPLES.glob("*.ssa")):
         text = path.read_bytes()
         for number in range(3):
             other = rewritten(text, random.Random(number).shuffle)
             for events in ("output,calls,end", "output,writes,calls,end"):
-                found.append((f"rewritten/{path.stem}-{number}-{events}", text, other, ["--events", events], b"", None, None, b"same "))
+                found.append(Asked(f"rewritten/{path.stem}-{number}-{events}", text, other, ["--events", events], b"",
+                                   start=b"same "))
     return found
 
 
-def is_lawful(text):
+def is_lawful(text: bytes) -> bool:
     try:
         check(parse(cut(text)))
         return True
@@ -83,7 +118,7 @@ def is_lawful(text):
         return False
 
 
-def with_other_number(source, text):
+def with_other_number(source: random.Random, text: bytes) -> bytes:
     """The text with one number or operation that is another."""
     places = [found for found in re.finditer(rb"(?<=[ ,(])-?\d+|\b(?:add|sub|mul|and|or|xor|csltw|csgtw|ceqw)\b", text)]
     if not places:
@@ -98,12 +133,12 @@ def with_other_number(source, text):
     return text[:found.start()] + new + text[found.end():]
 
 
-def random_script(source):
+def random_script(source: random.Random) -> bytes:
     lines = ("where", "list", "back", "back 3", "reverse", "continue", "temps", "out", "step", "step 5", "mem 65536 16")
     return "".join(source.choice(lines) + "\n" for _ in range(source.randrange(6))).encode()
 
 
-def random_words(source, arguments):
+def random_words(source: random.Random, arguments: Iterable[int]) -> list[str]:
     words = [str(one) for one in arguments]
     if source.randrange(2):
         words += ["--events", source.choice(EVENTS)]
@@ -115,7 +150,7 @@ def random_words(source, arguments):
     return words
 
 
-def random_pair(source):
+def random_pair(source: random.Random) -> tuple[bytes, bytes, list[str], bytes]:
     """Both texts, words, a script, as the fields of what is asked."""
     text, arguments = random_program(source)
     while not is_lawful(text):

@@ -1,6 +1,7 @@
 """The parts of tests/dap.
 
-    sessions/           sessions with a debug adapter, as texts of requests and of what must come back, and their programs
+    sessions/           sessions with a debug adapter, as texts of requests and of what must come back, and their
+                        programs
     sessions.py         how such a text is read, and what it says of messages
     driver.py           the adapter as a process, messages in their frames, and a session played with it
     wire.py             input below requests: headers, bodies in pieces, what is no message; devices that fail

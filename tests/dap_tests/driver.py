@@ -1,15 +1,18 @@
 """The adapter as a process, the form of its messages, and a session that is played with it."""
+from __future__ import annotations
+
 import io
 import json
 import pathlib
 import queue
 import subprocess
 import threading
-from typing import NamedTuple
+from collections.abc import Sequence
+from typing import IO, Any, NamedTuple, Optional, Union
 
 from harness.running import TOP
 
-from .sessions import has, make_file, read_session
+from .sessions import Message, Step, has, make_file, read_session
 
 RELEASED = TOP / "release" / "qrev-dap-x86_64-linux"
 BUILT = TOP / "crates" / "qrev_dap" / "out" / "qrev_dap"
@@ -20,7 +23,7 @@ UNWRITTEN = "record: cannot write "
 MAY_HAVE = {"response": {"message", "body"}, "event": {"body"}}
 
 
-def adapter_of(program=None):
+def adapter_of(program: Optional[str] = None) -> Optional[str]:
     """The adapter that is asked: this one, or the released one where it fits, or the one that is built, or None."""
     if program:
         return str(pathlib.Path(program).resolve())
@@ -34,17 +37,17 @@ class BadMessage(Exception):
     """What an adapter wrote that is no message of an adapter."""
 
 
-def frame(message):
+def frame(message: Message) -> bytes:
     body = json.dumps(message).encode()
     return b"Content-Length: %d\r\n\r\n" % len(body) + body
 
 
-def request_message(number, command, arguments=None):
+def request_message(number: int, command: str, arguments: Optional[Message] = None) -> Message:
     message = {"seq": number, "type": "request", "command": command}
     return message if arguments is None else {**message, "arguments": arguments}
 
 
-def read_message(stream):
+def read_message(stream: IO[bytes]) -> Optional[Message]:
     """The next message of a stream, or None at its end."""
     line = stream.readline()
     if not line:
@@ -56,14 +59,15 @@ def read_message(stream):
     if len(body) != int(digits):
         raise BadMessage(f"a body of {len(body)} bytes in place of {int(digits)}")
     try:
-        return json.loads(body.decode())
+        message: Message = json.loads(body.decode())
+        return message
     except ValueError as error:
         raise BadMessage(f"a body that is no JSON, {error}: {body[:100]!r}") from None
 
 
-def form_fault(message, number):
+def form_fault(message: Any, number: int) -> Optional[str]:
     """What the message of that number has wrong whatever it says, or None."""
-    kind = message.get("type") if isinstance(message, dict) else None
+    kind: Any = message.get("type") if isinstance(message, dict) else None
     if kind not in SHAPES:
         return f"neither response nor event: {message}"
     if message.get("seq") != number:
@@ -80,17 +84,20 @@ def form_fault(message, number):
 class Adapter:
     """An adapter that runs. Its messages are read beside it, so that none has to wait for a reader."""
 
-    def __init__(self, program, seconds, folder, words=()):
-        self.seconds, self.sent, self.got, self.log = seconds, 0, 0, []
-        self.process = subprocess.Popen([program, *words], stdin=subprocess.PIPE, stdout=subprocess.PIPE, stderr=subprocess.PIPE,
-                                        cwd=folder)
-        self.came, self.errors = queue.Queue(), []
+    def __init__(self, program: str, seconds: float, folder: pathlib.Path, words: Sequence[str] = ()) -> None:
+        self.seconds, self.sent, self.got = seconds, 0, 0
+        self.log: list[Message] = []
+        self.process = subprocess.Popen([program, *words], stdin=subprocess.PIPE, stdout=subprocess.PIPE,
+                                        stderr=subprocess.PIPE, cwd=folder)
+        self.came: queue.Queue[Union[Message, BadMessage, None]] = queue.Queue()
+        self.errors: list[bytes] = []
         self.readers = [threading.Thread(target=self.read_messages, daemon=True),
                         threading.Thread(target=self.read_errors, daemon=True)]
         for reader in self.readers:
             reader.start()
 
-    def read_messages(self):
+    def read_messages(self) -> None:
+        assert self.process.stdout is not None
         try:
             while (message := read_message(self.process.stdout)) is not None:
                 self.came.put(message)
@@ -98,23 +105,25 @@ class Adapter:
             self.came.put(bad)
         self.came.put(None)
 
-    def read_errors(self):
+    def read_errors(self) -> None:
+        assert self.process.stderr is not None
         self.errors.append(self.process.stderr.read())
 
-    def write(self, piece):
+    def write(self, piece: bytes) -> None:
+        assert self.process.stdin is not None
         try:
             self.process.stdin.write(piece)
             self.process.stdin.flush()
         except BrokenPipeError:
             pass
 
-    def request(self, command, arguments=None):
+    def request(self, command: str, arguments: Optional[Message] = None) -> None:
         self.sent += 1
         message = request_message(self.sent, command, arguments)
         self.log.append(message)
         self.write(frame(message))
 
-    def next(self):
+    def next(self) -> Optional[Message]:
         """The next message, or None at the end; what is wrong with its form is raised."""
         try:
             message = self.came.get(timeout=self.seconds)
@@ -130,8 +139,9 @@ class Adapter:
                 raise BadMessage(fault)
         return message
 
-    def end(self):
+    def end(self) -> Optional[int]:
         """Closes the input, and gives the exit status, or None where the adapter goes on."""
+        assert self.process.stdin is not None
         try:
             self.process.stdin.close()
         except BrokenPipeError:
@@ -144,7 +154,7 @@ class Adapter:
             reader.join(self.seconds)
         return status
 
-    def kill(self):
+    def kill(self) -> None:
         if self.process.poll() is None:
             self.process.kill()
             self.process.wait()
@@ -154,10 +164,10 @@ class Record(NamedTuple):
     """A record that a launch asked for, and the words behind `qrev` that replay it."""
 
     name: str
-    words: list
+    words: list[str]
 
 
-def record_of(arguments):
+def record_of(arguments: object) -> Optional[Record]:
     """The record of a launch, or None."""
     if not isinstance(arguments, dict) or not isinstance(arguments.get("record"), str):
         return None
@@ -168,7 +178,7 @@ def record_of(arguments):
     return Record(arguments["record"], words)
 
 
-def replay_fault(qrev, record, folder, seconds):
+def replay_fault(qrev: str, record: Record, folder: pathlib.Path, seconds: float) -> Optional[str]:
     """What `qrev` writes for a record otherwise than the transcript beside it, or None."""
     try:
         with open(folder / record.name, "rb") as script, open(folder / f"{record.name}.transcript", "rb") as kept:
@@ -184,16 +194,19 @@ def replay_fault(qrev, record, folder, seconds):
 class Playing:
     """A session that is played."""
 
-    def __init__(self, adapter, folder):
+    def __init__(self, adapter: Adapter, folder: pathlib.Path) -> None:
         self.adapter, self.folder = adapter, folder
-        self.request = self.response = self.launched = None
-        self.records = {}
+        self.request: Optional[Step] = None
+        self.response: Message = {}
+        self.launched: Message = {}
+        self.records: dict[str, Record] = {}
 
-    def fault_of(self, step):
+    def fault_of(self, step: Step) -> Optional[str]:
         """What comes otherwise than a step says, or None."""
-        return getattr(self, f"play_{step.kind}")(step)
+        fault: Optional[str] = getattr(self, f"play_{step.kind}")(step)
+        return fault
 
-    def play_request(self, step):
+    def play_request(self, step: Step) -> Optional[str]:
         self.adapter.request(step.name, step.value)
         self.request, message = step, self.adapter.next()
         if message is None or message["type"] != "response":
@@ -205,7 +218,7 @@ class Playing:
             self.note_record(step)
         return None
 
-    def note_record(self, step):
+    def note_record(self, step: Step) -> None:
         given = step.value
         if step.name == "launch":
             self.launched = given
@@ -216,7 +229,7 @@ class Playing:
         if record:
             self.records[record.name] = record
 
-    def play_response(self, step):
+    def play_response(self, step: Step) -> Optional[str]:
         got = self.response
         if step.value is None:
             is_same = not got["success"] and step.name in (got["message"], "*")
@@ -224,7 +237,7 @@ class Playing:
             is_same = got["success"] and has(got.get("body", {}), step.value)
         return None if is_same else f"the response is {json.dumps(got)}"
 
-    def play_event(self, step):
+    def play_event(self, step: Step) -> Optional[str]:
         got = self.adapter.next()
         is_same = got is not None and got["type"] == "event" and got["event"] == step.name and \
             has(got.get("body", {}), step.value or {})
@@ -234,10 +247,10 @@ class Playing:
             self.records.pop(step.value["output"].removeprefix(UNWRITTEN).rstrip("\n"), None)
         return None
 
-    def play_given(self, step):
+    def play_given(self, step: Step) -> None:
         make_file(step, self.folder)
 
-    def play_file(self, step):
+    def play_file(self, step: Step) -> Optional[str]:
         try:
             lines = (self.folder / step.name).read_bytes().decode("latin-1").split("\n")
         except OSError as error:
@@ -245,7 +258,7 @@ class Playing:
         return None if lines == [line.encode().decode("latin-1") for line in step.value] + [""] else f"it has {lines}"
 
 
-def ended_fault(adapter):
+def ended_fault(adapter: Adapter) -> Optional[str]:
     """What an adapter does otherwise than end, with nothing more to tell."""
     status = adapter.end()
     if status != 0:
@@ -256,10 +269,14 @@ def ended_fault(adapter):
     return f"standard error: {adapter.errors[0][:200]!r}" if adapter.errors[0] else None
 
 
-def play(program, name, text, folder, seconds, log=None):
-    """Plays a session, which was read with its folder; gives its first fault or None, and the records that it asked for."""
+def play(program: str, name: str, text: str, folder: pathlib.Path, seconds: float,
+         log: Optional[list[Message]] = None) -> tuple[Optional[str], list[Record]]:
+    """Plays a session, which was read with its folder; gives its first fault or None, and the records that it asked
+    for."""
     adapter = Adapter(program, seconds, folder)
-    playing, fault, at = Playing(adapter, folder), None, None
+    playing = Playing(adapter, folder)
+    fault: Optional[str] = None
+    at: Optional[Step] = None
     steps = read_session(text.replace("@DIR", str(folder)))
     try:
         for at in steps:
@@ -279,16 +296,17 @@ def play(program, name, text, folder, seconds, log=None):
     return (f"{place}: {fault}" if fault else None), list(playing.records.values())
 
 
-def requests_of(text, folder):
+def requests_of(text: str, folder: pathlib.Path) -> bytes:
     """All requests of a session, as one input."""
     steps = [step for step in read_session(text.replace("@DIR", str(folder))) if step.kind == "request"]
     return b"".join(frame(request_message(number, step.name, step.value)) for number, step in enumerate(steps, 1))
 
 
-def at_once_fault(program, text, folder, seconds, log):
+def at_once_fault(program: str, text: str, folder: pathlib.Path, seconds: float, log: list[Message]) -> Optional[str]:
     """What an adapter answers otherwise if all requests come at once, before the first is answered; or None."""
     try:
-        run = subprocess.run([program], input=requests_of(text, folder), capture_output=True, cwd=folder, timeout=seconds)
+        run = subprocess.run([program], input=requests_of(text, folder), capture_output=True, cwd=folder,
+                             timeout=seconds)
     except subprocess.TimeoutExpired:
         return f"at once: no end after {seconds:g} seconds"
     wanted = [message for message in log if message.get("type") != "request"]
@@ -301,9 +319,10 @@ def at_once_fault(program, text, folder, seconds, log):
     return None if len(wanted) == len(got) else f"at once: {len(got)} messages in place of {len(wanted)}"
 
 
-def messages_in(written):
+def messages_in(written: bytes) -> list[Message]:
     """The messages that were written; the last is what is wrong where they are none."""
-    stream, found = io.BytesIO(written), []
+    stream = io.BytesIO(written)
+    found: list[Message] = []
     try:
         while (message := read_message(stream)) is not None:
             found.append(message)

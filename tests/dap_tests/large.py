@@ -1,11 +1,15 @@
-"""Sessions whose answers or records are large: pages of many variables, names without end, bytes by the ten thousand, a script that is
-full. What must come of them was worked out from docs/ADAPTER.md and the texts here."""
+"""Sessions whose answers or records are large: pages of many variables, names without end, bytes by the ten thousand, a
+script that is full. What must come of them was worked out from docs/ADAPTER.md and the texts here."""
+from __future__ import annotations
+
 import base64
 import pathlib
 import subprocess
 import tempfile
+from collections.abc import Callable, Iterator
 
 from .driver import Adapter, BadMessage
+from .sessions import Case, Message
 
 TEMPORARIES, NAMES, BYTES = 50_000, 1_500, 70_000
 MOST_NAMES, MOST_BYTES, MOST_SCRIPT = 1_000, 65_536, 2**24
@@ -14,18 +18,18 @@ DATA = 65_536  # where data begins
 WORD, POKES = 2**64 - 1, 8_192
 
 
-def many_temporaries():
+def many_temporaries() -> str:
     """The temporary of number N is N modulo 10 after its line."""
     lines = "".join(f"%t{number}=w copy {number % 10}\n" for number in range(TEMPORARIES))
     return f"function $main() {{\n@start\n{lines}ret\n}}\n"
 
 
-def many_names():
+def many_names() -> str:
     names = "".join(f"data $d{number} = {{ b 0 }}\n" for number in range(NAMES))
     return f"{names}function $main() {{\n@start\nret\n}}\n"
 
 
-def many_bytes():
+def many_bytes() -> str:
     return f"data $bytes = {{ z {BYTES} }}\nfunction $main() {{\n@start\nret\n}}\n"
 
 
@@ -36,7 +40,7 @@ class Failed(Exception):
 class Asking:
     """An adapter in a session with a text, which is asked one request after the other."""
 
-    def __init__(self, program, text, folder, seconds, **arguments):
+    def __init__(self, program: str, text: str, folder: pathlib.Path, seconds: float, **arguments: object) -> None:
         self.adapter, self.folder = Adapter(program, seconds, folder), folder
         (folder / "large.ssa").write_text(text)
         self.ask("initialize")
@@ -45,43 +49,45 @@ class Asking:
         self.ask("configurationDone")
         self.event("stopped")
 
-    def __enter__(self):
+    def __enter__(self) -> Asking:
         return self
 
-    def __exit__(self, *error):
+    def __exit__(self, *error: object) -> None:
         self.adapter.kill()
 
-    def respond(self, command, **arguments):
+    def respond(self, command: str, **arguments: object) -> Message:
         self.adapter.request(command, arguments)
         message = self.adapter.next()
         if message is None or message["type"] != "response":
             raise Failed(f"no response to {command}")
         return message
 
-    def ask(self, command, **arguments):
+    def ask(self, command: str, **arguments: object) -> Message:
         """The body of a response that must be a success."""
         message = self.respond(command, **arguments)
         if not message["success"]:
             raise Failed(f"{command} failed: {message['message']}")
-        return message.get("body", {})
+        body: Message = message.get("body", {})
+        return body
 
-    def event(self, name):
+    def event(self, name: str) -> Message:
         message = self.adapter.next()
         if message is None or message.get("event") != name:
             raise Failed(f"no event {name}")
-        return message["body"] if "body" in message else {}
+        body: Message = message.get("body", {})
+        return body
 
 
-def differ(what, got, wanted):
+def differ(what: str, got: object, wanted: object) -> None:
     if got != wanted:
         raise Failed(f"{what}: {str(got)[:200]} in place of {str(wanted)[:200]}")
 
 
-def shown(page):
+def shown(page: Message) -> list[tuple[str, str]]:
     return [(one["name"], one["value"]) for one in page["variables"]]
 
 
-def pages(program, folder, seconds):
+def pages(program: str, folder: pathlib.Path, seconds: float) -> None:
     """Temporaries by pages, before and after moves."""
     with Asking(program, many_temporaries(), folder, seconds) as asking:
         scopes = asking.ask("scopes", frameId=1)["scopes"]
@@ -98,7 +104,7 @@ def pages(program, folder, seconds):
                               for number in range(TEMPORARIES)])
 
 
-def names(program, folder, seconds):
+def names(program: str, folder: pathlib.Path, seconds: float) -> None:
     """Names that complete a word: no more than so many are told."""
     with Asking(program, many_names(), folder, seconds) as asking:
         targets = [one["label"] for one in asking.ask("completions", text="print $", column=8)["targets"]]
@@ -110,7 +116,7 @@ def names(program, folder, seconds):
         differ("the last datum", shown(page), [(f"$d{NAMES - 1}", "0")])
 
 
-def memory(program, folder, seconds):
+def memory(program: str, folder: pathlib.Path, seconds: float) -> None:
     """Bytes: no more than so many are read at once; each that is written is read again."""
     given = bytes(number * 7 % 251 for number in range(BYTES - 1))
     with Asking(program, many_bytes(), folder, seconds) as asking:
@@ -125,7 +131,7 @@ def memory(program, folder, seconds):
         differ("the end", (page["data"], page.get("unreadableBytes")), (base64.b64encode(given[-1:]).decode(), 2))
 
 
-def full_script(program, folder, seconds, qrev):
+def full_script(program: str, folder: pathlib.Path, seconds: float, qrev: str) -> None:
     """A record takes no line more than a script may have: what would add one fails, and what looks doesn't."""
     record = folder / "full.script"
     data = base64.b64encode(WORD.to_bytes(8, "little") * POKES).decode()
@@ -147,12 +153,13 @@ def full_script(program, folder, seconds, qrev):
         asking.event("output")
     differ("the size", record.stat().st_size, MOST_SCRIPT)
     with open(record, "rb") as script:
-        run = subprocess.run([qrev, str(folder / "large.ssa"), "--history", "1"], stdin=script, stdout=subprocess.PIPE, timeout=seconds)
+        run = subprocess.run([qrev, str(folder / "large.ssa"), "--history", "1"], stdin=script, stdout=subprocess.PIPE,
+                             timeout=seconds)
     kept = (folder / "full.script.transcript").read_bytes()
     differ("the replay", (run.returncode, run.stdout == kept), (0, True))
 
 
-def fault_in(program, seconds, function, *words):
+def fault_in(program: str, seconds: float, function: Callable[..., None], *words: str) -> str | None:
     """What a case has otherwise, or None."""
     with tempfile.TemporaryDirectory(prefix="dap-") as place:
         try:
@@ -162,7 +169,7 @@ def fault_in(program, seconds, function, *words):
     return None
 
 
-def cases(qrev):
+def cases(qrev: str) -> Iterator[Case]:
     """Each case: its name, a function of the program and the seconds, and what else that takes."""
     yield "pages of variables", fault_in, (pages,)
     yield "many names", fault_in, (names,)

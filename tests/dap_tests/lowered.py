@@ -1,24 +1,30 @@
 """A text that lower/qrev-lower wrote, with its map beside it. The places are those of docs/REAL_COMPILERS.md."""
+from __future__ import annotations
+
+import pathlib
 import shutil
 import subprocess
+from collections.abc import Iterator
 
 from harness.running import TOP
 
 from .large import Asking, Failed, differ, fault_in
+from .sessions import Case
 
 LOWER = TOP / "lower" / "qrev-lower"
 SOURCE = TOP / "lower" / "test-data" / "real" / "structval.ssa"
 
 
-def place_of(asking):
+def place_of(asking: Asking) -> tuple[str, str, int]:
     """Where the innermost frame is shown."""
     frame = asking.ask("stackTrace", threadId=1, levels=1)["stackFrames"][0]
     return frame["name"], frame["source"]["path"], frame["line"]
 
 
-def lowered(program, folder, seconds):
+def lowered(program: str, folder: pathlib.Path, seconds: float) -> None:
     shutil.copy(SOURCE, folder)
-    run = subprocess.run([LOWER, "--link", "--output", "large.ssa", SOURCE.name], cwd=folder, capture_output=True, timeout=seconds)
+    run = subprocess.run([LOWER, "--link", "--output", "large.ssa", SOURCE.name], cwd=folder, capture_output=True,
+                         timeout=seconds)
     if run.returncode:
         raise Failed(f"qrev-lower: {run.stderr!r}")
     own, source = str(folder / SOURCE.name), str(folder / "ha/s/structval.ha")
@@ -40,6 +46,6 @@ def lowered(program, folder, seconds):
         differ("where it is met", place_of(asking)[1:], (source, 2))
 
 
-def cases():
+def cases() -> Iterator[Case]:
     """Each case: its name, a function of the program and the seconds, and what else that takes."""
     yield "places of a lowered text", fault_in, (lowered,)

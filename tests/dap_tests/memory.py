@@ -1,14 +1,17 @@
 """Each allocation of the adapter refused in turn, by a library that is preloaded (../harness/refusing.c)."""
+from __future__ import annotations
+
 import json
 import pathlib
 import shutil
 import tempfile
+from collections.abc import Iterator, Sequence
 
 from harness.preloaded import Run, library
 from harness.running import Running
 
 from .driver import form_fault, messages_in, requests_of
-from .sessions import FOLDER, make_files
+from .sessions import FOLDER, Case, Message, make_files
 
 MOST = 20_000  # refused allocations that are tried before a run must meet none
 NO_MEMORY = "no memory for the next move"
@@ -18,28 +21,29 @@ OUT_OF_MEMORY = 3
 SESSIONS = ("stops", "values", "recursion", "back", "completions", "record", "map")
 
 
-def forms_fault(messages):
+def forms_fault(messages: Sequence[Message]) -> str | None:
     """What is wrong with the form of messages, or None."""
     found = (form_fault(message, number) for number, message in enumerate(messages, 1))
     return next(filter(None, found), None)
 
 
-def is_failed(message, normal):
+def is_failed(message: Message, normal: Message) -> bool:
     """Whether a message is the response to the same request, which failed, for it had no memory."""
-    return message["type"] == "response" and not message["success"] and message["request_seq"] == normal.get("request_seq")
+    return message["type"] == "response" and not message["success"] and \
+        message["request_seq"] == normal.get("request_seq")
 
 
-def is_stopped_for_memory(messages):
+def is_stopped_for_memory(messages: Sequence[Message]) -> bool:
     """Whether messages begin with a run that stood where it found no memory, after what it had written till then."""
-    first = next((it for it in messages if it.get("event") != "output"), {})
+    first: Message = next((it for it in messages if it.get("event") != "output"), {})
     return first.get("event") == "stopped" and first["body"].get("text") == NO_MEMORY
 
 
-def run_fault(run, normal):
+def run_fault(run: Run, normal: Sequence[Message]) -> str | None:
     """What is wrong with a run in which an allocation was refused, beside one in which none was; or None.
 
-    It ends as out of memory, and up to there all is as it was; or a run stood where it found no memory, and the session went on;
-    or a request failed, as a launch whose program can't be read for there is no memory for its bytes.
+    It ends as out of memory, and up to there all is as it was; or a run stood where it found no memory, and the session
+    went on; or a request failed, as a launch whose program can't be read for there is no memory for its bytes.
     """
     messages = messages_in(run.written)
     if run.status not in (0, OUT_OF_MEMORY) or run.errors:
@@ -55,7 +59,7 @@ def run_fault(run, normal):
     return None
 
 
-def each_refused(program, seconds, name):
+def each_refused(program: str, seconds: float, name: str) -> str | None:
     """Plays a session with the first allocation refused, the second, and so on until a run meets none."""
     running = Running(program, seconds)
     with tempfile.TemporaryDirectory(prefix="dap-") as place, library() as made:
@@ -77,7 +81,7 @@ def each_refused(program, seconds, name):
     return f"more than {MOST} allocations"
 
 
-def cases():
+def cases() -> Iterator[Case]:
     """Each case: its name, a function of the program and the seconds, and what else that takes."""
     for name in SESSIONS:
         yield name, each_refused, (name,)

@@ -1,4 +1,6 @@
 """Input below requests: headers in other forms, bodies in pieces, what is no message; and devices that fail."""
+from __future__ import annotations
+
 import json
 import os
 import socket
@@ -6,9 +8,11 @@ import struct
 import subprocess
 import tempfile
 import time
-from typing import NamedTuple
+from collections.abc import Iterator, Sequence
+from typing import NamedTuple, Optional
 
 from .driver import frame, messages_in, read_message, request_message
+from .sessions import Case, Message
 
 GREATEST_BODY, GREATEST_HEADER = 2**20, 4096
 THREADS = json.dumps(request_message(7, "threads")).encode()
@@ -16,11 +20,11 @@ THREADS = json.dumps(request_message(7, "threads")).encode()
 ANSWER = {"type": "response", "request_seq": 7, "command": "threads", "success": False, "message": "no session"}
 
 
-def headed(body, header=b"Content-Length: %d\r\n\r\n"):
+def headed(body: bytes, header: bytes = b"Content-Length: %d\r\n\r\n") -> bytes:
     return header % len(body) + body
 
 
-def answers(*numbers):
+def answers(*numbers: int) -> list[Message]:
     """The request's response once for each number of a request."""
     return [{"seq": at, **ANSWER, "request_seq": number} for at, number in enumerate(numbers, 1)]
 
@@ -29,26 +33,27 @@ ONE = headed(THREADS)
 LONG_LINE = b"X-Filler: "
 
 
-def filled(length):
+def filled(length: int) -> bytes:
     """A header of so many bytes in all for the request, with a line that says nothing."""
     last = b"Content-Length: %d\r\n\r\n" % len(THREADS)
     return LONG_LINE + b"x" * (length - len(last) - len(LONG_LINE) - 2) + b"\r\n" + last + THREADS
 
 
-def padded(length):
+def padded(length: int) -> bytes:
     """The request with spaces behind it, so many bytes in all."""
     return headed(THREADS + b" " * (length - len(THREADS)))
 
 
 class Input(NamedTuple):
-    """The pieces of an input, each written when the one before it had its time; what comes of them, and the exit status."""
+    """The pieces of an input, each written when the one before it had its time; what comes of them, and the exit
+    status."""
 
-    pieces: list
-    wanted: list
+    pieces: list[bytes]
+    wanted: list[Message]
     status: int = 0
 
 
-def lost(*pieces):
+def lost(*pieces: bytes) -> Input:
     """An input with a message, and then what is none: it isn't read on."""
     return Input([ONE, *pieces, ONE], answers(7), 2)
 
@@ -63,7 +68,8 @@ INPUTS = {
     "zeros before the number": Input([headed(THREADS, b"Content-Length: 000%d\r\n\r\n")], answers(7)),
     "another header before": Input([headed(THREADS, b"Content-Type: application/vscode-jsonrpc; charset=utf-8\r\n"
                                            b"Content-Length: %d\r\n\r\n")], answers(7)),
-    "another header behind": Input([headed(THREADS, b"Content-Length: %d\r\nContent-Type: x/y; n=17\r\n\r\n")], answers(7)),
+    "another header behind": Input([headed(THREADS, b"Content-Length: %d\r\nContent-Type: x/y; n=17\r\n\r\n")],
+                                   answers(7)),
     "a header without a colon": Input([headed(THREADS, b"Content-Length 5\r\nContent-Length: %d\r\n\r\n")], answers(7)),
     "lines that end with byte 10 alone": Input([headed(THREADS, b"Content-Length: %d\n\n")], answers(7)),
     "a body in two writes": Input([ONE[:40], ONE[40:]], answers(7)),
@@ -129,7 +135,8 @@ REQUESTS = {
     "members in another order": (b'{"arguments": {}, "command": "threads", "type": "request", "seq": 7}', 7),
     "spacing": (b' {\r\n\t"seq" : 7 , "type" : "request" , "command" : "threads" } \n', 7),
     "characters by their numbers": (b'{"seq": 7, "type": "\\u0072equest", "command": "thr\\u0065ads"}', 7),
-    "members that nobody knows": (b'{"seq": 7, "type": "request", "command": "threads", "x": [{"seq": 8}, null, 1e5]}', 7),
+    "members that nobody knows": (b'{"seq": 7, "type": "request", "command": "threads", "x": [{"seq": 8}, null, 1e5]}',
+                                  7),
     "arguments that are no object": (b'{"seq": 7, "type": "request", "command": "threads", "arguments": [1]}', 7),
     "arguments that are null": (b'{"seq": 7, "type": "request", "command": "threads", "arguments": null}', 7),
     "seq 0": (THREADS.replace(b"7", b"0"), 0),
@@ -138,7 +145,7 @@ REQUESTS = {
 }
 
 
-def compared(wanted, status, written, given_status):
+def compared(wanted: Sequence[Message], status: int, written: bytes, given_status: Optional[int]) -> Optional[str]:
     got = messages_in(written)
     if got != wanted:
         at = next((at for at, (one, other) in enumerate(zip(wanted, got)) if one != other), min(len(wanted), len(got)))
@@ -146,9 +153,10 @@ def compared(wanted, status, written, given_status):
     return None if status == given_status else f"exit status {given_status} in place of {status}"
 
 
-def of_input(program, seconds, name):
+def of_input(program: str, seconds: float, name: str) -> Optional[str]:
     given = INPUTS[name]
     process = subprocess.Popen([program], stdin=subprocess.PIPE, stdout=subprocess.PIPE)
+    assert process.stdin is not None and process.stdout is not None
     pause = 0.2 if len(given.pieces) < 10 else 0.002
     try:
         for piece in given.pieces[:-1]:
@@ -166,20 +174,20 @@ def of_input(program, seconds, name):
     return compared(given.wanted, given.status, written, process.returncode)
 
 
-def of_body(program, seconds, body, number):
+def of_body(program: str, seconds: float, body: bytes, number: Optional[int]) -> Optional[str]:
     """A body between two requests; if it is one it is answered by its number, else it is passed over."""
     run = subprocess.run([program], input=ONE + headed(body) + ONE, stdout=subprocess.PIPE, timeout=seconds)
     return compared(answers(7, 7) if number is None else answers(7, number, 7), 0, run.stdout, run.returncode)
 
 
-def of_command(program, seconds):
+def of_command(program: str, seconds: float) -> Optional[str]:
     """A command that nobody knows comes back in its response as it was, whatever characters it has."""
     command = "th\u00e9 \"\\\u4e16\U0001f600\n\u0001"
     run = subprocess.run([program], input=frame(request_message(7, command)), stdout=subprocess.PIPE, timeout=seconds)
     return compared([{"seq": 1, **ANSWER, "command": command}], 0, run.stdout, run.returncode)
 
 
-def after_disconnect(program, seconds):
+def after_disconnect(program: str, seconds: float) -> Optional[str]:
     """Nothing that comes after `disconnect` is answered, be it a message or none."""
     for more in (ONE, b"no message\n\n"):
         sent = ONE + frame(request_message(8, "disconnect")) + more
@@ -190,14 +198,14 @@ def after_disconnect(program, seconds):
     return None
 
 
-def full_output(program, seconds):
+def full_output(program: str, seconds: float) -> Optional[str]:
     """A device that takes nothing."""
     with open("/dev/full", "wb") as full:
         run = subprocess.run([program], input=ONE * 3, stdout=full, timeout=seconds)
     return None if run.returncode == 2 else f"exit status {run.returncode} in place of 2"
 
 
-def closed_output(program, seconds):
+def closed_output(program: str, seconds: float) -> Optional[str]:
     """A pipe that nobody reads any more."""
     read, write = os.pipe()
     os.close(read)
@@ -208,7 +216,7 @@ def closed_output(program, seconds):
     return None if run.returncode == 2 else f"exit status {run.returncode} in place of 2"
 
 
-def bad_input(program, seconds):
+def bad_input(program: str, seconds: float) -> Optional[str]:
     """A folder in place of an input: it can't be read."""
     with tempfile.TemporaryDirectory(prefix="dap-") as folder:
         source = os.open(folder, os.O_RDONLY)
@@ -219,15 +227,17 @@ def bad_input(program, seconds):
     return None if (run.returncode, run.stdout) == (2, b"") else f"exit status {run.returncode} in place of 2"
 
 
-def first_fault(process):
+def first_fault(process: subprocess.Popen[bytes]) -> Optional[str]:
     """What a process answers otherwise to the request, or None."""
+    assert process.stdout is not None
     got = read_message(process.stdout)
     return None if got == answers(7)[0] else f"the first message is {got}"
 
 
-def output_closed_later(program, seconds):
+def output_closed_later(program: str, seconds: float) -> Optional[str]:
     """A pipe whose reader goes after the first message."""
     process = subprocess.Popen([program], stdin=subprocess.PIPE, stdout=subprocess.PIPE)
+    assert process.stdin is not None and process.stdout is not None
     process.stdin.write(ONE)
     process.stdin.flush()
     fault = first_fault(process)
@@ -241,37 +251,42 @@ def output_closed_later(program, seconds):
     return fault or (None if status == 2 else f"exit status {status} in place of 2")
 
 
-def input_reset(program, seconds):
+def input_reset(program: str, seconds: float) -> Optional[str]:
     """An input that fails after the first message: a connection that is reset."""
     with socket.create_server(("127.0.0.1", 0)) as server:
         client = socket.create_connection(server.getsockname())
         accepted, _ = server.accept()
-    process = subprocess.Popen([program], stdin=accepted, stdout=subprocess.PIPE)
+    process = subprocess.Popen([program], stdin=accepted.fileno(), stdout=subprocess.PIPE)
     accepted.close()
     client.sendall(ONE)
     fault = first_fault(process)
     client.setsockopt(socket.SOL_SOCKET, socket.SO_LINGER, struct.pack("ii", 1, 0))
     client.close()
     written, _ = process.communicate(timeout=seconds)
-    return fault or (None if (process.returncode, written) == (2, b"") else f"exit status {process.returncode} in place of 2")
+    return fault or (None if (process.returncode, written) == (2, b"")
+                     else f"exit status {process.returncode} in place of 2")
 
 
-def long_output(program, seconds):
+def long_output(program: str, seconds: float) -> Optional[str]:
     """A run that writes nearly as much as it may, which is told in one event, with its control characters."""
     line = "\t" + "x" * 65_000 + "\\033"
-    text = f'data $s = {{ b "{line}", b 0 }}\nfunction $main() {{\n@start\n' + "\t%r =w call $puts(l $s)\n" * 15 + "\tret\n}\n"
+    text = (f'data $s = {{ b "{line}", b 0 }}\nfunction $main() {{\n@start\n'
+            + "\t%r =w call $puts(l $s)\n" * 15 + "\tret\n}\n")
     with tempfile.NamedTemporaryFile(prefix="dap-", suffix=".ssa") as file:
         file.write(text.encode())
         file.flush()
-        requests = [("launch", {"program": file.name, "stopOnEntry": False}), ("configurationDone", None), ("disconnect", None)]
+        requests: list[tuple[str, Optional[Message]]] = [
+            ("launch", {"program": file.name, "stopOnEntry": False}), ("configurationDone", None),
+            ("disconnect", None)]
         sent = b"".join(frame(request_message(number, *request)) for number, request in enumerate(requests, 1))
         run = subprocess.run([program], input=sent, stdout=subprocess.PIPE, timeout=seconds)
     told = [message["body"]["output"] for message in messages_in(run.stdout) if message.get("event") == "output"]
     wanted = [("\t" + "x" * 65_000 + "\x1b\n") * 15]
-    return None if (told, run.returncode) == (wanted, 0) else f"exit status {run.returncode}, {[len(one) for one in told]} characters"
+    return None if (told, run.returncode) == (wanted, 0) else \
+        f"exit status {run.returncode}, {[len(one) for one in told]} characters"
 
 
-def cases():
+def cases() -> Iterator[Case]:
     """Each case: its name, a function of the program and the seconds, and what else that takes."""
     for name in INPUTS:
         yield name, of_input, (name,)

@@ -1,15 +1,28 @@
-"""Libraries that are preloaded to a run; and a run with the one that refuses an allocation and counts them (refusing.c)."""
+"""Libraries that are preloaded to a run; and a run with the one that refuses an allocation and counts them
+(refusing.c)."""
 import os
 import pathlib
 import shutil
 import struct
 import subprocess
 import tempfile
+from collections.abc import Iterator, Sequence
 from contextlib import contextmanager
+from typing import Protocol
 
 from harness.running import captured
 
 HERE = pathlib.Path(__file__).resolve().parent
+
+
+class Asked(Protocol):
+    """Which program is asked, and how long it may take."""
+
+    @property
+    def program(self) -> str: ...
+
+    @property
+    def seconds(self) -> float: ...
 
 
 class NoCompiler(Exception):
@@ -17,7 +30,7 @@ class NoCompiler(Exception):
 
 
 @contextmanager
-def library(source="refusing.c"):
+def library(source: str = "refusing.c") -> Iterator[str]:
     """The library, compiled into a folder of its own."""
     with tempfile.TemporaryDirectory(prefix="preloaded-") as folder:
         made = os.path.join(folder, "preloaded.so")
@@ -31,7 +44,7 @@ def library(source="refusing.c"):
         raise NoCompiler(f"there is no C compiler for {source}")
 
 
-def compilers():
+def compilers() -> Iterator[list[str]]:
     """The system's C compiler, else that of the toolchain."""
     if shutil.which("cc"):
         yield ["cc"]
@@ -45,7 +58,7 @@ def compilers():
 class Run:
     """A run in which the allocation of that number was refused, if it came to that; none is where the number is 0."""
 
-    def __init__(self, running, made, which, words, script):
+    def __init__(self, running: Asked, made: str, which: int, words: Sequence[str], script: bytes) -> None:
         with tempfile.NamedTemporaryFile(prefix="counts-") as counts, tempfile.TemporaryFile() as source:
             counts.write(bytes(16))
             counts.flush()

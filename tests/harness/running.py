@@ -1,12 +1,17 @@
 """Which program is asked, a run of it, what it did otherwise than it must, and the count of what passed."""
+from __future__ import annotations
+
+import argparse
 import collections
 import itertools
 import os
 import pathlib
+import resource
 import subprocess
 import sys
 import tempfile
-from typing import NamedTuple
+from collections.abc import Callable, Mapping, Sequence
+from typing import IO, NamedTuple
 
 TOP = pathlib.Path(__file__).resolve().parent.parent.parent
 EXAMPLES = TOP / "examples"
@@ -20,12 +25,13 @@ LOADED = b"loaded 1 functions 0 data bytes ssa yes\n#0 $main @start 0\n"
 LOOP = b"function $main() {\n@start\n\tjmp @l\n@l\n\tjmp @l\n}\n"
 
 
-def add_program_option(options):
+def add_program_option(options: argparse.ArgumentParser) -> None:
     options.add_argument("--program", metavar="PATH",
-                         help="the program that is asked; else the released one where it fits, or the one that is built")
+                         help="the program that is asked; else the released one where it fits, "
+                              "or the one that is built")
 
 
-def program_of(given):
+def program_of(given: argparse.Namespace) -> str:
     """The program that is asked, by the options of a test."""
     if given.program:
         return str(pathlib.Path(given.program).resolve())
@@ -37,15 +43,16 @@ def program_of(given):
     return str(BUILT)
 
 
-def memory_file():
+def memory_file() -> IO[bytes]:
     return open(os.memfd_create("written"), "w+b", buffering=0)
 
 
-def captured(words, **given):
-    """What subprocess.run gives with captured output. The output goes to files in memory: at a pipe each line that a program
-    writes would wake up its reader."""
+def captured(words: Sequence[str], stdin: IO[bytes] | None = None, input: bytes | None = None,
+             env: Mapping[str, str] | None = None, timeout: float | None = None) -> subprocess.CompletedProcess[bytes]:
+    """What subprocess.run gives with captured output. The output goes to files in memory: at a pipe each line that a
+    program writes would wake up its reader."""
     with memory_file() as out, memory_file() as errors:
-        run = subprocess.run(words, stdout=out, stderr=errors, **given)
+        run = subprocess.run(words, stdin=stdin, stdout=out, stderr=errors, input=input, env=env, timeout=timeout)
         for file in (out, errors):
             file.seek(0)
         run.stdout, run.stderr = out.read(), errors.read()
@@ -56,26 +63,27 @@ class Case(NamedTuple):
     """A test: `function(running, *arguments)` gives what is wrong, or None."""
 
     name: str
-    function: object
-    arguments: tuple = ()
+    function: Callable[..., str | Skipped | None]
+    arguments: tuple[object, ...] = ()
 
 
 class Running(NamedTuple):
     program: str
     seconds: float
 
-    def run(self, text, script=b"", words=(), **given):
+    def run(self, text: bytes, script: bytes = b"", words: Sequence[str] = ()) -> tuple[bytes, bytes, int] | None:
         """What the program writes to standard output and error for a text, and its exit status; None without an end."""
         with tempfile.NamedTemporaryFile(prefix="hostile-", suffix=".ssa") as file:
             file.write(text)
             file.flush()
             try:
-                run = captured([self.program, file.name, *words], input=script, timeout=self.seconds, **given)
+                run = captured([self.program, file.name, *words], input=script, timeout=self.seconds)
             except subprocess.TimeoutExpired:
                 return None
         return run.stdout, run.stderr, run.returncode
 
-    def measured(self, text, script=b"", words=()):
+    def measured(self, text: bytes, script: bytes = b"",
+                 words: Sequence[str] = ()) -> tuple[resource.struct_rusage, bytes]:
         """What a run uses, and its transcript. A run that doesn't end well is an error."""
         with tempfile.NamedTemporaryFile(prefix="hostile-", suffix=".ssa") as file, tempfile.TemporaryFile() as lines, \
                 tempfile.TemporaryFile() as transcript:
@@ -91,17 +99,17 @@ class Running(NamedTuple):
             transcript.seek(0)
             return used, transcript.read()
 
-    def timed(self, text, script=b"", words=()):
+    def timed(self, text: bytes, script: bytes = b"", words: Sequence[str] = ()) -> tuple[float, bytes]:
         """The processor's seconds that a run takes, and its transcript."""
         used, transcript = self.measured(text, script, words)
         return used.ru_utime + used.ru_stime, transcript
 
-    def resident(self, text, script=b"", words=()):
+    def resident(self, text: bytes, script: bytes = b"", words: Sequence[str] = ()) -> tuple[int, bytes]:
         """The most memory that a run has resident, in kB, and its transcript."""
         used, transcript = self.measured(text, script, words)
         return used.ru_maxrss, transcript
 
-    def fault(self, text, script, words, transcript, status):
+    def fault(self, text: bytes, script: bytes, words: Sequence[str], transcript: bytes, status: int) -> str | None:
         """What the program does otherwise than it must, or None. Nothing may come on standard error."""
         run = self.run(text, script, words)
         if run is None:
@@ -111,14 +119,14 @@ class Running(NamedTuple):
             f"standard error: {quoted(run[1])}" if run[1] else None)
 
 
-def quoted(line):
+def quoted(line: bytes | None) -> str:
     if line is None:
         return "the end"
     text = repr(line)[1:]
     return text if len(text) < 100 else text[:96] + " .."
 
 
-def difference(wanted, given):
+def difference(wanted: bytes, given: bytes) -> str | None:
     """The first line where two texts differ, or None."""
     if wanted == given:
         return None
@@ -140,13 +148,14 @@ TERMINAL = "a pseudo-terminal"
 
 
 class Tally:
-    """How many cases passed and failed, and how many wait for which tool. A failing one has a line, and each missing tool."""
+    """How many cases passed and failed, and how many wait for which tool. A failing one has a line, and each missing
+    tool."""
 
-    def __init__(self):
+    def __init__(self) -> None:
         self.passed = self.failed = 0
-        self.waiting = collections.Counter()
+        self.waiting: collections.Counter[str] = collections.Counter()
 
-    def add(self, name, fault):
+    def add(self, name: str, fault: str | Skipped | None) -> None:
         if isinstance(fault, Skipped):
             self.waiting[fault.tool] += 1
         elif fault:
@@ -155,7 +164,7 @@ class Tally:
         else:
             self.passed += 1
 
-    def end(self):
+    def end(self) -> int:
         """Prints the last line, and gives the exit status."""
         for tool, count in self.waiting.items():
             print(f"skipped: {tool} isn't here, and {count} {'test waits' if count == 1 else 'tests wait'} for it")

@@ -1,11 +1,15 @@
-"""How many allocations moves and commands take, and how many bytes, counted by a library that is preloaded (refusing.c)."""
+"""How many allocations moves and commands take, and how many bytes, counted by a library that is preloaded
+(refusing.c)."""
+from __future__ import annotations
+
 import tempfile
+from collections.abc import Iterator
 
 from harness.preloaded import Run, library
-from harness.running import FIRST, LOADED, LOOP, ROWS, Case, difference
+from harness.running import FIRST, LOADED, LOOP, ROWS, Case, Running, difference
 
-# A copy of 64 bytes is the third step, an allocation the fourth; then the same of 32 bytes. Then there is no end, and steps
-# take no memory.
+# A copy of 64 bytes is the third step, an allocation the fourth; then the same of 32 bytes. Then there is no end, and
+# steps take no memory.
 MOVES = b"""data $d = { z 192 }
 function $main() {
 @s
@@ -49,21 +53,24 @@ PHIS = b"""function $main() {
 }
 """
 
-# How many steps come first, what is asked for then, and how many allocations that takes besides those of the list of records.
-# What copies and allocations overwrite is kept in a block, and more than 32 bytes of it in a second one; so are the slots of
-# three phis and more, in a second block where these are more than four.
+# How many steps come first, what is asked for then, and how many allocations that takes besides those of the list of
+# records. What copies and allocations overwrite is kept in a block, and more than 32 bytes of it in a second one; so
+# are the slots of three phis and more, in a second block where these are more than four.
 ASKED = {
     MOVES: [(0, b"step", 0), (0, b"set %x 9", 0), (0, b"poke l 65536 9", 0), (1, b"step", 0), (1, b"set %x 9", 0),
-            (1, b"poke l 65536 9", 0), (2, b"step", 2), (3, b"step", 2), (4, b"step", 1), (5, b"step", 1), (6, b"step", 0)],
+            (1, b"poke l 65536 9", 0), (2, b"step", 2), (3, b"step", 2), (4, b"step", 1), (5, b"step", 1),
+            (6, b"step", 0)],
     PHIS: [(0, b"step", 0), (1, b"step", 1), (2, b"step", 1), (3, b"step", 2), (4, b"step", 0)],
 }
 
 # The moves that make the list of records longer: the first, and each that finds it full.
 LENGTHENING = (0, 4, 8, 16, 32)
 
-# Of the programs of rows/moves/, how many moves each makes, and which of these take how many allocations of their own: a call
-# one for its frame and one for the slots, if it has some; jumps, copies and allocations as above; and where the output grows.
-OWN = {
+# Of the programs of rows/moves/, how many moves each makes, and which of these take how many allocations of their own:
+# a call one for its frame and one for the slots, if it has some; jumps, copies and allocations as above; and where the
+# output
+# grows.
+OWN: dict[str, tuple[int, dict[int, int]]] = {
     "calls": (49, {0: 2, 2: 2, 4: 2, 46: 1}),
     "halted": (1, {}),
     "jumps": (10, {4: 1, 6: 2}),
@@ -94,7 +101,8 @@ ROUND_SAID = b"""loaded 1 functions 8 data bytes ssa yes
 
 # Lines that take no memory, behind others; and what is said to all of them.
 LOOKED = (b"break $main @start 1\nstep\n",
-          b"print %x\ntemps\nmem 65536 2\nwhere\nlist\nout\nbreak $main\nwatch b 65536\nwatch $main %x\nstops\ndelete 2\n"
+          b"print %x\ntemps\nmem 65536 2\nwhere\nlist\nout\nbreak $main\nwatch b 65536\nwatch $main %x\nstops\n"
+          b"delete 2\n"
           b"back\nback\nreverse\nfly\n",
           LOADED + b"""break 1 $main @start 1
 #1 $main @start 1
@@ -120,15 +128,16 @@ no: at start
 no: unknown command
 """)
 REVERSED = (b"break $main @start 1\nstep 2\n", b"reverse\nreverse\nquit\n",
-            LOADED + b"break 1 $main @start 1\n#2 done 5\nstop: break 1\n#1 $main @start 1\nstop: start\n#0 $main @start 0\n")
+            LOADED
+            + b"break 1 $main @start 1\n#2 done 5\nstop: break 1\n#1 $main @start 1\nstop: start\n#0 $main @start 0\n")
 QUIET = {"what only looks": LOOKED, "a run back": REVERSED}
 
 # A loop beside as many data as there may be.
 GREATEST = b"data $z = { z 1048576 }\n" + LOOP
 GREATEST_LOADED = LOADED.replace(b"0 data", b"1048576 data")
 
-# Rounds of six moves, each of which has memory of its own in its record: a call's return, an allocation, a copy, and jumps to
-# three and to five phis. The first move goes to the first round.
+# Rounds of six moves, each of which has memory of its own in its record: a call's return, an allocation, a copy, and
+# jumps to three and to five phis. The first move goes to the first round.
 OWNING = b"""data $d = { z 192 }
 function w $f(w %x) {
 @s
@@ -176,29 +185,30 @@ CALLING_SAID = b"loaded 2 functions 0 data bytes ssa yes\n#0 $main @s 0\n#100 $m
 class Counting:
     """Counts what runs of a program's text take."""
 
-    def __init__(self, running, made, text, history):
+    def __init__(self, running: Running, made: str, text: bytes, history: int | None) -> None:
         self.running, self.made, self.text = running, made, text
         self.words = ["--history", "all" if history is None else str(history)]
 
-    def run(self, script):
+    def run(self, script: bytes) -> Run:
         with tempfile.NamedTemporaryFile(prefix="counts-", suffix=".ssa") as file:
             file.write(self.text)
             file.flush()
             run = Run(self.running, self.made, 0, [file.name, *self.words], script)
         if run.status or run.errors or not run.allocations:
-            raise ValueError(f"status {run.status}, {run.allocations} allocations, standard error: {run.errors}")
+            raise ValueError(f"status {run.status}, {run.allocations} allocations, standard error: {run.errors!r}")
         return run
 
-    def more(self, script, behind):
+    def more(self, script: bytes, behind: bytes) -> int:
         """How many allocations the lines behind a script take."""
-        return self.run(script + behind).allocations - self.run(script).allocations
+        more: int = self.run(script + behind).allocations - self.run(script).allocations
+        return more
 
 
-def steps(count):
+def steps(count: int) -> bytes:
     return b"step %d\n" % count if count else b""
 
 
-def quiet(running, name, history):
+def quiet(running: Running, name: str, history: int | None) -> str | None:
     """Lines that look, set stops or go back take no memory."""
     before, lines, said = QUIET[name]
     with library() as made:
@@ -207,7 +217,7 @@ def quiet(running, name, history):
         return difference(said, counting.run(before + lines).written) or (f"{taken} allocations" if taken else None)
 
 
-def of_each_move(running, text, history):
+def of_each_move(running: Running, text: bytes, history: int | None) -> str | None:
     """Each kind of move takes the allocations that it is to; with a bound none for the list."""
     with library() as made:
         counting = Counting(running, made, text, history)
@@ -216,17 +226,17 @@ def of_each_move(running, text, history):
                 wanted += 1
             taken = counting.more(steps(count), line + b"\n")
             if taken != wanted:
-                return f"{taken} allocations of {line} behind {count} steps in place of {wanted}"
+                return f"{taken} allocations of {line!r} behind {count} steps in place of {wanted}"
     return None
 
 
-def own_text(name):
+def own_text(name: str) -> bytes:
     return (ROWS / "moves" / f"{name}.ssa").read_bytes()
 
 
-def of_own(running, name, history):
-    """Each move of a program of rows/moves/ takes the allocations that it is to, and its way back none; with a bound, where no
-    list grows, pokes take none."""
+def of_own(running: Running, name: str, history: int | None) -> str | None:
+    """Each move of a program of rows/moves/ takes the allocations that it is to, and its way back none; with a bound,
+    where no list grows, pokes take none."""
     moves, own = OWN[name]
     with library() as made:
         counting = Counting(running, made, own_text(name), history)
@@ -236,12 +246,13 @@ def of_own(running, name, history):
             back = counting.more(steps(count + 1), b"back\n")
             poked = counting.more(steps(count), POKES) if history else 0
             if (taken, back, poked) != (wanted, 0, 0):
-                return f"{taken} allocations of step {count + 1} in place of {wanted}, {back} of its way back, {poked} of pokes"
+                return (f"{taken} allocations of step {count + 1} in place of {wanted}, {back} of its way back, "
+                        f"{poked} of pokes")
         ended = counting.run(steps(moves) + b"step\n").written.splitlines()[-1]
-    return None if ended == b"no: at end" else f"more than {moves} moves: {ended}"
+    return None if ended == b"no: at end" else f"more than {moves} moves: {ended!r}"
 
 
-def growths(running):
+def growths(running: Running) -> str | None:
     """From five moves to forty the list grows three times: to more than 8, 16 and 32."""
     with library() as made:
         counting = Counting(running, made, MOVES, None)
@@ -249,11 +260,11 @@ def growths(running):
             line = b"step\n" if count % 2 == 0 else b"set %%x %d\n" % count
             taken, wanted = counting.more(steps(count), line), 1 if count in (8, 16, 32) else 0
             if taken != wanted:
-                return f"{taken} allocations of {line} behind {count} steps in place of {wanted}"
+                return f"{taken} allocations of {line!r} behind {count} steps in place of {wanted}"
     return None
 
 
-def long_run(running, history, most):
+def long_run(running: Running, history: int | None, most: int) -> str | None:
     """3,000 moves take so many allocations at most, and a way back over them none."""
     with library() as made:
         counting = Counting(running, made, LOOP, history)
@@ -262,7 +273,7 @@ def long_run(running, history, most):
             f"{taken} allocations, and {back} of the way back" if taken > most or back else None)
 
 
-def ring(running):
+def ring(running: Running) -> str | None:
     """A bound takes its room for the load, 24 bytes for each move that is kept, in a block, however many these are."""
     with library() as made:
         few, many = (Counting(running, made, PLAIN, history).run(b"") for history in (100, 900))
@@ -270,7 +281,7 @@ def ring(running):
         return f"{more[0]} allocations of {more[1]} bytes more for 800 moves" if more != (0, 800 * 24) else None
 
 
-def ring_moves(running):
+def ring_moves(running: Running) -> str | None:
     """Then moves that need no memory of their own take none."""
     with library() as made:
         counting = Counting(running, made, PLAIN, 3)
@@ -278,7 +289,7 @@ def ring_moves(running):
         return difference(ROUND_SAID, counting.run(ROUND).written) or (f"{taken} allocations" if taken else None)
 
 
-def calls_again(running):
+def calls_again(running: Running) -> str | None:
     """Once a bound has forgotten a return, a call of a function with as many temporaries takes no memory."""
     with library() as made:
         counting = Counting(running, made, CALLING, 3)
@@ -287,9 +298,10 @@ def calls_again(running):
             f"{taken} allocations" if taken else None)
 
 
-def given_back(running):
-    """What a forgotten record has of its own is given back: ten times as many moves with --history 3 take no more memory."""
-    def run(moves):
+def given_back(running: Running) -> str | None:
+    """What a forgotten record has of its own is given back: ten times as many moves with --history 3 take no more
+    memory."""
+    def run(moves: int) -> tuple[int, str | None]:
         kilobytes, written = running.resident(OWNING, b"step %d\n" % moves, ["--history", "3"])
         return kilobytes, difference(OWNING_SAID % moves, written)
 
@@ -297,7 +309,7 @@ def given_back(running):
     return fault or other or (f"{many} kB in place of {few}" if many - few > 2_000 else None)
 
 
-def records(running):
+def records(running: Running) -> str | None:
     """1,000 moves over 2^20 bytes of data take 24 bytes each, in lists of 4, 8 and so on to 1,024 records."""
     with library() as made:
         counting = Counting(running, made, GREATEST, None)
@@ -307,7 +319,7 @@ def records(running):
             f"{taken} bytes, more than {most}" if taken > most else None)
 
 
-def cases():
+def cases() -> Iterator[Case]:
     for name in QUIET:
         for history in (None, 3):
             yield Case(f"{name} takes no memory, --history {history or 'all'}", quiet, (name, history))

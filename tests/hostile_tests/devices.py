@@ -1,4 +1,6 @@
 """Standard input and output that are slow, closed or fail, and files that are no plain text."""
+from __future__ import annotations
+
 import fcntl
 import os
 import resource
@@ -9,9 +11,12 @@ import subprocess
 import tempfile
 import termios
 import time
+from collections.abc import Callable, Iterator, Mapping, Sequence
+from pathlib import Path
+from typing import IO, Optional, Union
 
 from harness.preloaded import library
-from harness.running import TERMINAL, Skipped, FIRST, LOADED, TOP, Case, difference, quoted
+from harness.running import TERMINAL, Skipped, FIRST, LOADED, TOP, Case, Running, difference, quoted
 
 EXAMPLE = TOP / "examples" / "squares.ssa"
 SCRIPT = (TOP / "examples" / "squares.script").read_bytes()
@@ -22,11 +27,17 @@ SUM = TOP / "examples" / "sum.ssa"
 STEPPED = LOADED + b"#1 $main @start 1\n"
 
 
-def started(running, program, words=(), **given):
-    return subprocess.Popen([running.program, str(program), *words], **given)
+def started(running: Running, program: Union[str, Path], words: Sequence[str] = (),
+            stdin: Union[int, IO[bytes], None] = None, stdout: Union[int, IO[bytes], None] = None,
+            env: Optional[Mapping[str, str]] = None,
+            preexec_fn: Optional[Callable[[], None]] = None, restore_signals: bool = True) -> subprocess.Popen[bytes]:
+    return subprocess.Popen([running.program, str(program), *words], stdin=stdin, stdout=stdout, env=env,
+                            preexec_fn=preexec_fn, restore_signals=restore_signals)
 
 
-def ended(running, process, transcript, status, script=None, written=None, may_lack=False):
+def ended(running: Running, process: subprocess.Popen[bytes], transcript: bytes, status: int,
+          script: Optional[bytes] = None, written: Union[bytes, Callable[[], bytes], None] = None,
+          may_lack: bool = False) -> Optional[str]:
     """Gives the rest of a script, if there is one, and tells what is wrong with what was written and the end, or None.
 
     `written` is what was read elsewhere; with `may_lack` any front of the transcript will do."""
@@ -38,7 +49,7 @@ def ended(running, process, transcript, status, script=None, written=None, may_l
         return f"no end after {running.seconds} seconds"
     if written is None:
         written = out or b""
-    if callable(written):
+    if not isinstance(written, bytes):
         written = written()
     if may_lack:
         transcript = transcript[:len(written)]
@@ -46,7 +57,7 @@ def ended(running, process, transcript, status, script=None, written=None, may_l
         f"status {process.returncode} in place of {status}" if process.returncode != status else None)
 
 
-def taken(file, count, seconds):
+def taken(file: int, count: int, seconds: float) -> bytes:
     """So many bytes of a pipe, or those that come before it ends or is silent for so long."""
     got = b""
     while len(got) < count and select.select([file], [], [], seconds)[0]:
@@ -57,21 +68,22 @@ def taken(file, count, seconds):
     return got
 
 
-def all_of(file):
+def all_of(file: IO[bytes]) -> bytes:
     """What stands in a file, from its start."""
     file.seek(0)
     return file.read()
 
 
-def waiting_bytes(file):
+def waiting_bytes(file: IO[bytes]) -> int:
     """How many bytes stand in a pipe."""
-    return struct.unpack("i", fcntl.ioctl(file, termios.FIONREAD, b"\0\0\0\0"))[0]
+    return int(struct.unpack("i", fcntl.ioctl(file, termios.FIONREAD, b"\0\0\0\0"))[0])
 
 
-def fed_by_bytes(running):
+def fed_by_bytes(running: Running) -> Optional[str]:
     """The script comes one byte at a time, each after the one before was read."""
     with tempfile.TemporaryFile() as out:
         process = started(running, EXAMPLE, stdin=subprocess.PIPE, stdout=out)
+        assert process.stdin is not None
         end = time.monotonic() + running.seconds
         for byte in SCRIPT:
             os.write(process.stdin.fileno(), bytes([byte]))
@@ -80,12 +92,13 @@ def fed_by_bytes(running):
         return ended(running, process, TRANSCRIPT, 0, written=lambda: all_of(out))
 
 
-def read_by_bytes(running):
+def read_by_bytes(running: Running) -> Optional[str]:
     """The transcript is read one byte at a time, from a pipe of one page that is full most of the time."""
     reads, writes = os.pipe()
     fcntl.fcntl(writes, fcntl.F_SETPIPE_SZ, 4096)
     process = started(running, EXAMPLE, stdin=subprocess.PIPE, stdout=writes)
     os.close(writes)
+    assert process.stdin is not None
     process.stdin.write(b"mem $squares 256\n" * 20)
     process.stdin.close()
     process.stdin = None
@@ -98,9 +111,10 @@ def read_by_bytes(running):
     return ended(running, process, load + line * 20, 0, written=got)
 
 
-def held_by_hand(running):
+def held_by_hand(running: Running) -> Optional[str]:
     """Each answer comes before the next line is given."""
     process = started(running, SUM, stdin=subprocess.PIPE, stdout=subprocess.PIPE)
+    assert process.stdin is not None and process.stdout is not None
     exchanges = [(b"", LOADED), (b"step\n", b"#1 $main @start 1\n"), (b"print", b""), (b" %x\n", b"%x = 5\n"),
                  (b"\n", b""), (b"fly\n", b"no: unknown command\n"), (b"back\n", b"#0 $main @start 0\n")]
     for line, answer in exchanges:
@@ -120,7 +134,7 @@ def held_by_hand(running):
     return ended(running, process, b"", 0, written=rest)
 
 
-def ended_by_hand(running):
+def ended_by_hand(running: Running) -> Union[str, Skipped, None]:
     """The end of input is told at a terminal behind an unfinished line, once; what comes behind it isn't waited for."""
     try:
         ours, theirs = os.openpty()
@@ -135,18 +149,19 @@ def ended_by_hand(running):
     return fault
 
 
-def bad_input(running, kind):
+def bad_input(running: Running, kind: str) -> Optional[str]:
     """An input that can't be read: the load lines, and status 2."""
     files = {"a folder": ("/", os.O_RDONLY), "open for writing alone": (os.devnull, os.O_WRONLY),
              "memory that can't be read": ("/proc/self/mem", os.O_RDONLY)}
     if kind == "closed":
         process = started(running, SUM, stdout=subprocess.PIPE, preexec_fn=lambda: os.close(0))
         return ended(running, process, LOADED, 2)
+    other: Optional[int] = None
     if kind == "without a byte now":
         file, other = os.pipe()
         os.set_blocking(file, False)
     else:
-        file, other = os.open(*files[kind]), None
+        file = os.open(*files[kind])
     process = started(running, SUM, stdin=file, stdout=subprocess.PIPE)
     os.close(file)
     fault = ended(running, process, LOADED, 2)
@@ -155,26 +170,27 @@ def bad_input(running, kind):
     return fault
 
 
-def failing_input(running, script, transcript, status):
+def failing_input(running: Running, script: bytes, transcript: bytes, status: int) -> Optional[str]:
     """An input of which these bytes can be read, and whose next read fails."""
     ours, theirs = socket.socketpair()
     # Bytes that were sent to an end and not read there when it is closed are a fault at the other end.
     theirs.send(b"unread")
     ours.send(script)
     ours.close()
-    process = started(running, SUM, stdin=theirs, stdout=subprocess.PIPE)
+    process = started(running, SUM, stdin=theirs.fileno(), stdout=subprocess.PIPE)
     theirs.close()
     return ended(running, process, transcript, status)
 
 
-def cut_input(running, length):
+def cut_input(running: Running, length: int) -> Optional[str]:
     """An input that fails behind so many bytes: what was written answers the lines that were read as a whole."""
     script = SUM_SCRIPT[:length]
     answers = SUM_ANSWERS.splitlines(True)[:script.count(b"\n")]
     return failing_input(running, script, LOADED + b"".join(answers), 2)
 
 
-def read_of(running, text, words, script, written, status):
+def read_of(running: Running, text: bytes, words: Sequence[str], script: bytes, written: bytes,
+            status: int) -> tuple[int, Optional[str]]:
     """How many bytes of a script in a file are read, and what the program does otherwise than it must, or None."""
     with tempfile.NamedTemporaryFile(prefix="hostile-", suffix=".ssa") as program, tempfile.TemporaryFile() as source:
         program.write(text)
@@ -187,25 +203,24 @@ def read_of(running, text, words, script, written, status):
         return os.lseek(source.fileno(), 0, os.SEEK_CUR), fault
 
 
-def unread_script(running, name):
+def unread_script(running: Running, name: str) -> Optional[str]:
     """The script of a program that is refused isn't read."""
     text, words, written = REFUSED[name]
     read, fault = read_of(running, text, words, b"step\n", written, 1)
     return fault or (f"{read} bytes of the script were read" if read else None)
 
 
-def greatest_input(running):
+def greatest_input(running: Running) -> Optional[str]:
     """Of a script that is too long one byte more than it may have is read, and no more."""
     read, fault = read_of(running, FIRST, [], b"\n" * (2**24 + 10_000), LOADED, 2)
     return fault or (f"{read} bytes of the script were read" if read != 2**24 + 1 else None)
 
 
-def bad_output(running, kind):
+def bad_output(running: Running, kind: str) -> Optional[str]:
     """An output that takes nothing: status 2."""
-    given = {"stdin": subprocess.PIPE}
     if kind == "closed":
-        given["preexec_fn"] = lambda: os.close(1)
-        return ended(running, started(running, SUM, **given), b"", 2, SCRIPT)
+        process = started(running, SUM, stdin=subprocess.PIPE, preexec_fn=lambda: os.close(1))
+        return ended(running, process, b"", 2, SCRIPT)
     if kind == "a pipe without a reader":
         reads, file = os.pipe()
         os.close(reads)
@@ -213,21 +228,23 @@ def bad_output(running, kind):
         file = os.open("/dev/full", os.O_WRONLY)
     else:
         file = os.open(os.devnull, os.O_RDONLY)
-    process = started(running, SUM, stdout=file, **given)
+    process = started(running, SUM, stdin=subprocess.PIPE, stdout=file)
     os.close(file)
     return ended(running, process, b"", 2, SCRIPT)
 
 
-def help_unwritten(running):
+def help_unwritten(running: Running) -> Optional[str]:
     """Help that can't be written: status 2."""
     with open("/dev/full", "wb") as full:
-        run = subprocess.run([running.program, "--help"], stdin=subprocess.DEVNULL, stdout=full, timeout=running.seconds)
+        run = subprocess.run([running.program, "--help"], stdin=subprocess.DEVNULL, stdout=full,
+                             timeout=running.seconds)
     return None if run.returncode == 2 else f"status {run.returncode} in place of 2"
 
 
-def output_of_size(running, program, script, transcript, size):
+def output_of_size(running: Running, program: Union[str, Path], script: bytes, transcript: bytes,
+                   size: int) -> Optional[str]:
     """A file that takes so many bytes and no more: it has the front of the transcript of that length."""
-    def bounded():
+    def bounded() -> None:
         resource.setrlimit(resource.RLIMIT_FSIZE, (size, size))
 
     with tempfile.TemporaryFile() as out:
@@ -238,7 +255,7 @@ def output_of_size(running, program, script, transcript, size):
         return ended(running, process, transcript[:size], status, script, written=lambda: all_of(out))
 
 
-def no_bytes_taken(running):
+def no_bytes_taken(running: Running) -> Optional[str]:
     """Behind each number of bytes the output takes none, without an error: status 2, unless all was written."""
     transcript = STEPPED
     with library("full.c") as made:
@@ -251,16 +268,17 @@ def no_bytes_taken(running):
     return None
 
 
-def reader_goes(running, count, signals):
+def reader_goes(running: Running, count: int, signals: bool) -> Optional[str]:
     """The reader goes away after so many bytes of the load lines, and then there is something to write."""
     process = started(running, SUM, stdin=subprocess.PIPE, stdout=subprocess.PIPE, restore_signals=signals)
+    assert process.stdout is not None
     got = taken(process.stdout.fileno(), count, running.seconds)
     process.stdout.close()
     process.stdout = None
     return ended(running, process, LOADED[:count], 2, b"step\n" * 3, written=got)
 
 
-def full_pipe(running):
+def full_pipe(running: Running) -> Optional[str]:
     """A pipe that nobody empties and that doesn't wait: a front of the transcript, and status 2."""
     reads, writes = os.pipe()
     size = fcntl.fcntl(writes, fcntl.F_SETPIPE_SZ, 4096)
@@ -268,7 +286,7 @@ def full_pipe(running):
     process = started(running, SUM, stdin=subprocess.PIPE, stdout=writes)
     os.close(writes)
 
-    def written():
+    def written() -> bytes:
         front = taken(reads, 2 * size, running.seconds)
         return front if len(front) > size - 100 else b"only %d bytes were written" % len(front)
 
@@ -278,7 +296,8 @@ def full_pipe(running):
     return fault
 
 
-def file_as_program(running, words, script, written, errors, status):
+def file_as_program(running: Running, words: Sequence[Union[str, bytes]], script: bytes, written: bytes,
+                    errors: Optional[bytes], status: int) -> Optional[str]:
     """Files that are no plain text, and odd command lines."""
     run = subprocess.run([running.program, *words], input=script, capture_output=True, timeout=running.seconds)
     if errors is not None and run.stderr != errors:
@@ -287,7 +306,7 @@ def file_as_program(running, words, script, written, errors, status):
         f"status {run.returncode} in place of {status}" if run.returncode != status else None)
 
 
-def program_by_pipe(running):
+def program_by_pipe(running: Running) -> Optional[str]:
     """A program that comes by a pipe, a byte at a time."""
     with tempfile.TemporaryDirectory(prefix="hostile-") as folder:
         name = os.path.join(folder, "pipe")
@@ -301,14 +320,15 @@ def program_by_pipe(running):
 
 # Scripts behind which a read fails, what is written, and the status.
 FAILING = [
-    (b"step\npri", STEPPED, 2), (b"step\nquit", STEPPED, 2), (b"quit\n", LOADED, 0), (b"step\nquit\nstep\n", STEPPED, 0),
-    (b"\n" * 5000, LOADED, 2), (b"a" * 300, LOADED, 2), (b"a" * 300 + b"\n", LOADED + b"no: line too long\n", 2),
+    (b"step\npri", STEPPED, 2), (b"step\nquit", STEPPED, 2), (b"quit\n", LOADED, 0),
+    (b"step\nquit\nstep\n", STEPPED, 0), (b"\n" * 5000, LOADED, 2), (b"a" * 300, LOADED, 2),
+    (b"a" * 300 + b"\n", LOADED + b"no: line too long\n", 2),
 ]
 SUM_SCRIPT = b"step\nprint %x\nback\nprint %x\nstep 5\nstep\n"
 SUM_ANSWERS = b"#1 $main @start 1\n%x = 5\n#0 $main @start 0\n%x unset\n#2 done 5\nno: at end\n"
 # Programs that are refused, each in a part of the load: the text, the words behind it, and what is written.
 RETURNS = b"function $main() {\n@start\n\tret\n}\n"
-REFUSED = {
+REFUSED: dict[str, tuple[bytes, list[str], bytes]] = {
     "can't be cut": (b"function $main() {\n@start\n\t%x =l copy 18446744073709551616\n\tret\n}\n", [],
                      b"refused: L3 line 3\n"),
     "can't be parsed": (b"function w $main() {\n@start\n%x =w add 2,", [], b"refused: P3 line 3\n"),
@@ -320,7 +340,7 @@ REFUSED = {
     "takes no argument": (FIRST, ["5"], b"refused: S2\n"),
 }
 UNREADABLE = b"cannot read program\n"
-FILES = {
+FILES: dict[str, tuple[Sequence[Union[str, bytes]], bytes, bytes, Optional[bytes], int]] = {
     "the program on standard input": (["/dev/stdin"], SUM.read_bytes(), LOADED, b"", 0),
     "a program without an end": (["/dev/zero"], b"", b"refused: L6 line 1\n", b"", 1),
     "a folder as the program": (["/"], b"", b"", UNREADABLE, 2),
@@ -335,11 +355,11 @@ FILES = {
 }
 
 
-def of_files(running, name):
+def of_files(running: Running, name: str) -> Optional[str]:
     return file_as_program(running, *FILES[name])
 
 
-def cases():
+def cases() -> Iterator[Case]:
     yield Case("a script of single bytes", fed_by_bytes)
     yield Case("a transcript that is read by single bytes", read_by_bytes)
     yield Case("a session held by hand", held_by_hand)

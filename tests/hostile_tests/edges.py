@@ -1,5 +1,10 @@
-"""Loads and stores at the edges of live memory, the data and the part of the stack that was made; calls of addresses."""
-from harness.running import Case
+"""Loads and stores at the edges of live memory, the data and the part of the stack that was made; calls of
+addresses."""
+from __future__ import annotations
+
+from collections.abc import Iterator
+
+from harness.running import Case, Running
 
 # The bytes 1 to 24 as data, and as many on the stack, which starts at 16,777,216.
 TEXT = """data $d = {{ b 1 2 3 4 5 6 7 8 9 10 11 12 13 14 15 16 17 18 19 20 21 22 23 24 }}
@@ -21,7 +26,7 @@ LIVE = [(1, 65_536, 1), (1, 65_559, 24), (1, 16_777_239, 24), (2, 65_536, 0x0201
         (8, 16_777_216, 0x0807060504030201), (8, 16_777_232, 0x1817161514131211)]
 
 
-def dead_addresses(width):
+def dead_addresses(width: int) -> list[int]:
     """Addresses of which an access of so many bytes has some outside both intervals."""
     return [0, 1, 65_535, DATA_END - width + 1, DATA_END, 16_777_215, TOP - width + 1, TOP, 17_825_792,
             2**64 - 1 - width, 2**64 - 1]
@@ -42,8 +47,8 @@ function $main(l %a) {{
 	ret
 }}
 """
-# Addresses, an argument of the call, and the place behind it. The functions lie 16 bytes apart from 4096 on, `$putchar` at
-# 1024 and `$exit` at 1056.
+# Addresses, an argument of the call, and the place behind it. The functions lie 16 bytes apart from 4096 on, `$putchar`
+# at 1024 and `$exit` at 1056.
 CALLS = [(4096, "", "$f @s 0"), (4112, "l 0", "$puts @s 0"), (4128, "l 0", "$main @s 0"), (1024, "w 65", "$main @s 1"),
          (1056, "w 7", "exit 7")]
 CALLS += [(address, "l 0", f"fault no function at {address}")
@@ -51,19 +56,19 @@ CALLS += [(address, "l 0", f"fault no function at {address}")
                           16_777_216, 2**63 + 4096, 2**64 - 1)]
 
 
-def called(running, address, argument, place):
+def called(running: Running, address: int, argument: str, place: str) -> str | None:
     text = CALLS_TEXT.format(argument=argument).encode()
     written = f"loaded 3 functions 0 data bytes ssa yes\n#0 $main @s 0\n#1 {place}\n"
     return running.fault(text, b"step\n", [str(address)], written.encode(), 0)
 
 
-def access(running, line, address, end):
+def access(running: Running, line: str, address: int, end: str) -> str | None:
     text = TEXT.format(access=line).encode()
     written = f"loaded 1 functions 24 data bytes ssa yes\n#0 $main @s 0\n{end}\n"
     return running.fault(text, b"step 9\n", [str(address)], written.encode(), 0)
 
 
-def cases():
+def cases() -> Iterator[Case]:
     for address, argument, place in CALLS:
         yield Case(f"call of {address}", called, (address, argument, place))
     for width, address, value in LIVE:

@@ -2,34 +2,42 @@
 
 The limits that have a folder of their own beside this one are left out.
 """
+from __future__ import annotations
 
-def loaded(functions=1, data=0, form="yes", place="$main @s 0"):
+from collections.abc import Callable, Iterable
+from typing import Union
+
+# What makes a text, what it gives, and the script that is run on it, if there is one.
+Long = Union[tuple[Callable[[], bytes], str], tuple[Callable[[], bytes], str, bytes]]
+
+
+def loaded(functions: int = 1, data: int = 0, form: str = "yes", place: str = "$main @s 0") -> str:
     return f"loaded {functions} functions {data} data bytes ssa {form}\n#0 {place}\n"
 
 
-def main_of(lines, head="function $main() {@s\n", end="ret\n}\n"):
+def main_of(lines: Iterable[str], head: str = "function $main() {@s\n", end: str = "ret\n}\n") -> bytes:
     return (head + "".join(lines) + end).encode("latin-1")
 
 
-def padded(text, length):
+def padded(text: bytes, length: int) -> bytes:
     """The text with a comment behind it, of so many bytes in all."""
     return text + b"#" * (length - len(text))
 
 
-def parameters(count):
+def parameters(count: int) -> str:
     return ",".join(f"w %{n}" for n in range(count))
 
 
-def at_pages(count):
+def at_pages(count: int) -> bytes:
     """So many objects at multiples of 4096."""
     return b"".join(b"data $d%d = align 4096 { b 1 }\n" % n for n in range(count)) + RET
 
 
-def functions(count):
+def functions(count: int) -> bytes:
     return b"".join(b"function $f%d() {@s\nret\n}\n" % n for n in range(count))
 
 
-def labels(count, head="function $main() {@s\n"):
+def labels(count: int, head: str = "function $main() {@s\n") -> bytes:
     """A function with so many labels."""
     return main_of((f"@{n}\n" for n in range(count - 1)), head)
 
@@ -38,7 +46,7 @@ N = 500_000
 RET = b"function $main() {@s\nret\n}\n"
 
 # What is at a limit and what is one past it, but for those that are folders of rows/.
-LIMITS = {
+LIMITS: dict[str, Long] = {
     "a text of 2^20 bytes": (lambda: padded(RET, 2**20), loaded()),
     "a text of one byte more": (lambda: padded(RET, 2**20 + 1), "refused: L6 line 1\n"),
     "a text of two bytes more with no token": (lambda: b"?" * (2**20 + 2), "refused: L6 line 1\n"),
@@ -95,20 +103,20 @@ LIMITS = {
 }
 
 
-def thousand_calls():
+def thousand_calls() -> bytes:
     """1,000 functions of which each calls the next, from `$f0`."""
     middle = b"".join(b"function $f%d() {@s\ncall $f%d()\nret\n}\n" % (n, n + 1) for n in range(1, 999))
     return b"function $main() {@s\ncall $f1()\nret\n}\n" + middle + b"function $f999() {@s\nret\n}\n"
 
 
-def many_arguments(count):
+def many_arguments(count: int) -> bytes:
     arguments = ",".join(f"w {n}" for n in range(count))
     callee = main_of([], f"function w $f({parameters(count)}) {{@s\n", f"ret %{count - 1}\n}}\n")
     return callee + main_of([f"%x =w call $f({arguments})\n"])
 
 
 # What is long in two ways at once: each would be paid for by the other in a careless table.
-LONG_TWICE = {
+LONG_TWICE: dict[str, Long] = {
     "38,000 phis under a label of 500,000 bytes": (
         lambda: main_of([f"@{'b' * N}\n"] + ["%x=w phi@s 1\n"] * 38000), loaded(form="no $main %x")
         + f"#1 $main @{'b' * N} 0\n%x = 1\n", b"step\nprint %x\n"),

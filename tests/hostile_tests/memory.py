@@ -1,13 +1,21 @@
 """Each allocation of the program refused in turn, by a library that is preloaded (refusing.c)."""
+from __future__ import annotations
+
 import subprocess
 import tempfile
+from collections.abc import Callable, Collection, Iterator, Sequence
 
 from harness.preloaded import Run, library
-from harness.running import FIRST, LOADED, LOOP, Case, quoted
+from harness.running import FIRST, LOADED, LOOP, Case, Running, quoted
 import reference
 from reference.session import No, lines_of, read_command
 
 from . import counts
+
+# What is wrong with a run, or None.
+Judge = Callable[[Run], "str | None"]
+# How many moves back are kept; None for all, or COPIES.
+History = int | str | None
 
 MOST = 20_000  # refused allocations that are tried before a run must meet none
 
@@ -93,10 +101,11 @@ export function w $main() {
 }
 """
 # A text of 200 kB, with as many temporaries as lines.
-LONG = b"function $main() {\n@start\n" + b"".join(b"\t%%x%d =w add %d, 1\n" % (n, n) for n in range(9_000)) + b"\tret\n}\n"
+LONG = b"function $main() {\n@start\n" + b"".join(b"\t%%x%d =w add %d, 1\n" % (n, n)
+                                                  for n in range(9_000)) + b"\tret\n}\n"
 
 
-def each_refused(running, words, script, judge):
+def each_refused(running: Running, words: Sequence[str], script: bytes, judge: Judge) -> str | None:
     """Runs with the first allocation refused, the second, and so on until a run meets none; what is wrong, or None."""
     with library() as made:
         for which in range(1, MOST):
@@ -109,20 +118,21 @@ def each_refused(running, words, script, judge):
     return f"more than {MOST} allocations"
 
 
-def with_file(running, text, words, script, judge):
+def with_file(running: Running, text: bytes, words: Sequence[str], script: bytes, judge: Judge) -> str | None:
     with tempfile.NamedTemporaryFile(prefix="hostile-", suffix=".ssa") as file:
         file.write(text)
         file.flush()
         return each_refused(running, [file.name, *words], script, judge)
 
 
-def wanting(start, session, script, written):
-    """How `written` is a transcript of a session at its start in which moves wanted memory: a list of (line, moves made), or
-    what is wrong. `start` are its load lines."""
+def wanting(start: str, session: reference.Session, script: bytes, written: bytes) -> list[tuple[str, int]] | str:
+    """How `written` is a transcript of a session at its start in which moves wanted memory: a list of (line, moves
+    made), or what is wrong. `start` are its load lines."""
     rest = written.decode("latin-1")
     if not rest.startswith(start):
         return f"{quoted(written[:80])} in place of the load lines"
-    rest, wants = rest[len(start):], []
+    rest = rest[len(start):]
+    wants: list[tuple[str, int]] = []
     for line in lines_of(script):
         if rest.startswith("stop: memory\n"):
             # The place says how many moves were made; it must be one that the command comes to before its end.
@@ -140,22 +150,26 @@ def wanting(start, session, script, written):
     return wants if not rest else f"{quoted(rest.encode())} behind the last answer"
 
 
-def moves_made(session, line, place):
+def moves_made(session: reference.Session, line: str, place: str) -> int | None:
     """How many moves a command made that wanted memory at that place, fewer than it would make; the session makes them.
 
     None where the command takes no memory, is refused, or isn't on its way there."""
     try:
-        command, values = read_command(line)
+        read = read_command(line)
     except No:
         return None
+    if read is None:
+        return None
+    command, values = read
     if command in ("set", "poke"):
-        before = list(session.states), session.oldest
+        kept = list(session.states), session.oldest
         refused = session.answer(line).startswith("no:")
-        session.states, session.oldest = before
+        session.states, session.oldest = kept
         return 0 if not refused and session.place() == place else None
     if command not in ("step", "continue") or session.now.is_over:
         return None
-    most = (values or [1])[0] if command == "step" else session.limit
+    count = values[0] if values else 1
+    most = count if command == "step" and isinstance(count, int) else session.limit
     made = 0
     while session.place() != place:
         before = session.now
@@ -172,21 +186,23 @@ def moves_made(session, line, place):
 COPIES = "copies"
 
 
-def words_of(history):
+def words_of(history: History) -> list[str]:
     return ["--memory", "1"] if history == COPIES else ["--history", "all" if history is None else str(history)]
 
 
-def session_refused(running, text, script, history, limit, must_want):
+def session_refused(running: Running, text: bytes, script: bytes, history: History, limit: int,
+                    must_want: Collection[str]) -> str | None:
     """A session whose allocations are refused: nothing is written, or it goes on and says where memory was wanting.
 
     `must_want` are commands of which some run must have said so, behind moves if it is said with a `+`."""
-    options = {"history": None if history == COPIES else history, "limit": limit}
+    kept = history if isinstance(history, int) else None
     words = ["--limit", str(limit)] + words_of(history)
-    ample, status = reference.transcript(text, script, **options)
-    start, loaded = reference.load(text, **options)
-    seen, loads = set(), 0
+    ample, status = reference.transcript(text, script, limit=limit, history=kept)
+    start, loaded = reference.load(text, limit=limit, history=kept)
+    seen: set[str] = set()
+    loads = 0
 
-    def judge(run):
+    def judge(run: Run) -> str | None:
         nonlocal loads
         if run.errors:
             return f"standard error: {quoted(run.errors)}"
@@ -217,8 +233,9 @@ def session_refused(running, text, script, history, limit, must_want):
 
 HELLO_LOADED, LOAD_LOADED = (LOADED.replace(b"0 data", b"%d data" % count) for count in (12, 4))
 
-# Scripts with what they are answered, and what they may be answered where one allocation behind the load was refused. The
-# command that meets the refusal makes no move, and can be made again; of the line that is written there is all or nothing.
+# Scripts with what they are answered, and what they may be answered where one allocation behind the load was refused.
+# The command that meets the refusal makes no move, and can be made again; of the line that is written there is all or
+# nothing.
 AGAIN = b'#2 exit 7\nout 12 "hello world\\012"\n'
 HELLO_TWICE = (HELLO, b"step 9\nout\nback 9\nstep 9\nout\n", HELLO_LOADED + AGAIN + b"#0 $main @start 0\n" + AGAIN,
                [HELLO_LOADED + b'stop: memory\n#0 $main @start 0\nout 0 ""\nno: at start\n' + AGAIN])
@@ -234,25 +251,25 @@ STATED = {"a line that is written": HELLO_TWICE, "a temporary that is set": SET_
           "bytes that are poked": POKED_TWICE, "a step": STEPPED_TWICE}
 
 
-def want_while_loading(run):
+def want_while_loading(run: Run) -> str | None:
     """What is wrong where memory was wanting for the load, or None: nothing is written, and no line is read."""
     return "memory was wanting where none was refused" if not run.was_refused else \
         f"{quoted(run.written)} was written" if run.written else \
         f"{run.script_read} bytes of the script were read" if run.script_read else None
 
 
-def as_stated(running, name, history):
+def as_stated(running: Running, name: str, history: History) -> str | None:
     """A session that answers as it is stated where no allocation is refused, and where one is; each answer must come.
 
-    With a bound of the history only what is written takes memory, and it alone may be wanting; with copies of states only what
-    is set."""
+    With a bound of the history only what is written takes memory, and it alone may be wanting; with copies of states
+    only what is set."""
     text, script, plain, wants = STATED[name]
     words = words_of(history)
     may_want = not script.startswith(b"step") if history == COPIES else history is None or text == HELLO
     wants = wants if may_want else []
-    seen = set()
+    seen: set[bytes] = set()
 
-    def judge(run):
+    def judge(run: Run) -> str | None:
         if run.status == 3:
             seen.add(b"")
             return want_while_loading(run)
@@ -266,9 +283,9 @@ def as_stated(running, name, history):
     return fault or (f"only {len(seen)} answers of {len(wants) + 1} came" if seen != {b"", *wants} else None)
 
 
-def answer_refused(running, text, words, lawful):
+def answer_refused(running: Running, text: bytes | None, words: Sequence[str], lawful: tuple[bytes, int]) -> str | None:
     """A program or a command line without a session: what it answers else, or status 3 and nothing written."""
-    def judge(run):
+    def judge(run: Run) -> str | None:
         got = run.written, run.status
         if run.status == 3 and run.was_refused:
             return f"{quoted(run.written)} was written" if run.written else None
@@ -279,13 +296,13 @@ def answer_refused(running, text, words, lawful):
     return with_file(running, text, words, b"", judge)
 
 
-def help_refused(running):
+def help_refused(running: Running) -> str | None:
     """Help is printed whole, or status 3."""
     run = subprocess.run([running.program, "--help"], capture_output=True, timeout=running.seconds)
     return answer_refused(running, None, ["--help"], (run.stdout, 0))
 
 
-def cases():
+def cases() -> Iterator[Case]:
     yield Case("a session, each allocation refused", session_refused,
                (PROGRAM, SCRIPT, None, 1_000_000, ("step", "continue", "continue+")))
     yield Case("a session that keeps 3 moves, each allocation refused", session_refused,
@@ -300,9 +317,11 @@ def cases():
     yield Case("pokes, each allocation refused", session_refused,
                (PROGRAM, b"set %v 1\nset %v 2\npoke w $d 1\npoke b $d 2\nback 9\nmem $d 4\n" * 3, None, 1000, ("set",)))
     yield Case("pokes among copies of states, each allocation refused", session_refused,
-               (PROGRAM, b"set %v 1\nset %v 2\npoke w $d 1\npoke b $d 2\nback 9\nmem $d 4\n" * 3, COPIES, 1000, ("set",)))
+               (PROGRAM, b"set %v 1\nset %v 2\npoke w $d 1\npoke b $d 2\nback 9\nmem $d 4\n" * 3, COPIES, 1000,
+                ("set",)))
     yield Case("a session over copies of states wants memory only while loading", session_refused,
-               (PROGRAM, b"".join(line for line in SCRIPT.splitlines(True) if line.split()[:1] not in ([b"set"], [b"poke"])),
+               (PROGRAM,
+                b"".join(line for line in SCRIPT.splitlines(True) if line.split()[:1] not in ([b"set"], [b"poke"])),
                 COPIES, 1_000_000, ()))
     yield Case("a loop over copies of states wants memory only while loading", session_refused,
                (LOOP, b"continue\nback\ncontinue\nreverse\nstep 5\n", COPIES, 1000, ()))

@@ -1,11 +1,18 @@
 """Each operation at edge values, with every kind of operand: what is wanted is worked out here, in whole numbers."""
+from __future__ import annotations
+
 import itertools
 import math
+from collections.abc import Callable, Iterator
 from fractions import Fraction
 
-from harness.running import Case
+from harness.running import Case, Running
 
 BITS = {"w": 32, "l": 64}
+
+# How so many bits are read as a number; and what is worked out of two numbers.
+View = Callable[[int, int], int]
+Operation = Callable[[int, int], int]
 
 # The edges of both classes and their neighbours, amounts of shifts, numbers with bits above the low 32, and long ones.
 VALUES = [number % 2**64 for number in (
@@ -17,23 +24,23 @@ VALUES = [number % 2**64 for number in (
 PARTS = VALUES + [0x7f, 0xff, 0x100, 0x7fff, 0x8000, 0xffff, 0x10000, 0x8080, 0xfedc_ba98_7654_807f]
 
 
-def unsigned(bits, number):
+def unsigned(bits: int, number: int) -> int:
     """The number that the low bits spell."""
-    return number % 2**bits
+    return number % (1 << bits)
 
 
-def signed(bits, number):
+def signed(bits: int, number: int) -> int:
     """The same, where the highest of these bits is a sign."""
-    low = number % 2**bits
-    return low - 2**bits if low >= 2**(bits - 1) else low
+    low = number % (1 << bits)
+    return low - (1 << bits) if low >= 1 << bits - 1 else low
 
 
-def toward_zero(dividend, divisor):
+def toward_zero(dividend: int, divisor: int) -> int:
     return math.trunc(Fraction(dividend, divisor))
 
 
 # How both operands are read, and what comes of them, modulo 2^32 or 2^64.
-ARITHMETIC = {
+ARITHMETIC: dict[str, tuple[View, Operation]] = {
     "add": (signed, lambda a, b: a + b), "sub": (signed, lambda a, b: a - b), "mul": (signed, lambda a, b: a * b),
     "div": (signed, toward_zero), "rem": (signed, lambda a, b: a - b * toward_zero(a, b)),
     "udiv": (unsigned, lambda a, b: a // b), "urem": (unsigned, lambda a, b: a % b),
@@ -41,11 +48,11 @@ ARITHMETIC = {
 }
 DIVISIONS = ("div", "rem", "udiv", "urem")
 # How the left operand is read, and what comes of it and of the power of two of the amount.
-SHIFTS = {
+SHIFTS: dict[str, tuple[View, Operation]] = {
     "shl": (unsigned, lambda a, power: a * power), "shr": (unsigned, lambda a, power: a // power),
     "sar": (signed, lambda a, power: a // power),
 }
-COMPARISONS = {
+COMPARISONS: dict[str, tuple[View, Callable[[int, int], bool]]] = {
     "eq": (unsigned, lambda a, b: a == b), "ne": (unsigned, lambda a, b: a != b),
     "slt": (signed, lambda a, b: a < b), "sle": (signed, lambda a, b: a <= b),
     "sgt": (signed, lambda a, b: a > b), "sge": (signed, lambda a, b: a >= b),
@@ -53,11 +60,12 @@ COMPARISONS = {
     "ugt": (unsigned, lambda a, b: a > b), "uge": (unsigned, lambda a, b: a >= b),
 }
 # The bits of each part of a word, and of a word and a long word, with how they are read.
-TYPES = {"sb": (8, signed), "ub": (8, unsigned), "sh": (16, signed), "uh": (16, unsigned), "w": (32, unsigned),
-         "l": (64, unsigned)}
+TYPES: dict[str, tuple[int, View]] = {
+    "sb": (8, signed), "ub": (8, unsigned), "sh": (16, signed), "uh": (16, unsigned), "w": (32, unsigned),
+    "l": (64, unsigned)}
 
 
-def fault_of(name, bits, a, b):
+def fault_of(name: str, bits: int, a: int, b: int) -> str | None:
     """The fault of a division that has no result, or None."""
     if name in DIVISIONS and b % 2**bits == 0:
         return "division by zero"
@@ -66,7 +74,7 @@ def fault_of(name, bits, a, b):
     return None
 
 
-def computed(name, bits, a, b):
+def computed(name: str, bits: int, a: int, b: int) -> int:
     if name in SHIFTS:
         view, what = SHIFTS[name]
         return unsigned(bits, what(view(bits, a), 2**(b % bits)))
@@ -74,39 +82,42 @@ def computed(name, bits, a, b):
     return unsigned(bits, what(view(bits, a), view(bits, b)))
 
 
-def fitted(type_, number):
+def fitted(type_: str, number: int) -> int:
     """The low bits of a type, extended to its class."""
     bits, view = TYPES[type_]
-    return view(bits, number) % 2**BITS[class_of(type_)]
+    return view(bits, number) % (1 << BITS[class_of(type_)])
 
 
-def class_of(type_):
+def class_of(type_: str) -> str:
     return "l" if type_ == "l" else "w"
 
 
 class Text:
     """A program in one block, with a parameter of each class for each value, and the value of each temporary in it."""
 
-    def __init__(self, values, front=""):
-        self.front, self.lines, self.results, self.moves = front, [], [], 0
+    def __init__(self, values: list[int], front: str = "") -> None:
+        self.front, self.moves = front, 0
+        self.lines: list[str] = []
+        self.results: list[tuple[str, int]] = []
         self.arguments = values + values
         self.params = [f"{class_} %{class_}{n}" for class_ in "wl" for n in range(len(values))]
         self.temps = [(f"{class_}{n}", unsigned(BITS[class_], value))
                       for class_ in "wl" for n, value in enumerate(values)]
 
-    def result(self, class_, line, value, moves=1):
+    def result(self, class_: str, line: str, value: int, moves: int = 1) -> None:
         """An instruction with the value that its temporary takes."""
         name = str(len(self.results))
         self.lines.append(f"%{name} ={class_} {line}\n")
         self.results.append((name, value))
         self.moves += moves
 
-    def effect(self, line):
+    def effect(self, line: str) -> None:
         """An instruction without a result."""
         self.lines.append(line + "\n")
         self.moves += 1
 
-    def fault(self, running, loaded="1 functions 0 data bytes", script="", answers=""):
+    def fault(self, running: Running, loaded: str = "1 functions 0 data bytes", script: str = "",
+              answers: str = "") -> str | None:
         """What is wrong with the temporaries behind the whole text, and with the answers to a script, or None."""
         text = f"{self.front}function $main({','.join(self.params)}) {{\n@s\n{''.join(self.lines)}ret\n}}\n"
         temps = "".join(f"%{name} = {value}\n" for name, value in self.temps + self.results)
@@ -115,14 +126,15 @@ class Text:
         return running.fault(text.encode(), f"step {self.moves}\ntemps\n{script}".encode(), words, wanted.encode(), 0)
 
 
-def operands(class_, values):
-    """Each way to write a value where one of a class is wanted: as a number, and as a temporary that may stand there."""
+def operands(class_: str, values: list[int]) -> list[tuple[int, str]]:
+    """Each way to write a value where one of a class is wanted: as a number, and as a temporary that may stand
+    there."""
     kinds = ("w", "l") if class_ == "w" else ("l",)
     return [(value, written) for number, value in enumerate(values)
             for written in (str(value), *(f"%{kind}{number}" for kind in kinds))]
 
 
-def of_two(running, name, class_):
+def of_two(running: Running, name: str, class_: str) -> str | None:
     """All pairs of values that have a result."""
     text = Text(VALUES)
     for (a, left), (b, right) in itertools.product(
@@ -132,7 +144,7 @@ def of_two(running, name, class_):
     return text.fault(running)
 
 
-def without_result(running, name, class_):
+def without_result(running: Running, name: str, class_: str) -> str | None:
     """All pairs of values that have none: the step ends in a fault, and goes back."""
     text = f"function $main(l %a, l %b) {{\n@s\n%q ={class_} {name} %a, %b\nret\n}}\n"
     script, wanted = "", "loaded 1 functions 0 data bytes ssa yes\n#0 $main @s 0\n"
@@ -144,7 +156,7 @@ def without_result(running, name, class_):
     return running.fault(text.encode(), script.encode(), ["0", "0"], wanted.encode(), 0)
 
 
-def of_comparison(running, name, class_):
+def of_comparison(running: Running, name: str, class_: str) -> str | None:
     """All pairs of values of the class with which the word ends; what comes of it in both classes."""
     text = Text(VALUES)
     view, holds = COMPARISONS[name]
@@ -155,7 +167,7 @@ def of_comparison(running, name, class_):
     return text.fault(running)
 
 
-def of_one(running):
+def of_one(running: Running) -> str | None:
     """Copies, negations and extensions of all values."""
     text = Text(PARTS)
     for class_ in "wl":
@@ -171,12 +183,13 @@ def of_one(running):
 
 
 STORES = {"b": 1, "h": 2, "w": 4, "l": 8}
-LOADS = [("sb", 1, signed), ("ub", 1, unsigned), ("sh", 2, signed), ("uh", 2, unsigned), ("sw", 4, signed),
-         ("uw", 4, unsigned), ("w", 4, signed)]
+LOADS: list[tuple[str, int, View]] = [
+    ("sb", 1, signed), ("ub", 1, unsigned), ("sh", 2, signed), ("uh", 2, unsigned), ("sw", 4, signed),
+    ("uw", 4, unsigned), ("w", 4, signed)]
 PATTERN = bytes(range(0x79, 0x79 + 24))
 
 
-def of_memory(running, width, base):
+def of_memory(running: Running, width: str, base: str) -> str | None:
     """All values written by a store, at eight places in turn, and read there by each load; at the end all bytes.
 
     They lie in the data, or on the stack."""
@@ -201,7 +214,7 @@ def of_memory(running, width, base):
     return text.fault(running, "1 functions 24 data bytes", f"mem {start} 24\n", held.hex(" ") + "\n")
 
 
-def of_arguments(running):
+def of_arguments(running: Running) -> str | None:
     """What parameters of the entry take of all values."""
     pairs = [(type_, value) for type_ in TYPES for value in PARTS]
     params = ", ".join(f"{type_} %{number}" for number, (type_, _) in enumerate(pairs))
@@ -211,7 +224,7 @@ def of_arguments(running):
                          [str(value) for _, value in pairs], wanted.encode(), 0)
 
 
-def of_call(running, given, named):
+def of_call(running: Running, given: str, named: str) -> str | None:
     """All values as arguments of one type to parameters of each, given back by each type to a result of one."""
     callees = [(taken, returned) for taken in TYPES for returned in TYPES
                if class_of(taken) == class_of(given) and class_of(returned) == class_of(named)
@@ -223,11 +236,12 @@ def of_call(running, given, named):
     for taken, returned in callees:
         for value, written in operands(class_of(given), PARTS):
             passed = fitted(taken, fitted(given, value))
-            text.result(named, f"call ${taken}.{returned}({given} {written})", fitted(named, fitted(returned, passed)), 2)
+            text.result(named, f"call ${taken}.{returned}({given} {written})", fitted(named, fitted(returned, passed)),
+                        2)
     return text.fault(running, f"{len(callees) + 1} functions 0 data bytes")
 
 
-def cases():
+def cases() -> Iterator[Case]:
     for class_ in "wl":
         for name in (*ARITHMETIC, *SHIFTS):
             yield Case(f"{name} of class {class_}", of_two, (name, class_))

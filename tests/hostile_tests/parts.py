@@ -1,13 +1,19 @@
-"""Long runs over copies of states, at the edges of the parts between the copies of states, which are made every 2^14 moves and kept at
-2^21 far away: forward, back, over copies behind the present state, pokes and watches there. Places and values are worked out from the position alone; what stops say is asked of a session
-without the option besides, whose transcript it must be."""
-from harness.running import Case
+"""Long runs over copies of states, at the edges of the parts between the copies of states, which are made every 2^14
+moves and kept at 2^21 far away: forward, back, over copies behind the present state, pokes and watches there. Places
+and values are worked out from the position alone; what stops say is asked of a session without the option besides,
+whose transcript it must be."""
+from __future__ import annotations
+
+from collections.abc import Callable, Iterator
+
+from harness.running import Case, Running
 
 PART = 1 << 20
 NEAR = 1 << 14
 EDGES = (NEAR - 1, NEAR, NEAR + 1, PART - 1, PART, PART + 1)
 
-# Three moves a round: an addition, a comparison and the jump. `@start` has two, the copy and the jump that isn't written.
+# Three moves a round: an addition, a comparison and the jump. `@start` has two, the copy and the jump that isn't
+# written.
 TEXT = b"""export function w $main() {
 @start
 	%i =w copy 0
@@ -41,12 +47,13 @@ export function w $main() {
 
 
 class Stand:
-    """A state of TEXT's run: how many instructions of `@loop` are done, and what `%i` is; or one of the two of `@start`."""
+    """A state of TEXT's run: how many instructions of `@loop` are done, and what `%i` is; or one of the two of
+    `@start`."""
 
-    def __init__(self, position, block, index, count):
+    def __init__(self, position: int, block: str, index: int, count: int | None) -> None:
         self.position, self.block, self.index, self.count = position, block, index, count
 
-    def after(self, moves):
+    def after(self, moves: int) -> Stand:
         """The state so many moves on."""
         position, block, index, count = self.position + moves, self.block, self.index, self.count
         if block == "start":
@@ -55,42 +62,43 @@ class Stand:
             moves, block, index, count = moves - (2 - index), "loop", 0, 0
         rounds, index = divmod(index + moves, 3)
         started = self.index > 0 and self.block == "loop"
-        count += rounds - started + (index > 0)
+        count = (count or 0) + rounds - started + (index > 0)
         return Stand(position, block, index, count % (1 << 32))
 
-    def poked(self, value):
+    def poked(self, value: int) -> Stand:
         """The state that a poke of `%i` leads to: the place stays, and the position rises by one."""
         return Stand(self.position + 1, self.block, self.index, value)
 
-    def line(self):
+    def line(self) -> str:
         return f"#{self.position} $main @{self.block} {self.index}\n"
 
-    def value(self):
+    def value(self) -> str:
         return f"%i = {self.count}\n"
 
 
 START = Stand(0, "start", 0, None)
 
 
-def at(position):
+def at(position: int) -> Stand:
     return START.after(position)
 
 
 class Asked:
     """A script with what each of its lines is to be answered."""
 
-    def __init__(self):
-        self.lines, self.answers = [], []
+    def __init__(self) -> None:
+        self.lines: list[str] = []
+        self.answers: list[str] = []
 
-    def ask(self, line, answer):
+    def ask(self, line: str, answer: str) -> None:
         self.lines.append(line)
         self.answers.append(answer)
 
-    def look(self, stand):
+    def look(self, stand: Stand) -> None:
         self.ask("print %i", stand.value())
 
 
-def to_and_fro(edge):
+def to_and_fro(edge: int) -> Asked:
     """Forward over an edge and back, by one and by all."""
     asked = Asked()
     ask, look = asked.ask, asked.look
@@ -112,7 +120,7 @@ def to_and_fro(edge):
     return asked
 
 
-def poked_there(edge):
+def poked_there(edge: int) -> Asked:
     """A poke at an edge, and others next to it: gone back over, run over again, and made anew."""
     asked = Asked()
     ask, look = asked.ask, asked.look
@@ -145,7 +153,7 @@ def poked_there(edge):
     return asked
 
 
-def ahead(edge):
+def ahead(edge: int) -> Asked:
     """Over states that copies are kept of, and over the same positions once a poke has made others of them."""
     asked = Asked()
     ask, look = asked.ask, asked.look
@@ -175,24 +183,25 @@ def ahead(edge):
     return asked
 
 
-def computed(running, made, edge, most):
+def computed(running: Running, made: Callable[[int], Asked], edge: int, most: str) -> str | None:
     asked = made(edge)
     head = "loaded 1 functions 0 data bytes ssa no $main %i\n" + START.line()
     script, wanted = "".join(f"{line}\n" for line in asked.lines), head + "".join(asked.answers)
     return running.fault(TEXT, script.encode(), ["--memory", most], wanted.encode(), 0)
 
 
-def stops_there(edge):
+def stops_there(edge: int) -> bytes:
     """Watches and breakpoints around an edge, forward and back, with pokes between."""
     return "\n".join([
-        f"step {edge - 4}", "watch %i", "continue", "continue", "continue", "where", "print %i", "reverse", "where", "reverse",
-        "reverse", "reverse", "print %i", "delete 1", "break @loop 1", "continue", "continue", "continue", "where", "reverse", "where",
-        "set %i 5", "where", "reverse", "where", "continue", "print %i", "delete 2", "watch %c", "continue", "where", "reverse", "where",
-        "stops", f"step {PART}", "where", "print %i", "delete 3", "watch %i", "back", "reverse", "where", "print %i", "delete 4",
-        f"back {PART}", "where", "print %i", "reverse", "where", ""]).encode()
+        f"step {edge - 4}", "watch %i", "continue", "continue", "continue", "where", "print %i", "reverse", "where",
+        "reverse", "reverse", "reverse", "print %i", "delete 1", "break @loop 1", "continue", "continue", "continue",
+        "where", "reverse", "where", "set %i 5", "where", "reverse", "where", "continue", "print %i", "delete 2",
+        "watch %c", "continue", "where", "reverse", "where",
+        "stops", f"step {PART}", "where", "print %i", "delete 3", "watch %i", "back", "reverse", "where", "print %i",
+        "delete 4", f"back {PART}", "where", "print %i", "reverse", "where", ""]).encode()
 
 
-def as_without(running, text, script, most, limit):
+def as_without(running: Running, text: bytes, script: bytes, most: str, limit: str) -> str | None:
     """The transcript over copies of states is that over undo records."""
     plain = running.run(text, script, ["--limit", limit, "--history", "all"])
     if plain is None or plain[2] != 0:
@@ -200,13 +209,14 @@ def as_without(running, text, script, most, limit):
     return running.fault(text, script, ["--limit", limit, "--memory", most], plain[0], 0)
 
 
-def cases():
+def cases() -> Iterator[Case]:
     for edge in EDGES:
         for most in ("1", "64"):
             yield Case(f"to and fro over {edge}, --memory {most}", computed, (to_and_fro, edge, most))
             yield Case(f"pokes at {edge}, --memory {most}", computed, (poked_there, edge, most))
             yield Case(f"over copies behind {edge}, --memory {most}", computed, (ahead, edge, most))
             yield Case(f"stops around {edge}, --memory {most}", as_without, (TEXT, stops_there(edge), most, "5000000"))
-    wide = b"step 1048580\nmem 65528 16\nprint %i\nstep 1048576\nback 1048577\nprint %i\nwatch %i\nreverse\nwhere\nreverse\nback 100000\nprint %i\nback 948575\nwhere\n"
+    wide = (b"step 1048580\nmem 65528 16\nprint %i\nstep 1048576\nback 1048577\nprint %i\nwatch %i\nreverse\nwhere\n"
+            b"reverse\nback 100000\nprint %i\nback 948575\nwhere\n")
     for most in ("1", "2", "64"):
         yield Case(f"copies of 2 MB, --memory {most}", as_without, (WIDE, wide, most, "3000000"))

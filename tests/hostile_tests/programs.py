@@ -3,7 +3,11 @@
 Most keep all rules; most temporaries are set before they are used, and most addresses are live. What is left over makes
 refusals and faults, which are wanted too.
 """
+from __future__ import annotations
+
 import re
+from collections.abc import Sequence
+from random import Random
 
 from reference.tree import ALLOCS, COMPARISONS, EXTENSIONS, LOADS, SHIFTS, STORES, TYPES, class_of
 
@@ -17,7 +21,7 @@ SAME = ("add", "sub", "mul", "div", "rem", "udiv", "urem", "and", "or", "xor")
 class Function:
     """What callers know of a function."""
 
-    def __init__(self, random, number):
+    def __init__(self, random: Random, number: int) -> None:
         self.name = f"f{number}"
         self.type = random.choice(TYPES + (None, None, "w", "l"))
         self.params = [random.choice(TYPES + ("w", "l")) for _ in range(random.choice((0, 0, 1, 2, 3)))]
@@ -26,7 +30,7 @@ class Function:
 class Writer:
     """Writes one program by the choices of a source of randomness."""
 
-    def __init__(self, random):
+    def __init__(self, random: Random) -> None:
         self.random = random
         self.functions = [Function(random, n) for n in range(random.choice((1, 1, 2, 3, 4)))]
         main = self.functions[0]
@@ -34,34 +38,34 @@ class Writer:
         main.params = main.params[:random.randrange(3)]
         self.datas = [f"d{n}" for n in range(random.choice((0, 1, 2, 3)))]
 
-    def often(self, percent):
+    def often(self, percent: int) -> bool:
         return self.random.randrange(100) < percent
 
-    def text(self):
+    def text(self) -> bytes:
         parts = [self.data(name) for name in self.datas] + [self.function(one) for one in self.functions]
         if self.often(30):
             self.random.shuffle(parts)
         return "".join(parts).encode("latin-1")
 
-    def number(self):
+    def number(self) -> str:
         return str(self.random.choice(NUMBERS) if self.often(60) else self.random.randrange(20))
 
     # Data.
 
-    def data(self, name):
+    def data(self, name: str) -> str:
         align = f"align {self.random.choice((1, 2, 4, 8, 16, 32))} " if self.often(50) else ""
         fields = [self.field() for _ in range(self.random.randrange(4))] + ["b 0"]
         export = self.random.choice(("", "", "export ", "export\n", 'section ".x" '))
         return f"{export}data ${name} = {align}{{ {', '.join(fields)} }}\n"
 
-    def field(self):
+    def field(self) -> str:
         letter = self.random.choice("bhwlz")
         if letter == "z":
             return f"z {self.random.randrange(20)}"
         items = [self.item(letter) for _ in range(self.random.randrange(1, 4))]
         return f"{letter} {' '.join(items)}"
 
-    def item(self, letter):
+    def item(self, letter: str) -> str:
         if letter == "b" and self.often(60):
             return self.random.choice(('"hello"', '"\\000"', '"\\"\\\\\\377\\t"', '"~ \\012"', '""'))
         if letter == "l" and self.often(50):
@@ -71,10 +75,10 @@ class Writer:
 
     # Functions.
 
-    def function(self, it):
+    def function(self, it: Function) -> str:
         self.pool = {"w": [f"w{n}" for n in range(self.random.randrange(2, 5))],
                      "l": [f"l{n}" for n in range(self.random.randrange(2, 4))]}
-        self.pointers = []
+        self.pointers: list[tuple[str, int]] = []
         self.single = self.often(25)
         self.fresh = 0
         params = []
@@ -82,7 +86,9 @@ class Writer:
             params.append(f"{type_} %p{n}")
             self.pool[class_of(type_)].append(f"p{n}")
         labels = ["start"] + [f"b{n}" for n in range(self.random.choice((0, 1, 2, 3, 5)))]
-        bodies, jumps, targets = [], [], []
+        bodies: list[list[str]] = []
+        jumps: list[str | None] = []
+        targets: list[list[str]] = []
         for place, label in enumerate(labels):
             body = self.beginning() if place == 0 else []
             for _ in range(self.random.randrange(6)):
@@ -102,7 +108,7 @@ class Writer:
                 lines.append(f"\t{jumps[place]}")
         return "\n".join(lines) + "\n}\n"
 
-    def beginning(self):
+    def beginning(self) -> list[str]:
         lines = []
         for class_ in "wl":
             for name in self.pool[class_]:
@@ -114,14 +120,14 @@ class Writer:
             lines.append(f"%a{n} =l {self.random.choice(ALLOCS)} {size}")
         return lines
 
-    def target(self, class_):
+    def target(self, class_: str) -> str:
         if self.single:
             self.fresh += 1
             name = f"t{self.fresh}"
             return name
         return self.random.choice(self.pool[class_])
 
-    def value(self, class_):
+    def value(self, class_: str) -> str:
         if self.often(65):
             names = self.pool[class_] + (self.pool["l"] if class_ == "w" and self.often(20) else [])
             return "%" + self.random.choice(names)
@@ -129,7 +135,7 @@ class Writer:
             return "$" + self.random.choice(self.datas + [one.name for one in self.functions] + ["putchar"])
         return self.number()
 
-    def address(self):
+    def address(self) -> str:
         """An address, most often one that is live for a few bytes."""
         if self.often(4):
             return self.value("l")
@@ -137,7 +143,7 @@ class Writer:
         choices += [name for name, size in self.pointers if size or self.often(20)]
         return self.random.choice(choices) if choices else self.value("l")
 
-    def instruction(self):
+    def instruction(self) -> list[str]:
         random = self.random
         kind = random.choices(("same", "shift", "compare", "one", "load", "store", "blit", "alloc", "call", "pointer"),
                               (26, 8, 10, 14, 10, 14, 4, 3, 12, 6))[0]
@@ -179,7 +185,7 @@ class Writer:
             return [f"%{self.target(class_)} ={class_} {op} {self.value('w')}"]
         return [f"%{self.target(class_)} ={class_} {op} {self.value(class_)}"]
 
-    def call(self):
+    def call(self) -> str:
         random = self.random
         if self.often(40):
             name, param, type_ = random.choice(BUILT_IN[:random.choice((2, 2, 3))])
@@ -199,7 +205,7 @@ class Writer:
         callee = f"${name}" if self.often(94) else self.value("l")
         return f"{target}call {callee}({', '.join(arguments)})"
 
-    def jump(self, it, labels, place):
+    def jump(self, it: Function, labels: Sequence[str], place: int) -> tuple[str | None, list[str]]:
         """The jump that ends a block, and the labels that it goes to."""
         random, others = self.random, labels[1:]
         is_last = place + 1 == len(labels)
@@ -215,10 +221,10 @@ class Writer:
         if kind == "jmp":
             to = random.choice(others)
             return f"jmp @{to}", [to]
-        to = [random.choice(others), random.choice(others)]
-        return f"jnz {self.value('w')}, @{to[0]}, @{to[1]}", to
+        both = [random.choice(others), random.choice(others)]
+        return f"jnz {self.value('w')}, @{both[0]}, @{both[1]}", both
 
-    def phis(self, before):
+    def phis(self, before: Sequence[str]) -> list[str]:
         lines = []
         for _ in range(self.random.choice((0, 0, 1, 2, 3))):
             class_ = self.random.choice("wl")
@@ -228,7 +234,7 @@ class Writer:
         return lines
 
 
-def random_program(random):
+def random_program(random: Random) -> tuple[bytes, list[int]]:
     """The text of a program, and arguments for its `main`."""
     writer = Writer(random)
     arguments = [random.choice(NUMBERS) % 2**64 for _ in writer.functions[0].params]
@@ -242,13 +248,13 @@ call ret jmp jnz hlt blit add copy storew loadl alloc8 extsw ceqw ceqs type env 
 PIECE = re.compile(r"[$%@:]?[A-Za-z0-9._]+|\s+|[^\sA-Za-z0-9]")
 
 
-def kind_of(piece):
+def kind_of(piece: str) -> str:
     return "number" if piece.isdigit() else "word" if piece.isalpha() else piece[0]
 
 
-def changed(random, text):
+def changed(random: Random, given: bytes) -> bytes:
     """A text with one to three changes: of pieces against others of their kind, of bytes, of pieces or of lines."""
-    text = text.decode("latin-1")
+    text = given.decode("latin-1")
     for _ in range(random.choice((1, 1, 2, 3))):
         pieces, lines = PIECE.findall(text), text.splitlines(True)
         if not pieces:

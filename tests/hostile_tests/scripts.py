@@ -1,6 +1,11 @@
 """Random scripts of every command for a program, with refused lines among them."""
+from __future__ import annotations
+
+from random import Random
+
 from reference.grammar import parse
 from reference.tokens import Refused, cut
+from reference.tree import Func, Program
 
 from .programs import NUMBERS
 
@@ -19,40 +24,41 @@ KINDS = {"step": 14, "step N": 12, "back": 8, "back N": 10, "continue": 10, "rev
          "list": 3, "out": 3, "odd": 6}
 
 
-def random_script(random, text, lines):
+def random_script(random: Random, text: bytes, lines: int) -> bytes:
     """A script of so many lines for a text, which may be one that is refused."""
+    program: Program | None = None
     try:
         program = parse(cut(text))
     except Refused:
-        program = None
+        pass
     return "".join(line + "\n" for line in Lines(random, program).some(lines)).encode("latin-1")
 
 
 class Lines:
-    def __init__(self, random, program):
+    def __init__(self, random: Random, program: Program | None) -> None:
         self.random = random
         self.funcs = program.funcs if program else []
         self.datas = [item.name for item in program.datas] if program else []
 
-    def some(self, count):
+    def some(self, count: int) -> list[str]:
         kinds = self.random.choices(list(KINDS), list(KINDS.values()), k=count)
         lines = [self.line(kind) for kind in kinds]
         if self.random.randrange(12) == 0:
             lines.insert(self.random.randrange(count + 1), "quit")
         return lines
 
-    def count(self):
+    def count(self) -> int:
         return self.random.choice((1, 2, 3, 5, 10, 40, 300, 4294967295))
 
-    def func(self):
+    def func(self) -> Func | None:
         return self.random.choice(self.funcs) if self.funcs else None
 
-    def temp(self, func=None):
+    def temp(self, func: Func | None = None) -> str:
         func = func or self.func()
         temps = func.temps if func else []
         return self.random.choice(temps) if temps else "x"
 
-    def address(self):
+    def address(self) -> str:
         random = self.random
         kind = random.randrange(5)
         if kind < 2 and self.datas:
@@ -63,10 +69,10 @@ class Lines:
             return str(random.choice(NUMBERS) % 2**64)
         return str(65536 + random.randrange(30))
 
-    def value(self):
+    def value(self) -> str:
         return str(self.random.choice(NUMBERS) if self.random.randrange(2) else self.random.randrange(-5, 100))
 
-    def line(self, kind):
+    def line(self, kind: str) -> str:
         random = self.random
         if kind in ("step N", "back N"):
             return f"{kind[:4]} {self.count()}"

@@ -1,7 +1,11 @@
 """Scripts: long ones, and random ones on random programs against the model of tests/reference."""
-from random import Random
+from __future__ import annotations
 
-from harness.running import FIRST, LOADED, TOP, Case
+from collections.abc import Callable, Iterable, Iterator
+from random import Random
+from typing import TypedDict
+
+from harness.running import FIRST, LOADED, TOP, Case, Running
 import reference
 from reference.session import lines_of
 
@@ -15,17 +19,24 @@ LINES = 60
 ROUNDS = [f"rounds-of-pokes-{what}" for what in ("and-calls", "and-output", "and-phis", "and-three-phis", "at-a-fault")]
 
 
-def options_of(random):
+class Options(TypedDict):
+    """The bound of a run, and that of the history, if it has one."""
+
+    limit: int
+    history: int | None
+
+
+def options_of(random: Random) -> Options:
     """A bound of runs, and one of the history or none."""
     return {"limit": random.choice((1, 2, 7, 50, 200)), "history": random.choice((None, None, 1, 2, 3, 10, 60))}
 
 
-def words_of(arguments, limit, history):
+def words_of(arguments: Iterable[int], limit: int, history: int | None) -> list[str]:
     bound = [] if history is None else ["--history", str(history)]
     return [str(argument) for argument in arguments] + ["--limit", str(limit)] + bound
 
 
-def seeded(seed, lines):
+def seeded(seed: int, lines: int) -> tuple[bytes, list[int], bytes, Options]:
     """The program, arguments, script and options of a seed."""
     random = Random(seed)
     text, arguments = random_program(random)
@@ -35,14 +46,14 @@ def seeded(seed, lines):
     return text, arguments, script, options_of(random)
 
 
-def against_model(running, seed, lines=LINES):
+def against_model(running: Running, seed: int, lines: int = LINES) -> str | None:
     """The transcript of a random script on a random program is the model's."""
     text, arguments, script, options = seeded(seed, lines)
     wanted, status = reference.transcript(text, script, args=arguments, **options)
     return running.fault(text, script, words_of(arguments, **options), wanted, status)
 
 
-def unbounded(text, arguments, script, limit):
+def unbounded(text: bytes, arguments: Iterable[int], script: bytes, limit: int) -> tuple[bytes, int, int]:
     """The transcript and the status without a bound of the history, and the greatest position, or 1."""
     try:
         written, session = reference.load(text, args=arguments, limit=limit)
@@ -57,12 +68,13 @@ def unbounded(text, arguments, script, limit):
     return "".join(answers).encode("latin-1"), 0, greatest
 
 
-def bound_not_met(running, seed, lines=LINES):
+def bound_not_met(running: Running, seed: int, lines: int = LINES) -> str | None:
     """Over copies of states, over all undo records, and over as many as a session makes moves, it is the same."""
     text, arguments, script, options = seeded(seed, lines)
     limit = options["limit"]
     wanted, status, moves = unbounded(text, arguments, script, limit)
-    for kept in ([], ["--memory", "1"], ["--history", "all"], ["--history", str(moves)]):
+    choices: list[list[str]] = [[], ["--memory", "1"], ["--history", "all"], ["--history", str(moves)]]
+    for kept in choices:
         fault = running.fault(text, script, words_of(arguments, limit, None) + kept, wanted, status)
         if fault:
             return f"with {' '.join(kept) or 'no option'}: {fault}"
@@ -80,9 +92,10 @@ ROUND = [(b"step", b"#1 $main @start 1\n"), (b"print %x", b"%x = 5\n"), (b"where
          (b"set %x -1", b"#1 $main @start 0\n"), (b"", b""), (b"reverse", b"stop: start\n#0 $main @start 0\n")]
 
 
-def long_script():
+def long_script() -> tuple[bytes, list[bytes]]:
     """A script of 2^24 bytes, most lines as long as they may be, the last without a newline; and its transcript."""
-    lines, answers, length = [], [LOADED], 0
+    lines: list[bytes] = []
+    answers, length = [LOADED], 0
     while length < GREATEST:
         for number, (command, answer) in enumerate(ROUND):
             # One line in each round has a byte more than a line may have.
@@ -101,7 +114,7 @@ def long_script():
     return script, answers
 
 
-def greatest_script(running):
+def greatest_script(running: Running) -> str | None:
     """A script of 2^24 bytes is answered whole."""
     script, answers = long_script()
     if len(script) != GREATEST or len(script.rsplit(b"\n", 1)[-1]) < 20:
@@ -109,13 +122,13 @@ def greatest_script(running):
     return running.fault(FIRST, script, [], b"".join(answers), 0)
 
 
-def too_long_script(running):
+def too_long_script(running: Running) -> str | None:
     """With one byte more the line that isn't ended among the first 2^24 bytes has no answer."""
     script, answers = long_script()
     return running.fault(FIRST, script + b" ", [], b"".join(answers[:-1]), 2)
 
 
-def rounds_bounded(running, name, bound):
+def rounds_bounded(running: Running, name: str, bound: int) -> str | None:
     """A row of rounds answers with a bound of the history as the model does."""
     row = TOP / "rows" / name
     text, script = (row / "program.ssa").read_bytes(), (row / "script").read_bytes()
@@ -123,12 +136,13 @@ def rounds_bounded(running, name, bound):
     return running.fault(text, script, ["--history", str(bound)], wanted, status)
 
 
-def scripted(running, script, answers, status):
+def scripted(running: Running, script: bytes | Callable[[], bytes], answers: bytes, status: int) -> str | None:
     """A script, or what makes one, on the first example."""
-    return running.fault(FIRST, script() if callable(script) else script, [], LOADED + answers, status)
+    return running.fault(FIRST, script if isinstance(script, bytes) else script(), [], LOADED + answers, status)
 
 
-SCRIPTS = {
+# A script, or what makes one; what is answered, and the status.
+SCRIPTS: dict[str, tuple[bytes | Callable[[], bytes], bytes, int]] = {
     "quit, then more than a script may have": (lambda: b"quit\n" + b"\n" * GREATEST, b"", 0),
     "256 letters": (b"a" * 256 + b"\n", b"no: unknown command\n", 0),
     "257 letters": (b"a" * 257 + b"\n", b"no: line too long\n", 0),
@@ -164,11 +178,11 @@ SCRIPTS = {
 }
 
 
-def of_scripts(running, name):
+def of_scripts(running: Running, name: str) -> str | None:
     return scripted(running, *SCRIPTS[name])
 
 
-def cases():
+def cases() -> Iterator[Case]:
     for name in SCRIPTS:
         yield Case(f"script: {name}", of_scripts, (name,))
     yield from single_lines.cases()

@@ -1,7 +1,12 @@
-"""Lines of a script, one session each: the shapes of words, their number, the order of refusals, and what separates words.
+"""Lines of a script, one session each: the shapes of words, their number, the order of refusals, and what separates
+words.
 
 Lines that a folder of rows/ has already are left out."""
-from harness.running import Case
+from __future__ import annotations
+
+from collections.abc import Iterator
+
+from harness.running import Case, Running
 
 TEXT = b"""data $c = { l -1 -1 }
 data $c.1$ = { b 4 5 6 7 }
@@ -30,8 +35,8 @@ REFUSED = {
         # counts
         "step +1", "step x", "step 1x", "back -1", "back 0", "back 4294967296", "back 18446744073709551617",
         # values
-        "set %x -9223372036854775809", "set %x 18446744073709551616", "set %x -", "set %x --1", "set %x +1", "set %x 1x",
-        "set %x 1-", "set %x $c",
+        "set %x -9223372036854775809", "set %x 18446744073709551616", "set %x -", "set %x --1", "set %x +1",
+        "set %x 1x", "set %x 1-", "set %x $c",
         # names
         "set $x 1", "set x", "print %", "print %a-b", "print %%x", "print @x", "break main", "break $", "break @b",
         "break $main 1", "break $main b", "break $main @", "break $main $b", "watch %x", "watch $f x", "watch $f $x",
@@ -102,11 +107,11 @@ TAKEN = [
 ]
 
 
-def of_script(running, script, answers):
+def of_script(running: Running, script: str, answers: str) -> str | None:
     return running.fault(TEXT, f"{script}\n".encode(), [], (LOADED + answers).encode(), 0)
 
 
-def cases():
+def cases() -> Iterator[Case]:
     for refusal, lines in REFUSED.items():
         for line in lines:
             yield Case(f"line {line!r}", of_script, (line, f"no: {refusal}\n"))

@@ -1,7 +1,10 @@
 """Texts: one byte, cut after each byte, each byte at each place, changed in a few places, and long ones."""
+from __future__ import annotations
+
+from collections.abc import Iterator, Sequence
 from random import Random
 
-from harness.running import FIRST, Case
+from harness.running import FIRST, Case, Running
 import reference
 
 from .long_texts import TABLES
@@ -51,25 +54,26 @@ hlt
 """
 
 
-def against_reference(running, text, script=SCRIPT, arguments=()):
+def against_reference(running: Running, text: bytes, script: bytes = SCRIPT,
+                      arguments: Sequence[int] = ()) -> str | None:
     """A text is accepted or refused as the reference says, and runs as it says."""
     wanted, status = reference.transcript(text, script, args=arguments)
     return running.fault(text, script, [str(argument) for argument in arguments], wanted, status)
 
 
-def changed_text(seed):
+def changed_text(seed: int) -> tuple[bytes, list[int]]:
     """A random program that is changed in one to three places, and arguments for its `main`."""
     random = Random(seed)
     text, arguments = random_program(random)
     return changed(random, text), arguments
 
 
-def changed_program(running, seed):
+def changed_program(running: Running, seed: int) -> str | None:
     text, arguments = changed_text(seed)
     return against_reference(running, text, SCRIPT + b"step 300\ntemps\nback 300\n", arguments)
 
 
-def one_byte(running, byte):
+def one_byte(running: Running, byte: int) -> str | None:
     """A text of one byte, by a rule of its own."""
     one = chr(byte)
     if one in " \t\n\r#":
@@ -87,7 +91,7 @@ def one_byte(running, byte):
     return running.fault(bytes([byte]), b"step\n", [], f"refused: {answer}\n".encode(), 1)
 
 
-def first_cut(running, length):
+def first_cut(running: Running, length: int) -> str | None:
     """The first example cut after so many bytes, by a rule of its own; the reference tells the line as well."""
     text = FIRST[:length]
     run = running.run(text)
@@ -106,14 +110,14 @@ def first_cut(running, length):
     return None if lawful and not run[1] else f"{run}"
 
 
-def of_table(running, kind, name):
+def of_table(running: Running, kind: str, name: str) -> str | None:
     """A long text gives the lines that stand beside it."""
     make, answer, *script = TABLES[kind][name]
     status = 1 if answer.startswith("refused") else 0
     return running.fault(make(), b"".join(script), [], answer.encode("latin-1"), status)
 
 
-def cases():
+def cases() -> Iterator[Case]:
     for byte in range(256):
         yield Case(f"a text of the byte {byte}", one_byte, (byte,))
     for length in range(len(FIRST) + 1):

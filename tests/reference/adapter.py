@@ -1,19 +1,22 @@
 """The debug adapter once more: requests of the Debug Adapter Protocol as lines of commands, and what is answered.
 
-A session moves by lines alone, each of which is kept with its answer. What the protocol leaves to an adapter, and no page
-says, is wrapped in `Free` where it is answered: another adapter may answer otherwise there.
+A session moves by lines alone, each of which is kept with its answer. What the protocol leaves to an adapter, and no
+page says, is wrapped in `Free` where it is answered: another adapter may answer otherwise there.
 """
+from __future__ import annotations
+
 import base64
 import binascii
 import os
-import sys
-
 import re
+import sys
+from collections.abc import Callable, Iterator, Sequence
+from typing import IO, Any, NoReturn, Optional
 
-from .debuggee import Debuggee
+from .debuggee import Debuggee, Kind, Place
 from .expressions import Memory, Missing, Named, NoExpression, bits_of, is_float, is_true, parse
-from .launching import BadLaunch, launch_of
-from .messages import Lost, frame, is_number, read_body, request_in
+from .launching import BadLaunch, Launch, launch_of
+from .messages import Lost, Message, frame, is_number, read_body, request_in
 from .session import COMMANDS, WIDTHS, NUMBER
 from .shown import DATA, MACHINE, POINTED, Free, Scene, View, told
 from .tokens import Refused
@@ -32,6 +35,12 @@ LOOKING = ("print", "temps", "mem", "where", "list", "out", "stops", "break", "w
 MOVING = ("step", "back", "continue", "reverse", "set", "poke")
 
 
+# What answers a request: of its arguments the body, if there is one.
+Method = Callable[[Message], Optional[Message]]
+# What a breakpoint asks for: the lines that make its stops, and what is told of it.
+Maker = Callable[[Message], tuple[list[str], Message]]
+
+
 class Failure(Exception):
     """A request that fails, with its message."""
 
@@ -39,7 +48,7 @@ class Failure(Exception):
 class Client:
     """What an editor said of itself."""
 
-    def __init__(self, given):
+    def __init__(self, given: Message) -> None:
         self.first_line = 0 if given.get("linesStartAt1") is False else 1
         self.first_column = 0 if given.get("columnsStartAt1") is False else 1
         self.has_types = given.get("supportsVariableType") is True
@@ -50,16 +59,17 @@ class Client:
 class Rule:
     """What a breakpoint asks for besides its place, and the positions at which it was met."""
 
-    def __init__(self, wanted):
+    def __init__(self, wanted: Message) -> None:
         self.condition = parse(wanted["condition"]) if texts(wanted, "condition") else None
         self.hits = re.fullmatch(r"\s*(>=|<=|==|>|<|=|%|)\s*([0-9]+)\s*", texts(wanted, "hitCondition")) \
             if texts(wanted, "hitCondition") else None
-        self.message, self.met = texts(wanted, "logMessage"), []
+        self.message = texts(wanted, "logMessage")
+        self.met: list[int] = []
 
-    def is_plain(self):
+    def is_plain(self) -> bool:
         return not (self.condition or self.hits or self.message)
 
-    def meets(self, position):
+    def meets(self, position: int) -> bool:
         """Notes that the run came to it, and tells whether that is often enough."""
         before = [at for at in self.met if at < position]
         if position not in self.met:
@@ -67,38 +77,39 @@ class Rule:
         if not self.hits:
             return True
         count, (sign, said) = len(before) + 1, self.hits.groups()
-        said = int(said)
-        return {"": count >= said, ">=": count >= said, "<=": count <= said, "==": count == said, "=": count == said,
-                ">": count > said, "<": count < said, "%": said != 0 and count % said == 0}[sign]
+        most = int(said)
+        return {"": count >= most, ">=": count >= most, "<=": count <= most, "==": count == most, "=": count == most,
+                ">": count > most, "<": count < most, "%": most != 0 and count % most == 0}[sign]
 
 
-def texts(given, name):
+def texts(given: Message, name: str) -> str:
     """The text of a member, if it says something."""
-    return given[name] if isinstance(given.get(name), str) else ""
+    text = given.get(name)
+    return text if isinstance(text, str) else ""
 
 
-def arguments_of(request):
+def arguments_of(request: Message) -> Message:
     given = request.get("arguments")
     return given if isinstance(given, dict) else {}
 
 
-def number_in(given, name, least=0, greatest=2**64 - 1):
+def number_in(given: Message, name: str, least: int = 0, greatest: int = 2**64 - 1) -> Optional[int]:
     """A number that a request gives, or None."""
     return given.get(name) if is_number(given.get(name), least, greatest) else None
 
 
-def text_in(given, name):
+def text_in(given: Message, name: str) -> Optional[str]:
     return given.get(name) if isinstance(given.get(name), str) else None
 
 
-def items_in(given, name):
+def items_in(given: Message, name: str) -> list[Message]:
     return [item if isinstance(item, dict) else {} for item in given.get(name) or []] \
         if isinstance(given.get(name), list) else []
 
 
-def plain_path(path):
+def plain_path(path: str) -> str:
     """A path without `.`, `..` and empty parts."""
-    parts = []
+    parts: list[str] = []
     for part in path.split("/"):
         if part == ".." and parts and parts[-1] != "..":
             parts.pop()
@@ -107,7 +118,7 @@ def plain_path(path):
     return ("/" if path.startswith("/") and parts else "") + "/".join(parts)
 
 
-def contents_of(name):
+def contents_of(name: str) -> bytes:
     """The bytes of a file, or none where it can't be read."""
     try:
         with open(name, "rb") as file:
@@ -119,16 +130,24 @@ def contents_of(name):
 class Adapter:
     """What is kept between requests. `answer` gives the messages that come of one, without their numbers."""
 
-    def __init__(self):
+    def __init__(self) -> None:
         self.client, self.sessions = Client({}), 0
-        self.debuggee = self.launched = None
+        self.current: Optional[Debuggee] = None
+        self.launched: Message = {}
+        self.events: list[Message] = []
         self.is_left = False
+
+    @property
+    def debuggee(self) -> Debuggee:
+        """That of the session that is open."""
+        assert self.current is not None
+        return self.current
 
     # Messages.
 
-    def answer(self, request):
+    def answer(self, request: Message) -> list[Message]:
         self.events = []
-        response = {"type": "response", "request_seq": request["seq"], "command": request["command"]}
+        response: Message = {"type": "response", "request_seq": request["seq"], "command": request["command"]}
         try:
             body = self.method_of(request["command"])(arguments_of(request))
             response.update(success=True, body={} if body is None else body)
@@ -136,39 +155,40 @@ class Adapter:
             response.update(success=False, message=failure.args[0])
         return [response] + self.events
 
-    def method_of(self, command):
-        known = INSIDE if self.debuggee else OUTSIDE
+    def method_of(self, command: str) -> Method:
+        known = INSIDE if self.current else OUTSIDE
         if command in known:
-            return getattr(self, known[command])
-        message = "no session" if not self.debuggee and command != "attach" else "not supported"
+            method: Method = getattr(self, known[command])
+            return method
+        message = "no session" if not self.current and command != "attach" else "not supported"
 
-        def refuse(given):
+        def refuse(given: Message) -> NoReturn:
             raise Failure(message)
         return refuse
 
-    def tell(self, event, **body):
+    def tell(self, event: str, **body: object) -> None:
         self.events.append({"type": "event", "event": event, "body": body})
 
-    def tell_stopped(self, reason, hits=None):
+    def tell_stopped(self, reason: str, hits: Optional[list[int]] = None) -> None:
         self.debuggee.tell_output(self.tell)
         self.tell("stopped", **self.debuggee.stopped(reason, hits))
 
     @property
-    def first_column(self):
+    def first_column(self) -> int:
         return self.client.first_column
 
     # Outside of a session.
 
-    def initialize(self, given):
+    def initialize(self, given: Message) -> Message:
         self.client = Client(given)
         return {f"supports{name}": True for name in CAPABILITIES}
 
-    def launch(self, given):
+    def launch(self, given: Message) -> None:
         self.sessions = 0
         self.load(given)
         self.launched = given
 
-    def record_of(self, launched):
+    def record_of(self, launched: Launch) -> Optional[str]:
         """The file that takes the record: a restart keeps those before it, and nothing but a record is written over."""
         if launched.record is None:
             return None
@@ -184,7 +204,7 @@ class Adapter:
             raise Failure(f"record: cannot write {name}") from None
         return name
 
-    def load(self, given):
+    def load(self, given: Message) -> None:
         try:
             launched = launch_of(given)
             sources = launched.sources()
@@ -193,51 +213,51 @@ class Adapter:
         except BadLaunch as bad:
             raise Failure(str(bad)) from None
         try:
-            self.debuggee = Debuggee(launched, text, self.client.first_line, sources, record)
+            self.current = Debuggee(launched, text, self.client.first_line, sources, record)
             self.sessions += 1
         except Refused as refused:
             self.tell_refused(launched, refused)
             raise Failure(refused.answer().rstrip("\n")) from None
         self.tell("initialized")
 
-    def tell_refused(self, launched, refused):
+    def tell_refused(self, launched: Launch, refused: Refused) -> None:
         source = launched.source()
         if refused.line is None:
-            place = {"source": Free(source), "line": Free(None)}
+            place: Message = {"source": Free(source), "line": Free(None)}
         else:
             place = {"source": source, "line": refused.line - 1 + self.client.first_line}
         self.tell("output", category="stderr", output=refused.answer(), **place)
 
-    def nothing(self, given):
+    def nothing(self, given: Message) -> None:
         """A request that succeeds and does nothing."""
 
-    def leave(self, given):
+    def leave(self, given: Message) -> None:
         self.is_left = True
-        if self.debuggee:
+        if self.current:
             self.end_session()
 
     # The end of a session.
 
-    def end_session(self):
+    def end_session(self) -> None:
         launched = self.debuggee.launched
         is_written, record = self.debuggee.write_record(), self.debuggee.record
-        self.debuggee = None
+        self.current = None
         if record is not None:
             line = f"replay: {launched.command_line()} < {record}" if is_written \
                 else f"record: cannot write {record}"
             self.tell("output", category="console", output=f"{line}\n")
 
-    def end_of_input(self):
-        if self.debuggee:
+    def end_of_input(self) -> None:
+        if self.current:
             self.debuggee.write_record()
 
-    def terminate(self, given):
+    def terminate(self, given: Message) -> None:
         self.end_session()
         self.tell("terminated")
 
-    def restart(self, given):
+    def restart(self, given: Message) -> None:
         self.debuggee.write_record()
-        self.debuggee = None
+        self.current = None
         again = given.get("arguments")
         try:
             self.load(again if isinstance(again, dict) and isinstance(again.get("program"), str) else self.launched)
@@ -245,12 +265,12 @@ class Adapter:
             self.tell("terminated")
             raise
 
-    def is_open(self, given):
+    def is_open(self, given: Message) -> NoReturn:
         raise Failure("a session is open")
 
     # Moves.
 
-    def configuration_done(self, given):
+    def configuration_done(self, given: Message) -> None:
         if self.debuggee.is_configured:
             raise Failure("already configured")
         self.debuggee.is_configured = True
@@ -261,36 +281,38 @@ class Adapter:
         else:
             self.by_line("continue")
 
-    def run_out(self):
+    def run_out(self) -> None:
         """Runs to the end past all stops."""
         begun, session = self.debuggee.session.position, self.debuggee.session
         reason = "break"
         while reason.startswith(("break", "watch")) and abs(session.position - begun) < session.limit:
             reason = self.debuggee.reason_of(self.debuggee.line("continue"))
         self.debuggee.tell_output(self.tell)
-        self.tell("output", category="console", output=(self.debuggee.ended_elsewhere() or self.debuggee.place()) + "\n")
+        self.tell("output", category="console",
+                  output=(self.debuggee.ended_elsewhere() or self.debuggee.place()) + "\n")
         self.tell("terminated")
 
-    def by_line(self, line):
+    def by_line(self, line: str) -> None:
         self.travel(lambda: self.debuggee.reason_of(self.debuggee.line(line)))
 
-    def travel(self, move):
-        """Goes on by moves until the run stands: breakpoints by their rules, and at the limit of moves anyway. A move that gives
-        no reason goes on."""
+    def travel(self, move: Callable[[], Optional[str]]) -> None:
+        """Goes on by moves until the run stands: breakpoints by their rules, and at the limit of moves anyway. A move
+        that gives no reason goes on."""
         begun, session = self.debuggee.session.position, self.debuggee.session
         while True:
             reason = move()
             stands, hits, log = self.judge(reason) if reason else (False, [], "")
             if log:
                 self.tell("output", category="console", output=log)
-            if stands:
+            if reason and stands:
                 return self.tell_stopped(reason, hits or None)
             if abs(session.position - begun) >= session.limit:
                 return self.tell_stopped("limit")
 
-    def judge(self, reason):
+    def judge(self, reason: str) -> tuple[bool, list[int], str]:
         """Whether the run stands where a reason ended it, at which breakpoints, and what is told there."""
-        found, hits, log = self.debuggee.hits(reason), [], ""
+        found, log = self.debuggee.hits(reason), ""
+        hits: list[int] = []
         for one in found:
             rule = self.debuggee.rules.get(one)
             if rule is None:
@@ -302,7 +324,7 @@ class Adapter:
                     hits.append(one)
         return not found or bool(hits), hits, log
 
-    def rule_holds(self, rule):
+    def rule_holds(self, rule: Rule) -> bool:
         try:
             if rule.condition and not is_true(rule.condition.value(Scene(self.view(), 1))):
                 return False
@@ -311,36 +333,37 @@ class Adapter:
                 return False
         return rule.meets(self.debuggee.session.position)
 
-    def log_of(self, message):
+    def log_of(self, message: str) -> str:
         """A message with what stands in braces worked out."""
         view = self.view()
 
-        def worth(match):
+        def worth(match: re.Match[str]) -> str:
             try:
-                return view.worth(1, match.group(1))["result"]
+                return str(view.worth(1, match.group(1))["result"])
             except NoExpression:
                 return match.group()
             except Missing as missing:
-                return {"dead address": "dead", "no such temporary or global here": match.group()}.get(missing.args[0], "unset")
+                return {"dead address": "dead",
+                        "no such temporary or global here": match.group()}.get(missing.args[0], "unset")
         return re.sub(r"\{([^{}]*)\}", worth, message)
 
-    def continue_(self, given):
+    def continue_(self, given: Message) -> Message:
         self.by_line("continue")
         return {"allThreadsContinued": True}
 
-    def reverse_continue(self, given):
+    def reverse_continue(self, given: Message) -> None:
         self.by_line("reverse")
 
-    def step_in(self, given):
+    def step_in(self, given: Message) -> None:
         if self.goes_by_lines(given):
             self.to_line(lambda: self.debuggee.reason_of(self.debuggee.line("step")))
         else:
             self.by_line("step")
 
-    def goes_by_lines(self, given):
+    def goes_by_lines(self, given: Message) -> bool:
         return self.debuggee.sources is not None and given.get("granularity") != "instruction"
 
-    def next(self, given):
+    def next(self, given: Message) -> None:
         depth = self.debuggee.depth
         if given.get("granularity") == "instruction":
             self.by_line("step")
@@ -349,21 +372,21 @@ class Adapter:
         else:
             self.travel(lambda: self.debuggee.go_on(depth))
 
-    def to_line(self, move):
+    def to_line(self, move: Callable[[], Optional[str]]) -> None:
         """Goes on by moves to another line of the source."""
         start = self.debuggee.stand()
 
-        def on():
+        def on() -> Optional[str]:
             hidden = self.debuggee.depth > start.depth and self.debuggee.is_sourceless()
             reason = self.debuggee.go_on(self.debuggee.depth - 1) if hidden else move()
             return reason if reason != "step" or self.debuggee.has_arrived(start) else None
         self.travel(on)
 
-    def step_out(self, given):
+    def step_out(self, given: Message) -> None:
         depth = self.debuggee.depth - 1
         self.travel(lambda: self.debuggee.go_on(depth))
 
-    def step_back(self, given):
+    def step_back(self, given: Message) -> None:
         if given.get("granularity") == "instruction":
             self.by_line("back")
         elif self.goes_by_lines(given):
@@ -372,16 +395,16 @@ class Adapter:
             depth = max(1, self.debuggee.depth)
             self.travel(lambda: self.debuggee.go_back(depth))
 
-    def restart_frame(self, given):
+    def restart_frame(self, given: Message) -> None:
         number = number_in(given, "frameId")
-        if not self.view().frame(number):
+        if number is None or not self.view().frame(number):
             raise Failure("no such frame")
         depth = self.debuggee.depth - number
         self.travel(lambda: self.debuggee.restart_call(depth))
 
     # Stops.
 
-    def source_asked(self, given):
+    def source_asked(self, given: Message) -> Optional[str]:
         """The source that a request is about, by the map's path, or None where it is about the text."""
         source = given.get("source")
         path = text_in(source, "path") if isinstance(source, dict) else None
@@ -396,7 +419,7 @@ class Adapter:
             raise Failure("another file")
         return found
 
-    def set_breakpoints(self, given):
+    def set_breakpoints(self, given: Message) -> Message:
         try:
             path = self.source_asked(given)
         except Failure:
@@ -405,13 +428,14 @@ class Adapter:
             return {"breakpoints": [elsewhere for _ in items_in(given, "breakpoints")]}
         if path is None:
             return self.replace_stops("text", given, self.text_stop)
-        return self.replace_stops(("source", path), given, lambda wanted: self.source_stop(path, wanted))
+        source = path
+        return self.replace_stops(("source", path), given, lambda wanted: self.source_stop(source, wanted))
 
-    def replace_stops(self, kind, given, make):
+    def replace_stops(self, kind: Kind, given: Message, make: Maker) -> Message:
         self.debuggee.clear(kind)
         return {"breakpoints": [self.item_of(kind, one, make) for one in items_in(given, "breakpoints")]}
 
-    def item_of(self, kind, wanted, make):
+    def item_of(self, kind: Kind, wanted: Message, make: Maker) -> Message:
         try:
             rule = self.rule_of(wanted)
             lines, told_of_it = make(wanted)
@@ -423,7 +447,7 @@ class Adapter:
         return {"id": number, "verified": True, **told_of_it}
 
     @staticmethod
-    def rule_of(wanted):
+    def rule_of(wanted: Message) -> Rule:
         try:
             rule = Rule(wanted)
         except NoExpression:
@@ -434,9 +458,9 @@ class Adapter:
             raise Failure("not supported: accessType")
         return rule
 
-    def make_stops(self, kind, lines):
+    def make_stops(self, kind: Kind, lines: Sequence[str]) -> int:
         """Makes the stops of a breakpoint; the number of the first, by which it is known."""
-        first = None
+        first: Optional[int] = None
         for line in lines:
             answer = self.debuggee.line(line)
             if answer.startswith("no: "):
@@ -449,27 +473,28 @@ class Adapter:
             self.debuggee.ids[number] = first
             if answer.startswith("break "):
                 self.debuggee.stop_places[number] = answer.rstrip("\n").split(" ", 2)[2]
+        assert first is not None
         return first
 
-    def line_wanted(self, wanted):
+    def line_wanted(self, wanted: Message) -> int:
         line = number_in(wanted, "line")
         if line is None:
             raise Failure("no line")
         return self.debuggee.counted(line)
 
-    def place_from(self, line):
+    def place_from(self, line: int) -> Place:
         place = self.debuggee.place_from(line)
         if place is None:
             raise Failure("no place at or after this line")
         return place
 
-    def text_stop(self, wanted):
+    def text_stop(self, wanted: Message) -> tuple[list[str], Message]:
         place = self.place_from(self.line_wanted(wanted))
         return [f"break {self.debuggee.place_text(*place)}"], \
             {"line": self.debuggee.told(self.debuggee.line_of(*place)), "source": self.debuggee.launched.source()}
 
-    def source_stop(self, path, wanted):
-        found = self.debuggee.sources.line_from(path, self.line_wanted(wanted))
+    def source_stop(self, path: str, wanted: Message) -> tuple[list[str], Message]:
+        found = self.debuggee.mapped.line_from(path, self.line_wanted(wanted))
         if found is None:
             raise Failure("no line of the text is from this line or a later one")
         line, text_line = found
@@ -478,7 +503,7 @@ class Adapter:
             {"line": self.debuggee.told(line), "source": self.debuggee.source_of(path)}
 
     @staticmethod
-    def name_in(wanted, member):
+    def name_in(wanted: Message, member: str) -> str:
         name = text_in(wanted, member)
         if name is None:
             raise Failure("no name")
@@ -486,38 +511,40 @@ class Adapter:
             raise Failure("a newline in a name")
         return name
 
-    def function_stop(self, wanted):
+    def function_stop(self, wanted: Message) -> tuple[list[str], Message]:
         name = self.name_in(wanted, "name")
         return [f"break {name if name.startswith('$') else '$' + name}"], {}
 
-    def data_stop(self, wanted):
+    def data_stop(self, wanted: Message) -> tuple[list[str], Message]:
         name = self.name_in(wanted, "dataId")
         if self.view().width_of(name) and self.view().size_of(name):
             return list(self.whole_object(name)), {}
         return [f"watch {name}"], {}
 
-    def whole_object(self, name):
+    def whole_object(self, name: str) -> Iterator[str]:
         """The watches of all bytes of a data object."""
         address, left = self.view().address_of(name), self.view().size_of(name)
+        assert address is not None
         while left:
-            letter, width = next((letter, width) for letter, width in sorted(WIDTHS.items(), key=lambda one: -one[1]) if width <= left)
+            letter, width = next((letter, width) for letter, width in sorted(WIDTHS.items(), key=lambda one: -one[1])
+                                 if width <= left)
             yield f"watch {letter} {address}"
             address, left = address + width, left - width
 
-    def set_function_breakpoints(self, given):
+    def set_function_breakpoints(self, given: Message) -> Message:
         return self.replace_stops("function", given, self.function_stop)
 
-    def set_data_breakpoints(self, given):
+    def set_data_breakpoints(self, given: Message) -> Message:
         return self.replace_stops("data", given, self.data_stop)
 
-    def data_breakpoint_info(self, given):
+    def data_breakpoint_info(self, given: Message) -> Message:
         watched, why = self.view().watched(given.get("variablesReference"), text_in(given, "name"),
                                            number_in(given, "frameId"))
         if watched is None:
             return {"dataId": None, "description": why}
         return {"dataId": watched, "description": Free(watched), "accessTypes": ["write"], "canPersist": True}
 
-    def breakpoint_locations(self, given):
+    def breakpoint_locations(self, given: Message) -> Message:
         path, first, last = self.source_asked(given), number_in(given, "line"), number_in(given, "endLine")
         if first is None:
             return {"breakpoints": []}
@@ -528,33 +555,33 @@ class Adapter:
 
     # What is shown.
 
-    def view(self, given=None):
+    def view(self, given: Optional[Message] = None) -> View:
         """What is shown, in the format that a request asks for."""
         shown_as = (given or {}).get("format")
         return View(self.debuggee, self.client, isinstance(shown_as, dict) and shown_as.get("hex") is True)
 
-    def threads(self, given):
+    def threads(self, given: Message) -> Message:
         return {"threads": [{"id": 1, "name": "main"}]}
 
-    def stack_trace(self, given):
+    def stack_trace(self, given: Message) -> Message:
         frames = self.view().frames()
         start, levels = number_in(given, "startFrame") or 0, number_in(given, "levels") or 0
         return {"stackFrames": frames[start:start + levels if levels else None], "totalFrames": len(frames)}
 
-    def scopes(self, given):
+    def scopes(self, given: Message) -> Message:
         found = self.view().scopes(number_in(given, "frameId"))
         if found is None:
             raise Failure("no such frame")
         return {"scopes": found}
 
-    def variables(self, given):
+    def variables(self, given: Message) -> Message:
         found = self.view(given).variables(number_in(given, "variablesReference"))
         if found is None:
             raise Failure("no such variables")
         start, count = number_in(given, "start") or 0, number_in(given, "count") or 0
         return {"variables": found[start:start + count if count else None]}
 
-    def set_variable(self, given):
+    def set_variable(self, given: Message) -> Message:
         reference, name = number_in(given, "variablesReference"), text_in(given, "name") or ""
         value, view = text_in(given, "value") or "", self.view()
         if "\n" in name + value:
@@ -569,28 +596,30 @@ class Adapter:
                 raise Failure("no such temporary or global here")
             item = next(item for item in view.program.datas if f"${item.name}" == name)
             self.answered(f"poke {letter} {name} {self.words(value, view.letter_of(item))}")
-            now = next(one for one in self.view(given).variables(DATA) if one["name"] == name)
+            now = next(one for one in self.view(given).variables(DATA) or [] if one["name"] == name)
             return self.set_body(now)
         raise Failure("read-only" if reference == MACHINE or view.frame(reference) else "no such variables")
 
     @staticmethod
-    def set_body(now):
+    def set_body(now: Message) -> Message:
         return {"value": now["value"], "variablesReference": 0, **({"type": now["type"]} if "type" in now else {})}
 
-    def answered(self, line):
+    def answered(self, line: str) -> None:
         answer = self.debuggee.line(line)
         if answer.startswith("no: "):
             raise Failure(answer.rstrip("\n"))
 
-    def set_temporary(self, name, value, given):
+    def set_temporary(self, name: str, value: str, given: Message) -> Message:
         view = self.view()
         plain = view.names_told.short.get("%" + name.removeprefix("%"), name.removeprefix("%"))
-        func = view.machine.funcs[view.frame(1).func] if view.frame(1) else None
+        inner = view.frame(1)
+        func = view.machine.funcs[inner.func] if inner else None
         kind = view.names_told.floats.get((func.name, plain), "") if func else ""
         self.answered(f"set %{plain} {self.words(value, kind)}")
-        return self.set_body(next(one for one in self.view(given).variables(1) if one["evaluateName"] == f"%{plain}"))
+        shown = self.view(given).variables(1) or []
+        return self.set_body(next(one for one in shown if one["evaluateName"] == f"%{plain}"))
 
-    def words(self, value, letter, number=1):
+    def words(self, value: str, letter: str, number: int = 1) -> str:
         """A value in the words of a command: it may be an expression. What is none is the session's to refuse."""
         if letter not in ("s", "d") and re.fullmatch("-?[0-9]*", value):
             return value
@@ -602,11 +631,12 @@ class Adapter:
             raise Failure(missing.args[0]) from None
         if letter in ("s", "d"):
             return str(bits_of(worth.number, letter)) if is_float(worth) else value
-        return value if is_float(worth) else str(worth.number % 2**64)
+        return value if is_float(worth) else str(worth.whole() % 2**64)
 
-    def set_expression(self, given):
+    def set_expression(self, given: Message) -> Message:
         text, value = text_in(given, "expression") or "", text_in(given, "value") or ""
-        number = number_in(given, "frameId") if number_in(given, "frameId") is not None else 1
+        asked = number_in(given, "frameId")
+        number = 1 if asked is None else asked
         if "\n" in value:
             raise Failure("a newline in a value")
         try:
@@ -623,19 +653,22 @@ class Adapter:
             raise Failure(missing.args[0]) from None
         if is_float(address):
             raise Failure("a float, and a whole number was expected")
-        address = address.number % 2**64
+        place = address.whole() % 2**64
         letter = {"s": "w", "d": "l"}.get(part.letter, part.letter)
-        self.answered(f"poke {letter} {address} {self.words(value, part.letter, number)}")
+        self.answered(f"poke {letter} {place} {self.words(value, part.letter, number)}")
         view = self.view(given)
-        now = int.from_bytes(view.now.read(address, WIDTHS[letter]), "little")
+        piece = view.now.read(place, WIDTHS[letter])
+        assert piece is not None
+        now = int.from_bytes(piece, "little")
         return {"value": view.value_text(now, part.letter), "variablesReference": 0, **view.typed(part.letter)}
 
-    def loaded_sources(self, given):
+    def loaded_sources(self, given: Message) -> Message:
         sources = self.debuggee.sources
         paths = [sources.shown(path) for path in sources.paths()] if sources else []
-        return {"sources": [self.debuggee.launched.source()] + [{"name": path.rsplit("/", 1)[-1], "path": path} for path in paths]}
+        return {"sources": [self.debuggee.launched.source()] +
+                [{"name": path.rsplit("/", 1)[-1], "path": path} for path in paths]}
 
-    def evaluate(self, given):
+    def evaluate(self, given: Message) -> Message:
         expression, context = text_in(given, "expression") or "", given.get("context") or ""
         expression = expression.removeprefix("p ")
         frame = number_in(given, "frameId")
@@ -658,7 +691,7 @@ class Adapter:
         except NoExpression:
             return self.by_command(expression, context)
 
-    def by_command(self, expression, context):
+    def by_command(self, expression: str, context: str) -> Message:
         """What is made of a text that is no expression."""
         if context != "repl" and (context != "watch" or not self.is_command(expression)):
             raise Failure("no such temporary or global here")
@@ -670,12 +703,13 @@ class Adapter:
         return self.console(expression)
 
     @staticmethod
-    def is_command(text):
+    def is_command(text: str) -> bool:
         """Whether a text is a command; of those that the tests send the first word tells."""
-        return "\n" not in text and text.split()[:1] and text.split()[0] in LOOKING + MOVING + ("quit",)
+        return "\n" not in text and text.split()[:1] != [] and text.split()[0] in LOOKING + MOVING + ("quit",)
 
-    def console(self, expression):
-        answers, reason = [], None
+    def console(self, expression: str) -> Message:
+        answers: list[str] = []
+        reason: Optional[str] = None
         for line in expression.split("\n"):
             answer = self.debuggee.line(line)
             answers.append(answer)
@@ -686,7 +720,7 @@ class Adapter:
             self.tell_stopped(reason)
         return {"result": told("".join(answers).encode("latin-1")).removesuffix("\n"), "variablesReference": 0}
 
-    def completions(self, given):
+    def completions(self, given: Message) -> Message:
         text, column = text_in(given, "text") or "", number_in(given, "column")
         before = text if column is None else text[:max(0, column - self.first_column)]
         word = before.split(" ")[-1]
@@ -700,7 +734,7 @@ class Adapter:
         return {"targets": [{"label": name, "type": Free("text"), "start": start + self.first_column,
                              "length": len(word)} for name in found]}
 
-    def exception_info(self, given):
+    def exception_info(self, given: Message) -> Message:
         status = self.debuggee.session.now.status
         if status[0] != "fault" or self.debuggee.ended_elsewhere():
             raise Failure("no fault")
@@ -709,26 +743,26 @@ class Adapter:
     # Memory.
 
     @staticmethod
-    def address_in(given):
+    def address_in(given: Message) -> int:
         reference, offset = text_in(given, "memoryReference"), given.get("offset", 0)
         if reference is None or not NUMBER.fullmatch(reference) or int(reference) >= 2**64 or \
                 not is_number(offset, -2**63, 2**63 - 1):
             raise Failure("no address")
         return (int(reference) + offset) % 2**64
 
-    def read_memory(self, given):
+    def read_memory(self, given: Message) -> Message:
         address, count = self.address_in(given), number_in(given, "count")
         if count is None:
             raise Failure("no count")
         count, data = min(count, MOST_READ), b""
         while len(data) < count and (byte := self.debuggee.byte(address + len(data))) is not None:
             data += byte
-        body = {"address": str(address), "data": base64.b64encode(data).decode()}
+        body: Message = {"address": str(address), "data": base64.b64encode(data).decode()}
         if len(data) < count:
             body["unreadableBytes"] = count - len(data)
         return body
 
-    def write_memory(self, given):
+    def write_memory(self, given: Message) -> Message:
         address = self.address_in(given)
         try:
             data = base64.b64decode(text_in(given, "data") or "", validate=True)
@@ -760,7 +794,7 @@ INSIDE = {
 }
 
 
-def plain(message):
+def plain(message: Any) -> Any:
     """A message with what is free in it, or without where that is nothing."""
     if isinstance(message, dict):
         return {name: plain(value) for name, value in message.items() if not isinstance(value, Free) or value.value}
@@ -769,7 +803,7 @@ def plain(message):
     return plain(message.value) if isinstance(message, Free) else message
 
 
-def serve(source, sink):
+def serve(source: IO[bytes], sink: IO[bytes]) -> int:
     """Answers the messages of an input, up to its end; gives the exit status."""
     adapter, number = Adapter(), 0
     while not adapter.is_left:
@@ -788,7 +822,7 @@ def serve(source, sink):
     return 0
 
 
-def main():
+def main() -> int:
     try:
         return serve(sys.stdin.buffer, sys.stdout.buffer)
     except OSError:

@@ -1,20 +1,32 @@
-"""Where two compilations part (docs/COMPARE.md), over the machine of this folder: each side's events one after the other."""
+"""Where two compilations part (docs/COMPARE.md), over the machine of this folder: each side's events one after the
+other."""
+from __future__ import annotations
+
+from collections.abc import Iterable, Sequence
+from typing import Optional, Union
+
 from .grammar import parse
-from .machine import Machine, STORED, fit, low
+from .machine import STORED, Frame, Machine, State, Status, fit, low
 from .rules import BUILT_INS, DATA, FUNCTIONS, MOST_BYTES, STACK, check
 from .session import Session, lines_of
 from .tokens import Refused, cut
+from .tree import Func, Inst, Jump
 
 KINDS = ("output", "writes", "calls", "end")
 DEFAULT = ("output", "calls", "end")
 STATUSES = {"same": 0, "part": 1, "limit": 4}
+
+# A name of data and an offset in it.
+Place = tuple[str, int]
+# What is compared, or why there is no more; and the line that is told of it.
+Event = tuple[Union[tuple[object, ...], str], str]
 
 
 class TooLong(Exception):
     """More moves than are to be made."""
 
 
-def quoted(byte):
+def quoted(byte: int) -> str:
     if byte in b'"\\':
         return "\\" + chr(byte)
     return chr(byte) if 32 <= byte <= 126 else f"\\{byte:03o}"
@@ -23,16 +35,18 @@ def quoted(byte):
 class Side:
     """A text that is run, its events, and how many of them were taken."""
 
-    def __init__(self, text, entry, args, limit, history, most):
+    def __init__(self, text: bytes, entry: str, args: Iterable[int], limit: int, history: Optional[int],
+                 most: int) -> None:
         program = parse(cut(text))
         check(program)
         self.machine = Machine(program)
         self.objects = [(self.machine.addresses[item.name], item.name) for item in program.datas]
         self.session = Session(self.machine, self.machine.start(entry, list(args)), limit, history)
         self.limit, self.most = limit, most
-        self.waiting = []
+        self.waiting: list[Event] = []
+        self.kinds: Sequence[str] = ()
 
-    def against(self, other, kinds):
+    def against(self, other: Side, kinds: Sequence[str]) -> None:
         """Which side it is compared with, and in which kinds of events."""
         self.kinds = kinds
         self.shared_funcs = {func.name for func in self.machine.funcs} & {func.name for func in other.machine.funcs}
@@ -40,13 +54,13 @@ class Side:
 
     # What a number counts as.
 
-    def data_place(self, address):
+    def data_place(self, address: int) -> Optional[Place]:
         if not DATA <= address <= DATA + len(self.machine.data):
             return None
         found = [(name, address - start) for start, name in self.objects if start <= address]
         return found[-1] if found else None
 
-    def address(self, address):
+    def address(self, address: int) -> str:
         if STACK <= address <= STACK + MOST_BYTES:
             return "stack"
         place = self.data_place(address)
@@ -61,16 +75,16 @@ class Side:
         return str(address)
 
     @staticmethod
-    def place_text(place):
+    def place_text(place: Place) -> str:
         name, offset = place
         return f"${name}+{offset}" if offset else f"${name}"
 
-    def value(self, type_, value):
+    def value(self, type_: Optional[str], value: int) -> str:
         return self.address(value) if type_ == "l" else str(value)
 
     # Events: what is compared, and the line that is told.
 
-    def next_event(self):
+    def next_event(self) -> Event:
         """The next event, or why there is none."""
         made = 0
         while not self.waiting:
@@ -86,27 +100,32 @@ class Side:
             self.waiting = self.events_of(old, self.session.now)
         return self.waiting.pop(0)
 
-    def events_of(self, old, new):
+    def events_of(self, old: State, new: State) -> list[Event]:
         frame = old.frames[-1]
         func = self.machine.funcs[frame.func]
         if new.is_over:
             return self.of_end(func, new.status) if "end" in self.kinds else []
         block = func.blocks[frame.block]
-        if frame.index < len(block.insts):
-            return self.of_inst(frame, block.insts[frame.index], old, new)
+        if frame.at < len(block.insts):
+            return self.of_inst(frame, block.insts[frame.at], old, new)
         return self.of_return(frame, func, block.jump) if block.jump.kind == "ret" else []
 
-    def of_end(self, func, status):
-        kind, told = status
-        if kind == "fault":
-            for words, is_address in (("unset temporary ", False), ("dead address ", True), ("no function at ", True)):
-                if told.startswith(words):
-                    told = words + (self.address(int(told[len(words):])) if is_address else "")
-        elif kind == "done" and told is not None:
-            told = self.value(func.type, told)
-        return [(("end", kind, told), "end")]
+    def of_end(self, func: Func, status: Status) -> list[Event]:
+        told: object = None if status[0] == "running" else status[1]
+        if status[0] == "fault":
+            told = self.fault_text(status[1])
+        elif status[0] == "done" and status[1] is not None:
+            told = self.value(func.type, status[1])
+        return [(("end", status[0], told), "end")]
 
-    def of_inst(self, frame, inst, old, new):
+    def fault_text(self, text: str) -> str:
+        """A fault without what may differ: the name of a temporary, or where the memory lies that an address is of."""
+        for words, is_address in (("unset temporary ", False), ("dead address ", True), ("no function at ", True)):
+            if text.startswith(words):
+                return words + (self.address(int(text[len(words):])) if is_address else "")
+        return text
+
+    def of_inst(self, frame: Frame, inst: Inst, old: State, new: State) -> list[Event]:
         if inst.op == "call":
             if len(new.frames) > len(old.frames):
                 return self.of_call(new.frames[-1])
@@ -116,26 +135,27 @@ class Side:
             return self.of_write(low(64, self.machine.value(frame, inst.operands[1])), count, new)
         return []
 
-    def of_output(self, piece):
+    def of_output(self, piece: bytes) -> list[Event]:
         if "output" not in self.kinds:
             return []
         return [(("output", byte), f'output "{quoted(byte)}"') for byte in piece]
 
-    def of_write(self, address, count, new):
+    def of_write(self, address: int, count: int, new: State) -> list[Event]:
         place = self.data_place(address)
         if "writes" not in self.kinds or count == 0 or place is None or place[0] not in self.shared_data:
             return []
         piece = new.read(address, count)
+        assert piece is not None
         return [(("write", place, piece), f"write {self.place_text(place)} {piece.hex(' ')}")]
 
-    def of_call(self, frame):
+    def of_call(self, frame: Frame) -> list[Event]:
         func = self.machine.funcs[frame.func]
         if "calls" not in self.kinds or func.name not in self.shared_funcs:
             return []
         values = [self.value(type_, frame.temps[name]) for type_, name in func.params]
         return [(("call", func.name, values), f"call ${func.name}({', '.join(values)})")]
 
-    def of_return(self, frame, func, jump):
+    def of_return(self, frame: Frame, func: Func, jump: Jump) -> list[Event]:
         if "calls" not in self.kinds or func.name not in self.shared_funcs:
             return []
         if jump.value is None:
@@ -144,7 +164,7 @@ class Side:
         value = self.value(type_, fit(type_, self.machine.value(frame, jump.value)))
         return [(("return", func.name, value), f"return ${func.name} {value}")]
 
-    def told(self, name, line):
+    def told(self, name: str, line: str) -> str:
         """What is told of a side."""
         session = self.session
         block = session.list_() if session.now.frames else "no: no frame\n"
@@ -152,7 +172,7 @@ class Side:
         return f"{name}: {line}\n{session.place()}{session.where_()}{block}{way}"
 
 
-def found(good, bad):
+def found(good: Side, bad: Side) -> tuple[int, str, str, str]:
     """The number of events that are the same, what came of it, and what comes next on each side."""
     count = 0
     while True:
@@ -166,8 +186,10 @@ def found(good, bad):
         count += 1
 
 
-def comparison(good, bad, script=b"", names=("good.ssa", "bad.ssa"), entry="main", args=(), events=DEFAULT, limit=1_000_000,
-               session=None, history=None, most=1_000_000):
+def comparison(good: bytes, bad: bytes, script: bytes = b"", names: Sequence[str] = ("good.ssa", "bad.ssa"),
+               entry: str = "main", args: Iterable[int] = (), events: Sequence[str] = DEFAULT, limit: int = 1_000_000,
+               session: Optional[str] = None, history: Optional[int] = None,
+               most: int = 1_000_000) -> tuple[bytes, int]:
     """What is written of two texts, and the exit status."""
     sides = []
     for text, name, side in zip((good, bad), names, ("good", "bad")):
@@ -179,7 +201,7 @@ def comparison(good, bad, script=b"", names=("good.ssa", "bad.ssa"), entry="main
             return f"{name}: {refused.answer()}".encode("latin-1"), 65
     sides[0].against(sides[1], events)
     sides[1].against(sides[0], events)
-    count, kind, *lines = found(*sides)
+    count, kind, *lines = found(sides[0], sides[1])
     if kind == "same":
         written = [f"same {count} events\n"]
     else:

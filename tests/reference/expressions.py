@@ -1,16 +1,20 @@
-"""Expressions of numbers, temporaries, names and memory once more, as the terminal and the debug adapter have them: read by
-recursive descent, and worked out on the way. A part is a function of a scene, which gives a value or raises `Missing`."""
+"""Expressions of numbers, temporaries, names and memory once more, as the terminal and the debug adapter have them:
+read by recursive descent, and worked out on the way. A part is a function of a scene, which gives a value or raises
+`Missing`."""
+from __future__ import annotations
+
 import math
 import re
 import struct
-from typing import NamedTuple
+from typing import NamedTuple, Protocol, Union
 
 WIDTHS = {"b": 1, "h": 2, "w": 4, "l": 8, "s": 4, "d": 8}
 TOKEN = re.compile(rb"""\s*(?:
     (?P<name>[%$](?=[A-Za-z._$])[A-Za-z0-9._$]+) | (?P<character>'[\x00-\xff]') | (?P<memory>[A-Za-z0-9._$]+\[) |
     (?P<cast>[A-Za-z0-9._$]+\() | (?P<word>[0-9][A-Za-z0-9._$]*[eE][+-][0-9][A-Za-z0-9._$]*|[A-Za-z0-9._$]+) |
     (?P<symbol><<|>>|<=|>=|==|!=|&&|\|\||[-+*/%&|^<>~!()\]]))""", re.VERBOSE | re.DOTALL)
-LEVELS = (("||",), ("&&",), ("|",), ("^",), ("&",), ("==", "!="), ("<", "<=", ">", ">="), ("<<", ">>"), ("+", "-"), ("*", "/", "%"))
+LEVELS = (("||",), ("&&",), ("|",), ("^",), ("&",), ("==", "!="), ("<", "<=", ">", ">="), ("<<", ">>"),
+          ("+", "-"), ("*", "/", "%"))
 MOST = 2**127
 
 
@@ -24,69 +28,94 @@ class Missing(Exception):
 
 class Value(NamedTuple):
     """A number or a float; `w` or `l`, `s` or `d`, or nothing where it was written or worked out."""
-    number: object
+    number: Union[int, float]
     size: str = ""
 
+    def whole(self) -> int:
+        assert isinstance(self.number, int)
+        return self.number
 
-def signed(bits, count):
+
+class Scene(Protocol):
+    """Where the values of an expression come from."""
+
+    def word(self, name: str) -> int: ...
+
+    def temporary(self, name: str) -> Value: ...
+
+    def address(self, name: str) -> int: ...
+
+    def bytes(self, address: int, count: int) -> int: ...
+
+
+class Part(Protocol):
+    """An expression."""
+
+    def value(self, scene: Scene) -> Value: ...
+
+
+def signed(bits: int, count: int) -> int:
     bits &= (1 << count) - 1
     return bits - (1 << count) if bits >> (count - 1) else bits
 
 
-def float_of(bits, size):
-    return struct.unpack("<d" if size == "d" else "<f", bits.to_bytes(WIDTHS[size], "little"))[0]
+def float_of(bits: int, size: str) -> float:
+    number: float = struct.unpack("<d" if size == "d" else "<f", bits.to_bytes(WIDTHS[size], "little"))[0]
+    return number
 
 
-def bits_of(number, size):
+def bits_of(number: float, size: str) -> int:
     try:
         return int.from_bytes(struct.pack("<d" if size == "d" else "<f", number), "little")
     except OverflowError:
         return bits_of(math.copysign(math.inf, number), size)
 
 
-def single(number):
+def single(number: float) -> float:
     return float_of(bits_of(number, "s"), "s")
 
 
-def is_float(value):
+def is_float(value: Value) -> bool:
     return isinstance(value.number, float)
 
 
-def counted(number, size=""):
+def counted(number: int, size: str = "") -> Value:
     if not -MOST <= number < MOST:
         raise Missing("a value of more than 127 bits")
     return Value(number, size)
 
 
-def quotient(a, b):
+def quotient(a: float, b: float) -> float:
     if b:
         return a / b
     return math.nan if a == 0 or a != a else math.copysign(math.inf, a) * math.copysign(1, b)
 
 
-def of_floats(symbol, a, b):
+def of_floats(symbol: str, a: Value, b: Value) -> Value:
     """An operation of which an operand is a float."""
-    one, other = (single(x.number) if y.size == "s" and x.size not in ("s", "d") else float(x.number) for x, y in ((a, b), (b, a)))
-    compare = {"==": one == other, "!=": one != other, "<": one < other, "<=": one <= other, ">": one > other, ">=": one >= other}
+    one, other = (single(x.number) if y.size == "s" and x.size not in ("s", "d") else float(x.number) for x,
+                  y in ((a, b), (b, a)))
+    compare = {"==": one == other, "!=": one != other, "<": one < other, "<=": one <= other, ">": one > other,
+               ">=": one >= other}
     if symbol in compare:
         return Value(int(compare[symbol]))
     if symbol not in ("+", "-", "*", "/"):
         raise Missing("no operation of floats: u(..) is the bits of one")
-    result = {"+": one + other, "-": one - other, "*": one * other}.get(symbol) if symbol != "/" else quotient(one, other)
+    result = {"+": one + other, "-": one - other, "*": one * other}[symbol] if symbol != "/" else quotient(one, other)
     sizes = {a.size, b.size}
     return Value(single(result), "s") if "s" in sizes and sizes <= {"s", ""} else Value(result, "d")
 
 
-def divided(a, b):
+def divided(a: int, b: int) -> int:
     if b == 0:
         raise Missing("division by zero")
     return abs(a) // abs(b) * (1 if (a < 0) == (b < 0) else -1)
 
 
-def combined(symbol, a, b):
+def combined(symbol: str, a: Value, b: Value) -> Value:
     if is_float(a) or is_float(b):
         return of_floats(symbol, a, b)
-    one, other, size = a.number, b.number, a.size or b.size
+    one, other, size = a.whole(), b.whole(), a.size or b.size
     if symbol in ("==", "!="):
         narrow = "w" if "w" in (a.size, b.size) else size
         mask = {"w": 2**32 - 1, "l": 2**64 - 1}.get(narrow)
@@ -105,20 +134,20 @@ def combined(symbol, a, b):
                     "^": one ^ other}[symbol], size)
 
 
-def is_true(value):
+def is_true(value: Value) -> bool:
     return value.number != 0
 
 
-def recast(value, has_sign):
+def recast(value: Value, has_sign: bool) -> Value:
     size = value.size if value.size in ("w", "s") else "l"
     count = 8 * WIDTHS[size]
-    bits = bits_of(value.number, value.size or "d") if is_float(value) else value.number
+    bits = bits_of(value.number, value.size or "d") if is_float(value) else value.whole()
     if is_float(value):
         count = 32 if value.size == "s" else 64
     return Value(signed(bits, count) if has_sign else bits & ((1 << count) - 1))
 
 
-def changed(symbol, value):
+def changed(symbol: str, value: Value) -> Value:
     if symbol in ("u", "s"):
         return recast(value, symbol == "s")
     if symbol == "!":
@@ -128,62 +157,63 @@ def changed(symbol, value):
             raise Missing("no operation of floats: u(..) is the bits of one")
         return Value(-value.number if symbol == "-" else value.number, value.size)
     if symbol == "-":
-        return counted(-value.number, value.size)
-    return Value(~value.number, value.size) if symbol == "~" else Value(value.number)
+        return counted(-value.whole(), value.size)
+    return Value(~value.whole(), value.size) if symbol == "~" else Value(value.number)
 
 
 class Reader:
     """Reads an expression; each part is a function of a scene."""
 
-    def __init__(self, text):
-        self.tokens, at, text = [], 0, text.encode() if isinstance(text, str) else text
+    def __init__(self, given: Union[str, bytes]) -> None:
+        self.tokens: list[tuple[str, str]] = []
+        at, text = 0, given.encode() if isinstance(given, str) else given
         while text[at:].strip(b" \t\n\x0c\r"):
             match = TOKEN.match(text, at)
             if not match or not match.group().strip():
                 raise NoExpression
-            kind = match.lastgroup
+            kind = match.lastgroup or ""
             self.tokens.append((kind, match.group(kind).decode("latin-1")))
             at = match.end()
         self.at = 0
 
-    def peek(self, *symbols):
+    def peek(self, *symbols: str) -> str:
         kind, text = self.tokens[self.at] if self.at < len(self.tokens) else ("", "")
         return text if kind == "symbol" and text in symbols else ""
 
-    def take(self):
+    def take(self) -> tuple[str, str]:
         if self.at == len(self.tokens):
             raise NoExpression
         self.at += 1
         return self.tokens[self.at - 1]
 
-    def whole(self):
+    def whole(self) -> Part:
         part = self.binary(0)
         if self.at != len(self.tokens):
             raise NoExpression
         return part
 
-    def binary(self, level):
+    def binary(self, level: int) -> Part:
         if level == len(LEVELS):
             return self.unary()
-        part = self.binary(level + 1)
+        part: Part = self.binary(level + 1)
         while symbol := self.peek(*LEVELS[level]):
             self.take()
             part = Binary(symbol, part, self.binary(level + 1))
         return part
 
-    def unary(self):
+    def unary(self) -> Part:
         if symbol := self.peek("-", "+", "~", "!"):
             self.take()
             return Unary(symbol, self.unary())
         return self.single()
 
-    def closed(self, end):
+    def closed(self, end: str) -> Part:
         part = self.binary(0)
         if self.take() != ("symbol", end):
             raise NoExpression
         return part
 
-    def single(self):
+    def single(self) -> Part:
         kind, text = self.take()
         if (kind, text) == ("symbol", "("):
             return self.closed(")")
@@ -202,10 +232,11 @@ class Reader:
         raise NoExpression
 
 
-def number_of(word):
+def number_of(word: str) -> Union[int, float]:
     for front, base in (("0x", 16), ("0X", 16), ("0b", 2), ("0o", 8), ("", 10)):
         digits = word.removeprefix(front)
-        if word.startswith(front) and re.fullmatch("[0-9a-fA-F]+", digits) and all(int(digit, 16) < base for digit in digits):
+        if word.startswith(front) and re.fullmatch("[0-9a-fA-F]+", digits) \
+                and all(int(digit, 16) < base for digit in digits):
             number = int(digits, base)
             if number < 2**64:
                 return number
@@ -215,35 +246,35 @@ def number_of(word):
 
 
 class Number(NamedTuple):
-    number: object
+    number: Union[int, float]
 
-    def value(self, scene):
+    def value(self, scene: Scene) -> Value:
         return Value(self.number)
 
 
 class Word(NamedTuple):
     name: str
 
-    def value(self, scene):
+    def value(self, scene: Scene) -> Value:
         return Value(scene.word(self.name))
 
 
 class Named(NamedTuple):
     name: str
 
-    def value(self, scene):
+    def value(self, scene: Scene) -> Value:
         return scene.temporary(self.name[1:]) if self.name[0] == "%" else Value(scene.address(self.name[1:]), "l")
 
 
 class Memory(NamedTuple):
     letter: str
-    inside: object
+    inside: Part
 
-    def value(self, scene):
+    def value(self, scene: Scene) -> Value:
         address = self.inside.value(scene)
         if is_float(address):
             raise Missing("a float, and a whole number was expected")
-        bits = scene.bytes(address.number % 2**64, WIDTHS[self.letter])
+        bits = scene.bytes(address.whole() % 2**64, WIDTHS[self.letter])
         if self.letter in "sd":
             return Value(float_of(bits, self.letter), self.letter)
         return Value(signed(bits, 8 * WIDTHS[self.letter]), "l" if self.letter == "l" else "w")
@@ -251,18 +282,18 @@ class Memory(NamedTuple):
 
 class Unary(NamedTuple):
     symbol: str
-    inside: object
+    inside: Part
 
-    def value(self, scene):
+    def value(self, scene: Scene) -> Value:
         return changed(self.symbol, self.inside.value(scene))
 
 
 class Binary(NamedTuple):
     symbol: str
-    one: object
-    other: object
+    one: Part
+    other: Part
 
-    def value(self, scene):
+    def value(self, scene: Scene) -> Value:
         first = self.one.value(scene)
         if self.symbol in ("&&", "||"):
             if is_true(first) == (self.symbol == "||"):
@@ -271,6 +302,6 @@ class Binary(NamedTuple):
         return combined(self.symbol, first, self.other.value(scene))
 
 
-def parse(text):
+def parse(text: Union[str, bytes]) -> Part:
     """The expression that a text is; `NoExpression` if it is none."""
     return Reader(text).whole()

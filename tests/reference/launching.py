@@ -1,10 +1,12 @@
 """What the arguments of a launch say."""
+from __future__ import annotations
+
 import pathlib
 import re
 from typing import NamedTuple, Optional
 
 from .mapping import GREATEST_MAP, BadMap, SourceMap
-from .messages import is_number
+from .messages import Message, is_number
 from .names import Names
 from .tokens import GREATEST_TEXT
 
@@ -19,7 +21,7 @@ class BadLaunch(Exception):
 class Launch(NamedTuple):
     program: str
     entry: str
-    args: list
+    args: list[int]
     limit: int
     history: Optional[int]
     stops_on_entry: bool
@@ -27,7 +29,7 @@ class Launch(NamedTuple):
     map: Optional[str]
     no_debug: bool = False
 
-    def names(self):
+    def names(self) -> Names:
         """What the names of the text stand for."""
         name = self.program + ".map" if self.map is None else self.map
         try:
@@ -36,7 +38,7 @@ class Launch(NamedTuple):
         except (OSError, ValueError):
             return Names()
 
-    def text(self):
+    def text(self) -> bytes:
         """The bytes of the program; what is beyond the greatest text is one byte at most."""
         try:
             with open(self.program, "rb") as file:
@@ -44,7 +46,7 @@ class Launch(NamedTuple):
         except (OSError, ValueError):
             raise BadLaunch(f"cannot read {self.program}") from None
 
-    def sources(self):
+    def sources(self) -> Optional[SourceMap]:
         """The map of places, or None."""
         name = self.program + ".map" if self.map is None else self.map
         if not name:
@@ -61,30 +63,31 @@ class Launch(NamedTuple):
         except BadMap as bad:
             raise BadLaunch(str(bad)) from None
 
-    def source(self):
+    def source(self) -> Message:
         return {"name": pathlib.PurePosixPath(self.program).name, "path": self.program}
 
-    def command_line(self):
+    def command_line(self) -> str:
         """The words that replay the record."""
         words = ["qrev", self.program, *map(str, self.args), "--entry", self.entry, "--limit", str(self.limit)]
         return " ".join(words + ([] if self.history is None else ["--history", str(self.history)]))
 
 
-def number_or_fail(given, name, default, greatest):
-    value = given.get(name, default)
+def number_or_fail(given: Message, name: str, greatest: int) -> Optional[int]:
+    """The number that a member is, if it is there."""
+    value: Optional[int] = given.get(name)
     if name in given and not is_number(value, 1, greatest):
         raise BadLaunch(f"{name}: not a number from 1 to {greatest}")
     return value
 
 
-def argument(item):
+def argument(item: object) -> int:
     value = int(item) if isinstance(item, str) and re.fullmatch("[0-9]+", item) else item
     if not is_number(value, 0, GREATEST_ARGUMENT):
         raise BadLaunch(f"args: not a number from 0 to {GREATEST_ARGUMENT}")
     return value
 
 
-def launch_of(given):
+def launch_of(given: Message) -> Launch:
     """The launch that arguments mean. They are looked at in the order of the page."""
     if not isinstance(given.get("program"), str):
         raise BadLaunch("program: no path")
@@ -95,8 +98,8 @@ def launch_of(given):
     if not isinstance(args, list):
         raise BadLaunch(f"args: not a number from 0 to {GREATEST_ARGUMENT}")
     args = [argument(item) for item in args]
-    limit = number_or_fail(given, "limit", DEFAULT_LIMIT, GREATEST_LIMIT)
-    history = number_or_fail(given, "history", None, GREATEST_HISTORY)
+    limit = number_or_fail(given, "limit", GREATEST_LIMIT) or DEFAULT_LIMIT
+    history = number_or_fail(given, "history", GREATEST_HISTORY)
     stops_on_entry = given.get("stopOnEntry", True)
     if not isinstance(stops_on_entry, bool):
         raise BadLaunch("stopOnEntry: no flag")

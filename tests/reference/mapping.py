@@ -1,7 +1,9 @@
 """A map of places: which line of which source each line of a text came from."""
+from __future__ import annotations
+
 import posixpath
 import re
-from typing import NamedTuple
+from typing import NamedTuple, Optional
 
 GREATEST_MAP, GREATEST_LINE = 2**24, 2**32 - 1
 
@@ -18,12 +20,13 @@ class Origin(NamedTuple):
 ESCAPED = {"\\t": "\t", "\\n": "\n", "\\\\": "\\"}
 
 
-def origin_of(line):
+def origin_of(line: bytes) -> Optional[Origin]:
     """What a line of a map tells, or None where it is empty; ValueError where it has another form."""
     if line == b"":
         return None
     fields = line.decode().split("\t")
-    if len(fields) not in (2, 5) or not fields[0] or not all(re.fullmatch("[0-9]+", field, re.ASCII) for field in fields[1:2] + fields[3:]) \
+    if len(fields) not in (2, 5) or not fields[0] \
+            or not all(re.fullmatch("[0-9]+", field, re.ASCII) for field in fields[1:2] + fields[3:]) \
             or not 1 <= int(fields[1]) <= GREATEST_LINE:
         raise ValueError(line)
     origin = Origin(fields[0], int(fields[1]))
@@ -36,8 +39,9 @@ def origin_of(line):
 class SourceMap:
     """A map that was read. Lines of the text are counted from 1."""
 
-    def __init__(self, file, given):
-        self.file, self.origins = file, []
+    def __init__(self, file: str, given: bytes) -> None:
+        self.file = file
+        self.origins: list[Optional[Origin]] = []
         if len(given) > GREATEST_MAP:
             raise BadMap(f"map: more than {GREATEST_MAP} bytes")
         for number, line in enumerate(given.split(b"\n"), 1):
@@ -46,7 +50,7 @@ class SourceMap:
             except ValueError:
                 raise BadMap(f"map: no path and line in line {number}") from None
 
-    def shown(self, path):
+    def shown(self, path: str) -> str:
         """A path of the map as it is told."""
         path = re.sub(r"\\[\\tn]", lambda match: ESCAPED[match.group()], path)
         whole = path if path.startswith("/") else posixpath.dirname(self.file) + "/" + path
@@ -54,15 +58,16 @@ class SourceMap:
             whole = path
         return posixpath.normpath(re.sub("/+", "/", whole))
 
-    def origin(self, text_line):
+    def origin(self, text_line: int) -> Optional[Origin]:
         return self.origins[text_line - 1] if text_line <= len(self.origins) else None
 
-    def paths(self):
+    def paths(self) -> dict[str, None]:
         """The paths of the map, in the order in which they come first."""
         return dict.fromkeys(origin.path for origin in self.origins if origin)
 
-    def path_called(self, name):
-        """The path that an editor calls by a name: that which is told so, else the first that ends in it or is its end."""
+    def path_called(self, name: str) -> Optional[str]:
+        """The path that an editor calls by a name: that which is told so, else the first that ends in it or is its
+        end."""
         if not name:
             return None
         shown = {path: self.shown(path) for path in self.paths()}
@@ -70,14 +75,15 @@ class SourceMap:
         ends = [path for path, told in shown.items() if told.endswith("/" + name) or name.endswith("/" + told)]
         return next(iter(same + ends), None)
 
-    def lines_of(self, path):
+    def lines_of(self, path: str) -> list[tuple[int, int]]:
         """Each line of a source that lines of the text came from, in order, with the first of these."""
-        first = {}
+        first: dict[int, int] = {}
         for text_line, origin in enumerate(self.origins, 1):
             if origin and origin.path == path:
                 first.setdefault(origin.line, text_line)
         return sorted(first.items())
 
-    def line_from(self, path, line):
-        """The least line of a source that isn't before a line, with the first line of the text that came from it, or None."""
+    def line_from(self, path: str, line: int) -> Optional[tuple[int, int]]:
+        """The least line of a source that isn't before a line, with the first line of the text that came from it, or
+        None."""
         return next(((at, text_line) for at, text_line in self.lines_of(path) if at >= line), None)

@@ -1,14 +1,23 @@
 """The rules of a program, whether it is in SSA form, and where its names lie."""
+from __future__ import annotations
+
+from collections.abc import Callable, Iterable, Iterator, Sequence
+
 from .tokens import Refused
-from .tree import ALLOCS, COMPARISONS, EXTENSIONS, LOADS, SHIFTS, Jump, class_of, values_of
+from .tree import (
+    ALLOCS, COMPARISONS, EXTENSIONS, LOADS, SHIFTS, Func, Items, Jump, Part, Phi, Program, class_of, values_of)
 
 BUILT_INS = {"putchar": 1024, "puts": 1040, "exit": 1056}
 FUNCTIONS, DATA, STACK = 4096, 65536, 2**24
 MOST_BYTES = 2**20
 MOST_FUNCTIONS, MOST_IN_ONE = 1000, 65535
 
+# The lines at which a program breaks a rule; and a rule with its code.
+Lines = Callable[[Program], Iterable[int]]
+Rule = tuple[str, Lines]
 
-def check(program):
+
+def check(program: Program) -> None:
     """Refuses a program that breaks a rule: the lowest that is broken, at its first place."""
     for rule in (twice_named, twice_labelled, unknown_label, jump_to_first, two_classes, undefined, narrow, wrong_phi,
                  unknown_global, value_without_type, narrow_result, too_many):
@@ -17,22 +26,24 @@ def check(program):
             raise Refused(code, line)
 
 
-def rule(code):
+def rule(code: str) -> Callable[[Lines], Rule]:
     return lambda lines: (code, lines)
 
 
-def parts(func):
+def parts(func: Func) -> Iterator[Part]:
     """Phis, instructions and jumps in the order of the text."""
     for block in func.blocks:
-        yield from block.phis + block.insts + [block.jump]
+        yield from block.parts()
 
 
-def labels_of(part):
-    return part.labels if isinstance(part, Jump) else [label for label, _ in getattr(part, "sources", [])]
+def labels_of(part: Part) -> list[str]:
+    if isinstance(part, Jump):
+        return part.labels
+    return [label for label, _ in part.sources] if isinstance(part, Phi) else []
 
 
-def repeated(names):
-    seen = set()
+def repeated(names: Iterable[tuple[str, int]]) -> Iterator[int]:
+    seen: set[str] = set()
     for name, line in names:
         if name in seen:
             yield line
@@ -40,18 +51,18 @@ def repeated(names):
 
 
 @rule("C1")
-def twice_named(program):
+def twice_named(program: Program) -> Iterator[int]:
     return repeated((item.name, item.line) for item in program.order)
 
 
 @rule("C2")
-def twice_labelled(program):
+def twice_labelled(program: Program) -> Iterator[int]:
     for func in program.funcs:
         yield from repeated((block.label, block.line) for block in func.blocks)
 
 
 @rule("C3")
-def unknown_label(program):
+def unknown_label(program: Program) -> Iterator[int]:
     for func in program.funcs:
         known = {block.label for block in func.blocks}
         for part in parts(func):
@@ -60,7 +71,7 @@ def unknown_label(program):
 
 
 @rule("C4")
-def jump_to_first(program):
+def jump_to_first(program: Program) -> Iterator[int]:
     for func in program.funcs:
         for block in func.blocks:
             if func.blocks[0].label in block.jump.labels:
@@ -68,16 +79,16 @@ def jump_to_first(program):
 
 
 @rule("C5")
-def two_classes(program):
+def two_classes(program: Program) -> Iterator[int]:
     for func in program.funcs:
-        classes = {}
+        classes: dict[str, str] = {}
         for name, class_, line in func.definitions():
             if classes.setdefault(name, class_) != class_:
                 yield line
 
 
 @rule("C6")
-def undefined(program):
+def undefined(program: Program) -> Iterator[int]:
     for func in program.funcs:
         defined = {name for name, _, _ in func.definitions()}
         for part in parts(func):
@@ -86,11 +97,11 @@ def undefined(program):
                     yield value.line
 
 
-def wanted(func, part):
+def wanted(func: Func, part: Part) -> Sequence[str | None]:
     """The class that is wanted of each operand, in their order; None where any will do."""
     if isinstance(part, Jump):
-        return {"jnz": ["w"], "ret": [func.type and class_of(func.type)]}.get(part.kind, [])
-    if not hasattr(part, "op"):
+        return ["w"] if part.kind == "jnz" else [func.type and class_of(func.type)] if part.kind == "ret" else []
+    if isinstance(part, Phi):
         return [part.type] * len(part.sources)
     op = part.op
     if op == "call":
@@ -111,19 +122,19 @@ def wanted(func, part):
 
 
 @rule("C7")
-def narrow(program):
+def narrow(program: Program) -> Iterator[int]:
     for func in program.funcs:
         classes = {name: class_ for name, class_, _ in func.definitions()}
         for part in parts(func):
             for value, class_ in zip(values_of(part), wanted(func, part)):
-                if class_ == "l" and value.kind == "temp" and classes[value.value] == "w":
+                if class_ == "l" and value.kind == "temp" and classes[value.name()] == "w":
                     yield value.line
 
 
 @rule("C8")
-def wrong_phi(program):
+def wrong_phi(program: Program) -> Iterator[int]:
     for func in program.funcs:
-        before = {block.label: set() for block in func.blocks}
+        before: dict[str, set[str]] = {block.label: set() for block in func.blocks}
         for block in func.blocks:
             for label in block.jump.labels:
                 before[label].add(block.label)
@@ -135,22 +146,23 @@ def wrong_phi(program):
 
 
 @rule("C9")
-def unknown_global(program):
+def unknown_global(program: Program) -> Iterator[int]:
     known = {item.name for item in program.order} | set(BUILT_INS)
     for item in program.order:
-        if hasattr(item, "blocks"):
+        if isinstance(item, Func):
             for part in parts(item):
                 for value in values_of(part):
                     if value.kind == "global" and value.value not in known:
                         yield value.line
         else:
             for letter, items in item.fields:
-                if letter == "l" and any(isinstance(one, tuple) and one[0] not in known for one in items):
+                if letter == "l" and not isinstance(items, int) and any(
+                        isinstance(one, tuple) and one[0] not in known for one in items):
                     yield item.line
 
 
 @rule("C10")
-def value_without_type(program):
+def value_without_type(program: Program) -> Iterator[int]:
     for func in program.funcs:
         for block in func.blocks:
             if block.jump.kind == "ret" and block.jump.value and func.type is None:
@@ -158,7 +170,7 @@ def value_without_type(program):
 
 
 @rule("C11")
-def narrow_result(program):
+def narrow_result(program: Program) -> Iterator[int]:
     for func in program.funcs:
         for block in func.blocks:
             for inst in block.insts:
@@ -167,17 +179,17 @@ def narrow_result(program):
 
 
 @rule("C12")
-def too_many(program):
+def too_many(program: Program) -> Iterator[int]:
     for number, func in enumerate(program.funcs):
         temps = {name for name, _, _ in func.definitions()}
         if number >= MOST_FUNCTIONS or len(temps) > MOST_IN_ONE or len(func.blocks) > MOST_IN_ONE:
             yield func.line
 
 
-def form(program):
+def form(program: Program) -> tuple[str, str] | None:
     """None where each temporary has one definition, else a function and the temporary that is defined again first."""
     for func in program.funcs:
-        seen = set()
+        seen: set[str] = set()
         for name, _, _ in func.definitions():
             if name in seen:
                 return func.name, name
@@ -185,7 +197,7 @@ def form(program):
     return None
 
 
-def layout(program):
+def layout(program: Program) -> tuple[dict[str, int], bytes]:
     """Where each name lies, and the bytes of the data."""
     at, places = DATA, []
     for item in program.datas:
@@ -212,14 +224,14 @@ def layout(program):
 WIDTHS = {"b": 1, "h": 2, "w": 4, "l": 8}
 
 
-def size(letter, items):
-    if letter == "z":
+def size(letter: str, items: Items) -> int:
+    if isinstance(items, int):
         return items
     return sum(len(one) if isinstance(one, bytes) else WIDTHS[letter] for one in items)
 
 
-def bytes_of(letter, items, addresses):
-    if letter == "z":
+def bytes_of(letter: str, items: Items, addresses: dict[str, int]) -> bytes:
+    if isinstance(items, int):
         return bytes(items)
     pieces = []
     for one in items:

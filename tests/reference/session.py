@@ -1,10 +1,15 @@
 """A session: commands, stops and answers over a list of whole states."""
+from __future__ import annotations
+
 import re
+from collections.abc import Callable, Iterable
+from typing import Literal, Optional, Union
 
 from .grammar import parse
-from .machine import Machine, low
+from .machine import Frame, Machine, State, low
 from .rules import check, form
 from .tokens import Refused, cut
+from .tree import Inst, Jump
 
 GREATEST_SCRIPT = 2**24
 GREATEST_LINE = 256
@@ -16,6 +21,19 @@ VALUE = re.compile("-?[0-9]+")
 ADDRESS = re.compile(rf"\$({NAME})(?:\+([0-9]+))?")
 
 
+# What a word of a command means: a number, a name, an address (a name, if there is one, and what is added), or what is
+# watched.
+Word = Union[int, str, tuple[Optional[str], int], tuple[str, str]]
+Shape = Callable[[str], Word]
+# A breakpoint at a function, a block and an instruction, by their numbers; a watch of a width and an address, or of a
+# function and a temporary.
+Break = tuple[Literal["break"], int, int, int]
+BytesWatch = tuple[Literal["watch"], Literal["bytes"], str, int]
+TempWatch = tuple[Literal["watch"], Literal["temp"], int, str]
+Watch = Union[BytesWatch, TempWatch]
+Stop = Union[Break, Watch]
+
+
 class BadWord(Exception):
     pass
 
@@ -24,21 +42,21 @@ class No(Exception):
     """A refused line, by what stands behind `no: `."""
 
 
-def number(least, greatest):
-    def shape(word):
+def number(least: int, greatest: int) -> Callable[[str], int]:
+    def shape(word: str) -> int:
         if not NUMBER.fullmatch(word) or not least <= int(word) <= greatest:
             raise BadWord
         return int(word)
     return shape
 
 
-def value(word):
+def value(word: str) -> int:
     if not VALUE.fullmatch(word) or not -2**63 <= int(word) < 2**64:
         raise BadWord
     return int(word) % 2**64
 
 
-def address(word):
+def address(word: str) -> tuple[Optional[str], int]:
     """A number, or a name and what is added."""
     if NUMBER.fullmatch(word):
         return None, WORD(word)
@@ -48,21 +66,21 @@ def address(word):
     return found[1], WORD(found[2]) if found[2] else 0
 
 
-def name_after(sigil):
-    def shape(word):
+def name_after(sigil: str) -> Callable[[str], str]:
+    def shape(word: str) -> str:
         if not re.fullmatch(re.escape(sigil) + NAME, word):
             raise BadWord
         return word[1:]
     return shape
 
 
-def width(word):
+def width(word: str) -> str:
     if word not in WIDTHS:
         raise BadWord
     return word
 
 
-def watched(word):
+def watched(word: str) -> tuple[str, str]:
     return ("bytes", word) if word in WIDTHS else ("temp", GLOBAL(word))
 
 
@@ -71,7 +89,7 @@ COUNT = number(1, 2**32 - 1)
 GLOBAL, TEMP, LABEL = name_after("$"), name_after("%"), name_after("@")
 
 # The shapes of the words of each command, and how many of them it needs. The second word of `watch` hangs on the first.
-COMMANDS = {
+COMMANDS: dict[str, tuple[list[Shape | None], int]] = {
     "step": ([COUNT], 0), "back": ([COUNT], 0), "continue": ([], 0), "reverse": ([], 0),
     "break": ([GLOBAL, LABEL, WORD], 1), "watch": ([watched, None], 2), "delete": ([WORD], 1), "stops": ([], 0),
     "set": ([TEMP, value], 2), "poke": ([width, address, value], 3), "print": ([TEMP], 1), "temps": ([], 0),
@@ -79,7 +97,7 @@ COMMANDS = {
 }
 
 
-def read_command(line):
+def read_command(line: str) -> Optional[tuple[str, list[Word]]]:
     """The command of a line and its words' values, or nothing; else the line is refused."""
     if len(line) > GREATEST_LINE:
         raise No("line too long")
@@ -89,14 +107,15 @@ def read_command(line):
     if words[0] not in COMMANDS:
         raise No("unknown command")
     shapes, needed = COMMANDS[words[0]]
-    values = []
+    values: list[Word] = []
     for place, shape in enumerate(shapes):
         if place + 1 >= len(words):
             if place < needed:
                 raise No("missing word")
             break
         if shape is None:
-            shape = address if values[0][0] == "bytes" else TEMP
+            watch = values[0]
+            shape = address if isinstance(watch, tuple) and watch[0] == "bytes" else TEMP
         try:
             values.append(shape(words[place + 1]))
         except BadWord:
@@ -109,56 +128,58 @@ def read_command(line):
 class Session:
     """The states that are kept, the position of the first of them, and the stops by number."""
 
-    def __init__(self, machine, state, limit=1_000_000, history=None):
+    def __init__(self, machine: Machine, state: State, limit: int = 1_000_000, history: Optional[int] = None) -> None:
         self.machine, self.limit, self.history = machine, limit, history
         self.states, self.oldest = [state], 0
-        self.stops, self.last_stop = {}, 0
+        self.stops: dict[int, Stop] = {}
+        self.last_stop = 0
         self.is_ended = False
 
-    def again(self):
+    def again(self) -> Session:
         """A session that begins where this one's first kept state is."""
         return Session(self.machine, self.states[0], self.limit, self.history)
 
     @property
-    def now(self):
+    def now(self) -> State:
         return self.states[-1]
 
     @property
-    def position(self):
+    def position(self) -> int:
         return self.oldest + len(self.states) - 1
 
-    def add(self, state):
+    def add(self, state: State) -> None:
         self.states.append(state)
         if self.history is not None and len(self.states) > self.history + 1:
             del self.states[0]
             self.oldest += 1
 
-    def place(self):
-        state, kind = self.now, self.now.status[0]
-        if kind == "running":
-            return f"#{self.position} {self.frame_text(state.frames[-1])}\n"
-        if kind == "done":
-            value = "" if state.status[1] is None else f" {state.status[1]}"
+    def place(self) -> str:
+        status = self.now.status
+        if status[0] == "running":
+            return f"#{self.position} {self.frame_text(self.now.frames[-1])}\n"
+        if status[0] == "done":
+            value = "" if status[1] is None else f" {status[1]}"
             return f"#{self.position} done{value}\n"
-        return f"#{self.position} {kind} {state.status[1]}\n"
+        return f"#{self.position} {status[0]} {status[1]}\n"
 
-    def frame_text(self, frame):
+    def frame_text(self, frame: Frame) -> str:
         func = self.machine.funcs[frame.func]
-        return f"${func.name} @{func.blocks[frame.block].label} {frame.index}"
+        return f"${func.name} @{func.blocks[frame.block].label} {frame.at}"
 
-    def answer(self, line):
+    def answer(self, line: str) -> str:
         """The answer to a line of a script, without its newline."""
         try:
             command = read_command(line)
             if command is None:
                 return ""
-            return getattr(self, command[0] + "_")(*command[1])
+            answer: str = getattr(self, command[0] + "_")(*command[1])
+            return answer
         except No as no:
             return f"no: {no}\n"
 
     # Moves.
 
-    def step_(self, count=1):
+    def step_(self, count: int = 1) -> str:
         if self.now.is_over:
             raise No("at end")
         while count > 0 and not self.now.is_over:
@@ -166,16 +187,16 @@ class Session:
             count -= 1
         return self.place()
 
-    def no_way_back(self):
+    def no_way_back(self) -> None:
         if len(self.states) == 1:
             raise No("at start" if self.oldest == 0 else "history ends")
 
-    def back_(self, count=1):
+    def back_(self, count: int = 1) -> str:
         self.no_way_back()
         del self.states[max(1, len(self.states) - count):]
         return self.place()
 
-    def continue_(self):
+    def continue_(self) -> str:
         if self.now.is_over:
             raise No("at end")
         made = 0
@@ -189,7 +210,7 @@ class Session:
             if reason:
                 return f"stop: {reason}\n{self.place()}"
 
-    def reverse_(self):
+    def reverse_(self) -> str:
         self.no_way_back()
         made = 0
         while True:
@@ -203,7 +224,7 @@ class Session:
             if reason:
                 return f"stop: {reason}\n{self.place()}"
 
-    def watch_or_break(self, left, reached):
+    def watch_or_break(self, left: State, reached: State) -> Optional[str]:
         """The watch that reads otherwise in two neighbouring states, else the breakpoint that holds in the second."""
         for number, stop in sorted(self.stops.items()):
             if stop[0] == "watch" and self.reading(stop, left) != self.reading(stop, reached):
@@ -213,7 +234,7 @@ class Session:
                 return f"break {number}"
         return None
 
-    def reading(self, stop, state):
+    def reading(self, stop: Watch, state: State) -> Union[bytes, int, None]:
         if stop[1] == "bytes":
             return state.read(stop[3], WIDTHS[stop[2]])
         for frame in reversed(state.frames):
@@ -223,20 +244,20 @@ class Session:
 
     # Stops.
 
-    def func_named(self, name):
+    def func_named(self, name: str) -> int:
         for number, func in enumerate(self.machine.funcs):
             if func.name == name:
                 return number
         raise No("unknown place")
 
-    def add_stop(self, stop):
+    def add_stop(self, stop: Stop) -> str:
         if len(self.stops) == MOST_STOPS:
             raise No("too many stops")
         self.last_stop += 1
         self.stops[self.last_stop] = stop
         return self.stop_text(self.last_stop)
 
-    def stop_text(self, number):
+    def stop_text(self, number: int) -> str:
         stop = self.stops[number]
         funcs = self.machine.funcs
         if stop[0] == "break":
@@ -246,7 +267,7 @@ class Session:
             return f"watch {number} {stop[2]} {stop[3]}\n"
         return f"watch {number} ${funcs[stop[2]].name} %{stop[3]}\n"
 
-    def break_(self, func, label=None, index=0):
+    def break_(self, func: str, label: Optional[str] = None, index: int = 0) -> str:
         number = self.func_named(func)
         code = self.machine.funcs[number]
         block = 0 if label is None else code.block_of(label)
@@ -254,26 +275,26 @@ class Session:
             raise No("unknown place")
         return self.add_stop(("break", number, block, index))
 
-    def watch_(self, what, where):
-        if what[0] == "bytes":
+    def watch_(self, what: tuple[str, str], where: Union[str, tuple[Optional[str], int]]) -> str:
+        if not isinstance(where, str):
             return self.add_stop(("watch", "bytes", what[1], self.address_of(where)))
         number = self.func_named(what[1])
         if where not in self.machine.funcs[number].temps:
             raise No("unknown place")
         return self.add_stop(("watch", "temp", number, where))
 
-    def delete_(self, number):
+    def delete_(self, number: int) -> str:
         if number not in self.stops:
             raise No("no such stop")
         del self.stops[number]
         return f"deleted {number}\n"
 
-    def stops_(self):
+    def stops_(self) -> str:
         return "".join(self.stop_text(number) for number in sorted(self.stops)) or "none\n"
 
     # Pokes.
 
-    def address_of(self, where):
+    def address_of(self, where: tuple[Optional[str], int]) -> int:
         name, offset = where
         if name is None:
             return offset
@@ -281,21 +302,21 @@ class Session:
             raise No("unknown place")
         return (self.machine.addresses[name] + offset) % 2**64
 
-    def inner(self):
+    def inner(self) -> Frame:
         if not self.now.frames:
             raise No("no frame")
         return self.now.frames[-1]
 
-    def known(self, temp):
+    def known(self, temp: str) -> None:
         if temp not in self.machine.funcs[self.inner().func].temps:
             raise No("unknown temporary")
 
-    def set_(self, temp, value):
+    def set_(self, temp: str, value: int) -> str:
         self.known(temp)
         self.add(self.machine.with_result(self.now, temp, value))
         return self.place()
 
-    def poke_(self, letter, where, value):
+    def poke_(self, letter: str, where: tuple[Optional[str], int], value: int) -> str:
         at, count = self.address_of(where), WIDTHS[letter]
         if self.now.read(at, count) is None:
             raise No("dead address")
@@ -304,48 +325,50 @@ class Session:
 
     # What only looks.
 
-    def temp_text(self, temp):
+    def temp_text(self, temp: str) -> str:
         temps = self.inner().temps
         return f"%{temp} = {temps[temp]}\n" if temp in temps else f"%{temp} unset\n"
 
-    def print_(self, temp):
+    def print_(self, temp: str) -> str:
         self.known(temp)
         return self.temp_text(temp)
 
-    def temps_(self):
+    def temps_(self) -> str:
         func = self.machine.funcs[self.inner().func]
         return "".join(self.temp_text(temp) for temp in func.temps) or "none\n"
 
-    def mem_(self, where, count):
+    def mem_(self, where: tuple[Optional[str], int], count: int) -> str:
         at = self.address_of(where)
         bytes_ = [self.now.read(at + n, 1) for n in range(count)]
         return " ".join("--" if byte is None else byte.hex() for byte in bytes_) + "\n"
 
-    def where_(self):
+    def where_(self) -> str:
         return "".join(self.frame_text(frame) + "\n" for frame in reversed(self.now.frames)) or "none\n"
 
-    def list_(self):
+    def list_(self) -> str:
         frame = self.inner()
         func = self.machine.funcs[frame.func]
         block = func.blocks[frame.block]
         lines = [f"${func.name} @{block.label}"] + [f"  - {phi.text()}" for phi in block.phis]
-        for index, part in enumerate(block.insts + [block.jump]):
-            lines.append(f"{'>' if index == frame.index else ' '} {index} {part.text()}")
+        parts: list[Union[Inst, Jump]] = [*block.insts, block.jump]
+        for index, part in enumerate(parts):
+            lines.append(f"{'>' if index == frame.at else ' '} {index} {part.text()}")
         return "\n".join(lines) + "\n"
 
-    def out_(self):
-        def shown(byte):
+    def out_(self) -> str:
+        def shown(byte: int) -> str:
             if byte in b'"\\':
                 return "\\" + chr(byte)
             return chr(byte) if 32 <= byte <= 126 else f"\\{byte:03o}"
         return f'out {len(self.now.output)} "{"".join(map(shown, self.now.output))}"\n'
 
-    def quit_(self):
+    def quit_(self) -> str:
         self.is_ended = True
         return ""
 
 
-def load(text, entry="main", args=(), limit=1_000_000, history=None):
+def load(text: bytes, entry: str = "main", args: Iterable[int] = (), limit: int = 1_000_000,
+         history: Optional[int] = None) -> tuple[str, Session]:
     """The load lines of a program, and its session; refuses where there is none."""
     program = parse(cut(text))
     check(program)
@@ -357,16 +380,17 @@ def load(text, entry="main", args=(), limit=1_000_000, history=None):
     return loaded + session.place(), session
 
 
-def lines_of(script):
+def lines_of(script: bytes) -> list[str]:
     """The lines of a script that are read; an empty one behind the last newline is none."""
     lines = script.decode("latin-1").split("\n")
     return lines if lines[-1] else lines[:-1]
 
 
-def transcript(text, script=b"", **options):
+def transcript(text: bytes, script: bytes = b"", entry: str = "main", args: Iterable[int] = (), limit: int = 1_000_000,
+               history: Optional[int] = None) -> tuple[bytes, int]:
     """What the program writes for a text and a script of lawful length, and its exit status."""
     try:
-        written, session = load(text, **options)
+        written, session = load(text, entry, args, limit, history)
     except Refused as refused:
         return refused.answer().encode("latin-1"), 1
     answers = [written]

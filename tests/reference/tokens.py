@@ -1,4 +1,6 @@
 """A text's tokens, or the fault of a text that can't be cut."""
+from __future__ import annotations
+
 import re
 from typing import NamedTuple
 
@@ -24,37 +26,50 @@ ESCAPES = {"b": 8, "f": 12, "n": 10, "r": 13, "t": 9, "\\": 92, '"': 34}
 class Refused(Exception):
     """A program that is refused, by a code and, but for S1 and S2, a line."""
 
-    def __init__(self, code, line=None):
+    def __init__(self, code: str, line: int | None = None) -> None:
         super().__init__(code, line)
         self.code, self.line = code, line
 
-    def answer(self):
+    def answer(self) -> str:
         return f"refused: {self.code}\n" if self.line is None else f"refused: {self.code} line {self.line}\n"
 
 
 class Token(NamedTuple):
     kind: str      # global, temp, label, aggregate, word, number, string, symbol, dots, newline
     text: str      # as it is written
-    value: object  # a name without sigil, a number, the bytes of a string
+    value: str | int | bytes | None  # a name without sigil, a number, the bytes of a string
     line: int
 
+    def name(self) -> str:
+        assert isinstance(self.value, str)
+        return self.value
 
-def cut(text):
+    def number(self) -> int:
+        assert isinstance(self.value, int)
+        return self.value
+
+    def content(self) -> bytes:
+        assert isinstance(self.value, bytes)
+        return self.value
+
+
+def cut(given: bytes) -> list[Token]:
     """The tokens of a text, given as its bytes."""
-    if len(text) > GREATEST_TEXT:
+    if len(given) > GREATEST_TEXT:
         raise Refused("L6", 1)
-    text = text.decode("latin-1")
-    tokens, at, line = [], 0, 1
+    text = given.decode("latin-1")
+    tokens: list[Token] = []
+    at, line = 0, 1
     while at < len(text):
         if text[at] == '"':
-            piece, value = string(text, at, line)
-            tokens.append(Token("string", piece, value, line))
+            piece, content = string(text, at, line)
+            tokens.append(Token("string", piece, content, line))
             at += len(piece)
             continue
         found = PIECE.match(text, at)
         if not found:
             raise Refused("L2" if text[at] in SIGILS else "L1", line)
-        shape, piece, at = found.lastgroup, found.group(), found.end()
+        shape, piece, at = found.lastgroup or "", found.group(), found.end()
         if shape == "newline":
             if not (tokens and tokens[-1].kind == "newline"):
                 tokens.append(Token("newline", piece, None, line))
@@ -75,9 +90,10 @@ def cut(text):
     return tokens
 
 
-def string(text, start, line):
+def string(text: str, start: int, line: int) -> tuple[str, bytes]:
     """The piece of a string that begins at `start`, and its bytes."""
-    value, at = [], start + 1
+    value: list[int] = []
+    at = start + 1
     while True:
         if at == len(text) or text[at] == "\n":
             raise Refused("L4", line)
