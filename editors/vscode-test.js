@@ -294,7 +294,7 @@ const tests = {
       await adapter.stopped("#39 $fill @loop 1");
       // Behind a change by hand the causes are those of the changed run.
       const change = { expression: "set %more 0", context: "repl" };
-      follower.onWillReceiveMessage({ command: "evaluate", arguments: change });
+      follower.onWillReceiveMessage({ seq: adapter.sequence + 1, type: "request", command: "evaluate", arguments: change });
       await adapter.request("evaluate", change);
       await adapter.stopped("#40 $fill @loop 1");
       vscode.window.activeTextEditor = { selection: { active: {} },
@@ -302,6 +302,16 @@ const tests = {
       told.picks.push(() => undefined);
       await registered.commands["qrev.why"]();
       assert.strictEqual(told.lists[2].options.title, "%more = 0 was set by hand: #39 set %more 0");
+      // A value that is set in a view is a move too, and one that isn't taken is none.
+      for (const value of ["nothing", "7"]) {
+        const given = { variablesReference: 1, name: "%more", value };
+        follower.onWillReceiveMessage({ seq: adapter.sequence + 1, type: "request", command: "setVariable", arguments: given });
+        await adapter.request("setVariable", given).catch(() => undefined);
+      }
+      assert.strictEqual(items[0].text, "$(location) #41 $fill @loop 1");
+      told.picks.push(() => undefined);
+      await registered.commands["qrev.why"]();
+      assert.strictEqual(told.lists[3].options.title, "%more = 7 was set by hand: #40 set %more 7");
       vscode.window.activeTextEditor = undefined;
       follower.onWillStopSession();
       assert.deepStrictEqual(items.map((each) => each.isShown), [false, false, false]);

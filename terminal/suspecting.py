@@ -33,7 +33,8 @@ def followed(shell: Shell, at: Timeline, most: int, kinds: frozenset[str]) -> tu
     if failed:
         raise Refused(failed[0])
     data = next(part[5:] for part in gathered.parts if part[:1] == b"D")
-    follower = Follower(table, data, kinds, roles_of(program, None), pokes={poke.position: poke.line for poke in at.pokes})
+    follower = Follower(table, data, kinds, roles_of(program, None),
+                        pokes={poke.position: poke.line for poke in at.pokes})
     return follower, gathered, follower.follow(list(gathered.places), iter(gathered.values))
 
 
@@ -78,16 +79,18 @@ def add_suspicion_stop(shell: Shell, rest: str) -> None:
     shell.say(f"break {shell.runs.add(stop)}", f"the run as it is now has {count or 'none'}")
 
 
-@command("suspects suspicions", "suspects [strict | KIND,..]", is_repeated=False)
+@command("suspects suspicions", "suspects [strict | KIND,..] [N]", is_repeated=False)
 def suspects(shell: Shell, rest: str) -> None:
-    """Lists what the whole run does that no right compiler's output does: up to here, and on to its end. `goto suspect N` goes to
-    the N-th. docs/CHECKING.md says what each kind means."""
+    """Lists what the whole run does that no right compiler's output does: up to here, and on to its end; or in its
+    first N moves. `goto suspect N` goes to the N-th. docs/CHECKING.md says what each kind means."""
+    words = rest.split()
+    most = min(int(words.pop()), MOST) if words and words[-1].isdecimal() else MOST
     try:
-        kinds = chosen(rest or None)
+        kinds = chosen(" ".join(words) or None)
     except WrongKind as error:
         raise Wrong(str(error)) from None
     at = shell.session.timeline
-    follower, gathered, moves = followed(shell, at, MOST, kinds)
+    follower, gathered, moves = followed(shell, at, most, kinds)
     found = follower.suspicions()
     shell.suspects = [at.at(each.position) for each in found]
     for number, each in enumerate(found, 1):
@@ -98,8 +101,8 @@ def suspects(shell: Shell, rest: str) -> None:
 
 @command("made", "made %x", "expression", is_repeated=False)
 def made(shell: Shell, rest: str) -> None:
-    """Says what a temporary of the selected frame is made of: numbers, an object's address, a part of one. And which of its bits
-    nothing has set."""
+    """Says what a temporary of the selected frame is made of: numbers, an object's address, a part of one. And which of
+    its bits nothing has set."""
     shell.temporary(rest)
     session = shell.session
     if session.timeline.position > MOST:
@@ -117,4 +120,5 @@ def made(shell: Shell, rest: str) -> None:
     else:
         said = {"number": "numbers", "cut": "an address of which 32 bits were taken",
                 "mixed": "more than one address"}[str(thing)]
-    shell.say(f"{rest} is made of {said}" + (f"; {bits_told(shadow.open)}{origin_told(shadow.origin)}" if shadow.open else ""))
+    shell.say(f"{rest} is made of {said}" + (f"; {bits_told(shadow.open)}{origin_told(shadow.origin)}" if shadow.open
+                                             else ""))

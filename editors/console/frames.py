@@ -33,8 +33,10 @@ class Frames:
         found = LENGTH.findall(header)
         if len(found) != 1 or len(found[0]) > MOST_DIGITS:
             return header, None
-        body = self.stream.read(int(found[0]))
-        return header + body, body
+        size = int(found[0])
+        body = self.stream.read(size)
+        # One that the end cuts off is no message.
+        return header + body, body if len(body) == size else None
 
 
 def renumbered(body: bytes, number: int) -> bytes:

@@ -1,10 +1,12 @@
-"""What a line of an editor's console asks that the prompt answers, and the prompt as a process that is led to a state."""
+"""What a line of an editor's console asks that the prompt answers, and the prompt as a process that is led to a
+state."""
 from __future__ import annotations
 
 import os
 import pathlib
 import re
 import subprocess
+import threading
 from dataclasses import dataclass, field
 from typing import Any
 
@@ -15,7 +17,11 @@ INFORMING = frozenset(("data", "frame", "functions", "locals", "out", "source", 
 WORDS = tuple(sorted((*ASKING, "goto", "help", "info")))
 # A line that the prompt answers alike in each state, before and behind an answer.
 MARK = 987654321
+# Seconds that a prompt may take to end.
+ENDING = 5.0
 CHANGE = re.compile(r"\s*(set %|poke )")
+# How a place line begins, by which a session tells where it stands.
+POSITION = re.compile(r"#(\d+) ")
 LINE = re.compile(r"\bline (\d+):")
 HELP = """In this console:
   step N, back N, continue, reverse, goto N     move
@@ -44,22 +50,35 @@ class Changes:
     """What was changed by hand in a session, as lines of the prompt, each with its position."""
 
     lines: list[tuple[int, str]] = field(default_factory=list)
-    # Whether something was changed in another way, which can't be said as a line here.
-    is_unknown: bool = False
+    # Where something was changed first that can't be said as a line here.
+    unknown: int | None = None
 
-    def note(self, command: str, given: dict[str, Any], position: int) -> None:
-        """A request that the editor sends while the run stands at a position."""
+    def copy(self) -> Changes:
+        return Changes(list(self.lines), self.unknown)
+
+    def note(self, command: str, given: dict[str, Any], position: int, result: str) -> None:
+        """A request that was answered, and where the session stood before; of a console's lines also their answers."""
         if command == "setVariable" and str(given.get("name", "")).startswith("%"):
             self.lines.append((position, f"set {given['name']} {given.get('value')}"))
-        elif command == "evaluate":
-            changes = [line.strip() for line in str(given.get("expression", "")).split("\n") if CHANGE.match(line)]
-            self.lines += [(position + at, line) for at, line in enumerate(changes)]
-        elif command in ("setVariable", "setExpression", "writeMemory"):
-            self.is_unknown = True
+        elif command != "evaluate":
+            self.note_unknown(position)
+        else:
+            lines, answers = str(given.get("expression", "")).strip("\n").split("\n"), result.split("\n")
+            if len(lines) == len(answers):
+                self.lines += [(int(found[1]) - 1, line.strip()) for line, answer in zip(lines, answers)
+                               if CHANGE.match(line) and (found := POSITION.match(answer))]
+            elif any(CHANGE.match(line) for line in lines):
+                self.note_unknown(position)
+
+    def note_unknown(self, position: int) -> None:
+        if self.unknown is None:
+            self.unknown = position
 
     def stopped(self, position: int) -> None:
         """A run that stands before a change has taken it back."""
         self.lines = [each for each in self.lines if each[0] < position]
+        if self.unknown is not None and position <= self.unknown:
+            self.unknown = None
 
     def to(self, position: int) -> list[str]:
         """The lines that lead the prompt to the same state."""
@@ -70,7 +89,8 @@ class Changes:
 def words_of(launch: dict[str, Any]) -> list[str]:
     """The words of the command line for a launch."""
     entry = launch.get("entry")
-    return [os.path.abspath(str(launch.get("program", ""))), *map(str, launch.get("args") or []), *(["--entry", str(entry)] if entry else [])]
+    return [os.path.abspath(str(launch.get("program", ""))), *map(str, launch.get("args") or []),
+            *(["--entry", str(entry)] if entry else [])]
 
 
 class Prompter:
@@ -79,13 +99,16 @@ class Prompter:
     def __init__(self, launch: dict[str, Any], words: list[str]):
         self.process = subprocess.Popen(
             [str(TOP / "qrev"), *words, "--prompt", *words_of(launch)], stdin=subprocess.PIPE, stdout=subprocess.PIPE,
-            stderr=subprocess.STDOUT, text=True, errors="replace", env={**os.environ, "PYTHONUNBUFFERED": "1", "NO_COLOR": "1"})
+            stderr=subprocess.STDOUT, text=True, errors="replace",
+            env={**os.environ, "PYTHONUNBUFFERED": "1", "NO_COLOR": "1"})
         self.led: list[str] | None = None
 
     def answer(self, way: list[str], frame: int, question: str) -> str:
         """What the prompt answers to a question, behind the lines that lead to a state, in a frame counted from 0."""
         lead = [*way, f"frame {frame}"]
-        lines = [] if lead == self.led else lead
+        # What was changed on another way is taken back at the start.
+        is_same = self.led is None or self.led[:-2] == way[:-1]
+        lines = [] if lead == self.led else lead if is_same else ["goto 0", *lead]
         self.led = lead
         assert self.process.stdin is not None
         try:
@@ -108,5 +131,13 @@ class Prompter:
         return None
 
     def close(self) -> None:
-        self.process.kill()
-        self.process.wait()
+        """Ends the prompt, so that it takes its folder away."""
+        self.process.terminate()
+        threading.Thread(target=self.see_ended, daemon=True).start()
+
+    def see_ended(self) -> None:
+        try:
+            self.process.wait(ENDING)
+        except subprocess.TimeoutExpired:
+            self.process.kill()
+            self.process.wait()

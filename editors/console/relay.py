@@ -10,23 +10,27 @@ import threading
 from queue import SimpleQueue
 from typing import Any, NoReturn
 
+from .admission import Admission, admitted
+from .disassembly import Disassembly, with_disassembly
 from .frames import Frames, framed, read, renumbered, written
-from .questions import HELP, LINE, TOP, WORDS, Changes, Prompter, is_question
+from .guard import CHANGING, MOVING, Guard
+from .questions import HELP, LINE, POSITION, TOP, WORDS, Changes, Prompter, is_question
+from .suspicions import with_filters, without_filters
 
 # Starts an adapter that sees when a message has come, and when the editor, or this, went away.
 STARTS = TOP / "release" / "with-input-copy"
-POSITION = re.compile(r"#(\d+) ")
+STOPPED = b'{"type":"event","event":"stopped"'
 GOTO = re.compile(r"goto +#?(\d{1,19})$")
-MOVING = frozenset(("continue", "next", "stepIn", "stepOut", "stepBack", "reverseContinue", "restartFrame", "configurationDone"))
-# Seconds for which a question waits until the requests before it are answered.
-PATIENCE = 2.0
+# Seconds for which a question waits until the requests before it are answered, and all of them where the editor leaves.
+PATIENCE, LEAVE = 2.0, 20.0
 
 
 class Relay:
     """An editor on standard input and output, and an adapter that is started for it."""
 
     def __init__(self, adapter: str, words: list[str]):
-        self.adapter = subprocess.Popen([str(STARTS), "qrev-dap", adapter], stdin=subprocess.PIPE, stdout=subprocess.PIPE)
+        self.adapter = subprocess.Popen([str(STARTS), "qrev-dap", adapter], stdin=subprocess.PIPE,
+                                        stdout=subprocess.PIPE)
         self.words = words
         self.sent = 0
         self.turn = threading.Lock()
@@ -34,13 +38,23 @@ class Relay:
         self.open: set[int] = set()
         self.is_running = False
         self.position: int | None = None
+        # What the session was begun with; and the last launch, with which a restart that names no program begins again.
         self.launch: dict[str, Any] = {}
+        self.launched: dict[str, Any] = {}
         # Whether the editor makes a link of an output that has a line.
         self.has_links = False
         # What was typed where completions were asked for, by the number of the request.
         self.typed: dict[int, str] = {}
         self.changes = Changes()
+        # Requests that may change a value, by their numbers.
+        self.changing: dict[int, tuple[str, dict[str, Any]]] = {}
         self.prompter: Prompter | None = None
+        self.guard = Guard(words, self.news, self.forward, self.show, self.remark)
+        self.disassembly = Disassembly()
+        # With what a session begins, by the number of the request for it.
+        self.begins: dict[int, dict[str, Any]] = {}
+        # What came from the editor and isn't looked at yet.
+        self.came: SimpleQueue[Admission | None] = SimpleQueue()
         self.questions: SimpleQueue[tuple[dict[str, Any], str] | None] = SimpleQueue()
 
     def run(self) -> NoReturn:
@@ -49,40 +63,71 @@ class Relay:
         threads = [threading.Thread(target=work, daemon=True) for work in (self.carry_answers, self.answer_questions)]
         for thread in threads:
             thread.start()
-        threading.Thread(target=self.carry_requests, daemon=True).start()
+        for work in (self.read_requests, self.carry_requests, self.guard.watch):
+            threading.Thread(target=work, daemon=True).start()
         threads[0].join()
         status = self.adapter.wait()
         self.drop_prompter()
+        self.guard.forget()
         sys.stdout.buffer.flush()
         # Not by the interpreter's own end, which would wait for the thread that reads what the editor sends.
         os._exit(status if status >= 0 else 128 - status)
 
     def leave(self) -> None:
         self.adapter.kill()
+        self.drop_prompter()
+        self.guard.searches.close()
         os._exit(143)
 
     # From the editor.
 
-    def carry_requests(self) -> None:
-        frames = Frames(sys.stdin.buffer)
+    def read_requests(self) -> None:
+        """Takes what comes, also while a request waits."""
+        stream: Any = sys.stdin.buffer
+        frames = Frames(stream)
         while True:
             raw, body = frames.next()
             if not raw:
                 break
-            message = read(body) if body is not None else {}
-            if message.get("type") == "request":
-                raw = self.request(message, raw)
-            if raw:
-                self.forward(raw)
+            came = admitted(raw, body) if body is not None else Admission(raw)
+            if came.message.get("command") == "disconnect":
+                self.leave_soon()
+            self.came.put(came)
             if body is None:
                 # What comes behind what is no message is for the adapter to judge.
-                while rest := sys.stdin.buffer.read1(1 << 16):
-                    self.forward(rest)
+                while rest := stream.read1(1 << 16):
+                    self.came.put(Admission(rest))
                 break
+        self.leave_soon()
+        self.came.put(None)
+
+    def leave_soon(self) -> None:
+        """Lets nothing wait for long any more."""
+        timer = threading.Timer(LEAVE, self.guard.hurry)
+        timer.daemon = True
+        timer.start()
+
+    def carry_requests(self) -> None:
+        while came := self.came.get():
+            if raw := self.carried(came):
+                self.forward(raw)
+        # No stop is waited for any more.
+        self.guard.hold("disconnect", "")
         try:
             self.adapter.stdin.close()  # type: ignore[union-attr]
         except BrokenPipeError:
             pass
+
+    def carried(self, came: Admission) -> bytes:
+        """What goes to the adapter of what came: itself, another message, or nothing."""
+        if came.notice:
+            self.remark(f"a message was passed over: {came.notice}\n")
+        elif came.failure:
+            self.respond(came.message, False, came.failure)
+        elif came.message.get("type") == "request":
+            given = came.message.get("arguments")
+            return self.request(came.message, given if isinstance(given, dict) else {}, came.raw)
+        return came.raw
 
     def forward(self, raw: bytes) -> None:
         try:
@@ -91,35 +136,53 @@ class Relay:
         except (BrokenPipeError, ValueError):
             pass
 
-    def request(self, message: dict[str, Any], raw: bytes) -> bytes:
+    def request(self, message: dict[str, Any], given: dict[str, Any], raw: bytes) -> bytes:
         """What goes to the adapter for a request: itself, another one, or nothing."""
-        command = message.get("command")
-        given = message.get("arguments")
-        given = given if isinstance(given, dict) else {}
-        if command == "evaluate" and given.get("context") == "repl":
-            line = str(given.get("expression", "")).strip()
-            if is_question(line) or line in ("help", "h"):
-                self.questions.put((message, line))
-                return b""
-            if found := GOTO.match(line):
-                return self.moved(message, given, int(found[1]))
+        command = str(message.get("command"))
+        is_typed = command == "evaluate" and given.get("context") == "repl"
+        line = str(given.get("expression", "")).strip() if is_typed else ""
+        self.guard.hold(command, line)
+        if is_question(line) or line in ("help", "h"):
+            self.questions.put((message, line))
+            return b""
+        if command == "disassemble":
+            self.disassemble(message, given)
+            return b""
+        if found := GOTO.match(line):
+            return self.moved(message, given, int(found[1]))
         if command == "initialize":
             self.has_links = given.get("clientID") == "vscode"
         elif command == "completions":
             self.typed[message.get("seq", 0)] = str(given.get("text", ""))
+        elif command == "setExceptionBreakpoints":
+            self.guard.choose(given, self.launch, self.changes)
+            raw = without_filters(message, given, raw)
         with self.news:
-            if isinstance(message.get("seq"), int):
-                self.open.add(message["seq"])
-            if command in MOVING:
-                self.is_running = True
-            if command == "launch" or command == "restart" and isinstance(given.get("arguments"), dict):
-                self.launch = given if command == "launch" else given["arguments"]
-            if command in ("launch", "restart"):
-                self.changes, self.position = Changes(), None
-                self.drop_prompter()
-            elif self.position is not None:
-                self.changes.note(str(command), given, self.position)
+            self.asked(message, command, given)
         return raw
+
+    def asked(self, message: dict[str, Any], command: str, given: dict[str, Any]) -> None:
+        """Keeps what a request that goes to the adapter means for the run."""
+        if isinstance(number := message.get("seq"), int):
+            self.open.add(number)
+            if command in MOVING:
+                self.guard.ask(number, command, self.launch, self.changes)
+            if command == "evaluate" or command in CHANGING:
+                self.changing[number] = command, given
+        if command in MOVING:
+            self.is_running = True
+        if command == "launch":
+            self.launch = self.launched = given
+        elif command == "restart":
+            again = given.get("arguments")
+            has_program = isinstance(again, dict) and isinstance(again.get("program"), str)
+            self.launch = {**again} if again and has_program else self.launched
+        if command in ("launch", "restart"):
+            self.changes, self.position = Changes(), None
+            self.drop_prompter()
+            self.begins[message.get("seq", 0)] = self.launch
+        if command in ("launch", "restart", "terminate", "disconnect"):
+            self.guard.forget()
 
     def drop_prompter(self) -> None:
         if self.prompter:
@@ -140,7 +203,8 @@ class Relay:
     def waits(self) -> bool:
         """Waits until what was asked before is answered, and says whether the run stands then."""
         with self.news:
-            return self.news.wait_for(lambda: not self.open and not self.is_running, PATIENCE) and self.position is not None
+            return self.news.wait_for(lambda: not self.open and not self.is_running, PATIENCE) and \
+                self.position is not None
 
     # From the adapter.
 
@@ -150,16 +214,35 @@ class Relay:
             raw, body = frames.next()
             if body is None:
                 break
-            if self.typed and b'"command":"completions"' in body[:200]:
-                body = self.completed(body)
-            # It is kept first: the editor may answer as soon as it is written.
-            with self.turn:
-                self.note(body)
-                self.sent += 1
-                self.write(framed(renumbered(body, self.sent)))
+            if self.guard.takes(body) or body.startswith(STOPPED) and self.guard.keeps(body):
+                continue
+            self.show(self.told(body))
         if raw:
             with self.turn:
                 self.write(raw)
+
+    def told(self, body: bytes) -> bytes:
+        """A message as the editor gets it: some answers have more here."""
+        head = body[:200]
+        if self.typed and b'"command":"completions"' in head:
+            return self.completed(body)
+        if b'"command":"initialize"' in head:
+            return with_disassembly(with_filters(body))
+        if b'"command":"stackTrace"' in head:
+            return self.disassembly.referenced(body)
+        if b'"command":"exceptionInfo"' in head:
+            return self.guard.informed(body, self.position)
+        return body
+
+    def show(self, body: bytes, changes: Changes | None = None) -> None:
+        """Writes a message to the editor; with the changes by hand that hold again there, if some were taken back."""
+        # It is kept first: the editor may answer as soon as it is written.
+        with self.turn:
+            with self.news:
+                self.changes = changes or self.changes
+            self.note(body)
+            self.sent += 1
+            self.write(framed(renumbered(body, self.sent)))
 
     def completed(self, body: bytes) -> bytes:
         """Completions, with the words among them that are answered here."""
@@ -184,31 +267,62 @@ class Relay:
     def note(self, body: bytes) -> None:
         """Keeps what a message of the adapter says of the run."""
         if body.startswith(b'{"type":"response"'):
-            message = read(body)
             with self.news:
-                self.open.discard(message.get("request_seq", 0))
-                if message.get("command") == "evaluate":
-                    self.place(str(message.get("body", {}).get("result", "")).rpartition("\n")[2])
-                if not message.get("success") and message.get("command") in MOVING:
-                    self.is_running = False
+                self.answered(read(body))
                 self.news.notify_all()
-        elif body.startswith((b'{"type":"event","event":"stopped"', b'{"type":"event","event":"terminated"')):
+        elif body.startswith((STOPPED, b'{"type":"event","event":"terminated"')):
             with self.news:
                 self.is_running = False
+                self.guard.end()
                 self.place(str(read(body).get("body", {}).get("description", "")))
                 self.news.notify_all()
+        elif body.startswith(b'{"type":"event","event":"initialized"'):
+            self.guard.look(self.launch, self.changes)
+
+    def answered(self, message: dict[str, Any]) -> None:
+        """Keeps what a response says of the run."""
+        number, is_done = message.get("request_seq", 0), bool(message.get("success"))
+        self.open.discard(number)
+        if (begun := self.begins.pop(number, None)) is not None and is_done:
+            self.disassembly.begin(begun)
+        if message.get("command") in MOVING:
+            self.guard.begin(number, self.position, self.launch, self.changes)
+            if not is_done:
+                self.is_running = False
+                self.guard.end()
+        command, given = self.changing.pop(number, ("", {}))
+        result = str(message.get("body", {}).get("result", "")) if message.get("command") == "evaluate" else ""
+        if is_done and command and self.position is not None:
+            self.changes.note(command, given, self.position, result)
+            # A value that is set is a move, of which no event tells.
+            self.position += command in ("setVariable", "setExpression")
+        self.place(result.rpartition("\n")[2])
 
     def place(self, line: str) -> None:
-        """Keeps the position of a place line, which a stop has, and the last line that the console answers to a move."""
+        """Keeps the position of a place line, which a stop has, and the last line that the console answers to a
+        move."""
         if found := POSITION.match(line):
             self.position = int(found[1])
             self.changes.stopped(self.position)
 
+    def remark(self, line: str) -> None:
+        """Says something in the console."""
+        self.tell({"type": "event", "event": "output", "body": {"category": "console", "output": line}})
+
     def respond(self, message: dict[str, Any], success: bool, told: str) -> None:
         """Answers a request in place of the adapter."""
-        response = {"type": "response", "request_seq": message.get("seq"), "command": message.get("command"), "success": success}
-        rest = {"body": {"result": told, "variablesReference": 0}} if success else {"message": told}
+        response: dict[str, Any] = {"type": "response", "request_seq": message.get("seq"),
+                                    "command": message.get("command"), "success": success}
+        rest: dict[str, Any] = {"body": {"result": told, "variablesReference": 0}} if success else {"message": told}
         self.tell({**response, **rest})
+
+    def disassemble(self, message: dict[str, Any], given: dict[str, Any]) -> None:
+        """Answers with rows of the text."""
+        found = self.disassembly.answer(given)
+        if isinstance(found, str):
+            return self.respond(message, False, found)
+        self.tell({"type": "response", "request_seq": message.get("seq"), "command": "disassemble", "success": True,
+                   "body": {"instructions": found}})
 
     def tell(self, message: dict[str, Any]) -> None:
         with self.turn:
@@ -231,7 +345,7 @@ class Relay:
         if not self.waits():
             return self.respond(message, False, "no session" if not self.launch else "the run goes on: pause it first")
         with self.news:
-            way, is_unknown = self.changes.to(self.position or 0), self.changes.is_unknown
+            way, is_unknown = self.changes.to(self.position or 0), self.changes.unknown is not None
             if self.prompter is None:
                 self.prompter = Prompter(self.launch, self.words)
             prompter = self.prompter

@@ -74,6 +74,9 @@ The cursor is there; LINE is nil where the run is over."
     (with-current-buffer (find-file-noselect file) (dap-breakpoint-delete-all))
     (qrev-dap-test-wait (lambda () (equal (gethash "result" (qrev-dap-test-ask "evaluate" '(:expression "stops" :context "repl")))
                                           "none")))
+    ;; Where the console stands before the adapter, a run stops before a suspicious move.
+    (when (gethash "exceptionBreakpointFilters" (dap--debug-session-current-capabilities (qrev-dap-session)))
+      (qrev-dap-test-place "$fill @body 4" 18 (call-interactively (key-binding (kbd "C-c C-c")))))
     ;; The session stays open at the end of the run, and goes back from it.
     (qrev-dap-test-place "#88 done 30" nil (call-interactively (key-binding (kbd "C-c C-c"))))
     (should (equal (qrev-dap-test-values 1073741825) '(("$squares" "0") ("$bias" "16"))))

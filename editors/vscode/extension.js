@@ -85,15 +85,22 @@ class Status {
     this.items = [this.place, item(102, "$(debug-step-back)", "qrev: Step Back", "qrev.stepBack"),
       item(101, "$(debug-reverse-continue)", "qrev: Reverse", "qrev.reverse")];
     this.position = undefined;
+    this.line = "";
     this.changes = new Changes();
   }
 
   show(line) {
     const found = PLACE.exec(line || "");
+    this.line = line || "";
     this.position = found ? Number(found[1]) : undefined;
     if (found) this.changes.stopped(this.position);
     this.place.text = found ? `$(location) ${line}` : "$(location) qrev";
     this.items.forEach((item) => item.show());
+  }
+
+  // A value that is set in a view is a move, of which no event tells.
+  set() {
+    this.show(this.line.replace(/^#\d+/, `#${this.position + 1}`));
   }
 
   run() {
@@ -116,14 +123,29 @@ class Follower {
   constructor(status, session) {
     this.status = status;
     this.session = session;
+    // Requests that aren't answered yet, by their numbers.
+    this.open = new Map();
   }
 
   onWillReceiveMessage(message) {
-    if (this.status.position !== undefined) this.status.changes.asked(message, this.status.position);
+    if (this.status.position !== undefined) this.open.set(message.seq, { message, position: this.status.position });
   }
 
   onDidSendMessage(message) {
-    if (message.type !== "event") return;
+    if (message.type === "response") this.answered(message);
+    else if (message.type === "event") this.told(message);
+  }
+
+  // Keeps what a request changed, if it succeeded.
+  answered(response) {
+    const asked = this.open.get(response.request_seq);
+    this.open.delete(response.request_seq);
+    if (!asked || !response.success) return;
+    this.status.changes.asked(asked.message, asked.position);
+    if (["setVariable", "setExpression"].includes(asked.message.command) && this.status.position !== undefined) this.status.set();
+  }
+
+  told(message) {
     if (message.event === "stopped") this.status.show(message.body && message.body.description);
     else if (message.event === "continued") this.status.run();
     else if (message.event === "terminated" || message.event === "exited") this.status.hide();

@@ -1,4 +1,5 @@
-"""The console of an editor as `qrev-dap` starts it: questions that the prompt answers, and all else as the adapter alone answers it.
+"""The console of an editor as `qrev-dap` starts it: questions that the prompt answers, and all else as the adapter
+alone answers it.
 
 What `why` and the others say of examples/squares.ssa stands in README.md and docs/TERMINAL.md.
 """
@@ -14,7 +15,7 @@ from harness.running import EXAMPLES, TOP
 
 from . import wire
 from .driver import Adapter, at_once_fault, frame, play, request_message
-from .sessions import FOLDER, is_changing
+from .sessions import FOLDER, Message, is_changing
 
 RELAY = TOP / "editors" / "console" / "main"
 BUILT = "crates/"
@@ -23,14 +24,18 @@ GONE = 10.0
 
 # A line of the console, and what is answered; behind all of them the run stands at #45.
 SQUARES = [
-    ("why", "done 30, at #88, comes of\n  #87 $main @end 2  line 44: ret %total\n  [1] %total = 30\n  [2] the way to @end"),
-    ("why w $bias", "w $bias+0 = 16: stored by\n  #44 $fill @body 4  line 18: storew %square, %place\n  [1] %square = 16\n"
-                    "  [2] %place = 65552 ($bias+0)\n  [3] the way to @body"),
-    ("why 2", "%place = 65552 ($bias+0) was set by\n  #43 $fill @body 3  line 17: %place =l add $squares, %bytes\n  [1] %bytes = 16\n"
-              "  [2] the way to @body"),
+    ("why",
+     "done 30, at #88, comes of\n  #87 $main @end 2  line 44: ret %total\n  [1] %total = 30\n  [2] the way to @end"),
+    ("why w $bias",
+     "w $bias+0 = 16: stored by\n  #44 $fill @body 4  line 18: storew %square, %place\n  [1] %square = 16\n"
+     "  [2] %place = 65552 ($bias+0)\n  [3] the way to @body"),
+    ("why 2",
+     "%place = 65552 ($bias+0) was set by\n  #43 $fill @body 3  line 17: %place =l add $squares, %bytes\n"
+     "  [1] %bytes = 16\n  [2] the way to @body"),
     ("readers $bias", "#85 $main @end 0  line 42: %bias =w loadsw $bias\n1 read in the run from #0 to #88 done 30"),
     ("suspects", "[1] #44 $fill @body 4  line 18: storew %square, %place\n"
-                 "      bounds: storew at the end of $squares (16 bytes), into $bias+0\n1 suspicion in 88 moves, done 30"),
+                 "      bounds: storew at the end of $squares (16 bytes), into $bias+0\n"
+                 "1 suspicion in 88 moves, done 30"),
     ("goto 44", "#44 $fill @body 4"),
     ("made %place", "%place is made of the address of $squares (16 bytes)"),
     ("goto #44", "$fill @body 4\n$main @start 1"),
@@ -54,10 +59,10 @@ class Console(Adapter):
 
     def __init__(self, program: str, seconds: float, folder: pathlib.Path, client: str = "test") -> None:
         super().__init__(str(RELAY), seconds, folder, words_of(program))
-        self.events: list[dict] = []
-        self.client = client
+        self.events: list[Message] = []
+        self.client, self.folder = client, folder
 
-    def answer(self, command: str, arguments: dict | None = None) -> dict:
+    def answer(self, command: str, arguments: Message | None = None) -> Message:
         """The response to a request; events before it are kept."""
         self.request(command, arguments)
         while (message := self.next()) and message["type"] == "event":
@@ -69,15 +74,16 @@ class Console(Adapter):
     def asked(self, line: str) -> str:
         """What the console answers to a line, and that it isn't done, in front."""
         message = self.answer("evaluate", {"expression": line, "context": "repl", "frameId": 1})
-        return message["body"]["result"] if message["success"] else f"failed: {message['message']}"
+        return str(message["body"]["result"]) if message["success"] else f"failed: {message['message']}"
 
-    def stopped(self) -> dict:
+    def stopped(self) -> Message:
         while not self.events or self.events[-1]["event"] != "stopped":
             message = self.next()
             if message is None:
                 raise Wrong("the end in place of a stop")
             self.events.append(message)
-        return self.events.pop()["body"]
+        body: Message = self.events.pop()["body"]
+        return body
 
     def begin(self, program: str, **more: object) -> None:
         self.answer("initialize", {"adapterID": "qrev", "clientID": self.client})
@@ -112,6 +118,25 @@ def another_frame(console: Console) -> None:
         raise Wrong("the innermost call lacks %square")
 
 
+def changed(console: Console) -> None:
+    """Questions behind a value that was set in Variables, and behind a change that going back took away."""
+    console.begin("squares.ssa")
+    console.asked("goto 44")
+    console.stopped()
+    console.answer("setVariable", {"variablesReference": 1, "name": "%square", "value": "3"})
+    for line, wanted in [("why %square", "%square = 3 was set by hand: #44 set %square 3"),
+                         ("goto 43", "#43 $fill @body 3")]:
+        got = console.asked(line)
+        if got != wanted:
+            raise Wrong(f"{line}: {got!r} in place of {wanted!r}")
+    console.stopped()
+    console.asked("goto 45")
+    console.stopped()
+    told = console.asked("why w $bias")
+    if "[1] %square = 16" not in told:
+        raise Wrong(f"behind a change that was taken back: {told!r}")
+
+
 def links(console: Console) -> None:
     """An editor that makes links gets each place of an answer with its line."""
     console.begin("squares.ssa")
@@ -122,7 +147,8 @@ def links(console: Console) -> None:
         raise Wrong(f"the first line is {head!r}")
     place = console.next()
     body = place["body"] if place else {}
-    if body.get("line") != 17 or body["source"]["name"] != "squares.ssa" or not body["output"].startswith("  #43 $fill @body 3"):
+    if body.get("line") != 17 or body["source"]["name"] != "squares.ssa" \
+            or not body["output"].startswith("  #43 $fill @body 3"):
         raise Wrong(f"no place of line 17: {place}")
 
 
@@ -156,14 +182,18 @@ def helped(console: Console) -> None:
 
 
 CASES: dict[str, tuple[Callable[[Console], None], str]] = {
-    "squares": (squares, "test"), "another frame": (another_frame, "test"), "links": (links, "vscode"),
-    "while it runs": (while_it_runs, "test"), "help": (helped, "test"),
+    "squares": (squares, "test"), "changed by hand": (changed, "test"), "another frame": (another_frame, "test"),
+    "links": (links, "vscode"), "while it runs": (while_it_runs, "test"), "help": (helped, "test"),
 }
 
 
 def fault_of(program: str, seconds: float, name: str) -> str | None:
     """What the console does otherwise in a case, or None."""
-    does, client = CASES[name]
+    return fault_in(*CASES[name], program, seconds)
+
+
+def fault_in(does: Callable[[Console], None], client: str, program: str, seconds: float) -> str | None:
+    """What the console of a new session does otherwise, or None."""
     with tempfile.TemporaryDirectory(prefix="dap-") as place:
         folder = pathlib.Path(place).resolve()
         shutil.copy(FOLDER / "forever.ssa", folder)
@@ -189,15 +219,16 @@ def script_for(program: str, folder: pathlib.Path) -> str:
 
 
 def session_fault(program: str, seconds: float, name: str) -> str | None:
-    """A session that is played behind the console, where nothing may be otherwise."""
+    """A session that is played behind the console, where nothing may be otherwise but for what it can do."""
     path = FOLDER / f"{name}.dap"
-    text = path.read_text()
+    # There are filters here.
+    text = path.read_text().replace(', "!exceptionBreakpointFilters": 0', "")
     with tempfile.TemporaryDirectory(prefix="dap-") as place:
         folder = pathlib.Path(place).resolve()
         for file in [*FOLDER.glob("*.ssa"), *EXAMPLES.glob("*.ssa")]:
             shutil.copy(file, folder)
         script = script_for(program, folder)
-        log: list[dict] = []
+        log: list[Message] = []
         fault, _ = play(script, name, text, folder, seconds, log)
         return fault or (None if is_changing(text) else at_once_fault(script, text, folder, seconds, log))
 

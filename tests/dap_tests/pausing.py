@@ -1,6 +1,7 @@
 """Runs without an end: an editor pauses them, asks while they go on, changes breakpoints, and ends the session.
 
-The adapter is told where a copy of its input grows, as `release/with-input-copy` tells it: by that it sees that a message has come.
+The adapter is told where a copy of its input grows, as `release/with-input-copy` tells it: by that it sees that a
+message has come.
 """
 import pathlib
 import shutil
@@ -9,7 +10,7 @@ import time
 from collections.abc import Callable, Iterator
 
 from .driver import Adapter, frame, request_message
-from .sessions import FOLDER
+from .sessions import FOLDER, Message
 
 LIMIT = 1_000_000
 # A run is paused within so many seconds, on a machine that does much else.
@@ -29,7 +30,7 @@ class Copied(Adapter):
             copy.write(piece)
         super().write(piece)
 
-    def answer(self, command: str, arguments: dict | None = None) -> dict:
+    def answer(self, command: str, arguments: Message | None = None) -> Message:
         """The response to a request; events before it are an error."""
         self.request(command, arguments)
         message = self.next()
@@ -37,13 +38,15 @@ class Copied(Adapter):
             raise Wrong(f"no response to {command}, but {message}")
         if not message["success"]:
             raise Wrong(f"{command}: {message}")
-        return message.get("body", {})
+        body: Message = message.get("body", {})
+        return body
 
-    def event(self, name: str) -> dict:
+    def event(self, name: str) -> Message:
         message = self.next()
         if not message or message.get("event") != name:
             raise Wrong(f"no event {name}, but {message}")
-        return message.get("body", {})
+        body: Message = message.get("body", {})
+        return body
 
     def is_silent(self, seconds: float) -> bool:
         """Whether no message comes for so long."""
@@ -60,7 +63,7 @@ def expect(holds: bool, what: str) -> None:
         raise Wrong(what)
 
 
-def begin(adapter: Copied, arguments: dict | None = None, client: dict | None = None) -> None:
+def begin(adapter: Copied, arguments: Message | None = None, client: Message | None = None) -> None:
     """A session that stands at its start."""
     adapter.answer("initialize", {"adapterID": "qrev", **(client or {})})
     adapter.answer("launch", {"program": "forever.ssa", "history": 1_000_000, **(arguments or {})})
@@ -69,11 +72,11 @@ def begin(adapter: Copied, arguments: dict | None = None, client: dict | None = 
     expect(adapter.event("stopped")["reason"] == "entry", "it doesn't stand at its start")
 
 
-def position(stopped: dict) -> int:
+def position(stopped: Message) -> int:
     return int(stopped["description"].split()[0].removeprefix("#"))
 
 
-def pause(adapter: Copied) -> dict:
+def pause(adapter: Copied) -> Message:
     """Pauses a run, and gives where it stands."""
     begun = time.monotonic()
     adapter.answer("pause", {"threadId": 1})
@@ -88,9 +91,9 @@ def runs_on(adapter: Copied) -> None:
     expect(adapter.is_silent(1), "it doesn't go on")
 
 
-def paused_and_back(adapter: Copied, folder: pathlib.Path) -> None:
+def paused_and_back(adapter: Copied, folder: pathlib.Path, arguments: Message | None = None) -> None:
     """It goes past the limit of moves, stands where it is paused, goes back from there, and on."""
-    begin(adapter)
+    begin(adapter, arguments)
     runs_on(adapter)
     at = position(pause(adapter))
     expect(at > LIMIT, f"it came to #{at} alone")
@@ -99,6 +102,11 @@ def paused_and_back(adapter: Copied, folder: pathlib.Path) -> None:
     runs_on(adapter)
     expect(position(pause(adapter)) > at, "it didn't go on")
     adapter.answer("disconnect")
+
+
+def paused_with_few(adapter: Copied, folder: pathlib.Path) -> None:
+    """The same where few moves can be undone."""
+    paused_and_back(adapter, folder, {"history": 1})
 
 
 def stands_already(adapter: Copied, folder: pathlib.Path) -> None:
@@ -128,9 +136,11 @@ def breakpoint_while_it_runs(adapter: Copied, folder: pathlib.Path) -> None:
     """A breakpoint that is set while it runs stops it."""
     begin(adapter)
     runs_on(adapter)
-    made = adapter.answer("setBreakpoints", {"source": {"path": str(folder / "forever.ssa")}, "breakpoints": [{"line": 7}]})
+    made = adapter.answer("setBreakpoints",
+                          {"source": {"path": str(folder / "forever.ssa")}, "breakpoints": [{"line": 7}]})
     stopped = adapter.event("stopped")
-    expect(stopped["reason"] == "breakpoint" and stopped["hitBreakpointIds"] == [made["breakpoints"][0]["id"]], f"{stopped}")
+    expect(stopped["reason"] == "breakpoint" and stopped["hitBreakpointIds"] == [made["breakpoints"][0]["id"]],
+           f"{stopped}")
     expect(position(stopped) > LIMIT, "it came to it before it was set")
     adapter.answer("disconnect")
 
@@ -145,15 +155,16 @@ def moved_while_it_runs(adapter: Copied, folder: pathlib.Path) -> None:
     adapter.answer("disconnect")
 
 
-def back_without_an_end(adapter: Copied, folder: pathlib.Path) -> None:
+def back_to_the_oldest(adapter: Copied, folder: pathlib.Path) -> None:
     """A run back goes to the oldest state that is kept."""
-    begin(adapter)
+    begin(adapter, {"history": 1_000_000})
     adapter.answer("continue", {"threadId": 1})
     time.sleep(2)
     at = position(pause(adapter))
     adapter.answer("reverseContinue", {"threadId": 1})
     stopped = adapter.event("stopped")
-    expect(position(stopped) == at - 1_000_000 and stopped["text"].startswith("the oldest state"), f"from #{at} back to {stopped}")
+    expect(position(stopped) == at - 1_000_000 and stopped["text"].startswith("the oldest state"),
+           f"from #{at} back to {stopped}")
     adapter.answer("disconnect")
 
 
@@ -247,9 +258,11 @@ def progress(adapter: Copied, folder: pathlib.Path) -> None:
     expect(update["progressId"] == start["progressId"], f"another run: {update}")
     expect(int(update["message"][1:]) > int(start["message"][1:]), f"it goes nowhere: {start} {update}")
     adapter.request("pause", {"threadId": 1})
-    names = []
+    names: list[str] = []
     while not names or names[-1] != "stopped":
         message = adapter.next()
+        if message is None:
+            raise Wrong("the end in place of a stop")
         names.append(message.get("event") or message["type"])
     wanted = ["response", "progressEnd", "stopped"]
     expect([name for name in names if name != "progressUpdate"] == wanted, f"{names}")
@@ -258,11 +271,12 @@ def progress(adapter: Copied, folder: pathlib.Path) -> None:
 
 CASES: dict[str, Callable[[Copied, pathlib.Path], None]] = {
     "paused, back, and on": paused_and_back,
+    "paused with few undo records": paused_with_few,
     "it stands already": stands_already,
     "asked while it runs": asked_while_it_runs,
     "a breakpoint while it runs": breakpoint_while_it_runs,
     "moved while it runs": moved_while_it_runs,
-    "back to the oldest state": back_without_an_end,
+    "back to the oldest state": back_to_the_oldest,
     "a call without an end": call_without_an_end,
     "the limit of the launch": limit_of_the_launch,
     "every move kept": every_move_kept,
@@ -298,15 +312,16 @@ def at_once(program: str, seconds: float) -> str | None:
         shutil.copy(FOLDER / "forever.ssa", folder)
         adapter = Copied(program, seconds, folder)
         launch = {"program": "forever.ssa", "history": 1000}
-        asked = [("initialize", {"adapterID": "qrev"}), ("launch", launch), ("configurationDone", None),
-                 ("continue", {"threadId": 1}), ("threads", None), ("pause", {"threadId": 1}), ("disconnect", None)]
+        asked: list[tuple[str, Message | None]] = [
+            ("initialize", {"adapterID": "qrev"}), ("launch", launch), ("configurationDone", None),
+            ("continue", {"threadId": 1}), ("threads", None), ("pause", {"threadId": 1}), ("disconnect", None)]
         try:
             adapter.write(b"".join(frame(request_message(at, *one)) for at, one in enumerate(asked, 1)))
-            told = []
+            told: list[str] = []
             while (message := adapter.next()) is not None:
                 told.append(message.get("event") or message["command"])
-            wanted = ["initialize", "launch", "initialized", "configurationDone", "stopped", "continue", "threads", "pause",
-                      "stopped", "disconnect"]
+            wanted = ["initialize", "launch", "initialized", "configurationDone", "stopped", "continue", "threads",
+                      "pause", "stopped", "disconnect"]
             return None if told == wanted else f"{told}"
         finally:
             adapter.kill()

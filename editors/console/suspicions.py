@@ -1,0 +1,146 @@
+"""The suspicious moves of a run, looked for beside the session, and the filters by which runs stop there."""
+from __future__ import annotations
+
+import re
+import threading
+from dataclasses import dataclass
+from typing import Any
+
+from check.kinds import DEFAULT, STRICT
+
+from .frames import framed, read, written
+from .questions import Changes, Prompter
+
+# The filters, by the names that an editor sends.
+KINDS = {"suspicions": DEFAULT, "strict": STRICT - DEFAULT}
+FILTERS = [
+    {"filter": "suspicions", "label": "Suspicions", "default": True,
+     "description": "Stops before a move that no right compiler's output makes"},
+    {"filter": "strict", "label": "Strict", "default": False,
+     "description": "Stops before a load, an argument or a result that nothing set, which right C programs have"},
+]
+# How many moves are looked at: few first, for the stops of a short run, and then as many as `suspects` looks at.
+STAGES = (50_000, 1_000_000)
+# Seconds for which one run is looked at, and a stop waits for that, at most.
+SECONDS = 60.0
+# What the prompt tells: a suspicion, and the line behind all of them.
+ENTRY = re.compile(r"^\[\d+\] (#(\d+) .*)\n +(([a-z-]+): .*)$", re.MULTILINE)
+SUMMARY = re.compile(r"^(?:no|\d+) suspicions? in (\d+) moves?, (.*)$", re.MULTILINE)
+GOES_ON = "and the run goes on"
+# Further than any run.
+WHOLE = 1 << 64
+
+
+@dataclass(frozen=True)
+class Suspicion:
+    """A suspicious move: the position before it, its kind, and the two lines that are told of it."""
+
+    position: int
+    kind: str
+    first: str
+    second: str
+
+
+def with_filters(body: bytes) -> bytes:
+    """The capabilities of the adapter, with the filters."""
+    message = read(body)
+    if not message.get("success"):
+        return body
+    number, can = message.pop("seq"), message.get("body") or {}
+    filters = [*can.get("exceptionBreakpointFilters", []), *FILTERS]
+    body_with = {**can, "exceptionBreakpointFilters": filters, "supportsExceptionInfoRequest": True}
+    return written({**message, "body": body_with, "seq": number})
+
+
+def chosen_kinds(given: dict[str, Any]) -> frozenset[str]:
+    """The kinds at which runs stop, by the arguments of `setExceptionBreakpoints`."""
+    named = [*listed(given.get("filters")), *(each.get("filterId") for each in listed(given.get("filterOptions"))
+                                              if isinstance(each, dict))]
+    return frozenset().union(*(kinds for name, kinds in KINDS.items() if name in named))
+
+
+def without_filters(message: dict[str, Any], given: dict[str, Any], raw: bytes) -> bytes:
+    """The same request as the adapter gets it: without the filters that are looked after here."""
+    if not chosen_kinds(given):
+        return raw
+    left = {"filters": [name for name in listed(given.get("filters")) if name not in list(KINDS)]}
+    if "filterOptions" in given:
+        left["filterOptions"] = [each for each in listed(given["filterOptions"])
+                                 if not isinstance(each, dict) or each.get("filterId") not in list(KINDS)]
+    return framed(written({**message, "arguments": {**given, **left}}))
+
+
+def listed(value: Any) -> list[Any]:
+    return value if isinstance(value, list) else []
+
+
+class Search:
+    """Looks for the suspicious moves of a run, on a thread and in a process of its own."""
+
+    def __init__(self, launch: dict[str, Any], words: list[str], changes: Changes, news: threading.Condition):
+        self.news = news
+        self.found: list[Suspicion] = []
+        # All that come before this position are found.
+        self.known = 0
+        self.is_over = False
+        self.fault = ""
+        self.prompter: Prompter | None = None
+        last = changes.lines[-1][0] + 1 if changes.lines else 0
+        threading.Thread(target=self.look, args=(launch, words, changes.to(last)), daemon=True).start()
+
+    def look(self, launch: dict[str, Any], words: list[str], way: list[str]) -> None:
+        bound = threading.Timer(SECONDS, self.close)
+        bound.daemon = True
+        bound.start()
+        try:
+            self.prompter = Prompter(launch, words)
+            for most in STAGES:
+                told = self.prompter.answer(way, 0, f"suspects strict {most}")
+                if not self.goes_on(told):
+                    break
+        except OSError as error:
+            self.fault = f"the prompt can't be run: {error.strerror}"
+        finally:
+            bound.cancel()
+            self.close()
+            with self.news:
+                self.is_over = True
+                self.news.notify_all()
+
+    def goes_on(self, told: str) -> bool:
+        """Keeps what the prompt told; whether the run goes on behind it."""
+        summary = SUMMARY.search(told)
+        if not summary:
+            self.fault = told.split("\n")[0]
+            return False
+        with self.news:
+            self.found = [Suspicion(int(position), kind, first, second)
+                          for first, position, second, kind in ENTRY.findall(told)]
+            self.known = int(summary[1]) if summary[2] == GOES_ON else WHOLE
+            self.news.notify_all()
+        return self.known != WHOLE
+
+    def close(self) -> None:
+        if self.prompter:
+            self.prompter.close()
+
+
+class Searches:
+    """The searches of a session: one of the run without changes by hand, and one of the run as it was changed last."""
+
+    def __init__(self, words: list[str], news: threading.Condition):
+        self.words, self.news = words, news
+        self.known: dict[tuple[tuple[int, str], ...], Search] = {}
+
+    def of(self, launch: dict[str, Any], changes: Changes) -> Search:
+        key = tuple(changes.lines)
+        if key not in self.known:
+            for old in [old for old in self.known if old]:
+                self.known.pop(old).close()
+            self.known[key] = Search(launch, self.words, changes, self.news)
+        return self.known[key]
+
+    def close(self) -> None:
+        for search in self.known.values():
+            search.close()
+        self.known = {}
