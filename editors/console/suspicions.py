@@ -1,7 +1,9 @@
 """The suspicious moves of a run, looked for beside the session, and the filters by which runs stop there."""
 from __future__ import annotations
 
+import os
 import re
+import subprocess
 import threading
 from dataclasses import dataclass
 from typing import Any
@@ -9,7 +11,7 @@ from typing import Any
 from check.kinds import DEFAULT, STRICT
 
 from .frames import framed, read, written
-from .questions import Changes, Prompter
+from .questions import TOP, Changes, Prompter, words_of
 
 # The filters, by the names that an editor sends.
 KINDS = {"suspicions": DEFAULT, "strict": STRICT - DEFAULT}
@@ -21,12 +23,14 @@ FILTERS = [
 ]
 # How many moves are looked at: few first, for the stops of a short run, and then as many as `suspects` looks at.
 STAGES = (50_000, 1_000_000)
+# Behind these the fast pass of --check looks for accesses alone, up to so many.
+FAR = 100_000_000
 # Seconds for which one run is looked at, and a stop waits for that, at most.
 SECONDS = 60.0
 # What the prompt tells: a suspicion, and the line behind all of them.
-ENTRY = re.compile(r"^\[\d+\] (#(\d+) .*)\n +(([a-z-]+): .*)$", re.MULTILINE)
+ENTRY = re.compile(r"^(?:\[\d+\] )?(#(\d+) .*)\n +(([a-z-]+): .*)$", re.MULTILINE)
 SUMMARY = re.compile(r"^(?:no|\d+) suspicions? in (\d+) moves?, (.*)$", re.MULTILINE)
-GOES_ON = "and the run goes on"
+GOES_ON = ("and the run goes on", "limit at ")
 # Further than any run.
 WHOLE = 1 << 64
 
@@ -85,7 +89,9 @@ class Search:
         self.is_over = False
         self.fault = ""
         self.prompter: Prompter | None = None
+        self.far: subprocess.Popen[str] | None = None
         last = changes.lines[-1][0] + 1 if changes.lines else 0
+        self.is_changed = bool(changes.lines)
         threading.Thread(target=self.look, args=(launch, words, changes.to(last)), daemon=True).start()
 
     def look(self, launch: dict[str, Any], words: list[str], way: list[str]) -> None:
@@ -95,9 +101,12 @@ class Search:
         try:
             self.prompter = Prompter(launch, words)
             for most in STAGES:
-                told = self.prompter.answer(way, 0, f"suspects strict {most}")
-                if not self.goes_on(told):
+                if not self.goes_on(self.prompter.answer(way, 0, f"suspects strict {most}")):
                     break
+                if not self.far and not self.is_changed:
+                    self.far = self.begin_far(launch, words)
+            else:
+                self.take_far()
         except OSError as error:
             self.fault = f"the prompt can't be run: {error.strerror}"
         finally:
@@ -107,6 +116,24 @@ class Search:
                 self.is_over = True
                 self.news.notify_all()
 
+    @staticmethod
+    def begin_far(launch: dict[str, Any], words: list[str]) -> subprocess.Popen[str]:
+        """Begins the fast pass, beside the last stage."""
+        command = [str(TOP / "qrev"), *words, "--check", "--fast", "--limit", str(FAR), *words_of(launch)]
+        nothing = subprocess.DEVNULL
+        return subprocess.Popen(command, stdin=nothing, stdout=subprocess.PIPE, stderr=nothing, text=True,
+                                errors="replace", env={**os.environ, "NO_COLOR": "1"})
+
+    def take_far(self) -> None:
+        """Keeps what the fast pass tells of the moves behind those that are known."""
+        told = self.far.communicate()[0] if self.far else ""
+        if not (summary := SUMMARY.search(told)):
+            return
+        with self.news:
+            self.found += [each for each in suspicions_in(told) if each.position >= self.known]
+            self.known = int(summary[1]) if summary[2].startswith(GOES_ON) else WHOLE
+            self.news.notify_all()
+
     def goes_on(self, told: str) -> bool:
         """Keeps what the prompt told; whether the run goes on behind it."""
         summary = SUMMARY.search(told)
@@ -114,15 +141,21 @@ class Search:
             self.fault = told.split("\n")[0]
             return False
         with self.news:
-            self.found = [Suspicion(int(position), kind, first, second)
-                          for first, position, second, kind in ENTRY.findall(told)]
-            self.known = int(summary[1]) if summary[2] == GOES_ON else WHOLE
+            self.found = suspicions_in(told)
+            self.known = int(summary[1]) if summary[2].startswith(GOES_ON) else WHOLE
             self.news.notify_all()
         return self.known != WHOLE
 
     def close(self) -> None:
         if self.prompter:
             self.prompter.close()
+        if self.far:
+            self.far.kill()
+
+
+def suspicions_in(told: str) -> list[Suspicion]:
+    """The suspicions that `suspects` or --check tells, in their order."""
+    return [Suspicion(int(position), kind, first, second) for first, position, second, kind in ENTRY.findall(told)]
 
 
 class Searches:

@@ -24,6 +24,10 @@ FIRST = "data $d = { w 5 }\nexport function w $main() {\n@start\n\t%x =w loadw 6
 # A suspicious move, and a loop without an end behind it.
 ENDLESS = ("data $d = { w 5 }\nexport function $main() {\n@start\n\t%i =l copy 0\n\t%x =w loadw 65536\n@loop\n"
            "\t%i =l add %i, 1\n\tjmp @loop\n}\n")
+# A suspicious move behind a loop of 2,000,000 rounds, of three moves each, and the jump before it.
+FAR = ("data $d = { w 5, w 6 }\ndata $e = { w 7 }\nexport function w $main() {\n@start\n\tjmp @loop\n@loop\n"
+       "\t%i =l phi @start 0, @loop %n\n\t%n =l add %i, 1\n\t%c =w cultl %n, 2000000\n\tjnz %c, @loop, @end\n@end\n"
+       "\t%p =l add $d, 8\n\t%x =w loadw %p\n\tret %x\n}\n")
 # Seconds that a run without an end goes on before it is paused.
 WHILE = 1.0
 
@@ -417,6 +421,15 @@ def recorded(at: Stopping) -> None:
     expect(lines == ["continue", "back 44", ""], f"the record is {lines}")
 
 
+def far(at: Stopping) -> None:
+    """Behind the moves that `suspects` looks at the fast pass finds accesses."""
+    at.begin("far.ssa", history=1000, limit=20_000_000)
+    at.is_suspicious(at.stops("continue"), ("#6000002 $main @end 1  line 13: %x =w loadsw %p",
+                                            "  bounds: loadsw at the end of $d (8 bytes), between objects"))
+    at.leads("continue", "#6000004 done 0", "end")
+    at.leads("reverseContinue", "#6000002 $main @end 1", "exception")
+
+
 CASES: dict[str, Callable[[Stopping], None]] = {
     "capabilities": capabilities, "forward and back": forward_and_back, "steps": steps, "off": off,
     "switched": switched, "not asked": not_asked, "not debugged": not_debugged, "strict": strict,
@@ -425,7 +438,7 @@ CASES: dict[str, Callable[[Stopping], None]] = {
     "changed by hand": changed, "mended by hand": mended, "changed otherwise": changed_otherwise, "at once": pipelined,
     "at random": at_random, "the editor leaves": left, "the editor goes away": gone, "not kept": not_kept,
     "at the limit": limited, "paused": paused, "restarted": again, "recorded": recorded,
-    "a long run": brought_to_a_stand,
+    "a long run": brought_to_a_stand, "far from the start": far,
 }
 # Cases behind which nobody is left to be asked to end.
 ENDED = ("the editor leaves", "the editor goes away", "recorded")
@@ -439,6 +452,7 @@ def fault_of(program: str, seconds: float, name: str) -> str | None:
             shutil.copy(file, folder)
         (folder / "first.ssa").write_text(FIRST)
         (folder / "endless.ssa").write_text(ENDLESS)
+        (folder / "far.ssa").write_text(FAR)
         console = Console(str(RUNNING) if name == "a long run" else program, seconds, folder)
         try:
             CASES[name](Stopping(console, program, folder))
