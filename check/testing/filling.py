@@ -10,18 +10,17 @@ import pathlib
 import random
 from typing import Callable, Iterator
 
-from page.gathering import Gathering
-from page.table import Table
 from terminal.answers import read_output
 from terminal.pipe import Pipe
-from terminal.scratch import SLICE, Launch
-from terminal.text import Instruction, Program
+from terminal.scratch import Launch
+from terminal.text import Instruction
 
 from ..following import Follower, Read
 from ..heap import roles_of
 from ..kinds import DEFAULT
 from ..shadow import PART_BITS
 from .chance import random_files
+from .gathered import run_of
 from .texts import TEXTS
 
 TOP = pathlib.Path(__file__).resolve().parent.parent.parent
@@ -72,15 +71,10 @@ class Filler(Follower):
 
 def run_fault(program: str, file: pathlib.Path, source: bytes, words: list[str], seed: str) -> tuple[str | None, int]:
     """What goes another way in a run that is filled, or None; and how much was filled."""
-    launch = Launch(program, str(file), tuple(words), SLICE)
-    first = Pipe(launch.command(1))
-    first.close()
-    if first.refused:
+    run = run_of(program, file, source, words, MOST_MOVES)
+    if not run:
         return None, 0
-    table = Table(Program(source))
-    gathered = Gathering(launch, table, MOST_MOVES)
-    gathered.gather()
-    data = next(part[5:] for part in gathered.parts if part[:1] == b"D")
+    launch, table, gathered, data = run
     follower = Filler(table, data, DEFAULT, roles_of(table.program, None), random_=random.Random(seed))
     follower.follow(list(gathered.places), iter(gathered.values))
     if not gathered.end or any(each.kind in OPEN for each in follower.suspicions()):

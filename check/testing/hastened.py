@@ -6,17 +6,12 @@ from __future__ import annotations
 import pathlib
 from typing import Any, Callable, Iterator
 
-from page.gathering import Gathering
-from page.table import Table
-from terminal.pipe import Pipe
-from terminal.scratch import SLICE, Launch
-from terminal.text import Program
-
 from ..following import Follower
 from ..heap import roles_of
 from ..kinds import ALL, DEFAULT
 from ..shadow import Object, Part
 from .chance import random_files
+from .gathered import run_of
 from .texts import TEXTS
 
 TOP = pathlib.Path(__file__).resolve().parent.parent.parent
@@ -60,15 +55,10 @@ def state_of(follower: Follower) -> list[Any]:
 
 def run_fault(program: str, file: pathlib.Path, source: bytes, words: list[str]) -> tuple[str | None, int]:
     """What differs, or None; and how many moves were quick."""
-    launch = Launch(program, str(file), tuple(words), SLICE)
-    first = Pipe(launch.command(1))
-    first.close()
-    if first.refused:
+    run = run_of(program, file, source, words, MOST_MOVES)
+    if not run:
         return None, 0
-    table = Table(Program(source))
-    gathered = Gathering(launch, table, MOST_MOVES)
-    gathered.gather()
-    data = next(part[5:] for part in gathered.parts if part[:1] == b"D")
+    _, table, gathered, data = run
     quick = 0
     for kinds in (DEFAULT, ALL):
         states = []

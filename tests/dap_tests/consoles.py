@@ -15,7 +15,7 @@ from harness.running import EXAMPLES, TOP
 
 from . import wire
 from .driver import Adapter, at_once_fault, frame, play, request_message
-from .sessions import FOLDER, Message, is_changing
+from .sessions import FOLDER, Case, Message, is_changing
 
 RELAY = TOP / "editors" / "console" / "main"
 BUILT = "crates/"
@@ -187,27 +187,28 @@ CASES: dict[str, tuple[Callable[[Console], None], str]] = {
 }
 
 
-def fault_of(program: str, seconds: float, name: str) -> str | None:
-    """What the console does otherwise in a case, or None."""
-    return fault_in(*CASES[name], program, seconds)
+def ended(console: Console, does: Callable[[], None], is_left: bool = False) -> str | None:
+    """What is otherwise in what is done at a console, or at its end, which is asked for unless the editor left."""
+    try:
+        does()
+        if not is_left:
+            console.answer("disconnect")
+        status = console.end()
+        return None if status == 0 else f"status {status}"
+    except Wrong as wrong:
+        return str(wrong)
+    finally:
+        console.kill()
 
 
-def fault_in(does: Callable[[Console], None], client: str, program: str, seconds: float) -> str | None:
+def fault_in(program: str, seconds: float, does: Callable[[Console], None], client: str = "test") -> str | None:
     """What the console of a new session does otherwise, or None."""
     with tempfile.TemporaryDirectory(prefix="dap-") as place:
         folder = pathlib.Path(place).resolve()
         shutil.copy(FOLDER / "forever.ssa", folder)
         shutil.copy(EXAMPLES / "squares.ssa", folder)
         console = Console(program, seconds, folder, client)
-        try:
-            does(console)
-            console.answer("disconnect")
-            status = console.end()
-            return None if status == 0 else f"status {status}"
-        except Wrong as wrong:
-            return str(wrong)
-        finally:
-            console.kill()
+        return ended(console, lambda: does(console))
 
 
 def script_for(program: str, folder: pathlib.Path) -> str:
@@ -270,9 +271,9 @@ def killed_fault(program: str, seconds: float) -> str | None:
         return None if children and not left else f"{left or 'no adapter'} of {children}"
 
 
-def cases() -> Iterator[tuple[str, Callable[..., str | None], tuple[str, ...]]]:
-    for name in CASES:
-        yield name, fault_of, (name,)
+def cases() -> Iterator[Case]:
+    for name, words in CASES.items():
+        yield name, fault_in, words
     # Completions have more words here.
     for path in sorted(set(FOLDER.glob("*.dap")) - {FOLDER / "completions.dap"}):
         yield f"session {path.stem}", session_fault, (path.stem,)

@@ -9,6 +9,7 @@ from collections.abc import Callable, Iterator
 from typing import Any
 
 from .consoles import Console, Wrong, fault_in
+from .sessions import Case
 
 SUM = """function w $main() {
 @start
@@ -100,11 +101,6 @@ CASES: dict[str, Callable[[Console], None]] = {
 }
 
 
-def fault_of(program: str, seconds: float, name: str) -> str | None:
-    """What comes otherwise in a case, or None."""
-    return fault_in(CASES[name], "test", program, seconds)
-
-
-def cases() -> Iterator[tuple[str, Callable[..., str | None], tuple[str, ...]]]:
-    for name in CASES:
-        yield name, fault_of, (name,)
+def cases() -> Iterator[Case]:
+    for name, does in CASES.items():
+        yield name, fault_in, (does,)

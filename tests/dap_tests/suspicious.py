@@ -12,7 +12,7 @@ from collections.abc import Callable, Iterable, Iterator
 
 from harness.running import EXAMPLES, TOP
 
-from .consoles import BUILT, GONE, Console, Wrong
+from .consoles import BUILT, GONE, Console, Wrong, ended
 from .sessions import FOLDER, Message
 
 TEXTS = TOP / "check" / "testing" / "texts"
@@ -454,16 +454,7 @@ def fault_of(program: str, seconds: float, name: str) -> str | None:
         (folder / "endless.ssa").write_text(ENDLESS)
         (folder / "far.ssa").write_text(FAR)
         console = Console(str(RUNNING) if name == "a long run" else program, seconds, folder)
-        try:
-            CASES[name](Stopping(console, program, folder))
-            if name not in ENDED:
-                console.answer("disconnect")
-            status = console.end()
-            return None if status == 0 else f"status {status}"
-        except Wrong as wrong:
-            return str(wrong)
-        finally:
-            console.kill()
+        return ended(console, lambda: CASES[name](Stopping(console, program, folder)), name in ENDED)
 
 
 def cases() -> Iterator[tuple[str, Callable[..., str | None], tuple[str, ...]]]:
