@@ -1,6 +1,5 @@
 -- What bytes are made of that were made numbers.
-use Rattle.std.proofs.Common.{◌≡◌, ℕ, zero, suc, ◌+◌, ◌-◌, ◌*◌, ◌/◌, ◌%◌, ◌<◌, ◌≤◌, length, set, replicate, List, [], ◌∷◌, ◌++◌, refl, sym, ◌∙◌, ap, arith}
-use Rattle.qil_memory.specs.qil_layout.Layout.{data_base}
+use Rattle.std.proofs.Common.{◌≡◌, ℕ, zero, suc, ◌+◌, ◌-◌, ◌*◌, ◌/◌, ◌%◌, ◌<◌, ◌≤◌, length, set, replicate, List, [], ◌∷◌, ◌++◌, sym, ◌∙◌, arith}
 use Rattle.qil_memory.specs.Buffers.{stack_base, capacity}
 use Rattle.qil_shadow.specs.declared.origin.Origin.TheVariants as origins
 use Rattle.qil_shadow.specs.declared.origin.ByteOrigin.{ByteOrigin}

@@ -7,3 +7,9 @@ pub mod MemoryLemmas
 pub mod Meanings
 pub mod CopyLemmas
 pub mod ClearLemmas
+pub mod ObjectLemmas
+pub mod ObjectsByName
+pub mod CallLemmas
+pub mod NumberedNames
+pub mod DataPlaces
+pub mod DoubtsByName

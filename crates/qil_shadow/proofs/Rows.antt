@@ -1,6 +1,6 @@
 -- Worked rows, computed: which moves of small programs are suspicious. What is expected was worked out by another implementation.
 use Rattle.std.proofs.Common.{◌≡◌, refl, ℕ, List, [], ◌∷◌, Option, Some, None, option_map, map}
-use Rattle.std.specs.Prelude.{codes, Result, Ok, Err}
+use Rattle.std.specs.Prelude.{codes}
 use Rattle.qil_names.specs.Numbers.{place_of}
 use Rattle.qil_tree.specs.declared.ops.AbiType.TheVariants as types
 use Rattle.qil_tree.specs.declared.ops.Width.TheVariants as widths
@@ -26,7 +26,7 @@ use Rattle.qil_shadow.specs.Objects.{ObjectKind, of_data, of_slot}
 use Rattle.qil_shadow.specs.Shadow.{with_origin, shadow_at_start}
 use Rattle.qil_shadow.specs.Shadowed.{shadowed}
 use Rattle.qil_shadow.specs.Accesses.{accesses_of}
-use Rattle.qil_shadow.specs.Suspicions.{Suspicion, Hit, into, between, dead, suspicions_of, suspicions}
+use Rattle.qil_shadow.specs.Suspicions.{Suspicion, Hit, into, dead, suspicions_of, suspicions}
 
 -- by which move, of which kind, through the address of what, and what was hit
 abbrev told : Suspicion → ℕ × Kind × Option ObjectKind × Hit

@@ -1,8 +1,6 @@
 -- The accesses that a step is about to make, by the addresses that it reads.
-use Rattle.std.specs.Prelude.{ℕ, ◌+◌, Bool, false, nat_le, ◌&&◌, ◌||◌, ◌==◌, if◌then◌else◌, List, [], ◌∷◌, length, Result, Ok, Err}
+use Rattle.std.specs.Prelude.{ℕ, ◌+◌, Bool, nat_le, ◌&&◌, ◌||◌, ◌==◌, if◌then◌else◌, List, [], ◌∷◌, length, Ok, Err}
 use Rattle.qil_tree.specs.declared.ops.Class.TheVariants as classes
-use Rattle.qil_tree.specs.declared.ops.LoadOp.{LoadOp}
-use Rattle.qil_tree.specs.declared.ops.Width.{Width}
 use Rattle.qil_tree.specs.declared.tree.Expr.{Expr}
 use Rattle.qil_tree.specs.declared.tree.Expr.TheVariants as exprs
 use Rattle.qil_tree.specs.declared.tree.InstKind.{InstKind}

@@ -11,3 +11,7 @@ pub mod Spots
 pub mod Words
 pub mod Stack
 pub mod Numbered
+pub mod Table
+pub mod Calls
+pub mod ObjectNumbers
+pub mod Doubts

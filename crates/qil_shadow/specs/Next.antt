@@ -1,5 +1,5 @@
 -- What comes next at the place of a frame, and the values that it reads.
-use Rattle.std.specs.Prelude.{ℕ, List, [], Option, Some, None, unwrap_or, slice_get}
+use Rattle.std.specs.Prelude.{Option, Some, None, slice_get}
 use Rattle.qil_tree.specs.declared.tree.InstKind.{InstKind}
 use Rattle.qil_tree.specs.declared.tree.Inst.{Inst}
 use Rattle.qil_tree.specs.declared.tree.Jump.{Jump}

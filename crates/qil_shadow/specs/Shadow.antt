@@ -1,5 +1,5 @@
 -- The shadow of a state: what its values are made of, and the objects that there are.
-use Rattle.std.specs.Prelude.{ℕ, ◌+◌, ◌-◌, nat_lt, if◌then◌else◌, List, [], ◌∷◌, ◌++◌, map, flat_map, replicate, slice_get, unwrap_or}
+use Rattle.std.specs.Prelude.{ℕ, ◌-◌, if◌then◌else◌, List, [], ◌∷◌, ◌++◌, map, flat_map, replicate}
 use Rattle.std.specs.Str.{bytes_eq}
 use Rattle.qil_tree.specs.declared.ops.AbiType.{AbiType}
 use Rattle.qil_tree.specs.declared.ops.AbiType.TheVariants as types
@@ -11,7 +11,7 @@ use Rattle.qil_tree.specs.declared.tree.Field.TheVariants as fields
 use Rattle.qil_tree.specs.declared.tree.Data.{Data}
 use Rattle.qil_tree.specs.declared.tree.Func.{Func}
 use Rattle.qil_tree.specs.declared.tree.Program.{Program}
-use Rattle.qil_memory.specs.qil_layout.Layout.{data_base, width_bytes, item_size, start_of, end_of}
+use Rattle.qil_memory.specs.qil_layout.Layout.{data_base, width_bytes, start_of, end_of}
 use Rattle.qil_meaning.specs.State.{Name}
 use Rattle.qil_shadow.specs.declared.origin.ObjectId.{ObjectId}
 use Rattle.qil_shadow.specs.declared.origin.Origin.{Origin}

@@ -1,11 +1,8 @@
 -- How a step changes the shadow. Of a step that ends the run nothing is asked.
-use Rattle.std.specs.Prelude.{ℕ, ◌+◌, ◌-◌, Bool, false, ◌==◌, if◌then◌else◌, List, [], ◌∷◌, ◌++◌, length, map, flat_map, zip, replicate, Option, Some, None, unwrap_or, slice_get, Result, Ok, Err}
+use Rattle.std.specs.Prelude.{ℕ, ◌+◌, ◌-◌, Bool, false, ◌==◌, if◌then◌else◌, List, [], ◌∷◌, ◌++◌, length, map, flat_map, zip, replicate, Option, Some, None, slice_get, Ok, Err}
 use Rattle.std.specs.Str.{bytes_eq}
 use Rattle.qil_tree.specs.declared.ops.Class.{Class}
 use Rattle.qil_tree.specs.declared.ops.Class.TheVariants as classes
-use Rattle.qil_tree.specs.declared.ops.AllocOp.{AllocOp}
-use Rattle.qil_tree.specs.declared.ops.AbiType.{AbiType}
-use Rattle.qil_tree.specs.declared.ops.AbiType.TheVariants as types
 use Rattle.qil_tree.specs.declared.tree.Target.{Target}
 use Rattle.qil_tree.specs.declared.tree.Operand.{Operand}
 use Rattle.qil_tree.specs.declared.tree.Operand.TheVariants as operands
@@ -24,7 +21,7 @@ use Rattle.qil_tree.specs.Types.{class_of}
 use Rattle.qil_memory.specs.qil_rules.Operands.{inst_reads, right_class, stored_class}
 use Rattle.qil_memory.specs.qil_rules.Mentions.{returned_class}
 use Rattle.qil_memory.specs.qil_layout.declared.callee.Callee.{Callee}
-use Rattle.qil_memory.specs.qil_layout.declared.callee.Callee.TheVariants.{Defined, PutChar, Puts, Exit}
+use Rattle.qil_memory.specs.qil_layout.declared.callee.Callee.TheVariants.{Defined}
 use Rattle.qil_memory.specs.qil_layout.Callee.{callee_at}
 use Rattle.qil_memory.specs.qil_layout.Layout.{width_bytes, rounded}
 use Rattle.qil_meaning.specs.State.{Name, Frame, State}
@@ -35,7 +32,7 @@ use Rattle.qil_shadow.specs.declared.origin.Origin.TheVariants as origins
 use Rattle.qil_shadow.specs.declared.origin.ByteOrigin.TheVariants as bytes
 use Rattle.qil_shadow.specs.Origins.{in_class, binary_origin, unary_origin, extended_origin}
 use Rattle.qil_shadow.specs.Bytes.{ByteOrigins, origins_at, laid_origins, stored_origins, load_bytes, joined}
-use Rattle.qil_shadow.specs.Objects.{Object, of_slot, object_named, ends_with}
+use Rattle.qil_shadow.specs.Objects.{of_slot, object_named, ends_with}
 use Rattle.qil_shadow.specs.Shadow.{Origins, Shadow, none_set, with_origin, with_origins}
 use Rattle.qil_shadow.specs.Next.{Next, nothing, inst, jump, next_of}
 

@@ -1,5 +1,5 @@
 -- Where what bytes are made of is kept.
-use Rattle.std.specs.Prelude.{◌≡◌, ℕ, ◌+◌, ◌-◌, ◌≤◌, ◌^◌, ◌⊎◌, nat_le, if◌then◌else◌, List, length}
+use Rattle.std.specs.Prelude.{◌≡◌, ℕ, ◌+◌, ◌-◌, ◌≤◌, ◌⊎◌, nat_le, if◌then◌else◌, List, length}
 use Rattle.qil_memory.specs.qil_layout.Layout.{data_base}
 use Rattle.qil_memory.specs.Buffers.{stack_base, capacity}
 use Rattle.qil_shadow.specs.declared.origin.ByteOrigin.TheVariants as bytes

@@ -1,6 +1,11 @@
 //! What constants are made of. Numbered code has the address of a name as a constant, and the tree tells which constant is one: it
 //! is looked at where the value can be an address.
 
+ghost use Rattle.std.specs.Prelude.{◌≡◌, Some};
+ghost use Rattle.qil_memory.specs.qil_layout.Layout.{address_of};
+ghost use Rattle.qil_shadow.specs.Objects.{object_named};
+ghost use Rattle.qil_shadow.specs.ObjectNumbers.{AreStarts};
+
 use crate::origin::{ObjectId, Origin};
 use crate::shadow::Shadow;
 use crate::suspicion::Place;
@@ -128,7 +133,7 @@ impl<'c, A: Allocator + Copy> Shadow<'c, A> {
         operand: NumberedOperand,
     ) -> Origin {
         match operand {
-            NumberedOperand::Slot(slot) => self.frames.get(slot).in_class(class),
+            NumberedOperand::Slot(slot) => self.calls.origin(slot).in_class(class),
             NumberedOperand::Constant(value) => {
                 if value < LEAST_ADDRESS {
                     Origin::Number
@@ -169,7 +174,7 @@ impl<'c, A: Allocator + Copy> Shadow<'c, A> {
         phi: &PhiMove,
     ) -> Origin {
         match phi.source {
-            NumberedOperand::Slot(slot) => self.frames.get(slot).in_class(phi.class),
+            NumberedOperand::Slot(slot) => self.calls.origin(slot).in_class(phi.class),
             NumberedOperand::Constant(value) => {
                 if value < LEAST_ADDRESS {
                     Origin::Number
@@ -214,8 +219,10 @@ impl<'c, A: Allocator + Copy> Shadow<'c, A> {
     }
 
     /// The object of a name that has an address.
-    fn object_of(&self, name: &[u8], address: u64) -> ObjectId {
-        match self.objects.data_at(address) {
+    fn object_of(&self, name: &[u8], address: u64) -> ObjectId
+        ensures { AreStarts self.now.names self.now.calls.objects.starts → address_of self.now.names name.now ≡ Some address → result ≡ object_named self.now.names name.now }
+    {
+        match self.calls.data_at(address) {
             Some(object) => object,
             None => self.names.object(name),
         }

@@ -4,6 +4,7 @@
 
 mod access;
 mod bytes;
+mod calls;
 mod constants;
 mod laws;
 mod memory;

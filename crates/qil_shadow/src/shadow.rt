@@ -1,14 +1,17 @@
 //! The shadow of a run, and what is suspicious of its next step.
 
-ghost use Rattle.std.specs.Prelude.{◌≡◌, ◌<◌, ◌≤◌};
+ghost use Rattle.std.specs.Prelude.{◌≡◌, ◌<◌, ◌≤◌, [], ◌∷◌, ◌++◌, slice_get, OnOk};
+ghost use Rattle.std.specs.Option.{option_copied};
 ghost use Rattle.qil_shadow.specs.Numbered.{value_in, is_twice};
+ghost use Rattle.qil_shadow.specs.Table.{object_at};
+ghost use Rattle.qil_shadow.specs.Doubts.{doubt_through, through_found, is_all_in, doubt_mixed, doubt_by, live_between, hit_by, outside_by, told_by, noted_by, suspicion_by};
 
 use crate::access::{Action, Kind};
+use crate::calls::Calls;
 use crate::memory::OriginMemory;
 use crate::names::ObjectNames;
-use crate::object::{Object, ObjectKind, Objects};
+use crate::object::{Object, ObjectKind};
 use crate::origin::{ObjectId, Origin};
-use crate::stack::OriginStack;
 use crate::suspicion::{Access, Doubt, Hit, Place, Suspicion};
 use qil_code::{NumberedOperand, Slot};
 use qil_layout::{DATA_BASE, rounded_up};
@@ -21,14 +24,11 @@ pub(crate) const STACK_END: u64 = STACK_BASE + 1_048_576;
 /// What a state's values are made of, the objects that there are, and what was suspicious since that was last taken.
 #[derive(Drop)]
 pub struct Shadow<'c, A: Allocator> {
-    pub(crate) frames: OriginStack<A>,
+    pub(crate) calls: Calls<A>,
     pub(crate) memory: OriginMemory<A>,
-    pub(crate) objects: Objects<A>,
     pub(crate) names: ObjectNames<'c, A>,
     /// The first address behind the data.
     pub(crate) data_end: u64,
-    /// The top of the stack.
-    pub(crate) top: u64,
     pub(crate) position: u64,
     /// What parameters or phis get, before they get it.
     pub(crate) moved: Vec<(Slot, Origin), A>,
@@ -65,9 +65,11 @@ pub(crate) fn are_one_temporary(left: NumberedOperand, right: NumberedOperand) -
 
 impl<'c, A: Allocator + Copy> Shadow<'c, A> {
     /// Whether so many bytes from an address on are live.
-    pub(crate) fn is_live(&self, address: u64, count: u64) -> bool {
+    pub(crate) fn is_live(&self, address: u64, count: u64) -> bool
+        ensures { result ≡ live_between self.now.data_end self.now.calls.top address count }
+    {
         let end = if address >= STACK_BASE {
-            self.top
+            self.calls.top()
         } else {
             self.data_end
         };
@@ -75,8 +77,10 @@ impl<'c, A: Allocator + Copy> Shadow<'c, A> {
     }
 
     /// What lies at an address.
-    fn hit_at(&self, address: u64) -> Hit {
-        match self.objects.at(address) {
+    fn hit_at(&self, address: u64) -> Hit
+        ensures { result ≡ hit_by address (object_at self.now.calls.objects.objects address) (live_between self.now.data_end self.now.calls.top address 1) }
+    {
+        match self.calls.object_at(address) {
             Some(object) => Hit::Into(object.kind, address.saturating_sub(object.address)),
             None => {
                 if self.is_live(address, 1) {
@@ -89,39 +93,34 @@ impl<'c, A: Allocator + Copy> Shadow<'c, A> {
     }
 
     /// What is suspicious of an access through the address of an object.
-    fn object_doubt(&self, access: &Access, object: ObjectId) -> Option<Doubt> {
-        let object = self.objects.get(object)?;
-        let kind = match object.ended {
-            Some(_) => Kind::Stale,
-            None => {
-                if !object.is_function() && object.contains(access.address, access.count) {
-                    return None;
-                }
-                Kind::Bounds
-            }
-        };
-        Some(Doubt {
-            kind,
-            object: Some(*object),
-        })
+    fn object_doubt(&self, access: &Access, object: ObjectId) -> Option<Doubt>
+        ensures { result ≡ through_found access.now (slice_get self.now.calls.objects.objects object.index) }
+    {
+        match self.calls.object(object) {
+            Some(object) => doubt_through(access, object),
+            None => None,
+        }
     }
 
     /// What is suspicious of one through what is made of more than one address.
-    fn mixed_doubt(&self, access: &Access) -> Option<Doubt> {
-        if let Some(object) = self.objects.at(access.address) {
-            if object.contains(access.address, access.count) {
-                return None;
-            }
+    fn mixed_doubt(&self, access: &Access) -> Option<Doubt>
+        ensures { result ≡ doubt_mixed access.now (object_at self.now.calls.objects.objects access.now.address) }
+    {
+        if is_all_in(access, self.calls.object_at(access.address)) {
+            None
+        } else {
+            Some(Doubt {
+                kind: Kind::Stray,
+                object: None,
+            })
         }
-        Some(Doubt {
-            kind: Kind::Stray,
-            object: None,
-        })
     }
 
     /// What is suspicious of an access.
     #[inline(always)]
-    fn doubt(&self, access: &Access) -> Option<Doubt> {
+    fn doubt(&self, access: &Access) -> Option<Doubt>
+        ensures { result ≡ doubt_by self.now.calls.objects.objects access.now access.now.origin }
+    {
         match access.origin {
             Origin::Number => None,
             Origin::Address(object) => self.object_doubt(access, object),
@@ -139,14 +138,20 @@ impl<'c, A: Allocator + Copy> Shadow<'c, A> {
     ///
     /// Out of memory.
     #[inline(always)]
-    pub(crate) fn look(&mut self, place: Place, access: Access) -> Result<(), AllocError> {
+    pub(crate) fn look(&mut self, place: Place, access: Access) -> Result<(), AllocError>
+        ensures noted { OnOk result (self.new.found.items ≡ self.old.found.items ++ suspicion_by self.old.calls.objects.objects self.old.data_end self.old.calls.top self.old.position place access (doubt_by self.old.calls.objects.objects access access.origin)) }
+        ensures rest { OnOk result ((self.new.calls ≡ self.old.calls) × (self.new.memory ≡ self.old.memory) × (self.new.position ≡ self.old.position)) }
+    {
         match self.doubt(&access) {
             None => Ok(()),
             Some(doubt) => self.note(place, access, doubt),
         }
     }
 
-    fn note(&mut self, place: Place, access: Access, doubt: Doubt) -> Result<(), AllocError> {
+    fn note(&mut self, place: Place, access: Access, doubt: Doubt) -> Result<(), AllocError>
+        ensures noted { OnOk result (self.new.found.items ≡ self.old.found.items ++ noted_by self.old.calls.objects.objects self.old.data_end self.old.calls.top self.old.position place access doubt (told_by access doubt.kind doubt.object) ∷ []) }
+        ensures rest { OnOk result ((self.new.calls ≡ self.old.calls) × (self.new.memory ≡ self.old.memory) × (self.new.position ≡ self.old.position)) }
+    {
         let hit = self.hit_at(told_address(&access, &doubt));
         self.found.push(Suspicion {
             position: self.position,
@@ -173,7 +178,7 @@ impl<'c, A: Allocator + Copy> Shadow<'c, A> {
         requires some { 0 < align }
         requires few { align ≤ 16 }
     {
-        let top = self.top;
+        let top = self.calls.top();
         if top > STACK_END {
             return Ok(());
         }
@@ -181,49 +186,21 @@ impl<'c, A: Allocator + Copy> Shadow<'c, A> {
         if address > STACK_END || count > STACK_END - address {
             return Ok(());
         }
-        let object = Object {
-            kind: ObjectKind::Slot(place.func, slot),
-            address,
-            size: count,
-            made: self.position,
-            depth: self.depth(),
-            ended: None,
-        };
-        let object = self.objects.add(object)?;
-        self.top = address + count;
-        if self.top >= top {
-            self.memory.clear(top, self.top - top);
-        }
-        self.frames.set(slot, Origin::Address(object));
+        let kind = ObjectKind::Slot(place.func, slot);
+        self.calls.make(kind, slot, address, count, self.position)?;
+        self.memory.clear(top, address + count - top);
         Ok(())
-    }
-
-    /// How many calls are not over.
-    pub(crate) fn depth(&self) -> u32 {
-        let depth = self.frames.depth();
-        if depth < 1_000_000 {
-            depth as u32
-        } else {
-            1_000_000
-        }
     }
 
     /// Ends the innermost call, with what the value that it returns is made of.
     pub(crate) fn give_back(&mut self, origin: Origin) {
-        let depth = self.depth();
-        self.objects.end(depth, self.position);
-        if let Some(over) = self.frames.pop() {
-            self.top = over.floor;
-            if let Some(to) = over.receiver {
-                self.frames.set(to.slot, origin);
-            }
-        }
+        self.calls.give_back(self.position, origin);
     }
 
     /// Gives parameters or phis what was gathered for them.
     pub(crate) fn put_moved(&mut self) {
         for (slot, origin) in self.moved.as_slice() {
-            self.frames.set(*slot, *origin);
+            self.calls.set(*slot, *origin);
         }
         self.moved.truncate(0);
     }
@@ -239,19 +216,53 @@ impl<'c, A: Allocator + Copy> Shadow<'c, A> {
     }
 }
 
+/// What is suspicious of an access through the address of an object.
+fn doubt_through(access: &Access, object: &Object) -> Option<Doubt>
+    ensures { result ≡ doubt_through access.now object.now }
+{
+    if object.ended.is_some() {
+        return Some(Doubt {
+            kind: Kind::Stale,
+            object: Some(*object),
+        });
+    }
+    if object.is_function() || !object.contains(access.address, access.count) {
+        return Some(Doubt {
+            kind: Kind::Bounds,
+            object: Some(*object),
+        });
+    }
+    None
+}
+
+/// Whether all bytes of an access are in an object.
+fn is_all_in(access: &Access, object: Option<&Object>) -> bool
+    ensures { result ≡ is_all_in access.now (option_copied object.entry) }
+{
+    match object {
+        Some(object) => object.contains(access.address, access.count),
+        None => false,
+    }
+}
+
+/// Of an access that is out of its object, the first byte that is.
+fn first_outside(access: &Access, object: &Object) -> u64
+    ensures { result ≡ outside_by access.now object.now }
+{
+    if object.contains(access.address, 1) {
+        object.address.saturating_add(object.size)
+    } else {
+        access.address
+    }
+}
+
 /// Of which address it is told what lies there: of an access out of its object the first byte that is.
-fn told_address(access: &Access, doubt: &Doubt) -> u64 {
+fn told_address(access: &Access, doubt: &Doubt) -> u64
+    ensures { result ≡ told_by access.now doubt.now.kind doubt.now.object }
+{
     match doubt.kind {
         Kind::Bounds => match &doubt.object {
-            Some(object) => {
-                if object.contains(access.address, 1) {
-                    access
-                        .address
-                        .max(object.address.saturating_add(object.size))
-                } else {
-                    access.address
-                }
-            }
+            Some(object) => first_outside(access, object),
             None => access.address,
         },
         Kind::Stale | Kind::Cut | Kind::Stray => access.address,

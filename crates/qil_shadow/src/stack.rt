@@ -1,6 +1,6 @@
 //! What the temporaries of the calls are made of that are not over.
 
-ghost use Rattle.std.specs.Prelude.{◌≡◌, ◌+◌, ◌<◌, ◌≤◌, [], ◌∷◌, length, replicate, IfOk, OnOk, MatchOption};
+ghost use Rattle.std.specs.Prelude.{◌≡◌, ◌+◌, ◌<◌, ◌≤◌, [], ◌∷◌, length, replicate, IfOk, MatchOption, MatchResult};
 ghost use Rattle.qil_shadow.specs.Stack.{held_origin, with_held, returned_of, callers_of};
 
 use crate::origin::Origin;
@@ -98,7 +98,7 @@ impl<A: Allocator + Copy> OriginStack<A> {
         floor: u64,
         receiver: Option<Receiver>,
     ) -> Result<(), AllocError>
-        ensures { OnOk result (self.new ≡ record { origins = replicate count Origin.Number; floor = floor; receiver = receiver } ∷ self.old) }
+        ensures { MatchResult result (λ _. self.new ≡ record { origins = replicate count Origin.Number; floor = floor; receiver = receiver } ∷ self.old) (λ _. self.new ≡ self.old) }
     {
         self.callers.reserve(1)?;
         let call = CallOrigins::new(*self.callers.allocator(), count, floor, receiver)?;
@@ -112,7 +112,8 @@ impl<A: Allocator> OriginStack<A> {
     /// How many calls are not over.
     #[inline(always)]
     pub fn depth(&self) -> usize
-        ensures { result ≡ length self.now }
+        ensures count { result ≡ length self.now }
+        ensures some { 0 < result }
     {
         self.callers.len() + 1
     }
@@ -146,7 +147,7 @@ impl<A: Allocator> OriginStack<A> {
 
     /// Takes the innermost call away, if it has a caller.
     pub fn pop(&mut self) -> Option<Returned>
-        ensures { MatchOption result (callers_of self.old ≡ []) (λ r. (self.new ≡ callers_of self.old) × (r ≡ returned_of self.old)) }
+        ensures { MatchOption result ((callers_of self.old ≡ []) × (self.new ≡ self.old)) (λ r. (self.new ≡ callers_of self.old) × (0 < length self.new) × (r ≡ returned_of self.old)) }
     {
         let caller = self.callers.pop()?;
         let over = replace(&mut self.innermost, caller);

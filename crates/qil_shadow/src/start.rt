@@ -1,5 +1,8 @@
 //! The shadow at the start of a run.
 
+ghost use Rattle.std.specs.Prelude.{◌≡◌, None, length, OnOk};
+
+use crate::calls::Calls;
 use crate::memory::OriginMemory;
 use crate::names::ObjectNames;
 use crate::object::{BuiltIn, Object, ObjectKind, Objects};
@@ -15,7 +18,9 @@ use std::alloc::{AllocError, Allocator};
 use std::hash::RandomState;
 
 /// An object that is there from the start on.
-fn fixed(kind: ObjectKind, address: u64, size: u64) -> Object {
+fn fixed(kind: ObjectKind, address: u64, size: u64) -> Object
+    ensures { result ≡ record { kind = kind; address = address; size = size; made = 0; depth = 0; ended = None } }
+{
     Object {
         kind,
         address,
@@ -65,7 +70,10 @@ fn note_object<'c, A: Allocator + Copy>(
     index: u32,
     begin: u64,
     object: &Data<'_, A>,
-) -> Result<(), AllocError> {
+) -> Result<(), AllocError>
+    requires { objects.old.fixed ≡ length objects.old.objects }
+    ensures { OnOk result (objects.new.fixed ≡ length objects.new.objects) }
+{
     let mut at = begin;
     for field in object.fields.as_slice() {
         at = note_field(memory, names, at, field);
@@ -77,7 +85,10 @@ fn note_object<'c, A: Allocator + Copy>(
 fn note_functions<A: Allocator + Copy>(
     objects: &mut Objects<A>,
     count: usize,
-) -> Result<(), AllocError> {
+) -> Result<(), AllocError>
+    requires { objects.old.fixed ≡ length objects.old.objects }
+    ensures { OnOk result (objects.new.fixed ≡ length objects.new.objects) }
+{
     for index in 0..count.min(65_535) {
         let func = FuncId {
             index: index as u16,
@@ -121,17 +132,16 @@ impl<'c, A: Allocator + Copy> Shadow<'c, A> {
             number = number.saturating_add(1);
         }
         note_functions(&mut objects, program.funcs.as_slice().len())?;
-        let mut frames = OriginStack::new(alloc, code.slot_count(func), STACK_BASE)?;
+        let origins = OriginStack::new(alloc, code.slot_count(func), STACK_BASE)?;
+        let mut calls = Calls::new(origins, objects);
         for (slot, abi_type) in code.params(func) {
-            frames.set(*slot, given(*abi_type));
+            calls.set(*slot, given(*abi_type));
         }
         Ok(Shadow {
-            frames,
+            calls,
             memory,
-            objects,
             names,
             data_end: DATA_BASE + image.bytes().len() as u64,
-            top: STACK_BASE,
             position: 0,
             moved: Vec::new(alloc),
             found: Vec::new(alloc),

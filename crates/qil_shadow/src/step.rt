@@ -18,7 +18,7 @@ use qil_tree::{AbiType, AllocOp, Class, LoadOp, Width};
 use std::alloc::{AllocError, Allocator};
 
 /// How many calls there may be.
-const MOST_CALLS: usize = 1_000;
+const MOST_CALLS: u32 = 1_000;
 
 impl<'c, A: Allocator + Copy> Shadow<'c, A> {
     /// Makes the step of the innermost frame at a place, which holds these values.
@@ -105,7 +105,7 @@ impl<'c, A: Allocator + Copy> Shadow<'c, A> {
                 self.load(code, place, slots, class, op, operand)?
             }
         };
-        self.frames.set(to, origin);
+        self.calls.set(to, origin);
         Ok(())
     }
 
@@ -218,7 +218,7 @@ impl<'c, A: Allocator + Copy> Shadow<'c, A> {
             Some(Callee::Defined(func)) => self.call_function(code, place, func, to, args),
             Some(Callee::PutChar | Callee::Puts | Callee::Exit) => {
                 if let Some(to) = to {
-                    self.frames.set(to.slot, Origin::Number);
+                    self.calls.set(to.slot, Origin::Number);
                 }
                 Ok(())
             }
@@ -235,9 +235,6 @@ impl<'c, A: Allocator + Copy> Shadow<'c, A> {
         to: Option<Receiver>,
         args: &[NumberedArgument],
     ) -> Result<(), AllocError> {
-        if self.frames.depth() >= MOST_CALLS {
-            return Ok(());
-        }
         self.moved.truncate(0);
         let params: &[(Slot, AbiType)] = code.params(func);
         for (index, (slot, _)) in params.iter().enumerate() {
@@ -248,7 +245,10 @@ impl<'c, A: Allocator + Copy> Shadow<'c, A> {
                 self.moved.push((*slot, origin))?;
             }
         }
-        self.frames.push(code.slot_count(func), self.top, to)?;
+        if self.calls.depth() >= MOST_CALLS {
+            return Ok(());
+        }
+        self.calls.enter(code.slot_count(func), to)?;
         self.put_moved();
         Ok(())
     }
@@ -308,7 +308,7 @@ impl<'c, A: Allocator + Copy> Shadow<'c, A> {
             [] => Ok(()),
             [only] => {
                 let origin = self.phi_origin(code, place, edge.to, 0, only);
-                self.frames.set(only.target, origin);
+                self.calls.set(only.target, origin);
                 Ok(())
             }
             moves => self.do_phis(code, place, edge.to, moves),

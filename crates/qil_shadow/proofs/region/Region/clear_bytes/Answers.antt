@@ -1,5 +1,5 @@
 -- The bytes are cleared one after the other.
-use Rattle.std.proofs.Common.{◌∙◌, ◌+◌, arith}
+use Rattle.std.proofs.Common.{◌∙◌, arith}
 use Rattle.qil_shadow.specs.Words.{kept}
 use Rattle.qil_shadow.proofs.ClearLemmas.{bytes_more, bytes_done}
 use Rattle.qil_shadow.proofs.region.Region.clear_bytes.Goals as goal

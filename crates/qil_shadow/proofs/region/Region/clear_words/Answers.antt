@@ -1,5 +1,5 @@
 -- The words are cleared one after the other.
-use Rattle.std.proofs.Common.{◌∙◌, ◌+◌, arith}
+use Rattle.std.proofs.Common.{◌∙◌, arith}
 use Rattle.qil_shadow.specs.Words.{kept}
 use Rattle.qil_shadow.proofs.ClearLemmas.{words_more, words_done}
 use Rattle.qil_shadow.proofs.region.Region.clear_words.Goals as goal
