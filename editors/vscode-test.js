@@ -100,6 +100,7 @@ const written = (name, lines) => {
   return { languageId: "qbe", uri: vscode.Uri.file(file) };
 };
 const WHOLE = "export function w $main() {\n@start\n\t%x =d add d_1, d_2\n\t%y =w dtosi %x\n\tret %y\n}\n";
+const CALLS = "data $d = { b \"four\", b 0 }\nexport function w $main() {\n@start\n\t%n =l call $strlen(l $d)\n\tret 0\n}\n";
 const shown = (file) => (marks.get(file) || []).map((each) => [each.range.line, each.severity, each.code, each.message]);
 
 // The adapter as a process, to which requests are sent; its messages go to the extension too.
@@ -227,20 +228,53 @@ const tests = {
     await listeners.saved({ languageId: "markdown", uri: bad.uri });
     assert.deepStrictEqual(shown(bad.uri.fsPath), []);
   },
-  "a text of whole QBE is checked, and lowered before it is launched": async () => {
+  "a text of whole QBE is checked; what is missing in it is marked as lowering tells it": async () => {
     const whole = written("whole.ssa", WHOLE);
     await registered.commands["qrev.check"](whole.uri);
     assert.strictEqual(told.informed.pop(), "qrev: no suspicion");
-    const { provider } = registered.providers[0];
+    await listeners.saved(written("whole.ssa", WHOLE.replace("w dtosi", "q dtosi")));
+    assert.deepStrictEqual(shown(whole.uri.fsPath).map((each) => each.slice(0, 2)), [[3, 0]]);
+    await listeners.saved(written("whole.ssa", CALLS.replace("strlen", "fopen")));
+    const [[line, severity, , said]] = shown(whole.uri.fsPath);
+    assert.deepStrictEqual([line, severity], [3, 1]);
+    assert.match(said, /^\$fopen is defined nowhere/);
+    await listeners.saved(written("whole.ssa", CALLS));
+    assert.deepStrictEqual(shown(whole.uri.fsPath), []);
+  },
+  "a text of whole QBE is launched as it is, and lowered by the adapter; why is asked of what runs": async () => {
+    const whole = written("whole.ssa", WHOLE);
     const launch = { type: "qrev", request: "launch", name: "mine", program: whole.uri.fsPath };
-    const changed = await provider.resolveDebugConfigurationWithSubstitutedVariables(undefined, launch);
-    assert.notStrictEqual(changed.program, launch.program);
-    assert.ok(fs.readFileSync(changed.program, "utf8").includes("$main") && fs.existsSync(`${changed.program}.map`));
-    const plain = { ...launch, program: text };
-    assert.deepStrictEqual(await provider.resolveDebugConfigurationWithSubstitutedVariables(undefined, plain), plain);
-    fs.writeFileSync(whole.uri.fsPath, WHOLE.replace("w dtosi", "q dtosi"));
-    assert.strictEqual(await provider.resolveDebugConfigurationWithSubstitutedVariables(undefined, { ...launch, lower: true }), undefined);
-    assert.match(told.failed.pop(), /whole\.ssa:4: /);
+    const { provider } = registered.providers[0];
+    assert.deepStrictEqual(await provider.resolveDebugConfiguration(undefined, { ...launch }), launch);
+    assert.strictEqual(provider.resolveDebugConfigurationWithSubstitutedVariables, undefined);
+    const follower = registered.trackers.factory.createDebugAdapterTracker(session);
+    const adapter = new Adapter(registered.factory.factory.createDebugAdapterDescriptor(session, undefined).command, follower);
+    try {
+      await adapter.request("initialize", { adapterID: "qrev", clientID: "vscode" });
+      assert.ok((await adapter.request("launch", launch)).success);
+      await adapter.until((message) => message.event === "output" && message.body.output.startsWith("whole.ssa is of whole QBE"));
+      await adapter.request("configurationDone", {});
+      await adapter.stopped("#0 $main @start 0");
+      await adapter.request("continue", { threadId: 1 });
+      const { body } = await adapter.until((message) => message.event === "stopped" && message.body.reason === "end");
+      assert.match(body.description, / done 3$/);
+      vscode.debug.activeDebugSession = { ...session, configuration: launch,
+        customRequest: (command, given) => adapter.request(command, given).then((message) => message.body) };
+      told.picks.push(() => undefined);
+      await registered.commands["qrev.why"]();
+      assert.match(told.lists.pop().options.title, /^done 3, at #\d+, comes of$/);
+      await registered.commands["qrev.prompt"]();
+      assert.deepStrictEqual(told.terminals.pop().shellArgs, ["--prompt", "--lower", whole.uri.fsPath]);
+      const all = { ...launch, lower: ["other.ssa"], input: "/given", entry: "f", argv: ["a", "b"] };
+      vscode.debug.activeDebugSession = { ...session, configuration: all };
+      await registered.commands["qrev.prompt"]();
+      assert.deepStrictEqual(told.terminals.pop().shellArgs,
+        ["--prompt", "--lower", "--input", "/given", whole.uri.fsPath, "other.ssa", "--entry", "f", "--", "a", "b"]);
+    } finally {
+      adapter.process.kill();
+      follower.onExit();
+      vscode.debug.activeDebugSession = undefined;
+    }
   },
   "the page and the prompt run in a terminal, the prompt at the position that is debugged": async () => {
     await registered.commands["qrev.page"]({ fsPath: text });
@@ -268,7 +302,7 @@ const tests = {
       await adapter.stopped("#0 $main @start 0");
       assert.deepStrictEqual(items.map((each) => [each.text, each.isShown]), [["$(location) #0 $main @start 0", true],
         ["$(debug-step-back)", true], ["$(debug-reverse-continue)", true]]);
-      session.customRequest = (command, given) => adapter.request(command, given);
+      session.customRequest = (command, given) => adapter.request(command, given).then((message) => message.body);
       vscode.debug.activeDebugSession = session;
       vscode.window.typed = "44";
       await registered.commands["qrev.goto"]();

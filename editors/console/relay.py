@@ -11,10 +11,12 @@ from queue import SimpleQueue
 from typing import Any, NoReturn
 
 from .admission import Admission, admitted
+from .checking import Check
 from .disassembly import Disassembly, with_disassembly
 from .frames import Frames, framed, read, renumbered, written
 from .guard import CHANGING, MOVING, Guard
-from .questions import HELP, LINE, POSITION, TOP, WORDS, Changes, Prompter, is_question
+from .launching import Beginning, Launcher, Ways
+from .questions import HELP, POSITION, TOP, WORDS, Changes, Prompter, is_question
 from .suspicions import with_filters, without_filters
 
 # Starts an adapter that sees when a message has come, and when the editor, or this, went away.
@@ -38,9 +40,8 @@ class Relay:
         self.open: set[int] = set()
         self.is_running = False
         self.position: int | None = None
-        # What the session was begun with; and the last launch, with which a restart that names no program begins again.
+        # What the session was begun with.
         self.launch: dict[str, Any] = {}
-        self.launched: dict[str, Any] = {}
         # Whether the editor makes a link of an output that has a line.
         self.has_links = False
         # What was typed where completions were asked for, by the number of the request.
@@ -51,8 +52,9 @@ class Relay:
         self.prompter: Prompter | None = None
         self.guard = Guard(words, self.news, self.forward, self.show, self.remark)
         self.disassembly = Disassembly()
-        # With what a session begins, by the number of the request for it.
-        self.begins: dict[int, dict[str, Any]] = {}
+        self.launcher = Launcher(words, self.news, Ways(self.send_launch, self.forward, self.end_session, self.show,
+                                                        self.respond, self.tell, self.tell_lines))
+        self.check: Check | None = None
         # What came from the editor and isn't looked at yet.
         self.came: SimpleQueue[Admission | None] = SimpleQueue()
         self.questions: SimpleQueue[tuple[dict[str, Any], str] | None] = SimpleQueue()
@@ -67,16 +69,17 @@ class Relay:
             threading.Thread(target=work, daemon=True).start()
         threads[0].join()
         status = self.adapter.wait()
-        self.drop_prompter()
-        self.guard.forget()
+        self.end_session()
+        self.launcher.close()
         sys.stdout.buffer.flush()
         # Not by the interpreter's own end, which would wait for the thread that reads what the editor sends.
         os._exit(status if status >= 0 else 128 - status)
 
     def leave(self) -> None:
         self.adapter.kill()
-        self.drop_prompter()
+        self.drop_helpers()
         self.guard.searches.close()
+        self.launcher.close()
         os._exit(143)
 
     # From the editor.
@@ -103,9 +106,10 @@ class Relay:
 
     def leave_soon(self) -> None:
         """Lets nothing wait for long any more."""
-        timer = threading.Timer(LEAVE, self.guard.hurry)
-        timer.daemon = True
-        timer.start()
+        for hurry in (self.guard.hurry, self.launcher.hurry):
+            timer = threading.Timer(LEAVE, hurry)
+            timer.daemon = True
+            timer.start()
 
     def carry_requests(self) -> None:
         while came := self.came.get():
@@ -148,10 +152,17 @@ class Relay:
         if command == "disassemble":
             self.disassemble(message, given)
             return b""
+        if command in ("launch", "restart"):
+            self.launcher.begin(message, given, raw)
+            return b""
+        if command == "terminate":
+            self.launcher.end(message, raw)
+            return b""
         if found := GOTO.match(line):
             return self.moved(message, given, int(found[1]))
         if command == "initialize":
             self.has_links = given.get("clientID") == "vscode"
+            self.launcher.first_line = 0 if given.get("linesStartAt1") is False else 1
         elif command == "completions":
             self.typed[message.get("seq", 0)] = str(given.get("text", ""))
         elif command == "setExceptionBreakpoints":
@@ -171,23 +182,28 @@ class Relay:
                 self.changing[number] = command, given
         if command in MOVING:
             self.is_running = True
-        if command == "launch":
-            self.launch = self.launched = given
-        elif command == "restart":
-            again = given.get("arguments")
-            has_program = isinstance(again, dict) and isinstance(again.get("program"), str)
-            self.launch = {**again} if again and has_program else self.launched
-        if command in ("launch", "restart"):
+        if command == "disconnect":
+            self.end_session()
+
+    def send_launch(self, number: int, raw: bytes) -> None:
+        """Sends a request by which a session begins."""
+        with self.news:
+            self.open.add(number)
+        self.forward(raw)
+
+    def end_session(self) -> None:
+        """What is known of a session, and what is looked for beside it, isn't wanted any more."""
+        with self.news:
             self.changes, self.position = Changes(), None
-            self.drop_prompter()
-            self.begins[message.get("seq", 0)] = self.launch
-        if command in ("launch", "restart", "terminate", "disconnect"):
+            self.drop_helpers()
             self.guard.forget()
 
-    def drop_prompter(self) -> None:
+    def drop_helpers(self) -> None:
         if self.prompter:
             self.prompter.close()
-        self.prompter = None
+        if self.check:
+            self.check.end()
+        self.prompter = self.check = None
 
     def moved(self, message: dict[str, Any], given: dict[str, Any], target: int) -> bytes:
         """`goto N` as the request for the moves that lead there."""
@@ -214,9 +230,11 @@ class Relay:
             raw, body = frames.next()
             if body is None:
                 break
-            if self.guard.takes(body) or body.startswith(STOPPED) and self.guard.keeps(body):
+            if self.launcher.takes(body) or self.guard.takes(body) or \
+                    body.startswith(STOPPED) and self.guard.keeps(body):
                 continue
             self.show(self.told(body))
+            self.launcher.tell_fresh()
         if raw:
             with self.turn:
                 self.write(raw)
@@ -232,7 +250,7 @@ class Relay:
             return self.disassembly.referenced(body)
         if b'"command":"exceptionInfo"' in head:
             return self.guard.informed(body, self.position)
-        return body
+        return self.launcher.told(body)
 
     def show(self, body: bytes, changes: Changes | None = None) -> None:
         """Writes a message to the editor; with the changes by hand that hold again there, if some were taken back."""
@@ -275,6 +293,8 @@ class Relay:
                 self.is_running = False
                 self.guard.end()
                 self.place(str(read(body).get("body", {}).get("description", "")))
+                if not body.startswith(STOPPED):
+                    self.launcher.terminated()
                 self.news.notify_all()
         elif body.startswith(b'{"type":"event","event":"initialized"'):
             self.guard.look(self.launch, self.changes)
@@ -283,8 +303,8 @@ class Relay:
         """Keeps what a response says of the run."""
         number, is_done = message.get("request_seq", 0), bool(message.get("success"))
         self.open.discard(number)
-        if (begun := self.begins.pop(number, None)) is not None and is_done:
-            self.disassembly.begin(begun)
+        if begun := self.launcher.answered(message):
+            self.begun(begun)
         if message.get("command") in MOVING:
             self.guard.begin(number, self.position, self.launch, self.changes)
             if not is_done:
@@ -297,6 +317,13 @@ class Relay:
             # A value that is set is a move, of which no event tells.
             self.position += command in ("setVariable", "setExpression")
         self.place(result.rpartition("\n")[2])
+
+    def begun(self, beginning: Beginning) -> None:
+        """A session has begun."""
+        self.launch, self.is_running = beginning.launch, False
+        self.disassembly.begin(self.launch)
+        if kinds := beginning.given.get("check"):
+            self.check = Check(self.launch, kinds, self.words, self.tell_lines)
 
     def place(self, line: str) -> None:
         """Keeps the position of a place line, which a stop has, and the last line that the console answers to a
@@ -343,7 +370,8 @@ class Relay:
         if line in ("help", "h"):
             return self.respond(message, True, HELP)
         if not self.waits():
-            return self.respond(message, False, "no session" if not self.launch else "the run goes on: pause it first")
+            why = "the run goes on: pause it first" if self.launcher.is_open else "no session"
+            return self.respond(message, False, why)
         with self.news:
             way, is_unknown = self.changes.to(self.position or 0), self.changes.unknown is not None
             if self.prompter is None:
@@ -361,9 +389,10 @@ class Relay:
 
     def tell_lines(self, lines: list[str]) -> None:
         """Lines of an answer, each with a link to the line of the text that it names."""
-        path = os.path.abspath(str(self.launch.get("program", "")))
+        program = os.path.abspath(str(self.launch.get("program", "")))
         for line in lines:
             body: dict[str, Any] = {"category": "console", "output": line + "\n"}
-            if found := LINE.search(line):
-                body |= {"line": int(found[1]), "source": {"name": os.path.basename(path), "path": path}}
+            if self.has_links and (place := self.launcher.place(line, program)):
+                path, number = place
+                body |= {"line": number, "source": {"name": os.path.basename(path), "path": path}}
             self.tell({"type": "event", "event": "output", "body": body})

@@ -104,7 +104,7 @@ class Search:
                 if not self.goes_on(self.prompter.answer(way, 0, f"suspects strict {most}")):
                     break
                 if not self.far and not self.is_changed:
-                    self.far = self.begin_far(launch, words)
+                    self.far = begin_check(launch, words, ["--fast", "--limit", str(FAR)])
             else:
                 self.take_far()
         except OSError as error:
@@ -115,14 +115,6 @@ class Search:
             with self.news:
                 self.is_over = True
                 self.news.notify_all()
-
-    @staticmethod
-    def begin_far(launch: dict[str, Any], words: list[str]) -> subprocess.Popen[str]:
-        """Begins the fast pass, beside the last stage."""
-        command = [str(TOP / "qrev"), *words, "--check", "--fast", "--limit", str(FAR), *words_of(launch)]
-        nothing = subprocess.DEVNULL
-        return subprocess.Popen(command, stdin=nothing, stdout=subprocess.PIPE, stderr=nothing, text=True,
-                                errors="replace", env={**os.environ, "NO_COLOR": "1"})
 
     def take_far(self) -> None:
         """Keeps what the fast pass tells of the moves behind those that are known."""
@@ -151,6 +143,14 @@ class Search:
             self.prompter.close()
         if self.far:
             self.far.kill()
+
+
+def begin_check(launch: dict[str, Any], words: list[str], options: list[str]) -> subprocess.Popen[str]:
+    """Begins the command that checks the run of a launch."""
+    command = [str(TOP / "qrev"), *words, "--check", *options, *words_of(launch)]
+    nothing = subprocess.DEVNULL
+    return subprocess.Popen(command, stdin=nothing, stdout=subprocess.PIPE, stderr=nothing, text=True,
+                            errors="replace", env={**os.environ, "NO_COLOR": "1"})
 
 
 def suspicions_in(told: str) -> list[Suspicion]:

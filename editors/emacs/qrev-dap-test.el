@@ -86,6 +86,41 @@ The cursor is there; LINE is nil where the run is over."
     (dap-disconnect (qrev-dap-session))
     (should (qrev-dap-test-wait (lambda () (file-exists-p (expand-file-name "emacs.script.transcript" user-emacs-directory)))))))
 
+;; (1.5 + 2) / 2 * 4 is 7.
+(defconst qrev-dap-test-floats "export function w $main() {
+@start
+\t%a =d add d_1.5, d_2
+\t%b =d call $half(d %a)
+\t%c =w dtosi %b
+\tret %c
+}
+function d $half(d %x) {
+@start
+\t%y =d div %x, d_2
+\t%z =d mul %y, d_4
+\tret %z
+}
+")
+
+(ert-deftest qrev-dap-test-whole-qbe ()
+  "A text with floats is launched as it is, and shown by its own lines."
+  ;; The adapter alone refuses it.
+  (skip-unless (string-suffix-p "/qrev-dap" qrev-dap-adapter))
+  (let ((file (expand-file-name "floats.ssa" user-emacs-directory)))
+    (with-temp-file file (insert qrev-dap-test-floats))
+    (find-file file)
+    (goto-char (point-min))
+    (forward-line 10)
+    (dap-breakpoint-add)
+    (qrev-dap-test-place "$main @start 0" 3 (qrev-dap file nil))
+    (qrev-dap-test-place "$half @start 1" 11 (call-interactively (key-binding (kbd "C-c C-c"))))
+    (should (member '("%y" "1.75") (qrev-dap-test-values 1)))
+    (qrev-dap-test-place "$half @start 0" 10 (call-interactively (key-binding (kbd "C-c C-p"))))
+    (qrev-dap-test-place "$half @start 1" 11 (call-interactively (key-binding (kbd "C-c C-n"))))
+    (qrev-dap-test-place "$main @start 2" 5 (call-interactively (key-binding (kbd "C-c C-o"))))
+    (dap-disconnect (qrev-dap-session))
+    (dap-breakpoint-delete-all)))
+
 (ert-deftest qrev-dap-test-templates ()
   (find-file (expand-file-name "squares.ssa" user-emacs-directory))
   (dolist (name '("qrev: this text" "qrev: this text, recorded"))

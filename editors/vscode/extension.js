@@ -6,7 +6,7 @@
 const fs = require("fs");
 const path = require("path");
 const vscode = require("vscode");
-const { Marks, folderOf, inTerminal, withLowering } = require("./tools");
+const { Marks, folderOf, inTerminal } = require("./tools");
 const { Changes, why } = require("./why");
 
 const TYPE = "qrev";
@@ -23,10 +23,6 @@ function launchOfEditor() {
 }
 
 class Configurations {
-  constructor(context) {
-    this.context = context;
-  }
-
   // Launches that are offered where there is no launch.json, and in the list of those that it could have.
   provideDebugConfigurations() {
     return [launchOfEditor() || { type: TYPE, request: "launch", name: NAME, program: "${file}", stopOnEntry: true }];
@@ -37,11 +33,6 @@ class Configurations {
     const asked = !given.type && !given.request && !given.name ? launchOfEditor() || given : given;
     if (asked.program) return asked;
     return vscode.window.showInformationMessage("qrev: open a text of QBE (.ssa), or name one as `program`").then(() => undefined);
-  }
-
-  // A text of whole QBE is lowered by itself.
-  resolveDebugConfigurationWithSubstitutedVariables(folder, launch) {
-    return withLowering(this.context, launch);
   }
 }
 
@@ -188,13 +179,15 @@ async function askWhy(context, status, given) {
 function openPrompt(context, status, given) {
   const session = vscode.debug.activeDebugSession;
   const isDebugged = session && session.type === TYPE && !given && status.position !== undefined;
-  const text = isDebugged ? vscode.Uri.file(session.configuration.program) : given;
-  return inTerminal(context, "qrev", ["--prompt"], text, isDebugged && status.position ? [`goto ${status.position}`] : []);
+  const launch = isDebugged ? session.configuration : {};
+  const text = isDebugged ? vscode.Uri.file(launch.program) : given;
+  const lines = isDebugged && status.position ? [`goto ${status.position}`] : [];
+  return inTerminal(context, "qrev", ["--prompt"], text, lines, launch);
 }
 
 function activate(context) {
   const status = new Status();
-  const configurations = new Configurations(context);
+  const configurations = new Configurations();
   const marks = new Marks(context);
   const does = (name, call) => vscode.commands.registerCommand(name, call);
   const workbench = (name) => () => vscode.commands.executeCommand(`workbench.action.debug.${name}`);

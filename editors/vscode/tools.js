@@ -1,11 +1,10 @@
-// What the extension asks of qrev beside the adapter: refusals and suspicions next to their lines, the page of a run, the
-// prompt, and texts of whole QBE brought into the language that the debugger runs.
+// What the extension asks of qrev beside the adapter: refusals and suspicions next to their lines, the page of a run, and the
+// prompt. Of a text of whole QBE it asks once more, with --lower.
 //
 // All of it is the script `qrev`, which came with the extension or stands in the clone that the setting names.
 "use strict";
 
 const fs = require("fs");
-const os = require("os");
 const path = require("path");
 const { spawn } = require("child_process");
 const vscode = require("vscode");
@@ -14,7 +13,10 @@ const LANGUAGE = "qbe";
 // A line of a refusal: `FILE:4: C6: what is wrong`, behind it the line itself.
 const REFUSED = /^(.*?):(\d+): (.*)$/;
 // What a refusal says of a text of whole QBE.
-const NEEDS_LOWERING = "--lower` takes it";
+const LEFT_OUT = "`./qrev --lower`";
+// The status of a check whose text is refused, and those of one that was made.
+const REFUSED_STATUS = 1;
+const CHECKED = [0, 3, 4, 5];
 // Up to this a check of a text that was saved runs, so that it ends in about a second.
 const MOVES_AT_SAVE = 100000;
 const ENDS = { 0: "no suspicion", 4: "no suspicion, but the run ends by a fault", 5: "no suspicion up to the limit of moves" };
@@ -53,12 +55,15 @@ function run(program, words, folder, text = "") {
   });
 }
 
-// Checks a text, and once more lowered if it is of whole QBE.
+// Checks a text, and once more lowered if it is refused. What is refused then too is told as it was at first, unless it is of
+// whole QBE.
 async function check(context, file, limit) {
   const words = ["--format", "json", ...(limit ? ["--limit", String(limit)] : [])];
   const ask = (before) => run(scriptOf(context), ["--check", ...before, file, ...words], path.dirname(file));
   const plain = await ask([]);
-  return plain.status === 1 && (plain.out + plain.error).includes(NEEDS_LOWERING) ? ask(["--lower"]) : plain;
+  if (plain.status !== REFUSED_STATUS) return plain;
+  const lowered = await ask(["--lower"]);
+  return lowered.status === REFUSED_STATUS && !(plain.out + plain.error).includes(LEFT_OUT) ? plain : lowered;
 }
 
 function marked(line, message, severity, code) {
@@ -66,33 +71,56 @@ function marked(line, message, severity, code) {
   return Object.assign(made, { source: "qrev", code });
 }
 
-// The marks of a refusal, by file; nothing if what was written names no line.
-function refusalsOf(answer, file) {
+// The marks of lines that name a line of a file, by file; nothing if none does.
+function marksOf(lines, file, severity) {
   const found = new Map();
-  for (const line of `${answer.out}\n${answer.error}`.split("\n")) {
+  for (const line of lines.split("\n")) {
     const [, name, at, said] = REFUSED.exec(line) || [];
     if (name === undefined || /^\s/.test(line)) continue;
     const code = /^([A-Z]\d+): /.exec(said);
     const place = path.resolve(path.dirname(file), name);
     found.set(place, [...(found.get(place) || []),
-      marked(Number(at), code ? said.slice(code[0].length) : said, vscode.DiagnosticSeverity.Error, code ? code[1] : undefined)]);
+      marked(Number(at), code ? said.slice(code[0].length) : said, severity, code ? code[1] : undefined)]);
   }
   return found;
 }
 
-// The marks of suspicions, by file, of what `--check --format json` writes (SARIF).
-function suspicionsOf(answer, file) {
-  const found = new Map();
-  for (const result of JSON.parse(answer.out).runs[0].results) {
-    const where = result.locations[0];
-    const place = path.resolve(path.dirname(file), where.physicalLocation.artifactLocation.uri);
-    const times = result.occurrenceCount > 1 ? `, ${result.occurrenceCount} times` : "";
-    const first = `first at #${result.properties.position} ${where.logicalLocations[0].fullyQualifiedName}${times}`;
-    found.set(place, [...(found.get(place) || []),
-      marked(where.physicalLocation.region.startLine, `${result.message.text} (${first})`, vscode.DiagnosticSeverity.Warning,
-        result.ruleId)]);
+// What a check tells in its log (SARIF); nothing if it wrote none.
+function resultsOf(answer) {
+  return answer.out.startsWith("{") ? JSON.parse(answer.out).runs[0].results : undefined;
+}
+
+// The mark of what a log tells: a suspicion is a warning, a fault or a refusal an error.
+function markOf(result) {
+  const where = result.locations[0];
+  const line = where.physicalLocation.region ? where.physicalLocation.region.startLine : 1;
+  const text = result.message.text;
+  if (result.level === "error") {
+    const code = `${result.ruleId}: `;
+    return marked(line, text.startsWith(code) ? text.slice(code.length) : text, vscode.DiagnosticSeverity.Error, result.ruleId);
+  }
+  const times = result.occurrenceCount > 1 ? `, ${result.occurrenceCount} times` : "";
+  const first = `first at #${result.properties.position} ${where.logicalLocations[0].fullyQualifiedName}${times}`;
+  return marked(line, `${text} (${first})`, vscode.DiagnosticSeverity.Warning, result.ruleId);
+}
+
+// The marks of what a check tells, by file, and of what lowering says besides.
+function toldOf(answer, file) {
+  const results = resultsOf(answer);
+  if (!results) return marksOf(`${answer.out}\n${answer.error}`, file, vscode.DiagnosticSeverity.Error);
+  const found = marksOf(answer.error, file, vscode.DiagnosticSeverity.Warning);
+  for (const result of results) {
+    const uri = decodeURIComponent(result.locations[0].physicalLocation.artifactLocation.uri);
+    const place = path.resolve(path.dirname(file), uri);
+    found.set(place, [...(found.get(place) || []), markOf(result)]);
   }
   return found;
+}
+
+// The first thing that a check tells of a text that it refuses.
+function refusalOf(answer) {
+  const results = resultsOf(answer);
+  return results && results.length ? results[0].message.text : (answer.out || answer.error).trim().split("\n")[0];
 }
 
 // The marks that stand in the texts, and which text each came of.
@@ -116,8 +144,7 @@ class Marks {
     this.asked.set(file, number);
     const answer = await check(this.context, file, limit);
     if (this.asked.get(file) !== number) return answer;
-    const isChecked = [0, 3, 4, 5].includes(answer.status);
-    this.show(file, isChecked ? suspicionsOf(answer, file) : refusalsOf(answer, file));
+    this.show(file, toldOf(answer, file));
     return answer;
   }
 
@@ -135,12 +162,12 @@ class Marks {
     const answer = await vscode.window.withProgress({ location: vscode.ProgressLocation.Notification,
       title: `qrev checks ${path.basename(file)}` }, () => this.look(file));
     if (answer.status === 3) {
-      const count = JSON.parse(answer.out).runs[0].results.length;
+      const count = resultsOf(answer).filter((each) => each.level === "warning").length;
       await vscode.window.showWarningMessage(`qrev: ${count} ${count === 1 ? "suspicion" : "suspicions"}`);
     } else if (ENDS[answer.status]) {
       await vscode.window.showInformationMessage(`qrev: ${ENDS[answer.status]}`);
     } else {
-      await vscode.window.showErrorMessage(`qrev: ${(answer.out || answer.error).trim().split("\n")[0] || "the check can't be run"}`);
+      await vscode.window.showErrorMessage(`qrev: ${refusalOf(answer) || "the check can't be run"}`);
     }
   }
 
@@ -160,43 +187,27 @@ function textOf(given) {
 
 // Whether a text is of whole QBE, so that it has to be lowered first.
 async function needsLowering(context, file) {
-  const answer = await run(scriptOf(context), ["--check", file, "--limit", "1"], path.dirname(file));
-  return answer.status === 1 && (answer.out + answer.error).includes(NEEDS_LOWERING);
+  const ask = (before) => run(scriptOf(context), ["--check", ...before, file, "--limit", "1"], path.dirname(file));
+  return (await ask([])).status === REFUSED_STATUS && CHECKED.includes((await ask(["--lower"])).status);
+}
+
+// The words of `qrev` for a text, and for what a launch says of it.
+async function wordsOf(context, file, launch) {
+  const files = Array.isArray(launch.lower) ? launch.lower : [];
+  const isAsked = launch.lower || launch.input || launch.argv;
+  const lower = launch.lower !== false && (isAsked || await needsLowering(context, file)) ? ["--lower"] : [];
+  return [...lower, ...(launch.input ? ["--input", launch.input] : []), file, ...files, ...(launch.args || []).map(String),
+    ...(launch.entry ? ["--entry", launch.entry] : []), ...(launch.argv ? ["--", ...launch.argv] : [])];
 }
 
 // Runs qrev in a terminal of VS Code, which stays open as long as it runs.
-async function inTerminal(context, name, before, given, lines) {
+async function inTerminal(context, name, before, given, lines, launch = {}) {
   const file = textOf(given);
   if (!file) return;
-  const lower = await needsLowering(context, file) ? ["--lower"] : [];
   const terminal = vscode.window.createTerminal({ name, cwd: path.dirname(file), shellPath: scriptOf(context),
-    shellArgs: [...before, ...lower, file] });
+    shellArgs: [...before, ...await wordsOf(context, file, launch)] });
   terminal.show();
   lines.forEach((line) => terminal.sendText(line));
 }
 
-// Lowers a text of whole QBE into a folder of its own; its map of places stands beside what comes of it. The path of that,
-// or nothing if it is refused.
-async function lowered(context, file, entry) {
-  const folder = fs.mkdtempSync(path.join(os.tmpdir(), "qrev-"));
-  const to = path.join(folder, path.basename(file));
-  const words = ["--link", ...(entry ? ["--entry", entry] : []), "--output", to, file];
-  const answer = await run(path.join(folderOf(context), "lower", "qrev-lower"), words, path.dirname(file));
-  // It may write a text and tell what in it would halt.
-  if (fs.existsSync(to) && fs.statSync(to).size > 0) return to;
-  await vscode.window.showErrorMessage(`qrev: ${(answer.error || answer.out).trim().split("\n")[0]}`);
-  return undefined;
-}
-
-// A launch of a text of whole QBE becomes one of what it is lowered to.
-async function withLowering(context, given) {
-  const { lower, ...launch } = given;
-  if (lower === false || !launch.program || !fs.existsSync(launch.program)) return launch;
-  if (lower !== true && !(await needsLowering(context, launch.program))) return launch;
-  const program = await lowered(context, launch.program, launch.entry);
-  if (!program) return undefined;
-  vscode.window.setStatusBarMessage(`qrev: ${path.basename(launch.program)} is of whole QBE, and was lowered`, 8000);
-  return { ...launch, program };
-}
-
-module.exports = { Marks, folderOf, inTerminal, run, scriptOf, withLowering };
+module.exports = { Marks, folderOf, inTerminal, run, scriptOf };

@@ -92,8 +92,11 @@ async function why(context, session, position, changes, given, goTo) {
   if (changes.isUnknown) {
     vscode.window.showWarningMessage("qrev: memory was changed by hand; causes are told of the run without that");
   }
+  // The first of all sources is the text that runs, which is another one than the launch has if that was lowered.
+  const { sources } = await session.customRequest("loadedSources");
+  const launch = { ...session.configuration, program: sources[0].path };
   for (;;) {
-    const told = await answered(context, session.configuration, lines, questions);
+    const told = await answered(context, launch, lines, questions);
     const picked = await vscode.window.showQuickPick(entriesOf(told), { title: told[0], placeHolder: "Go there, or ask on" });
     if (!picked) return;
     if (picked.position !== undefined) return void await goTo(picked.position);

@@ -9,7 +9,7 @@ import stat
 import sys
 import tempfile
 import time
-from collections.abc import Callable, Iterator
+from collections.abc import Callable, Iterator, Mapping
 
 from harness.running import EXAMPLES, TOP
 
@@ -57,8 +57,9 @@ def words_of(program: str) -> list[str]:
 class Console(Adapter):
     """An adapter behind the console."""
 
-    def __init__(self, program: str, seconds: float, folder: pathlib.Path, client: str = "test") -> None:
-        super().__init__(str(RELAY), seconds, folder, words_of(program))
+    def __init__(self, program: str, seconds: float, folder: pathlib.Path, client: str = "test",
+                 environment: Mapping[str, str] | None = None) -> None:
+        super().__init__(str(RELAY), seconds, folder, words_of(program), environment)
         self.events: list[Message] = []
         self.client, self.folder = client, folder
 

@@ -7,7 +7,7 @@ import pathlib
 import queue
 import subprocess
 import threading
-from collections.abc import Sequence
+from collections.abc import Mapping, Sequence
 from typing import IO, Any, NamedTuple, Optional, Union
 
 from harness.running import TOP
@@ -84,11 +84,12 @@ def form_fault(message: Any, number: int) -> Optional[str]:
 class Adapter:
     """An adapter that runs. Its messages are read beside it, so that none has to wait for a reader."""
 
-    def __init__(self, program: str, seconds: float, folder: pathlib.Path, words: Sequence[str] = ()) -> None:
+    def __init__(self, program: str, seconds: float, folder: pathlib.Path, words: Sequence[str] = (),
+                 environment: Optional[Mapping[str, str]] = None) -> None:
         self.seconds, self.sent, self.got = seconds, 0, 0
         self.log: list[Message] = []
         self.process = subprocess.Popen([program, *words], stdin=subprocess.PIPE, stdout=subprocess.PIPE,
-                                        stderr=subprocess.PIPE, cwd=folder)
+                                        stderr=subprocess.PIPE, cwd=folder, env=environment)
         self.came: queue.Queue[Union[Message, BadMessage, None]] = queue.Queue()
         self.errors: list[bytes] = []
         self.readers = [threading.Thread(target=self.read_messages, daemon=True),
