@@ -9,18 +9,20 @@ from typing import Callable, TextIO
 
 from page.gathering import Gathering
 from page.table import Table
-from terminal.launching import refusal, split_words
+from terminal.launching import first_text, refusal, split_words
+from terminal.lowered import lowered_of
 from terminal.pipe import Pipe
 from terminal.scratch import SLICE, Launch
 from terminal.sourcemap import SourceMap
 from terminal.text import Program
 
 from . import fast
+from .ends import fault_error, refusal_error
 from .following import Excepted, Follower
 from .heap import WrongHeap, roles_of
 from .kinds import ALL, WrongKind, chosen
 from .states import TooLong, table_of
-from .telling import Suspicion, as_gnu, as_sarif, gnu_place, summary
+from .telling import Error, Suspicion, as_gnu, as_sarif, at_own_places, summary
 
 TOP = pathlib.Path(__file__).resolve().parent.parent
 # How many moves are looked at for all kinds if nothing is said: some 20 seconds.
@@ -90,6 +92,7 @@ class Asked:
     has_no_heap: bool = False
     excepted: Excepted = field(default_factory=Excepted)
     format: str = "text"
+    lowered: list[str] = field(default_factory=list)  # the texts that the program was lowered from
 
     @staticmethod
     def read(words: list[str]) -> Asked:
@@ -197,7 +200,7 @@ def checked(programs: Programs, asked: Asked, place: pathlib.Path, out: TextIO) 
     pipe = Pipe(launch.command(1))
     pipe.close()
     if pipe.refused:
-        return refused(pipe, asked, source)
+        return refused(pipe, asked, source, out)
     try:
         table = table_of(Program(source))
         find = found_fast if asked.is_fast else found_fully
@@ -207,7 +210,7 @@ def checked(programs: Programs, asked: Asked, place: pathlib.Path, out: TextIO) 
         return UNREAD
     except WrongHeap as error:
         raise BadCommand(str(error)) from None
-    return told(outcome, table, asked, out)
+    return told(outcome, table, launch, asked, out)
 
 
 def found_fully(programs: Programs, launch: Launch, table: Table, asked: Asked) -> Outcome:
@@ -273,37 +276,45 @@ def run_of(launch: Launch, table: Table, limit: int) -> Gathering:
     return gathered
 
 
-def refused(pipe: Pipe, asked: Asked, source: bytes) -> int:
+def refused(pipe: Pipe, asked: Asked, source: bytes, out: TextIO) -> int:
     """Tells why the debugger took no program. What is wrong with its words it has said itself."""
-    for line in pipe.loaded:
-        print(refusal(line, asked.file, source))
+    is_plain = asked.format == "text" or any(not line.startswith("refused: ") for line in pipe.loaded)
+    if is_plain or not pipe.loaded:
+        for line in pipe.loaded:
+            print(refusal(line, asked.file, source, asked.lowered), file=out)
+    else:
+        errors = [refusal_error(line, source) for line in pipe.loaded]
+        asked.file = first_text(asked.lowered) or asked.file if not errors[0].line else asked.file
+        tell_formatted(asked, [], errors, SourceMap.beside(asked.file).place, out)
     return pipe.refused.status if pipe.refused else UNREAD
+
+
+def tell_formatted(asked: Asked, found: list[Suspicion], errors: list[Error], source: Callable[[int], str],
+                   out: TextIO) -> None:
+    """Suspicions and errors in the form for editors or machines."""
+    if asked.format == "json":
+        print(as_sarif(found, errors, asked.file, version(), source), file=out)
+        return
+    for line in (*as_gnu(found, asked.file, source), *(error.gnu(asked.file, source) for error in errors)):
+        print(line, file=out)
 
 
 def part_of(gathered: Gathering, letter: bytes) -> bytes:
     return next((part[5:] for part in gathered.parts if part[:1] == letter), b"")
 
 
-def fault_line(table: Table, outcome: Outcome, file: str, source: Callable[[int], str]) -> str:
-    """The instruction that ended the run by a fault, as an error."""
-    assert outcome.last is not None
-    function, label, index, instruction = table.places[outcome.last]
-    return (f"{gnu_place(source, file, instruction.line)}: error: {outcome.end} "
-            f"[#{outcome.moves - 1} {function} {label} {index}]")
-
-
-def told(outcome: Outcome, table: Table, asked: Asked, out: TextIO) -> int:
-    source = SourceMap.beside(asked.file).place
-    if asked.format == "json":
-        print(as_sarif(outcome.found, asked.file, version(), source), file=out)
-    elif asked.format == "gnu":
-        for line in as_gnu(outcome.found, asked.file, source):
-            print(line, file=out)
-        if outcome.end.startswith("fault"):
-            print(fault_line(table, outcome, asked.file, source), file=out)
+def told(outcome: Outcome, table: Table, launch: Launch, asked: Asked, out: TextIO) -> int:
+    source, lowered = SourceMap.beside(asked.file).place, lowered_of(asked.file)
+    others = lowered.runtime | lowered.outside
+    if asked.format != "text":
+        errors = []
+        if outcome.end.startswith("fault") and outcome.last is not None:
+            errors = [fault_error(table, launch, asked.file, outcome.moves, outcome.end, outcome.last)]
+        tell_formatted(asked, at_own_places(outcome.found, others), errors, source, out)
     else:
         for each in outcome.found:
-            print("\n".join(each.lines(source(each.instruction.line))), file=out)
+            lines = [*each.lines(source(each.instruction.line)), *each.call_lines(others, source)]
+            print("\n".join(lines), file=out)
         print(summary(outcome.found, outcome.moves, outcome.end, outcome.full), file=out)
     out.flush()
     return outcome.status

@@ -182,7 +182,8 @@ class Follower:
             known.count += 1
             return
         position = self.position if at is None else at
-        self.found[here, kind] = Suspicion(kind, position, function, label, index, instruction, text)
+        calls = tuple(frame.place for frame in reversed(self.frames) if frame.place)
+        self.found[here, kind] = Suspicion(kind, position, function, label, index, instruction, text, calls=calls)
 
     def use(self, read: Read, what: str, mask: int = MASK["l"]) -> bool:
         """Notes that open bits of an operand are used, if it has some; it counts as set from then on."""

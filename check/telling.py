@@ -4,12 +4,15 @@ from __future__ import annotations
 
 import json
 from dataclasses import dataclass
-from typing import Any, Callable, Iterator, Sequence
+from typing import AbstractSet, Any, Callable, Iterator, Sequence
+from urllib.parse import quote
 
 from terminal.text import Instruction
 
 from .shadow import Object, Origin
 
+# A place of a text: function, label and index, with its instruction.
+Place = tuple[str, str, int, Instruction]
 SARIF = "https://json.schemastore.org/sarif-2.1.0.json"
 
 
@@ -25,12 +28,45 @@ class Suspicion:
     instruction: Instruction
     text: str
     count: int = 1
+    # The calls that were open at the first move, the innermost one first, if they are known.
+    calls: tuple[Place, ...] = ()
+
+    def call_from(self, others: AbstractSet[str]) -> Place | None:
+        """Of a move in one of these functions, as those of a runtime, the call by the program itself that led there."""
+        if self.function not in others:
+            return None
+        return next((place for place in self.calls if place[0] not in others), None)
+
+    def call_lines(self, others: AbstractSet[str], source: Callable[[int], str]) -> list[str]:
+        """That call, if there is one, as a line."""
+        place = self.call_from(others)
+        if not place:
+            return []
+        function, label, index, instruction = place
+        told = source(instruction.line)
+        return [f"  called at {function} {label} {index}  line {instruction.line}: {instruction.written()}"
+                + (f"  ({told})" if told else "")]
 
     def lines(self, source: str = "") -> list[str]:
         times = f"  ({self.count} times)" if self.count > 1 else ""
         return [f"#{self.position} {self.function} {self.label} {self.index}  line {self.instruction.line}: "
                 f"{self.instruction.written()}" + (f"  ({source})" if source else ""),
                 f"  {self.kind}: {self.text}{times}"]
+
+
+@dataclass
+class Error:
+    """An error by its code, at a line of the text, or of none; and where in the run, if it was one of a run."""
+
+    code: str
+    line: int
+    text: str
+    place: str = ""
+
+    def gnu(self, file: str, source: Callable[[int], str]) -> str:
+        """The same as compilers write it."""
+        at = gnu_place(source, file, self.line) if self.line else file
+        return f"{at}: error: {self.text}" + (f" [{self.place}]" if self.place else "")
 
 
 def counted(number: int, what: str) -> str:
@@ -80,18 +116,38 @@ def summary(suspicions: Sequence[Suspicion], moves: int, end: str, full: int | N
     return f"{number} in {counted(moves, 'move')}{kinds}, {end}"
 
 
-def as_sarif(suspicions: Sequence[Suspicion], file: str, version: str, source: Callable[[int], str]) -> str:
-    """The same as a log that continuous integration shows beside the lines."""
+def at_own_places(suspicions: Sequence[Suspicion], others: AbstractSet[str]) -> list[Suspicion]:
+    """The same with each suspicion in one of these functions told at the call by the program itself."""
+    told = []
+    for each in suspicions:
+        place = each.call_from(others)
+        text = f"{each.text}, in {each.function}"
+        told.append(Suspicion(each.kind, each.position, *place, text, each.count) if place else each)
+    return told
+
+
+def as_sarif(suspicions: Sequence[Suspicion], errors: Sequence[Error], file: str, version: str,
+             source: Callable[[int], str]) -> str:
+    """The same as a log that continuous integration shows beside the lines, with what ended the run badly."""
     results: list[dict[str, Any]] = []
     for each in suspicions:
-        place = place_of(source(each.instruction.line), file, each.instruction.line)
+        place = physical(place_of(source(each.instruction.line), file, each.instruction.line))
         results.append({"ruleId": each.kind, "level": "warning", "message": {"text": f"{each.kind}: {each.text}"},
                         "occurrenceCount": each.count, "locations": [{"physicalLocation": place, "logicalLocations": [
                             {"fullyQualifiedName": f"{each.function} {each.label} {each.index}"}]}],
                         "properties": {"position": each.position}})
-    rules = [{"id": kind} for kind in sorted({each.kind for each in suspicions})]
+    for error in errors:
+        place = physical(place_of(source(error.line) if error.line else "", file, error.line))
+        results.append({"ruleId": error.code, "level": "error", "message": {"text": error.text},
+                        "locations": [{"physicalLocation": place}]})
+    rules = [{"id": code} for code in sorted({result["ruleId"] for result in results})]
     tool = {"driver": {"name": "qrev", "version": version, "rules": rules}}
     return json.dumps({"$schema": SARIF, "version": "2.1.0", "runs": [{"tool": tool, "results": results}]}, indent=1)
+
+
+def physical(place: dict[str, Any]) -> dict[str, Any]:
+    """A place with its file as a reference to it, in which a blank is %20."""
+    return {**place, "artifactLocation": {"uri": quote(place["artifactLocation"]["uri"])}}
 
 
 def as_gnu(suspicions: Sequence[Suspicion], file: str, source: Callable[[int], str]) -> Iterator[str]:

@@ -13,7 +13,8 @@ from .answers import read_bytes, read_value
 from .frames import steps_begun
 from .scratch import MOST_BYTES, Scratch
 from .text import BUILT_IN, LOADED, STORED, Instruction, Operand, Program
-from .timeline import Timeline
+from .timeline import Poke, Timeline
+from .values import BYTES
 
 MOST_STOPS = 60
 FIRST_BLOCK, MOST_BLOCK = 32, 8192
@@ -74,6 +75,15 @@ class Accesses:
             return True
         begin = self.constant(operand)
         return begin < address + count and address < begin + size_of(instruction)
+
+    def poked(self, poke: Poke) -> range:
+        """The bytes that a poke wrote: none where it set a temporary."""
+        word, *words = poke.line.split()
+        if word != "poke":
+            return range(0)
+        name, _, offset = words[1].partition("+")
+        begin = self.constant(name) + int(offset or 0)
+        return range(begin, begin + BYTES[words[0]])
 
     def constant(self, text: str) -> int:
         return self.program.addresses[text] if text.startswith("$") else int(text) % (1 << 64)

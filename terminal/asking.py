@@ -14,7 +14,7 @@ from .session import MOVES
 from .shell import Shell, command
 from .stops import Answered, FixedState, questions_of
 from .text import Operand, Program
-from .timeline import Timeline, common
+from .timeline import Poke, Timeline, common
 from .values import BITS, FLOATS, brief
 from .ways import why_not
 
@@ -119,12 +119,18 @@ def accesses(shell: Shell, rest: str, is_write: bool) -> None:
     run = whole_run(shell)
     found = sorted(shell.causes.accesses.touching(is_write, run, 0, address, count), key=lambda access: access.position)
     lines = {access.position: access_told(shell, access, run) for access in found[:MOST_SHOWN]}
-    if is_write:
-        lines.update({poke.position: f"#{poke.position} by hand: {poke.line}" for poke in run.pokes
-                      if poke.line.startswith("poke")})
+    by_hand = pokes_meeting(shell, run, address, count) if is_write else []
+    lines.update({poke.position: f"#{poke.position} by hand: {poke.line}" for poke in by_hand})
     shell.say(*(lines[position] for position in sorted(lines)))
     more = f" ({MOST_SHOWN} are shown)" if len(found) > MOST_SHOWN else ""
-    shell.say(f"{counted(len(found), 'write' if is_write else 'read')}{more} {told_bounds(shell, run)}")
+    hand = f" and {len(by_hand)} by hand" if by_hand else ""
+    shell.say(f"{counted(len(found), 'write' if is_write else 'read')}{hand}{more} {told_bounds(shell, run)}")
+
+
+def pokes_meeting(shell: Shell, run: Timeline, address: int, count: int) -> list[Poke]:
+    """The pokes of a run that wrote some of these bytes."""
+    spans = [(poke, shell.causes.accesses.poked(poke)) for poke in run.pokes]
+    return [poke for poke, span in spans if span.start < address + count and address < span.stop]
 
 
 def access_told(shell: Shell, access: Access, run: Timeline) -> str:

@@ -16,9 +16,9 @@ from .levels import own_hits
 from .lowered import Lowered
 from .origins import Origins
 from .scratch import Refused, Scratch
-from .text import ALLOCATIONS, BUILT_IN, LOADED, STORED, Instruction, Program
-from .timeline import Timeline
-from .values import BYTES, FLOATS, Names, as_float, is_stack, remarks, shown_bytes, signed
+from .text import ALLOCATIONS, BUILT_IN, FUNCTION_BYTES, LOADED, STORED, Instruction, Program
+from .timeline import Poke, Timeline
+from .values import FLOATS, Names, as_float, is_stack, remarks, shown_bytes, signed
 
 MOST_BYTES_ASKED = 48
 # How many stores of the same value are looked for before `why` is content with the last change.
@@ -28,6 +28,8 @@ COPYING = frozenset(("memcpy", "memmove", "strcpy", "strncpy", "stpcpy"))
 # The temporaries that qrev-lower makes of cells, and how many of them are shown.
 CELLS, MOST_CELLS = "%.cells.", 16
 WIDTHS = {1: "b", 2: "h", 4: "w", 8: "l"}
+# Below it lies nothing that has an address; and how far from an object an address may be that was made from it.
+SMALL, FAR = 1024, 1 << 16
 
 
 @dataclass(frozen=True)
@@ -465,19 +467,33 @@ class Causes:
             over = self.origins.over(address, at, name) if value == address else None
             if over:
                 return f"  {address} is {over.long}"
-        if self.program.data and not is_stack(address):
-            number = signed(address, "l")
-            data = min(self.program.data, key=lambda data: distance(number, data.address, data.size))
-            return f"  the nearest data is {data.name}, of {data.size} bytes: {data.name}{number - data.address:+}"
-        return f"  {address} is " + ("in the stack, above its top" if is_stack(address) else
-                                     "neither in the data nor in the stack")
+        return f"  {self.dead_place(address, at)}"
+
+    def dead_place(self, address: int, at: Timeline) -> str:
+        """Where an address without bytes lies, by what it may have been made from."""
+        number, low = signed(address, "l"), address & 0xffff_ffff
+        if is_stack(address):
+            return f"{address} is in the stack, above its top"
+        if abs(number) < SMALL:
+            return f"{number} is a small number: an address is missing, or was 0"
+        called = self.program.calls.get(address - address % FUNCTION_BYTES)
+        if called:
+            return f"{address} is in {called}, a function, which has no bytes"
+        data = min(self.program.data, key=lambda data: distance(number, data.address, data.size), default=None)
+        name = self.frames.name(low, "l", at) if low != address else None
+        if name and (not data or distance(number, data.address, data.size) > FAR):
+            return f"its low 32 bits are an address, {low} ({name})"
+        if data:
+            return f"the nearest data is {data.name}, of {data.size} bytes: {data.name}{number - data.address:+}"
+        return f"{address} is neither in the data nor in the stack"
 
     def stack_told(self, at: Timeline) -> list[str]:
         """Which allocs of the innermost frame took how much of the stack."""
         function = self.frames.where(at)[0].function
         sites = {(label, index): instruction for label, index, instruction in self.program.functions[function].places()
                  if instruction.operation in ALLOCATIONS}
-        counts = Counter(place for _, place in own_hits(self.program, self.scratch, at, function, list(sites)))
+        counts = Counter(place for position, place in own_hits(self.program, self.scratch, at, function, list(sites))
+                         if not at.poke_at(position))
         return [f"  this call of {function} has made by line {instruction.line}: {instruction.written()}: "
                 f"{counts[place]}"
                 for place, instruction in sites.items()]
@@ -567,16 +583,12 @@ class Causes:
 
     def poked(self, address: int, left: set[int], at: Timeline, low: int) -> list[tuple[int, set[int]]]:
         """The pokes behind a position that wrote some of the bytes, also those that left them as they were."""
-        found = []
-        for poke in at.pokes:
-            word, width, *words = poke.line.split()
-            if word != "poke" or poke.position < low:
-                continue
-            name, _, offset = words[0].partition("+")
-            begin = self.accesses.constant(name) + int(offset or 0) - address
-            span = left & set(range(max(begin, 0), begin + BYTES[width]))
-            found += [(poke.position, span)] * bool(span)
-        return found
+        spans = [(poke.position, self.poked_of(poke, address, left)) for poke in at.pokes if poke.position >= low]
+        return [(position, span) for position, span in spans if span]
+
+    def poked_of(self, poke: Poke, address: int, left: set[int]) -> set[int]:
+        """Which of the bytes a poke wrote."""
+        return {offset for offset in left if address + offset in self.accesses.poked(poke)}
 
     def covered(self, sites: list[Site], address: int, left: set[int], at: Timeline, low: int, found: Writers) -> bool:
         """Adds stores by these sites, the latest first, until all bytes have one; False where too many were looked
@@ -598,8 +610,9 @@ class Causes:
 
     def span(self, run: Timeline, position: int, address: int, left: set[int]) -> set[int]:
         """Which of the bytes the move of a run from a position on has changed."""
-        if run.poke_at(position):
-            return set(left)
+        poke = run.poke_at(position)
+        if poke:
+            return self.poked_of(poke, address, left)
         at = run.at(position)
         _, instruction = self.innermost(at)
         if instruction.operation in STORED or instruction.operation == "blit":

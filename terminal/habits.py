@@ -75,7 +75,7 @@ def later_blocks(shell: Shell, function: str, line: int) -> list[tuple[str, str,
 @command("disas disassemble", "disas [$f]", "place", is_repeated=False)
 def disas(shell: Shell, rest: str) -> None:
     """Shows the whole text of a function, by default that of the selected frame."""
-    program, frames = shell.session.program, shell.session.frames()
+    program, frames, rest = shell.session.program, shell.session.frames(), shell.function_named(rest)
     if rest and rest not in program.functions:
         raise Wrong(f"{rest}: a function was expected, of {', '.join(program.functions)}"[:240])
     if not rest and not frames:

@@ -4,6 +4,7 @@ from __future__ import annotations
 from typing import Sequence
 
 from .answers import meaning_of
+from .sourcemap import SourceMap
 
 OPTIONS = ("--entry", "--limit", "--memory", "--history")
 MOST = {"--limit": (1 << 32) - 1, "--history": 1_000_000}
@@ -39,8 +40,9 @@ def split_words(words: Sequence[str]) -> tuple[str, list[str], dict[str, int]]:
     return file, plain, bounds
 
 
-def refusal(loaded: str, file: str, source: bytes) -> str:
-    """What to say of a program that was refused: its line, with the code and what that means."""
+def refusal(loaded: str, file: str, source: bytes, lowered: Sequence[str] = ()) -> str:
+    """What to say of a program that was refused: its line, with the code and what that means. Of a text that was
+    lowered it is the place that the line is from, or the first of the texts."""
     words = loaded.split()
     if len(words) < 2 or words[0] != "refused:":
         return loaded
@@ -48,5 +50,11 @@ def refusal(loaded: str, file: str, source: bytes) -> str:
         lines = source.decode("utf-8", "replace").split("\n")
         number = int(words[3])
         text = lines[number - 1].strip() if number <= len(lines) else ""
-        return f"{file}:{number}: {words[1]}: {meaning_of(words[1], text)}\n    {text}"
-    return f"{file}: {words[1]}: {meaning_of(words[1], '')}"
+        place = SourceMap.beside(file).place(number) or f"{file}:{number}"
+        return f"{place}: {words[1]}: {meaning_of(words[1], text)}\n    {text}"
+    return f"{first_text(lowered) or file}: {words[1]}: {meaning_of(words[1], '')}"
+
+
+def first_text(lowered: Sequence[str]) -> str:
+    """The first of the texts that a program was lowered from, which may come behind the file that it reads."""
+    return next(iter(lowered[2:] if lowered[:1] == ["--input"] else lowered), "")

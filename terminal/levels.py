@@ -61,12 +61,17 @@ class Levels:
 def own_hits(program: Program, scratch: Scratch, at: Timeline, function: str,
              places: list[tuple[str, int]]) -> Iterator[tuple[int, tuple[str, int]]]:
     """The states before `at`, the latest first, in which its innermost frame stood at one of these places of its
-    function, as the innermost one; the last is that in which the frame began."""
+    function, as the innermost one; the last is that in which the frame began. Behind a poke a state stands at the place
+    of the one before, which comes next."""
     first = (program.functions[function].first, 0)
+    here = scratch.go(at).where()[0]
+    if (here.label, here.index) == first and not at.poke_at(at.position - 1):
+        # The frame begins here, and what stood at these places before is another call.
+        return
     wanted = [(function, *place) for place in dict.fromkeys([*places, first])]
     for position, place in judged(program, scratch.go(at), function, wanted):
         yield position, place[1:]
-        if place[1:] == first:
+        if place[1:] == first and not at.poke_at(position - 1):
             return
 
 

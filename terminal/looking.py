@@ -264,21 +264,40 @@ def out(shell: Shell, rest: str) -> None:
         begin += len(line)
 
 
-@command("info i", "info stops|locals|frame|display|checkpoints|functions|data|source|symbol ADDRESS|session",
-         "info")
+@command("info i",
+         "info stops|locals|args|stack|frame|display|checkpoints|functions|data|source|symbol ADDRESS|session", "info")
 def info(shell: Shell, rest: str) -> None:
-    """Shows the stops, the temporaries, the frame, what is displayed, the checkpoints, the functions, the data, the
-    sources, whose an address is, or how large the session is."""
-    word, _, more = rest.partition(" ")
-    known = {"stops": "stops", "breakpoints": "stops", "break": "stops", "b": "stops", "watchpoints": "stops",
-             "temps": "temps", "display": "display", "frame": "frame", "f": "frame", "out": "out"}
-    if word in known:
-        COMMANDS[known[word]].call(shell, "")
-    elif word in OTHERS:
-        shell.say(*OTHERS[word](shell, more))
+    """Shows the stops, the temporaries, the parameters, the frames, what is displayed, the checkpoints, the functions,
+    the data, the sources, whose an address is, or how large the session is."""
+    typed, _, more = rest.partition(" ")
+    word = info_word(typed)
+    if word in KNOWN:
+        COMMANDS[KNOWN[word]].call(shell, "")
     else:
-        expected = sorted({*known.values(), *OTHERS})
-        raise Wrong(f"{word or 'info'}: one of {', '.join(expected)} was expected")
+        shell.say(*OTHERS[word](shell, more))
+
+
+# What `info` shows as a command does; `info s` is the stack in gdb.
+KNOWN = {"stops": "stops", "breakpoints": "stops", "b": "stops", "watchpoints": "stops", "temps": "temps",
+         "registers": "temps", "display": "display", "frame": "frame", "f": "frame", "out": "out", "stack": "bt",
+         "s": "bt"}
+
+
+def info_word(typed: str) -> str:
+    """The word behind `info` that was typed, or the only one that begins so."""
+    words = [*KNOWN, *OTHERS]
+    if typed in words:
+        return typed
+    begun = [word for word in words if word.startswith(typed) and typed]
+    if len(begun) == 1:
+        return begun[0]
+    expected = begun or info_words()
+    raise Wrong(f"{typed or 'info'}: one of {', '.join(expected)} was expected")
+
+
+def info_words() -> list[str]:
+    """The words behind `info` that its help has."""
+    return [each.split(" ")[0] for each in COMMANDS["info"].usage.partition(" ")[2].split("|")]
 
 
 def functions_told(shell: Shell, _rest: str) -> list[str]:
@@ -313,8 +332,17 @@ def locals_told(shell: Shell, _rest: str) -> list[str]:
     return shown + ([f"{left} unset"] if left else []) or ["none"]
 
 
-OTHERS = {"functions": functions_told, "locals": locals_told, "data": data_told, "symbol": symbol_told,
-          "checkpoints": checkpoints_told, "session": session_told, "source": source_told}
+def args_told(shell: Shell, _rest: str) -> list[str]:
+    """The parameters of the selected frame, as they are now."""
+    values = selected_values(shell)
+    function = shell.session.program.functions[shell.session.frames()[shell.session.selected].function]
+    return [shell.shown(name, "") if values[name] is not None else f"{name} unset"
+            for _, name in function.parameters] or ["none"]
+
+
+OTHERS = {"functions": functions_told, "locals": locals_told, "args": args_told, "data": data_told,
+          "variables": data_told, "symbol": symbol_told, "checkpoints": checkpoints_told, "session": session_told,
+          "source": source_told}
 
 
 @command("save", "save FILE | save breakpoints FILE", "file", is_repeated=False)

@@ -10,14 +10,15 @@ import pathlib
 import re
 import subprocess
 import sys
+import time
 from typing import Sequence
 
 from .scratch import KEEPING, Launch
 from .timeline import Timeline
 
 CHECK = pathlib.Path(__file__).resolve().parent.parent / "check" / "main"
-# How many moves are looked at, some half a second's work, and how long the end of a run waits for it at most, in
-# seconds.
+# How many moves are looked at, some half a second's work, and how long a session waits for it at most, in seconds: at
+# the end of a run and at causes, all together.
 MOST = 50_000
 PATIENCE = 1.0
 # A suspicion: the position of the first move that is one at its place, and what is told of it.
@@ -34,6 +35,8 @@ class Lookout:
             stdin=subprocess.DEVNULL, stdout=subprocess.PIPE, stderr=subprocess.DEVNULL, text=True,
             start_new_session=True, env={**os.environ, "TMPDIR": folder})
         self.found: dict[int, list[str]] | None = None
+        # For how long it may still be waited for, in seconds.
+        self.patience = PATIENCE
 
     def suspicions(self, run: Timeline) -> dict[int, list[str]]:
         """What is told of moves of the session's run, by their positions; nothing if they aren't known, or not in
@@ -41,10 +44,13 @@ class Lookout:
         if run.pokes or run.position > MOST:
             return {}
         if self.found is None:
+            begun = time.monotonic()
             try:
-                written, _ = self.process.communicate(timeout=PATIENCE)
+                written, _ = self.process.communicate(timeout=self.patience)
             except subprocess.TimeoutExpired:
                 return {}
+            finally:
+                self.patience = max(0.0, self.patience - (time.monotonic() - begun))
             self.found = {}
             for position, text in SUSPICION.findall(written):
                 self.found.setdefault(int(position), []).append(text)

@@ -1,6 +1,7 @@
 """Commands that move the session."""
 from __future__ import annotations
 
+import re
 from typing import Callable
 
 from .expressions import Wrong
@@ -176,24 +177,44 @@ def restart(shell: Shell, rest: str) -> None:
     go(shell, shell.checkpoints[rest])
 
 
-@command("set", "set %x EXPRESSION | set listsize N | set height N | set pagination on|off | set style enabled on|off",
-         "expression", is_repeated=False)
+# How a piece of memory begins.
+MEMORY = re.compile(r"[bhwlsd]\[")
+
+
+@command("set", "set %x EXPRESSION | set w[ADDRESS] EXPRESSION | set listsize N | set height N | set pagination on|off "
+         "| set style enabled on|off", "expression", is_repeated=False)
 def set_(shell: Shell, rest: str) -> None:
-    """Sets a temporary of the innermost frame. That is a move, which `back` takes back. `set listsize N` has `list`
-    show N lines; a terminal has `height` lines, 0 for as many as there are; `pagination` stops at each full screen, and
-    `style enabled` has colours."""
+    """Sets a temporary of the innermost frame, or memory as `w[ADDRESS]`. That is a move, which `back` takes back. `set
+    listsize N` has `list` show N lines; a terminal has `height` lines, 0 for as many as there are; `pagination` stops
+    at each full screen, and `style enabled` has colours."""
     if rest.split()[:1] and rest.split()[0] in OPTIONS:
         OPTIONS[rest.split()[0]](shell, rest.partition(" ")[2].strip())
         return
     rest = rest.removeprefix("var ")
+    if MEMORY.match(rest):
+        poke(shell, as_poke(rest))
+        return
     name, _, value = rest.replace("=", " = ", 1).partition(" ") if "=" in rest.split(" ")[0] else rest.partition(" ")
     value = value.strip().removeprefix("=").strip() if not value.strip().startswith("==") else value
     if not name.startswith("%") or not value:
-        raise Wrong(f"{rest or 'set'}: set %TEMPORARY EXPRESSION was expected")
+        raise Wrong((f"{rest}: " if rest else "") +
+                    "set %TEMPORARY EXPRESSION, or set w[ADDRESS] EXPRESSION, was expected")
     if shell.session.selected:
         raise Refused("a temporary can be set in the innermost frame alone; `frame 0` selects it")
     _, width = shell.temporary(name)
     changed(shell, f"set {name} {signed_word(shell, value, width)}")
+
+
+def as_poke(rest: str) -> str:
+    """The words of a `poke` that writes a piece of memory: `w[$x + 4] = 5` as `w ($x + 4) 5`."""
+    depth = 0
+    for at, letter in enumerate(rest):
+        depth += (letter == "[") - (letter == "]")
+        if letter == "]" and not depth:
+            address = rest[2:at].strip()
+            address = f"({address})" if " " in address else address
+            return f"{rest[0]} {address} {rest[at + 1:].strip().removeprefix('=').strip()}"
+    raise Wrong(f"{rest}: ] was expected")
 
 
 def set_list_size(shell: Shell, text: str) -> None:

@@ -11,6 +11,7 @@ except ImportError:
     readline = None  # type: ignore[assignment]
 
 from .expressions import WORDS as EXPRESSION_WORDS
+from .looking import info_words
 from .shell import COMMANDS, Leave, Shell, Switched
 
 PROMPT = "(qrev) "
@@ -43,7 +44,7 @@ def candidates(shell: Shell, line: str, begun: str) -> Iterator[str]:
     elif kind == "checkpoint":
         yield from shell.checkpoints
     elif kind == "info":
-        yield from COMMANDS["info"].usage.split(" ")[1].split("|")
+        yield from info_words()
     elif kind == "file":
         folder, _, name = begun.rpartition("/")
         yield from (f"{folder}/{each}" if folder else each for each in os.listdir(folder or "."))

@@ -110,6 +110,8 @@ class Runs:
         self.session, self.frames, self.budget = session, frames, budget
         self.scratch, self.waiting = session.scratch, session.waiting
         self.stops: list[Stop] = []
+        # The position at which the last run ended.
+        self.ended = 0
         # Finds the suspicious move that a run would come to first, forward or back, if there is one.
         self.find_suspicious: Callable[[SuspicionStop, bool], Suspicious | None] = lambda _stop, _is_forward: None
 
@@ -120,7 +122,7 @@ class Runs:
             outcome = self.run_plainly("continue" if is_forward else "reverse")
         else:
             outcome = self.run_filtered(is_forward, target, suspicious)
-        stop = outcome.stop
+        stop, self.ended = outcome.stop, self.session.place.position
         if stop:
             stop.hits += 1
             if stop.is_once or outcome.reason.endswith(FRAME_OVER):
@@ -217,6 +219,9 @@ class Runs:
                 found = session.memory(stop.memory.address, stop.memory.count)
                 if None not in found or not stop.memory.is_on_stack:
                     stop.memory.value = found
+                elif session.place.position < self.ended:
+                    # The session was taken back to before what they were last.
+                    stop.memory.value = []
             elif stop.frame:
                 self.look_at_frame(stop.frame)
 

@@ -1,13 +1,13 @@
 """The prompt's lines: what each does, and what it says. The commands themselves stand in modules by their kinds."""
 from __future__ import annotations
 
-import difflib
 import shlex
 from dataclasses import dataclass
 from typing import Callable, Sequence
 
 from .answers import Place, live
 from .causes import Cause, Causes
+from .elsewhere import not_known
 from .expressions import Node, Unset, Value, Wrong, evaluate, parse, parts_of, whole
 from .frames import Frames
 from .lookout import Lookout
@@ -160,8 +160,8 @@ class Shell:
         word = text.split()[0]
         if word.isdigit():
             return min(max(int(word), 1), len(program.lines))
-        if word in program.functions:
-            return program.functions[word].line
+        if self.function_named(word) in program.functions:
+            return program.functions[self.function_named(word)].line
         blocks = program.functions[frames[self.session.selected].function].blocks if frames else {}
         if word in blocks:
             return blocks[word].line
@@ -169,6 +169,10 @@ class Shell:
         if not found:
             raise Wrong(f"{word}: a line, a function, data, or a label of this function was expected")
         return found[0]
+
+    def function_named(self, word: str) -> str:
+        """A word as the name of a function, which may be typed without its sigil, as in gdb."""
+        return f"${word}" if f"${word}" in self.session.program.functions else word
 
     def show(self, reason: str = "") -> None:
         """A stop: why, the place line, the text around it, and what is displayed."""
@@ -374,9 +378,7 @@ class Shell:
             return begun[shortest]
         if begun:
             raise Wrong(f"{word}: could be {', '.join(sorted(begun))}")
-        nearest = difflib.get_close_matches(word, COMMANDS, 1)
-        meant = f"; `{nearest[0]}` is one" if nearest else ""
-        raise Wrong(f"{word}: no such command{meant}; `help` lists them")
+        raise Wrong(not_known(word, COMMANDS))
 
 
 REFUSALS = {

@@ -1,6 +1,8 @@
 """Commands about stops: breakpoints, watches, and what is asked before one of them counts."""
 from __future__ import annotations
 
+import re
+
 from .expressions import Node, Wrong, temporaries_of
 from .moving import address_word
 from .scratch import Refused
@@ -12,6 +14,8 @@ from .values import BITS, FLOATS
 
 PIECES = (("l", 8), ("w", 4), ("h", 2), ("b", 1))
 MOST_RANGE = 512
+# How the name of an address on the stack begins.
+FRAME = re.compile(r"^frame \d+ ")
 
 
 def with_condition(shell: Shell, rest: str) -> tuple[str, Node | None, str]:
@@ -47,6 +51,7 @@ def place_of(shell: Shell, text: str) -> tuple[str, str, int]:
 
 def checked_place(shell: Shell, words: list[str]) -> tuple[str, str, int]:
     functions = shell.session.program.functions
+    words = [shell.function_named(words[0]), *words[1:]]
     if words[0] not in functions:
         raise Wrong(f"{words[0]}: a line, $f, @b or $f @b was expected, of {', '.join(functions)}"[:240])
     function = functions[words[0]]
@@ -144,7 +149,8 @@ def memory_watch(shell: Shell, width: str, text: str) -> Stop:
     address, count = shell.number(text), BITS.get(width, 0) // 8 or int(width)
     if not 1 <= count <= MOST_RANGE:
         raise Wrong(f"{width}: from 1 to {MOST_RANGE} bytes were expected")
-    name = shell.frames.name(address, "l", shell.session.timeline) or str(address)
+    # The number of a frame is that of one state, and the watch stays.
+    name = FRAME.sub("", shell.frames.name(address, "l", shell.session.timeline) or str(address))
     if width in BITS:
         lines = [f"watch {FLOATS.get(width, width)} {address_word(shell, text.strip())}"]
     else:
@@ -178,7 +184,8 @@ def stop_named(shell: Shell, text: str) -> Stop:
 @command("delete d", "delete [N ..]", is_repeated=False)
 def delete(shell: Shell, rest: str) -> None:
     """Takes stops away by their numbers; without one, all."""
-    for stop in [stop_named(shell, word) for word in rest.split()] or list(shell.runs.stops):
+    words = [] if rest == "breakpoints" else rest.split()
+    for stop in [stop_named(shell, word) for word in words] or list(shell.runs.stops):
         shell.runs.delete(stop)
         shell.say(f"deleted {stop.number}")
 

@@ -93,9 +93,10 @@ def suspects(shell: Shell, rest: str) -> None:
     follower, gathered, moves = followed(shell, at, most, kinds)
     found = follower.suspicions()
     shell.suspects = [at.at(each.position) for each in found]
+    source, runtime = shell.screen.map.place, shell.lowered.runtime | shell.lowered.outside
     for number, each in enumerate(found, 1):
-        first, second = each.lines(shell.screen.map.place(each.instruction.line))
-        shell.say(f"[{number}] {first}", f"    {second}")
+        first, *others = [*each.lines(source(each.instruction.line)), *each.call_lines(runtime, source)]
+        shell.say(f"[{number}] {first}", *(f"    {line}" for line in others))
     shell.say(summary(found, moves, gathered.end or "and the run goes on"))
 
 
@@ -103,6 +104,8 @@ def suspects(shell: Shell, rest: str) -> None:
 def made(shell: Shell, rest: str) -> None:
     """Says what a temporary of the selected frame is made of: numbers, an object's address, a part of one. And which of
     its bits nothing has set."""
+    if not rest:
+        raise Wrong("made %x was expected")
     shell.temporary(rest)
     session = shell.session
     if session.timeline.position > MOST:

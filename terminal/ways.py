@@ -2,10 +2,12 @@
 from __future__ import annotations
 
 from dataclasses import replace
+from itertools import islice
 from typing import Sequence
 
 from .causes import ASKED, Cause
 from .expressions import Wrong
+from .frames import steps_begun
 from .levels import MOST_STOPS, own_hits, stop_line
 from .scratch import Refused
 from .shell import Shell, command
@@ -15,13 +17,15 @@ from .timeline import Timeline
 # How many blocks a round of a loop has at most, for rounds to be told as one.
 MOST_BLOCKS_IN_ROUND = 32
 MOST_TOLD = 200
+# How many blocks of a call are looked for at most, from the last one back.
+MOST_BLOCKS = 4_000
 
 
 @command("path", "path [$f]", "place", is_repeated=False)
 def path(shell: Shell, rest: str) -> None:
     """Shows the blocks through which the call of the selected frame went up to here, with rounds of a loop as one line;
     of $f the innermost call of it, or the last one that is over."""
-    function, at = call_of(shell, rest.strip())
+    function, at = call_of(shell, shell.function_named(rest.strip()))
     blocks = blocks_of(shell, function, at)
     rounds = folded([label for _, label in blocks])
     shown: list[str] = []
@@ -32,7 +36,9 @@ def path(shell: Shell, rest: str) -> None:
     if len(shown) > MOST_TOLD:
         shown[:-MOST_TOLD] = [f"  .. {len(shown) - MOST_TOLD} lines before are left out"]
     told = f"{len(blocks)} blocks" if len(blocks) > 1 else "1 block"
-    shell.say(f"{function.name} went through {told}, from #{blocks[0][0]} to #{at.position}", *shown)
+    # No jump leads to the first block, so that a way which begins in another one is the last part of a longer one.
+    more = "" if blocks[0][1] == function.first else " and more, of which these are the last"
+    shell.say(f"{function.name} went through {told}{more}, from #{blocks[0][0]} to #{at.position}", *shown)
 
 
 def call_of(shell: Shell, name: str) -> tuple[Function, Timeline]:
@@ -62,20 +68,23 @@ def last_call(shell: Shell, name: str, at: Timeline) -> Timeline:
 
 
 def blocks_of(shell: Shell, function: Function, at: Timeline) -> list[tuple[int, str]]:
-    """The blocks through which a call went, each with the position at which it was entered, the first one first."""
+    """The blocks through which a call went, each with the position at which it was entered, the first one first; of a
+    long way the last ones."""
     labels = list(function.blocks)
     found: set[tuple[int, str]] = set()
     here = shell.frames.where(at)[0]
     if here.index == 0:
         found.add((at.position, here.label))
     # A run takes a bounded number of stops, of which some may be wanted to tell the calls of the function apart.
-    size = MOST_STOPS // 2
+    size, low = MOST_STOPS // 2, 0
     for first in range(0, len(labels), size):
         places = [(label, 0) for label in labels[first:first + size]]
-        found.update((position, place[0]) for position, place in
-                     own_hits(shell.session.program, shell.session.scratch, at, function.name, places))
+        hits = list(islice(own_hits(shell.session.program, shell.session.scratch, at, function.name, places),
+                           MOST_BLOCKS))
+        found.update((position, place[0]) for position, place in hits)
+        low = max(low, hits[-1][0]) if len(hits) == MOST_BLOCKS else low
     # Behind a poke, a state stands at the place of the one before.
-    return sorted(each for each in found if not at.poke_at(each[0] - 1))
+    return sorted(each for each in found if each[0] >= low and not at.poke_at(each[0] - 1))[-MOST_BLOCKS:]
 
 
 def folded(labels: Sequence[str]) -> list[tuple[list[str], int]]:
@@ -122,39 +131,45 @@ def why_not(shell: Shell, label: str) -> Cause:
     jumps = [(block.label, len(block.body) - 1) for block in function.blocks.values() if label in block.body[-1].labels]
     if not jumps:
         return Cause(at, [f"no jump of {function.name} leads to {label}"])
-    reached = dict(last_times(shell, function, at, [*jumps, (label, 0)]))
-    cause = Cause(at, [])
-    for place in jumps:
-        tell_jump(shell, cause, function, at.at(reached[place]) if place in reached else None, place, label)
-    here = f"control came to {label} at #{reached[label, 0]}, and since then it could have by" \
-        if (label, 0) in reached else \
+    reached = last_times(shell, function, at, [*jumps, (label, 0)])
+    here = shell.frames.where(at)[0]
+    last = at.position if (here.label, here.index) == (label, 0) else reached.get((label, 0))
+    came = steps_begun(at.at(last)) if last is not None else None
+    told = f"control came to {label} at #{came}; since then it could have by" if came is not None else \
         f"control didn't come to {label} in this call of {function.name}; it could have by"
-    cause.lines.insert(0, here)
+    cause, when = Cause(at, [told]), "in this call" if came is None else "since then"
+    for place in jumps:
+        is_told = reached.get(place, -1) >= (came or 0)
+        tell_jump(shell, cause, function, at.at(reached[place]) if is_told else None, place, when)
     return cause
 
 
 def last_times(shell: Shell, function: Function, at: Timeline,
                places: list[tuple[str, int]]) -> dict[tuple[str, int], int]:
-    """For each place of a call, the last position at which it stood there, if it did."""
+    """For each place of a call, the last position before this one at which it stood there, if it did."""
     found: dict[tuple[str, int], int] = {}
     for first in range(0, len(places), MOST_STOPS // 2):
-        some = places[first:first + MOST_STOPS // 2]
-        for position, place in own_hits(shell.session.program, shell.session.scratch, at, function.name, some):
-            if place in some:
-                found.setdefault(place, position)
-            if all(each in found for each in some):
+        left, there = places[first:first + MOST_STOPS // 2], at
+        while left:
+            # What is found isn't stopped at any more: a round of a loop may come to it often.
+            hits = own_hits(shell.session.program, shell.session.scratch, there, function.name, left)
+            hit = next((hit for hit in hits if hit[1] in left), None)
+            if not hit:
                 break
+            found[hit[1]], there = hit[0], at.at(hit[0])
+            left = [place for place in left if place != hit[1]]
     return found
 
 
 def tell_jump(shell: Shell, cause: Cause, function: Function, there: Timeline | None, place: tuple[str, int],
-              label: str) -> None:
-    """Adds a jump to what is told, with the value by which it went another way, which can be asked about."""
+              when: str) -> None:
+    """Adds a jump to what is told, with the value by which it went another way, which can be asked about; of one that
+    wasn't made, that it wasn't."""
     block, index = place
     jump = function.at(block, index)
     if there is None:
         cause.lines.append(
-            f"  line {jump.line}: {jump.written()}  of {block}, which control didn't come to in this call")
+            f"  line {jump.line}: {jump.written()}  of {block}, which control didn't come to {when}")
         return
     causes = shell.causes
     cause.lines.append(causes.line_told(there, *causes.innermost(there)))

@@ -137,6 +137,71 @@ def json_fault(program: str) -> str | None:
     return None
 
 
+def errors_fault(program: str) -> str | None:
+    """A fault and a refusal are errors in the form for machines, and in that of compilers, and the name of a file is a
+    reference to it (RFC 3986)."""
+    refused = FAULT.replace("hlt", "ret %x")
+    with tempfile.TemporaryDirectory(prefix="check-") as place:
+        for text, status, rule, said in ((FAULT, 4, "fault", "fault halted [#0 $main @start 0]"),
+                                         (refused, 1, "C6", "C6: a temporary that is nowhere defined")):
+            file = pathlib.Path(place) / "a b\u00e4.ssa"
+            file.write_text(text)
+            told = run(program, str(file), "--format", "json")
+            results = json.loads(told.stdout)["runs"][0]["results"]
+            at = {"artifactLocation": {"uri": f"{place}/a%20b%C3%A4.ssa"}, "region": {"startLine": 3}}
+            given = [(result["ruleId"], result["level"], result["locations"]) for result in results]
+            if told.returncode != status or given != [(rule, "error", [{"physicalLocation": at}])]:
+                return f"{text!r}: {told.returncode}, {given}"
+            shown = run(program, str(file), "--format", "gnu")
+            if shown.returncode != status or shown.stdout != f"{file}:3: error: {said}\n":
+                return f"{text!r}: {shown.returncode}, {shown.stdout!r}"
+    return None
+
+
+def halted_fault(program: str) -> str | None:
+    """A fault in the runtime of a lowered text is told at the call that led there, in the text that was lowered."""
+    text = "function $stop() {\n@start\n\tcall $abort()\n\tret\n}\nexport function w $main() {\n@start\n" \
+        "\tcall $stop()\n\tret 0\n}\n"
+    with tempfile.TemporaryDirectory(prefix="check-") as place:
+        folder = pathlib.Path(place)
+        (folder / "a.ssa").write_text(text)
+        subprocess.run([str(TOP / "lower" / "qrev-lower"), "--link", "--output", "out.ssa", "a.ssa"], cwd=folder,
+                       check=True)
+        told = [run(program, str(folder / "out.ssa"), *words.split()).stdout
+                for words in ("--format gnu", "--fast --format gnu")]
+    wanted = re.compile(r"a\.ssa:3: error: halted in \$abort \[#\d+ \$stop @start 0\]\n")
+    return None if all(map(wanted.fullmatch, told)) else f"{told}"
+
+
+def inside_fault(program: str) -> str | None:
+    """A suspicion in the runtime of a lowered text is told with the call that led there: here $strlen looks at a slot
+    that nothing has set."""
+    text = "export function w $main() {\n@start\n\t%slot =l alloc4 4\n\t%n =l call $strlen(l %slot)\n\tret 0\n}\n"
+    with tempfile.TemporaryDirectory(prefix="check-") as place:
+        folder = pathlib.Path(place)
+        (folder / "a.ssa").write_text(text)
+        subprocess.run([str(TOP / "lower" / "qrev-lower"), "--link", "--output", "out.ssa", "a.ssa"], cwd=folder,
+                       check=True)
+        lines = run(program, str(folder / "out.ssa")).stdout.splitlines()
+        shown = run(program, str(folder / "out.ssa"), "--format", "gnu").stdout
+    wanted = r"  called at \$main @start 1  line \d+: %n =l call \$strlen\(l %slot\)  \(a\.ssa:4\)"
+    well = re.fullmatch(wanted, lines[2]) and lines[1].startswith("  undef: jnz of ") and \
+        re.match(r"a\.ssa:4: warning: undef: jnz of .*, in \$strlen \[#\d+ \$main @start 1\]\n", shown)
+    return None if well else f"{lines} and {shown!r}"
+
+
+def unnamed_fault(program: str) -> str | None:
+    """A lowered text that is refused as a whole goes by the name of the text that it was lowered from."""
+    with tempfile.TemporaryDirectory(prefix="check-") as place:
+        file = pathlib.Path(place) / "out.ssa"
+        file.write_text(TAKES)
+        words = [str(TOP / "check" / "main"), "--debugger", program, "--lowered=two.ssa", "--", str(file)]
+        told = [subprocess.run([*words, *more.split()], capture_output=True, text=True).stdout
+                for more in ("", "--format gnu")]
+    said = "S2: the entry takes another number of arguments\n"
+    return None if told == [f"two.ssa: {said}", f"two.ssa: error: {said}"] else f"{told}"
+
+
 def lowered_fault(program: str) -> str | None:
     """Of a text that was lowered the place in the compiler's own text is told, and its runtime is not suspected."""
     text = ('data $small = align 4 { z 4 }\ndata $next = align 4 { z 4 }\ndata $f = { b "%d\\n", b 0 }\n'
@@ -193,8 +258,10 @@ def cases(program: str) -> Iterator[Case]:
         yield f"command {name}", partial(command_fault, program, *command)
     for name, *written in WRITTEN:
         yield f"command {name}", partial(written_fault, program, *written)
-    for name, call in (("help", help_fault), ("count", count_fault), ("json", json_fault), ("lowered", lowered_fault),
-                       ("wide", wide_fault), ("long name", long_name_fault)):
+    for name, call in (("help", help_fault), ("count", count_fault), ("json", json_fault),
+                       ("errors", errors_fault), ("halted", halted_fault), ("inside", inside_fault),
+                       ("unnamed", unnamed_fault),
+                       ("lowered", lowered_fault), ("wide", wide_fault), ("long name", long_name_fault)):
         yield f"command {name}", partial(call, program)
     for page in (TOP / "README.md", TOP / "docs" / "CHECKING.md"):
         yield from page_faults(program, page)

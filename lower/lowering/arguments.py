@@ -30,6 +30,13 @@ def table_of(words: list[str]) -> Unit:
     return unit
 
 
+def takes_texts(entry: Symbol) -> bool:
+    """Whether a function has the parameters of a `main` with `argc` and `argv`."""
+    function = entry.definition
+    return isinstance(function, Function) and [kind for kind, _ in function.parameters] == ["w", "l"] and \
+        not function.has_dots and not function.environment
+
+
 def give_arguments(entry: Symbol, words: list[str]) -> None:
     """Makes the entry set its parameters by itself."""
     function = entry.definition

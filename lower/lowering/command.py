@@ -7,7 +7,7 @@ import stat
 import sys
 from typing import NoReturn
 
-from .arguments import give_arguments, give_input
+from .arguments import give_arguments, give_input, takes_texts
 from .ends import has_ends, is_named, wrapped
 from .linking import Program
 from .meanings import meanings_of
@@ -40,6 +40,8 @@ def options() -> Parser:
     parser.add_argument("--output", "-o", metavar="FILE", help="write the text there, and the map beside it")
     parser.add_argument("--map", metavar="FILE", help="write the map there")
     parser.add_argument("--input", metavar="FILE", help="what the program reads")
+    parser.add_argument("--argv", metavar="NAME", help="the name of the program in argv, which an entry of argc and "
+                        "argv is given without --arguments, too")
     parser.add_argument("--arguments", metavar="WORD", nargs=argparse.REMAINDER,
                         help="all that follows are words for the argc and argv of the entry")
     parser.add_argument("files", metavar="FILE", nargs="+", help="a text of QBE")
@@ -69,19 +71,22 @@ class Lowering:
     """One run: the texts in, the text and its map out."""
 
     def __init__(self, texts: list[Text], entry: str, is_linked: bool, words: list[str] | None = None,
-                 input_bytes: bytes = b""):
-        """`words` are the arguments of the entry as texts, without the name of the program."""
+                 input_bytes: bytes = b"", name: str | None = None):
+        """`words` are the arguments of the entry as texts, without the name of the program. If that is given and they
+        aren't, an entry that takes texts has no other."""
         self.report, self.is_linked = Report(), is_linked
         self.program = Program(texts, self.report)
         give_input(self.program.runtime, input_bytes)
         self.entry = self.entry_symbol("$" + entry)
         if is_linked and self.entry is None:
             raise Refused(texts[0].path, 1, f"no text exports a function ${entry}")
+        if name is not None and words is None and self.entry is not None and takes_texts(self.entry):
+            words = []
         if self.entry is not None and (words is not None or has_ends(self.program)) \
                 and is_named(self.program, self.entry):
             self.entry = wrapped(self.program, self.entry)
         if words is not None and self.entry is not None:
-            give_arguments(self.entry, [pathlib.Path(texts[0].path).stem, *words])
+            give_arguments(self.entry, [name or pathlib.Path(texts[0].path).stem, *words])
         if is_linked and self.entry is not None:
             self.program.keep_from(self.entry)
         else:
@@ -165,11 +170,15 @@ def write_all(lowering: Lowering, output: str | None, map_path: str | None) -> N
 def main(words: list[str]) -> int:
     # A run is short, and its trees have no cycles worth collecting.
     gc.disable()
-    given = options().parse_args(words)
+    # All that follows are words for the entry, also those that would be options here.
+    at = words.index("--arguments") if "--arguments" in words else len(words)
+    given = options().parse_args(words[:at])
+    if at < len(words):
+        given.arguments = words[at + 1:]
     try:
         input_bytes = pathlib.Path(given.input).read_bytes() if given.input is not None else b""
         lowering = Lowering([read_text(path) for path in given.files], given.entry, given.link, given.arguments,
-                            input_bytes)
+                            input_bytes, given.argv)
         write_all(lowering, given.output, given.map)
     except Refused as refused:
         print(refused, file=sys.stderr)

@@ -2,6 +2,7 @@
 import os
 import pathlib
 import shutil
+import signal
 import subprocess
 import sys
 import tempfile
@@ -114,16 +115,22 @@ def wrapper_faults(running: Running) -> Results:
         run = wrapper.run("--lower", "b.ssa", "9", "--entry", "half")
         yield "command/--lower with an entry", differ("end", True, run.stdout.split("\n")[-3].endswith(" done 4"))
         (wrapper.top / "echo.ssa").write_text(ECHO)
-        run = wrapper.run("--lower", "echo.ssa", "--", "a", "1", "--b c", "")
-        yield "command/--lower with texts for main", differ("output", 'out 17 "echo|a|1|--b c||\\012"',
+        run = wrapper.run("--lower", "echo.ssa", "--", "a", "1", "--b c", "", "--", "-o")
+        yield "command/--lower with texts for main", differ("output", 'out 23 "echo|a|1|--b c||--|-o|\\012"',
                                                             run.stdout.split("\n")[-2])
         (wrapper.top / "again.ssa").write_text(AGAIN)
         run = wrapper.run("--lower", "again.ssa", "--", "a", "bc")
         yield "command/--lower with texts for a main that calls itself", differ(
             "output", 'out 11 "again a bc "', run.stdout.split("\n")[-2])
-        run = wrapper.run("--lower", "echo.ssa", "--")
-        yield "command/--lower without texts for main", \
-            differ("output", 'out 6 "echo|\\012"', run.stdout.split("\n")[-2])
+        # Native code that is started without words has its own name alone, too.
+        for end in ("--", ""):
+            run = wrapper.run("--lower", "echo.ssa", *end.split())
+            yield f"command/--lower without texts for main {end}", \
+                differ("output", 'out 6 "echo|\\012"', run.stdout.split("\n")[-2])
+        for words in (["echo.ssa", "--lower"], ["--lower", "echo.ssa", "--check"], ["--check", "--lower=x", "--page"]):
+            run = wrapper.run(*words)
+            told = f"qrev: {words[-1]} comes before the program and all other words: ./qrev {words[-1]} FILE\n"
+            yield f"command/{words}", differ("run", (64, "", told), (run.returncode, run.stdout, run.stderr))
         (wrapper.top / "read.ssa").write_text(READ)
         (wrapper.top / "given").write_bytes(b"Q\xff")
         for words in (["--input", "given", "read.ssa"], ["read.ssa", "--input=given", "--report"]):
@@ -174,7 +181,37 @@ def compared_faults(running: Running) -> Results:
             differ("told", (0, "same 3 events\n"), (told.returncode, told.stdout))
         told = run("good.ssa", "none.ssa")
         yield "command/compare --lower without a text", differ("told", (2, ""), (told.returncode, told.stdout))
+        told = run("good.ssa")
+        yield "command/compare --lower of one text", differ(
+            "told", (64, "", "qrev-compare: two texts were expected: ./qrev-compare --lower GOOD BAD\n"),
+            (told.returncode, told.stdout, told.stderr))
+        for file in ("echo.ssa", "other.ssa"):
+            (wrapper.top / file).write_text(ECHO)
+        for texts in ("", "-- a b"):
+            # Both write their name, which is one, though the files have two.
+            told = run("echo.ssa", "other.ssa", "--events", "output", *texts.split())
+            written = "".join(f"{word}|" for word in ["echo", *texts.split()[1:]]) + "\n"
+            yield f"command/compare --lower with texts for main {texts}", differ(
+                "told", (0, f"same {len(written)} events\n"), (told.returncode, told.stdout))
+        yield "command/compare --page --lower", page_fault(wrapper)
         yield "command/compare --lower leaves nothing", differ("files", [], list((wrapper.top / "tmp").iterdir()))
+
+
+def page_fault(wrapper: Wrapper) -> str | None:
+    """Both texts are shown by their own names, until the server is ended."""
+    (wrapper.top / "page").symlink_to(TOP / "page")
+    words = [str(wrapper.top / "qrev-compare"), "--page", "--lower", "good.ssa", "bad.ssa"]
+    environment = os.environ | {"TMPDIR": str(wrapper.top / "tmp")}
+    for name in ("DISPLAY", "WAYLAND_DISPLAY", "BROWSER", "WSL_DISTRO_NAME"):
+        environment.pop(name, None)
+    with subprocess.Popen(words, stdout=subprocess.PIPE, text=True, cwd=wrapper.top, env=environment,
+                          start_new_session=True) as server:
+        assert server.stdout
+        told = [server.stdout.readline() for _ in range(2)]
+        os.killpg(server.pid, signal.SIGTERM)
+        # The end comes when all of its processes are over.
+        server.stdout.read()
+    return differ("told", ["part at event 1\n", "good.ssa and bad.ssa is shown at\n"], told)
 
 
 def map_fault(running: Running) -> str | None:

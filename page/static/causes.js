@@ -7,6 +7,8 @@ const MOST_BYTES = 48, MOST_CELLS = 16;
 // What lowering has in place of the arguments behind dots.
 const CELLS = "%.cells.";
 const BEFORE = "before this window";
+// As at the terminal: below it nothing has an address, and how far from an object one may be that was made from it.
+const SMALL = 1024n, FAR = 65536n;
 
 export class Causes {
   constructor(run, memory) {
@@ -276,7 +278,7 @@ export class Causes {
     if (inOwn) return inOwn;
     const cause = this.executed(move, "comes of");
     const address = /^fault dead address (\d+)$/.exec(end)?.[1];
-    if (address) cause.note = this.deadNote(BigInt(address));
+    if (address) cause.note = this.deadNote(BigInt(address), move);
     else if (end === "fault stack full") cause.note = this.stackNote(move);
     return cause;
   }
@@ -286,15 +288,21 @@ export class Causes {
     return this.run.end === "fault halted" ? this.program.lowered?.halted[this.run.placeAt(move).func.name] : undefined;
   }
 
-  /** What lies near an address without bytes. */
-  deadNote(address) {
+  /** Where an address without bytes lies, by what it may have been made from. */
+  deadNote(address, move) {
     const {program} = this, number = BigInt.asIntN(64, address), isNear = number >= 0n && number <= 0xffffffffn;
     if (isNear && program.isStack(Number(number))) return `${address} is in the stack, above its top`;
-    if (!program.data.length) return `${address} is neither in the data nor in the stack`;
+    if (number > -SMALL && number < SMALL) return `${number} is a small number: an address is missing, or was 0`;
+    const called = isNear && program.calls.get(Number(address - address % 16n));
+    if (called) return `${address} is in ${called}, a function, which has no bytes`;
     const far = ({address: begin, size}) => [BigInt(begin) - number, number - BigInt(begin + size),
       0n].reduce((one, other) => one > other ? one : other);
-    const data = program.data.reduce((one, other) => far(other) < far(one) ? other : one),
-      offset = number - BigInt(data.address);
+    const data = program.data.length
+      ? program.data.reduce((one, other) => far(other) < far(one) ? other : one) : null;
+    const low = address & 0xffffffffn, name = low === address ? null : this.memory.nameOf(low, move);
+    if (name && (!data || far(data) > FAR)) return `its low 32 bits are an address, ${low} (${name})`;
+    if (!data) return `${address} is neither in the data nor in the stack`;
+    const offset = number - BigInt(data.address);
     return `the nearest data is ${data.name}, of ${data.size} bytes: ${data.name}${offset < 0n ? "" : "+"}${offset}`;
   }
 

@@ -22,12 +22,12 @@ function answered(run, causes, question) {
   const cause = causes.of(question);
   if (cause.questions.some(each => each.of === "writer")) {
     const parts = cause.questions.map(each => answered(run, causes, each));
-    return {moves: parts.flatMap(part => part.moves), next: parts.flatMap(part => part.next), changed: null};
+    return {moves: parts.flatMap(part => part.moves), next: parts.flatMap(part => part.next), changed: null, note: null};
   }
   const moves = [cause.move, cause.called].filter(move => move !== null && move !== undefined);
   return {moves: moves.map(move => move + run.base),
     next: cause.questions.map(each => keyOf(run, each)),
-    changed: cause.changed === undefined ? null : cause.changed + run.base};
+    changed: cause.changed === undefined ? null : cause.changed + run.base, note: cause.note ?? null};
 }
 
 function asked(causes, [of, position, ...rest]) {

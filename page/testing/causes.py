@@ -104,7 +104,15 @@ def told_of(cause: Cause) -> dict[str, Any]:
     split = next((n for n, line in enumerate(cause.lines) if line.startswith("  but memory")), len(cause.lines))
     moves = [int(match.group(1)) for match in map(TOLD_MOVE.match, cause.lines[:split]) if match]
     changed = [int(match.group(1)) for match in map(TOLD_MOVE.match, cause.lines[split:]) if match]
-    return {"moves": moves, "next": list(map(key_of, cause.questions)), "changed": changed[0] if changed else None}
+    return {"moves": moves, "next": list(map(key_of, cause.questions)), "changed": changed[0] if changed else None,
+            "note": note_of(cause)}
+
+
+def note_of(cause: Cause) -> str | None:
+    """Where a dead address lies, if that isn't told by a frame: the page numbers none, and tells none that is over."""
+    if not cause.lines[0].startswith("fault dead address ") or re.search(r"\bframe\b", cause.lines[2]):
+        return None
+    return cause.lines[2].strip()
 
 
 def key_of(question: Question) -> str:
@@ -120,7 +128,7 @@ def same(wanted: Any, given: Any) -> bool:
     if not isinstance(wanted, dict):
         return bool(wanted == given)
     return all(sorted(set(wanted[name])) == sorted(set(given[name])) for name in ("moves", "next")) \
-        and wanted["changed"] == given["changed"]
+        and wanted["changed"] == given["changed"] and wanted["note"] in (None, given["note"])
 
 
 def questions_of(program: Program, gathering: Gathering, chosen: random.Random, states: int,

@@ -16,6 +16,9 @@ import tempfile
 import time
 from typing import Callable
 
+from terminal.lookout import PATIENCE, Lookout
+from terminal.timeline import Timeline
+
 from .harness import PROMPT, TOP, Held, Silent, Terminal, last_place
 from .sessions import EXAMPLES, SQUARES
 
@@ -197,7 +200,7 @@ WRONG = [
     "b 14 if w[$none] > 1", "p $none", "p " + "(" * 2000, "p " + "1+" * 1500 + "1", "p " + "9" * 3000,
     "p " + "*".join(["99999999999999999999"] * 100), "when w[$none]", "condition 1 w[$none]",
     "why out", "d $fill", "c 0", "stops 1 2", "f -1", "/", "p/", "x/", "$", "%", "@", ";", "p $", "watch 0 $bias",
-    "watch w 5 6",
+    "watch w 5 6", "made", "info st", "rwatch w $bias",
 ]
 
 
@@ -412,6 +415,40 @@ def suspected(program: str) -> str | None:
     return None
 
 
+def gone_round(program: str) -> str | None:
+    """The way through a loop of many rounds is told from its end, and a block that isn't reached is found out at once.
+    @loop comes at #1 and then each second move, so that the 4,000th from #1000001 back is at #992003."""
+    with tempfile.TemporaryDirectory(prefix="round-") as folder:
+        text = ENDLESS.replace("jmp @loop\n}", "jnz 1, @loop, @end\n@end\n\tret 0\n}")
+        session = Held(program, written(folder, "endless.ssa", text))
+        try:
+            session.do("goto 1000001")
+            begun = processor_seconds(session)
+            told = "$main went through 4000 blocks and more, of which these are the last, from #992003 to #1000001"
+            fault = missing(session.do("path"), told, "  #992003  @loop  x 4000")
+            fault = fault or missing(session.do("why not @end"), "control didn't come to @end in this call of $main",
+                                     "#1000000 $main @loop 1  line 7: jnz 1, @loop, @end")
+            taken = processor_seconds(session) - begun
+            return fault or (f"it takes {taken:.1f} seconds" if taken > 3 else None)
+        finally:
+            session.close()
+
+
+def patient(_program: str) -> str | None:
+    """A check that takes long is waited for once, and not at each cause."""
+    lookout = object.__new__(Lookout)
+    lookout.process = subprocess.Popen([sys.executable, "-c", "import time; time.sleep(60)"], stdout=subprocess.PIPE,
+                                       text=True)
+    lookout.found, lookout.patience = None, PATIENCE
+    begun = time.monotonic()
+    try:
+        found = [lookout.suspicions(Timeline(1)) for _ in range(10)]
+    finally:
+        lookout.close()
+    taken = time.monotonic() - begun
+    return None if taken < 5 * PATIENCE and not any(found) else f"ten causes wait for {taken:.1f} seconds: {found}"
+
+
 def deep(program: str) -> str | None:
     """Far inside calls an address is named by its frame, callers are looked at, and no stop takes long for it."""
     with tempfile.TemporaryDirectory(prefix="deep-") as folder:
@@ -578,8 +615,8 @@ def stops_kept(program: str) -> str | None:
 
 HABITS = {call.__name__.replace("_", " "): call for call in (
     interrupted, interrupted_at_the_prompt, left, completed, bad_lines, refused, broken, narrow, without_readline,
-    wrapped, memory_told, bounded, fast, followed, suspected, deep, saved_and_compared, stops_kept, mapped, lowered,
-    bare)}
+    wrapped, memory_told, bounded, fast, followed, suspected, patient, gone_round, deep, saved_and_compared, stops_kept,
+    mapped, lowered, bare)}
 
 
 def tried(call: Callable[[str], str | None], program: str) -> str | None:

@@ -67,7 +67,10 @@ GDB: Lines = [
     ("disas", ["   6  function $fill", "> 18 ", "  23  }"]),
     ("up", ["frame 1 $main @start 1"]), ("disas", ["> 27 ", "  45  }"]), ("list", ["  22 ", "> 27 ", "  32 "]),
     ("set listsize 3", []), ("list 20", ["  19 ", "  20 ", "  21 "]), ("list", ["  22 ", "  24 "]),
-    ("info locals", ["10 unset"]), ("goto 88", ["#88 done 30"]), ("path $fill", ["  #47  @loop @end"]),
+    ("info locals", ["10 unset"]), ("i loc", ["10 unset"]), ("info args", ["none"]),
+    ("info s", ["> 1  $main @start 1"]),
+    ("rwatch w $bias", ["no such command; `readers WIDTH ADDRESS` lists"]), ("made", ["made %x was expected"]),
+    ("goto 88", ["#88 done 30"]), ("path $fill", ["  #47  @loop @end"]),
     ("stps", ["no such command; `stops` is one"]), ("goto suspect 1", ["no suspicion was listed yet"]),
     ("suspects", ["[1] #44 $fill @body 4  line 18: storew %square, %place",
                   "bounds: storew at the end of $squares (16 bytes), into $bias+0",
@@ -77,6 +80,14 @@ GDB: Lines = [
     ("made %i", ["%i is made of numbers"]), ("goto suspect 2", ["a number from 1 to 1 was expected"]),
     ("suspects strict 40", ["no suspicion in 40 moves, and the run goes on"]),
     ("suspects bonds", ["bonds: no kind of suspicion"]), ("goto 88", ["#88 done 30"]),
+    ("tb fill", ["$fill @start 0 (line 8), once"]), ("b main @end", ["$main @end 0"]),
+    ("set w[$squares + 4] = 77", ["#89 done 30"]), ("x/2wd $squares", ["0  77"]), ("set w[$bias] 5", ["#90 done 30"]),
+    ("p w[$bias]", ["= 5"]), ("set var b[$bias+1]=1", ["#91 "]), ("p w[$bias]", ["= 261"]),
+    ("set $bias 3", ["or set w[ADDRESS] EXPRESSION, was expected"]), ("set w[$bias 3", ["] was expected"]),
+    ("rs 3", ["#88 done 30"]), ("d breakpoints", ["deleted"]), ("stops", ["none"]),
+    # Five rounds of two blocks, with one before and two behind.
+    ("list fill", ["function $fill"]), ("path fill", ["$fill went through 13 blocks"]),
+    ("disas fill", ["   6  function $fill"]),
     ("source /nowhere/at-all", ["/nowhere/at-all: No such file"]),
 ]
 
@@ -164,9 +175,10 @@ STOPS: Lines = [
 # A stack variable of a loop: its bytes are dead between two calls, and are written with the same value.
 STACK: Lines = [
     ("b $number @digit", ["break 1"]), ("c", ["$number @digit 0"]), ("d", []),
-    ("watch b %buffer+3", ["watch 2: b frame 0 $number alloc %buffer+3"]), ("c", ["stop: watch 2", ": 0 -> 55"]),
+    ("watch b %buffer+3", ["watch 2: b $number alloc %buffer+3"]),
+    ("c", ["stop: watch 2, b $number alloc %buffer+3: 0 -> 55"]),
     ("c", ["stop: watch 2", ": 55 -> 0", "%buffer"]), ("c", [": 0 -> 50"]), ("rc", [": 0 -> 50", "storeb"]),
-    ("d", ["deleted 2"]),
+    ("run", ["stop: watch 2, b $number alloc %buffer+3: dead -> 0"]), ("d", ["deleted 2"]),
 ]
 
 ASKED: Lines = [
@@ -208,6 +220,30 @@ HAND: Lines = [
     ("back", ["#9 $fill @body 4"]), ("rn 4", ["#5 $fill @body 0"]), ("when %i < 0", ["holds from #3 on"]),
 ]
 
+# $show is called for each way to put the queens, and at its beginning it went through one block. A poke stays there.
+# The second way has its queens in the columns 2, 5, 1, 4, 0, 3.
+# $columns has 6 bytes: what is poked behind its first one is no write of that, and of its word only one byte.
+ENTERED: Lines = [
+    ("b $show", ["break 1"]), ("c", ["#6565 $show @start 0"]), ("path", ["$show went through 1 block, from #6565"]),
+    ("c", ["#16574 $show @start 0"]), ("path", ["$show went through 1 block, from #16574 to #16574"]),
+    ("why not @end", ["control didn't come to @end in this call of $show",
+                      "of @loop, which control didn't come to in this call"]),
+    ("poke b $columns 5", ["#16575 $show @start 0"]), ("poke b $columns+5 7", ["#16576 $show @start 0"]),
+    ("path", ["$show went through 1 block, from #16574 to #16576"]),
+    ("why not @loop", ["control didn't come to @loop in this call of $show"]),
+    ("step", ["#16577 $show @loop 0"]),
+    ("path", ["$show went through 2 blocks, from #16574 to #16577\n  #16574  @start @loop"]),
+    ("writers $columns", ["#16574 by hand: poke b $columns 5\n#", "writes and 1 by hand in the run"]),
+    ("writers 2 $columns+4", ["by hand: poke b $columns+5 7\n", "writes and 1 by hand in the run"]),
+    ("why w $columns", ["byte 0 of w $columns+0 =", "by hand: #16574 poke b $columns 5\nbyte 3 of", "[1] %column = 4"]),
+    ("step 2", ["#16579 $show @body 0"]),
+    ("why not @loop", ["control came to @loop at #16577; since then it could have by",
+                       "line 41: jmp @loop  of @start, which control didn't come to since then",
+                       "line 53: jmp @loop  of @body, which control didn't come to since then"]),
+    ("why not @end", ["control didn't come to @end", "#16578 $show @loop 1",
+                      "[1] %is.inside = 1  so it went to @body"]),
+]
+
 # A round takes 14 moves, and the first comes to its alloc at #8 (docs/STORIES.md has the last two).
 BUFFERS: Lines = [
     ("goto 3578", ["#3578 $main @body 0"]), ("info symbol 16777224", ["frame 0 $main alloc %buffer+0 of #8"]),
@@ -241,6 +277,18 @@ CAUSES: dict[pathlib.Path, Lines] = {
         ("why 1", ["#44 $fill @body 4", "storew %square, %place", "[2] %place = 65552 ($bias+0)"]),
         ("why 3", ["control came to @body by", "jnz %more, @body, @end", "[1] %more = 1"]),
         ("why 1", ["%more =w cslew %i, 4", "[1] %i = 4"]),
+    ],
+    # What lies near an address without bytes, by what it was made from; $main is the first function, and $x the data.
+    OWN / "dead.ssa": [
+        ("step", ["#1 "]), ("c", ["fault dead address 12"]), ("why", ["12 is a small number: an address is missing"]),
+        ("goto 1", []), ("set %k 1", []), ("c", ["fault dead address 4100"]),
+        ("why", ["4100 is in $main, a function, which has no bytes"]),
+        ("goto 1", []), ("set %k 2", []), ("c", ["fault dead address 4295032840"]),
+        ("why", ["its low 32 bits are an address, 65544 ($x+8)"]),
+        ("goto 1", []), ("set %k 3", []), ("c", ["fault dead address 18446744069431361536"]),
+        ("why", ["its low 32 bits are an address, 16777216 (frame 0 $main alloc %s+0)"]),
+        ("goto 1", []), ("set %k 4", []), ("c", ["fault dead address 18446744073709551608"]),
+        ("why", ["-8 is a small number: an address is missing"]),
     ],
     # The index of row 1, column 2 is made with 2 in the place of 3.
     EXAMPLES / "transpose.ssa": [

@@ -22,6 +22,7 @@ from terminal.text import ALLOCATIONS, DATA, JUMPS, LOADED, STORED, Instruction,
 from terminal.timeline import Timeline
 from terminal.values import is_stack
 from terminal.waiting import Waiting
+from terminal.ways import blocks_of
 
 from .soak import QuietShell
 
@@ -278,6 +279,36 @@ def spans_of(trace: Trace, function: str, name: str, value: int) -> list[tuple[i
             spans.append((begin, position))
             begin = None
     return spans + ([(begin, None)] if begin is not None else [])
+
+
+def way_faults(debugger: str, file: str, seed: int, questions: int) -> list[str]:
+    """Where `path` tells other blocks of a call than it went through, also where the call has just begun."""
+    shell, trace, chosen = begun(debugger, file, seed)
+    try:
+        found = []
+        begins = [position for position, state in enumerate(trace.states) if state.frames[0].index == 0]
+        for _ in range(questions):
+            position = chosen.choice(chosen.choice((begins, range(len(trace.states)))))
+            function = shell.session.program.functions[trace.states[position].frames[0].function]
+            told, wanted = blocks_of(shell, function, Timeline(position)), way_of(trace, position)
+            found.append(None if told == wanted else f"the way to #{position} is {told} and not {wanted}")
+        return [fault for fault in found if fault]
+    finally:
+        shell.session.close()
+
+
+def way_of(trace: Trace, position: int) -> list[tuple[int, str]]:
+    """The blocks that the innermost frame of a state went through, with the positions at which it came to them."""
+    stack: list[list[tuple[int, str]]] = []
+    for at, state in enumerate(trace.states[:position + 1]):
+        here, depth = state.frames[0], len(state.frames)
+        if depth > len(stack):
+            stack.append([])
+        del stack[depth:]
+        if here.index == 0:
+            # Only a jump, or a call, leads to the beginning of a block.
+            stack[-1].append((at, here.label))
+    return stack[-1]
 
 
 def begun(debugger: str, file: str, seed: int) -> tuple[Shell, Trace, random.Random]:
