@@ -11,7 +11,7 @@ import sys
 from dataclasses import dataclass, field
 from typing import Any
 
-from terminal.sourcemap import Line, SourceMap
+from terminal.sourcemap import ESCAPE, Line, SourceMap, unescaped
 
 from .questions import TOP
 
@@ -306,7 +306,7 @@ class Paths:
     def of_text(self, path: str) -> str:
         """That of a text: one of the program, or of the runtime."""
         if path not in self.known:
-            name = unescaped(path)
+            name = path_of(path)
             here = os.path.join(self.folder, name)
             is_runtime = name.startswith(RUNTIME) and not os.path.exists(here)
             self.known[path] = as_bytes(escaped(os.path.normpath(os.path.join(TOP, name) if is_runtime else here)))
@@ -316,7 +316,7 @@ class Paths:
         """That of a source, which is looked for where it leads and beside the text; nothing if it isn't there."""
         key = "\t" + path
         if key not in self.known:
-            name = unescaped(path)
+            name = path_of(path)
             found = (os.path.abspath(each) for each in (name, os.path.join(self.folder, name),
                                                         os.path.join(self.folder, os.path.basename(name)))
                      if os.path.isfile(each))
@@ -333,7 +333,6 @@ def escaped(path: str) -> str:
     return path.replace("\\", "\\\\").replace("\t", "\\t").replace("\n", "\\n")
 
 
-def unescaped(path: str) -> str:
+def path_of(field: str) -> str:
     """The path that a field of a map is, of characters that are bytes."""
-    text = os.fsdecode(path.encode("latin-1"))
-    return re.sub(r"\\([\\tn])", lambda found: {"t": "\t", "n": "\n"}.get(found[1], "\\"), text)
+    return ESCAPE.sub(unescaped, os.fsdecode(field.encode("latin-1")))

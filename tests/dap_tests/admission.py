@@ -8,7 +8,8 @@ from __future__ import annotations
 from collections.abc import Callable, Iterator
 from typing import Any
 
-from .consoles import Console, Wrong, fault_in
+from .consoles import Console, fault_in
+from .driver import Wrong
 from .sessions import Case
 
 # A request that succeeds before a launch.

@@ -14,7 +14,7 @@ from collections.abc import Callable, Iterator, Mapping
 from harness.running import EXAMPLES, TOP
 
 from . import wire
-from .driver import Adapter, at_once_fault, frame, play, request_message
+from .driver import Adapter, Wrong, at_once_fault, ended, frame, play, request_message
 from .sessions import FOLDER, Case, Message, is_changing
 
 RELAY = TOP / "editors" / "console" / "main"
@@ -44,10 +44,6 @@ SQUARES = [
     ("print %square", "%square = 3"),
     ("%square + 1", "4"),
 ]
-
-
-class Wrong(Exception):
-    """What came otherwise."""
 
 
 def words_of(program: str) -> list[str]:
@@ -188,18 +184,12 @@ CASES: dict[str, tuple[Callable[[Console], None], str]] = {
 }
 
 
-def ended(console: Console, does: Callable[[], None], is_left: bool = False) -> str | None:
-    """What is otherwise in what is done at a console, or at its end, which is asked for unless the editor left."""
-    try:
+def disconnected(console: Console, does: Callable[[], None]) -> str | None:
+    """What is otherwise in what is done at a console, or at its end, which is asked for."""
+    def whole() -> None:
         does()
-        if not is_left:
-            console.answer("disconnect")
-        status = console.end()
-        return None if status == 0 else f"status {status}"
-    except Wrong as wrong:
-        return str(wrong)
-    finally:
-        console.kill()
+        console.answer("disconnect")
+    return ended(console, whole)
 
 
 def fault_in(program: str, seconds: float, does: Callable[[Console], None], client: str = "test") -> str | None:
@@ -209,7 +199,7 @@ def fault_in(program: str, seconds: float, does: Callable[[Console], None], clie
         shutil.copy(FOLDER / "forever.ssa", folder)
         shutil.copy(EXAMPLES / "squares.ssa", folder)
         console = Console(program, seconds, folder, client)
-        return ended(console, lambda: does(console))
+        return disconnected(console, lambda: does(console))
 
 
 def script_for(program: str, folder: pathlib.Path) -> str:

@@ -7,7 +7,7 @@ import pathlib
 import queue
 import subprocess
 import threading
-from collections.abc import Mapping, Sequence
+from collections.abc import Callable, Mapping, Sequence
 from typing import IO, Any, NamedTuple, Optional, Union
 
 from harness.running import TOP
@@ -79,6 +79,15 @@ def form_fault(message: Any, number: int) -> Optional[str]:
         if message["success"] is not False or not is_text or "body" in message:
             return f"a failure with no message or with a body: {message}"
     return None
+
+
+class Wrong(Exception):
+    """What came otherwise in a case."""
+
+
+def expect(holds: bool, otherwise: object) -> None:
+    if not holds:
+        raise Wrong(str(otherwise))
 
 
 class Adapter:
@@ -159,6 +168,18 @@ class Adapter:
         if self.process.poll() is None:
             self.process.kill()
             self.process.wait()
+
+
+def ended(adapter: Adapter, does: Callable[[], object]) -> Optional[str]:
+    """What is otherwise in what is done with an adapter, or in how that ends behind it."""
+    try:
+        does()
+        status = adapter.end()
+        return None if status == 0 else f"status {status}"
+    except Wrong as wrong:
+        return str(wrong)
+    finally:
+        adapter.kill()
 
 
 class Record(NamedTuple):

@@ -19,10 +19,10 @@ from collections.abc import Callable, Iterator
 from harness.running import EXAMPLES, TOP, Skipped
 
 from . import schema
-from .consoles import BUILT, GONE, RELAY, Console, Wrong, ended, words_of
-from .driver import Adapter, frame, messages_in, request_message
+from .consoles import BUILT, GONE, RELAY, Console, disconnected, words_of
+from .driver import Adapter, Wrong, ended, expect, frame, messages_in, request_message
 from .sessions import FOLDER, Case, Fault, Message
-from .suspicious import ENDLESS, expect
+from .suspicious import ENDLESS
 
 DATA, RUNTIME = TOP / "lower" / "test-data", TOP / "lower" / "runtime"
 # (1.5 + 2) / 2 * 4 is 7. Lines are counted from that of $main, which is 1.
@@ -699,7 +699,8 @@ def fault_of(program: str, seconds: float, name: str) -> Fault:
         found: list[Fault] = []
         if name in KILLED:
             return killed_fault(at, CASES[name])
-        fault = ended(console, lambda: found.append(CASES[name](at)), name in ENDED)
+        end = ended if name in ENDED else disconnected
+        fault = end(console, lambda: found.append(CASES[name](at)))
         return fault or (f"{at.left} is left" if at.left else found[0])
 
 

@@ -9,7 +9,7 @@ import tempfile
 import time
 from collections.abc import Callable, Iterator
 
-from .driver import Adapter, frame, request_message
+from .driver import Adapter, Wrong, ended, expect, frame, request_message
 from .sessions import FOLDER, Message
 
 LIMIT = 1_000_000
@@ -52,15 +52,6 @@ class Copied(Adapter):
         """Whether no message comes for so long."""
         time.sleep(seconds)
         return self.came.empty()
-
-
-class Wrong(Exception):
-    """What came otherwise."""
-
-
-def expect(holds: bool, what: str) -> None:
-    if not holds:
-        raise Wrong(what)
 
 
 def begin(adapter: Copied, arguments: Message | None = None, client: Message | None = None) -> None:
@@ -295,14 +286,7 @@ def fault_of(program: str, seconds: float, name: str) -> str | None:
         folder = pathlib.Path(place).resolve()
         shutil.copy(FOLDER / "forever.ssa", folder)
         adapter = Copied(program, seconds, folder)
-        try:
-            CASES[name](adapter, folder)
-            status = adapter.end()
-            return None if status == 0 else f"status {status}"
-        except Wrong as wrong:
-            return str(wrong)
-        finally:
-            adapter.kill()
+        return ended(adapter, lambda: CASES[name](adapter, folder))
 
 
 def at_once(program: str, seconds: float) -> str | None:

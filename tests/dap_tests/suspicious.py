@@ -12,7 +12,8 @@ from collections.abc import Callable, Iterable, Iterator
 
 from harness.running import EXAMPLES, TOP
 
-from .consoles import BUILT, GONE, Console, Wrong, ended
+from .consoles import BUILT, GONE, Console, disconnected
+from .driver import ended, expect
 from .sessions import FOLDER, Message
 
 TEXTS = TOP / "check" / "testing" / "texts"
@@ -37,11 +38,6 @@ def checked(program: str, folder: pathlib.Path, text: str, kinds: str = "default
     words = [str(TOP / "qrev"), *(["--built"] if BUILT in program else []), "--check", *text.split(), "--kinds", kinds]
     lines = subprocess.run(words, cwd=folder, capture_output=True, text=True, check=False).stdout.splitlines()
     return list(zip(lines[:-1:2], lines[1:-1:2]))
-
-
-def expect(is_so: bool, otherwise: object) -> None:
-    if not is_so:
-        raise Wrong(str(otherwise))
 
 
 class Stopping:
@@ -454,7 +450,8 @@ def fault_of(program: str, seconds: float, name: str) -> str | None:
         (folder / "endless.ssa").write_text(ENDLESS)
         (folder / "far.ssa").write_text(FAR)
         console = Console(str(RUNNING) if name == "a long run" else program, seconds, folder)
-        return ended(console, lambda: CASES[name](Stopping(console, program, folder)), name in ENDED)
+        end = ended if name in ENDED else disconnected
+        return end(console, lambda: CASES[name](Stopping(console, program, folder)))
 
 
 def cases() -> Iterator[tuple[str, Callable[..., str | None], tuple[str, ...]]]:
