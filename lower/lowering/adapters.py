@@ -4,9 +4,10 @@ Native code passes arguments in registers, so that a function may be called with
 longer values than it takes. Here a call must have the shape of the function: so an adapter compares the address with
 those of the functions that have another shape, and calls these by their names.
 """
+from terminal.reading.tree import Aggregate, Block, Call, Function, Instruction, Jump, Text
+
 from .linking import Program
 from .symbols import Signature, Symbol, Unit
-from .tree import Aggregate, Block, Call, Function, Instruction, Jump, Text
 
 # The shape of a call: what it gives and takes, whether it has dots, and the size and the alignment of its aggregates.
 Shape = tuple[Signature, bool, tuple[tuple[int, int], ...]]

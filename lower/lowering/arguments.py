@@ -6,10 +6,11 @@ count, and the address of a table of texts, of which the first is the program's 
 """
 import os
 
-from .refusals import Refused
+from terminal.reading.refusals import Refused
+from terminal.reading.tree import Data, Function, Instruction, Item, Text, Value
+
 from .runtime import Runtime
 from .symbols import Signature, Symbol, Unit
-from .tree import Data, Function, Instruction, Item, Text, Value
 
 TABLE = "$arguments"
 # The runtime's function that gives the input, and its data.

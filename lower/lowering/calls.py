@@ -1,11 +1,12 @@
 """Writes calls: arguments in the shape that the called function has, results that are aggregates in memory of the
 caller, and what stands behind dots in cells of 8 bytes."""
+from terminal.reading.instructions import CARRIED, class_of
+from terminal.reading.tree import Call, Instruction, Place, Value
+
 from .adapters import Adapters
-from .instructions import CARRIED, class_of
 from .linking import Program
 from .report import Report, Weight
 from .symbols import Signature, Symbol, carried_class
-from .tree import Call, Instruction, Place, Value
 
 LOW = (1 << 32) - 1
 

@@ -1,9 +1,10 @@
 """What QBE refuses of a function that was read: labels, classes and phis."""
 from typing import NoReturn
 
-from .instructions import WITH_RESULT, WITHOUT_RESULT, class_of
-from .refusals import Refused
-from .tree import Block, Call, Function, Instruction, Phi, Value
+from terminal.reading.instructions import WITH_RESULT, WITHOUT_RESULT, class_of
+from terminal.reading.refusals import Refused
+from terminal.reading.tree import Block, Call, Function, Instruction, Phi, Value
+
 from .values import check_values
 
 

@@ -7,18 +7,19 @@ import stat
 import sys
 from typing import NoReturn
 
+from terminal.reading.refusals import Refused
+from terminal.reading.tree import Text
+
 from .arguments import give_arguments, give_input, takes_texts
 from .ends import has_ends, is_named, wrapped
 from .linking import Program
 from .meanings import meanings_of
 from .reader import TextReader
-from .refusals import Refused
 from .report import Report
 from .runtime import ENCODING
 from .sizes import LARGE, told_bytes
 from .squeezing import squeeze_names, squeeze_spaces
 from .symbols import Symbol
-from .tree import Text
 from .unreached import cut_unreached
 from .writing import MOST_BYTES, ProgramWriter, map_of, size_of_text, text_of
 

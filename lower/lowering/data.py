@@ -2,7 +2,7 @@
 import re
 from collections.abc import Callable
 
-from .tree import Data, Item
+from terminal.reading.tree import Data, Item
 
 SIZES = {"b": 1, "h": 2, "w": 4, "l": 8}
 ESCAPES = {"\n": "\\n", "\t": "\\t", "\r": "\\r", "\\": "\\\\", '"': '\\"'}

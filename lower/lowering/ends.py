@@ -4,8 +4,9 @@ from __future__ import annotations
 
 from typing import TYPE_CHECKING, NamedTuple
 
+from terminal.reading.tree import Block, Call, Data, Function, Item, Jump, Text, Value
+
 from .symbols import Symbol, Unit, carried_class, references
-from .tree import Block, Call, Data, Function, Item, Jump, Text, Value
 
 if TYPE_CHECKING:
     from .linking import Program

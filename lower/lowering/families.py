@@ -10,10 +10,11 @@ from __future__ import annotations
 from collections.abc import Callable, Iterator
 from typing import TYPE_CHECKING, NamedTuple
 
-from .instructions import STORES
+from terminal.reading.instructions import STORES
+from terminal.reading.tree import Call, Data, Function, Instruction, Value
+
 from .runtime import is_offered
 from .symbols import Symbol, references
-from .tree import Call, Data, Function, Instruction, Value
 
 if TYPE_CHECKING:
     from .linking import Program

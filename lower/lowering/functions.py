@@ -2,14 +2,16 @@
 
 What a line needs in front of all others, such as memory for a result, stands at the beginning of the first block.
 """
+from terminal.reading.instructions import (
+    CARRIED, FLOAT_COMPARISONS, FLOATS, INTEGERS, LOADS_BY_CLASS, SUBWORDS, WITH_RESULT)
+from terminal.reading.tree import Block, Instruction, Jump, Phi
+
 from .adapters import Adapters
 from .calls import CallWriter
 from .ends import Ends
-from .instructions import CARRIED, FLOAT_COMPARISONS, FLOATS, INTEGERS, LOADS_BY_CLASS, SUBWORDS, WITH_RESULT
 from .linking import Program
 from .report import Report
 from .symbols import CELLS, Symbol
-from .tree import Block, Instruction, Jump, Phi
 
 SIGN_BITS = {"s": 1 << 31, "d": 1 << 63}
 LOADS = {"w": "loadsw", "l": "loadl", "s": "loaduw", "d": "loadl"}

@@ -5,15 +5,16 @@ what the runtime has, else built in, else a function from outside, which halts.
 """
 from collections.abc import Iterable
 
+from terminal.reading.refusals import Refused
+from terminal.reading.tree import Block, Call, Data, Definition, Function, Text, Value
+
 from .calls_of_system import ANSWERED, CALLERS, told
 from .ends import EXIT, FINALIZED, Ends, uses_finalizers
 from .families import HEAP_NAMES, Families, calls_of, constant, stored_data
 from .names import Names
-from .refusals import Refused
 from .report import Report, Weight
 from .runtime import Runtime
 from .symbols import BUILT_IN, Symbol, Unit, references, signature_at, signature_of
-from .tree import Block, Call, Data, Definition, Function, Text, Value
 
 # What the mathematical library of C has beyond what is exact.
 INEXACT = frozenset(f"${name}{end}" for end in ("", "f") for name in (

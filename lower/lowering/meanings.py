@@ -15,11 +15,12 @@ Each line is a kind and words, with tabulators between:
 from collections.abc import Iterator
 from typing import TYPE_CHECKING
 
+from terminal.reading.instructions import FLOATS, WITH_RESULT
+from terminal.reading.tree import Data, Function, Instruction
+
 from .data import size_of
 from .functions import FLOAT_CALLS
-from .instructions import FLOATS, WITH_RESULT
 from .symbols import Symbol
-from .tree import Data, Function, Instruction
 
 if TYPE_CHECKING:
     from .writing import Chunk

@@ -1,7 +1,9 @@
 """Lawful names for those of QBE: one for each, and the same where that can be."""
 import re
 
-LAWFUL = re.compile(r"\$[A-Za-z0-9._$]+")
+from terminal.reading.accepted import NAME
+
+LAWFUL = re.compile(rf"\${NAME}")
 OTHER = re.compile(r"[^A-Za-z0-9._$]")
 
 

@@ -5,12 +5,14 @@ import pathlib
 import re
 from typing import NamedTuple
 
+from terminal.reading.accepted import NAME
+from terminal.reading.tree import Function
+
 from .reader import TextReader
 from .runtime import ENCODING, FOLDER
-from .tree import Function
 
 # A place: `$f @b K`, as place lines have it behind their position, and lines of `where` and of stops.
-PLACE = re.compile(r"(\$[A-Za-z0-9._$]+) (@[A-Za-z0-9._$]+) ([0-9]+)$")
+PLACE = re.compile(rf"(\${NAME}) (@{NAME}) ([0-9]+)$")
 UNESCAPED = {"\\\\": "\\", "\\t": "\t", "\\n": "\n"}
 
 

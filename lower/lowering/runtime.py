@@ -5,12 +5,14 @@ A function whose last parameter is `%cells` takes arguments behind dots: the add
 import pathlib
 import re
 
+from terminal.reading.accepted import NAME
+from terminal.reading.tree import Function
+
 from .reader import TextReader
 from .symbols import Signature, Symbol, Unit, signature_of
-from .tree import Function
 
 FOLDER = pathlib.Path(__file__).resolve().parent.parent / "runtime"
-EXPORTED = re.compile(r"^export (?:function (?:[a-z]+ )?|data )(\$[A-Za-z0-9._$]+)", re.MULTILINE)
+EXPORTED = re.compile(rf"^export (?:function (?:[a-z]+ )?|data )(\${NAME})", re.MULTILINE)
 ENCODING = "latin-1"
 # What functions take and give that are about floats: in the runtime these are their bits. Each name has a sister for
 # singles, which ends in `f`.

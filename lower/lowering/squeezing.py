@@ -7,11 +7,12 @@ from itertools import count, product
 from string import ascii_letters, digits
 from typing import TYPE_CHECKING
 
+from terminal.reading.accepted import LOCAL
+
 if TYPE_CHECKING:
     from .writing import Chunk
 
 SPACED = re.compile(r" ?([,=(){}+]) ?")
-LOCAL = re.compile(r"[%@][A-Za-z0-9._$]+")
 DATA = "data "
 
 

@@ -2,8 +2,8 @@
 from dataclasses import dataclass, field
 from typing import NamedTuple
 
-from .instructions import CARRIED, class_of
-from .tree import Call, Data, Definition, Function, Text
+from terminal.reading.instructions import CARRIED, class_of
+from terminal.reading.tree import Call, Data, Definition, Function, Text
 
 # The last parameter of a function of the runtime that takes arguments behind dots: the address of their cells.
 CELLS = "%cells"

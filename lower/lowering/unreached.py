@@ -8,15 +8,17 @@ import re
 from dataclasses import dataclass, field
 from typing import TYPE_CHECKING
 
+from terminal.reading.accepted import NAME
+from terminal.reading.tokens import STRING as QUOTED
+
 if TYPE_CHECKING:
     from .writing import Chunk
 
-NAME = r"[A-Za-z0-9._$]+"
 DATA = re.compile(r"(?:export\s+)?(?:section\s.*\s)?data\s")
 HEAD = re.compile(rf"(?:export\s+)?function\s*([a-z]*)\s*(\${NAME})\s*\(([^)]*)\)\s*\{{")
 CALL = re.compile(rf"(?:=\s*([wl])\s*)?\bcall\s*([$%]{NAME})\s*\(([^)]*)\)")
 GLOBAL = re.compile(rf"\${NAME}")
-STRING = re.compile(r'"(?:[^"\\]|\\.)*"')
+STRING = re.compile(QUOTED)
 CUT = ("@not.reached", "hlt", "}")
 
 # The classes of the arguments, and of the result that is named, or that the function gives.

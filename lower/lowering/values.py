@@ -7,9 +7,9 @@ defines, and not the values of phis. What it didn't rename has to have one defin
 """
 from typing import NamedTuple, NoReturn
 
-from .instructions import ALLOCS, LOADS_BY_CLASS, STORES
-from .refusals import Refused
-from .tree import Block, Call, Function, Instruction, Phi, Value
+from terminal.reading.instructions import ALLOCS, LOADS_BY_CLASS, STORES
+from terminal.reading.refusals import Refused
+from terminal.reading.tree import Block, Call, Function, Instruction, Phi, Value
 
 LOAD_SIZES = {"loadsb": 1, "loadub": 1, "loadsh": 2, "loaduh": 2, "loadw": 4, "loadsw": 4, "loaduw": 4}
 STORE_SIZES = {"storeb": 1, "storeh": 2, "storew": 4, "storel": 8, "stores": 4, "stored": 8}

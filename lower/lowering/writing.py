@@ -2,6 +2,8 @@
 import os
 from dataclasses import dataclass
 
+from terminal.reading.tree import Data, Item, Place
+
 from .adapters import Adapters
 from .data import DEFAULT_ALIGNMENT, size_of_data, written_data
 from .ends import SECTIONS, array_names
@@ -10,7 +12,6 @@ from .linking import Program
 from .report import Report
 from .runtime import ENCODING
 from .symbols import Signature, Symbol, carried_class
-from .tree import Data, Item, Place
 
 MOST_BYTES = MOST_DATA = 1 << 20
 MOST_FUNCTIONS = 1000

@@ -8,10 +8,10 @@ import tempfile
 from collections.abc import Iterator
 from typing import NamedTuple
 
-from lowering.instructions import class_of
 from lowering.reader import TextReader
-from lowering.tree import Block, Call, Data, Function, Instruction, Jump, Text, Value
 from lowering.values import reachable
+from terminal.reading.instructions import class_of
+from terminal.reading.tree import Block, Call, Data, Function, Instruction, Jump, Text, Value
 
 TYPES = {"w": "unsigned int", "l": "unsigned long", "s": "float", "d": "double"}
 SIGNED = {"w": "int", "l": "long", "s": "float", "d": "double"}

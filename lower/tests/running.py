@@ -9,7 +9,7 @@ from typing import NamedTuple
 
 from lowering.command import Lowering
 from lowering.reader import TextReader
-from lowering.refusals import Refused
+from terminal.reading.refusals import Refused
 
 FOLDER = pathlib.Path(__file__).resolve().parent.parent
 TOP = FOLDER.parent

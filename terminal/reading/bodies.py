@@ -16,10 +16,12 @@ SHOWN = {"%": "a temporary", "$": "a global", "@": "a label", ":": "a type", "ne
 class BodyReader:
     """A place among the tokens of a text, and what was read of its types and its debug lines so far."""
 
-    def __init__(self, tokens: Tokens, path: str):
-        self.kinds, self.values, self.lines, self.cut_numbers = tokens
-        # The same values, of names, words and strings, and of numbers: the kind of a token tells which it is.
-        self.words, self.numbers = cast(list[str], self.values), cast(list[int], self.values)
+    def __init__(self, tokens: Tokens, path: str, are_written: bool = False):
+        """Constants have their values in the tree, or are as they are written."""
+        self.kinds, values, written, self.lines, self.cut_numbers = tokens
+        self.values = cast(list[str | int], written) if are_written else values
+        # The same of names, words and strings, and of numbers: the kind of a token tells which it is.
+        self.words, self.numbers = cast(list[str], self.values), cast(list[int], values)
         self.path = path
         self.at = 0
         self.aggregates: dict[str, Aggregate] = {}
@@ -271,9 +273,13 @@ class BodyReader:
             self.refuse("`vastart` in a function without dots", line)
         count = 3 if word == "blit" else len(WITHOUT_RESULT[word])
         operands = self.read_operands(word, count)
-        if word == "blit" and (not isinstance(operands[2], int) or not 0 <= operands[2] < 1 << 28):
-            self.refuse("the size of a blit is a constant that isn't negative", line)
+        if word == "blit":
+            self.check_blit(operands[2], line)
         block.instructions.append(Instruction(line, self.place, None, "w", word, operands))
+
+    def check_blit(self, size: Value, line: int) -> None:
+        if not isinstance(size, int) or not 0 <= size < 1 << 28:
+            self.refuse("the size of a blit is a constant that isn't negative", line)
 
     def read_call(self, result: str | None, kind: str | None, line: int) -> Call:
         self.at += 1

@@ -4,23 +4,42 @@ A token is a kind, a value and a line. The kinds are `%`, `@`, `$`, `:` (a name,
 `number` (the value is an integer of 64 bits, signed), `float` (the bits of a constant), `string` (its bytes, as
 characters up to 255), `newline`, `end`, and each symbol as itself. A run of newlines and comments is one token.
 """
+import functools
 import itertools
 import re
 from typing import NamedTuple
 
-from .constants import constant_bits
 from .instructions import KEYWORDS
 from .refusals import Refused
 
-NAME = r"[A-Za-z._][A-Za-z0-9._$]*"
 FLOAT = (r"[sd]_[+-]?(?:0[xX](?:[0-9a-fA-F]+\.?[0-9a-fA-F]*|\.[0-9a-fA-F]+)(?:[pP][+-]?[0-9]+)?"
          r"|(?:[0-9]+\.?[0-9]*|\.[0-9]+)(?:[eE][+-]?[0-9]+)?|[iI][nN][fF](?:[iI][nN][iI][tT][yY])?|[nN][aA][nN])")
 STRING = r'"(?:[^"\\]|\\.)*"'
-NEWLINE = r"(?:(?:#[^\n]*)?\n[ \t]*)+(?:#[^\n]*\Z)?|#[^\n]*\Z"
-SHAPES = (rf"[%@:]{NAME}", NEWLINE, FLOAT, NAME, r"[,={}()+]", r"-?[0-9]+", rf"\${NAME}", STRING, rf"\${STRING}",
-          # Whatever begins no token.
-          r"[^ \t]")
-TOKEN = re.compile(r"[ \t]*(" + "|".join(SHAPES) + ")", re.DOTALL)
+
+
+class Language(NamedTuple):
+    """The characters that a language has as spacing, and its shapes of a name behind a sigil and of a word."""
+
+    spacing: str
+    name: str
+    word: str
+
+
+NAME = r"[A-Za-z._][A-Za-z0-9._$]*"
+QBE = Language(r" \t", NAME, NAME)
+
+
+@functools.cache
+def token_shape(language: Language) -> re.Pattern[str]:
+    """A token behind spacing."""
+    spacing, name, word = language
+    newline = rf"(?:(?:#[^\n]*)?\n[{spacing}]*)+(?:#[^\n]*\Z)?|#[^\n]*\Z"
+    shapes = (rf"[%@:]{name}", newline, FLOAT, word, r"[,={}()+]", r"-?[0-9]+", rf"\${name}", STRING, rf"\${STRING}",
+              # Whatever begins no token.
+              rf"[^{spacing}]")
+    return re.compile(rf"[{spacing}]*(" + "|".join(shapes) + ")", re.DOTALL)
+
+
 IS_FLOAT = re.compile(FLOAT)
 SYMBOLS = frozenset(",={}()+")
 LONG = (1 << 64) - 1
@@ -30,11 +49,13 @@ ESCAPE = re.compile(r"\\([0-9]{1,3}|[xX][0-9a-fA-F]*|.)", re.DOTALL)
 
 
 class Tokens(NamedTuple):
-    """The tokens of a text, as three lists of one length; the last is the end."""
+    """The tokens of a text, as four lists of one length; the last is the end."""
 
     kinds: list[str]
     # What has no value, as a newline, has an empty text.
     values: list[str | int]
+    # The same tokens as they stand in the text.
+    written: list[str]
     lines: list[int]
     # The numbers of more than 64 bits, which are cut: their lines.
     cut_numbers: list[int]
@@ -88,6 +109,9 @@ def classified(token: str) -> tuple[str, str | int, int]:
     if token[-1] in "0123456789" and (first == "-" or first.isdigit()):
         return "number", number_value(token)[0], 0
     if IS_FLOAT.fullmatch(token):
+        # Only a text with floats needs fractions.
+        from .constants import constant_bits
+
         return "float", constant_bits(token), 0
     if token == "...":
         return token, token, 0
@@ -114,10 +138,10 @@ def bad_token(token: str, text: str, path: str, line: int) -> Refused:
     return Refused(path, line, f"`{shown}` begins no token")
 
 
-def tokens_of(text: str, path: str) -> Tokens:
+def tokens_of(text: str, path: str, language: Language = QBE) -> Tokens:
     """The tokens of a text, each of whose characters stands for a byte. What a token is is worked out once for all that
     are written alike."""
-    found = TOKEN.findall(text)
+    found = token_shape(language).findall(text)
     known = {token: classified(token) for token in set(found)}
     newlines = {token: count for token, (_, _, count) in known.items()}
     lines = list(itertools.accumulate(map(newlines.__getitem__, found), initial=1))
@@ -127,4 +151,4 @@ def tokens_of(text: str, path: str) -> Tokens:
         raise bad_token(found[at], text, path, lines[at])
     cut = {token for token in known if known[token][0] == "number" and number_value(token)[1]}
     cut_numbers = [line for token, line in zip(found, lines) if token in cut] if cut else []
-    return Tokens([*kinds, "end"], [known[token][1] for token in found] + [""], lines, cut_numbers)
+    return Tokens([*kinds, "end"], [known[token][1] for token in found] + [""], [*found, ""], lines, cut_numbers)
