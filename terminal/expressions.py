@@ -13,7 +13,7 @@ import re
 from dataclasses import dataclass
 from typing import Callable, Iterator, Protocol
 
-from .text import NAME
+from .reading.accepted import IN_NAME
 from .values import BYTES, FLOAT_BYTES, FLOATS, bits_of, float_of, signed, unsigned
 
 SYMBOLS = ("<<", ">>", "<=", ">=", "==", "!=", "&&", "||", *"+-*/%&|^~!<>()[],")
@@ -63,10 +63,10 @@ def lexed(text: str) -> Iterator[str]:
             at += 1
             continue
         behind = at + 1
-        is_name = text[at] in "$%" and behind < len(text) and text[behind] in NAME and not text[behind].isdigit()
+        is_name = text[at] in "$%" and behind < len(text) and text[behind] in IN_NAME and not text[behind].isdigit()
         if text[at] == "'" and len(text) > at + 2 and text[at + 2] == "'":
             behind = at + 3
-        elif is_name or text[at] in NAME:
+        elif is_name or text[at] in IN_NAME:
             behind = word_end(text, at, is_name)
         else:
             behind = at + max((len(symbol) for symbol in SYMBOLS if text.startswith(symbol, at)), default=0)
@@ -79,7 +79,7 @@ def lexed(text: str) -> Iterator[str]:
 def word_end(text: str, at: int, is_name: bool) -> int:
     """Where a word ends; the sign of a power of ten is a part of its number, as in 1e-5."""
     behind = at + 1
-    while behind < len(text) and text[behind] in NAME:
+    while behind < len(text) and text[behind] in IN_NAME:
         behind += 1
     is_power = not is_name and text[at].isdigit() and text[behind - 1] in "eE" and text[at + 1:at + 2] not in ("x", "X")
     if is_power and text[behind:behind + 1] in ("+", "-") and text[behind + 1:behind + 2].isdigit():

@@ -2,9 +2,8 @@
 ones."""
 from __future__ import annotations
 
-import re
+from .reading.accepted import LOCAL
 
-LOCAL = re.compile(r"[%@][A-Za-z0-9._$]+")
 # Lines with texts of the program in them: of data, and of what it wrote.
 TEXTS = ("data ", "out ")
 

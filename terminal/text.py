@@ -1,20 +1,17 @@
-"""A reader of program texts: where each instruction stands, what its operands are, and where the data lies.
-
-It reads texts that the debugger has accepted, by the grammar of docs/LANGUAGE.md, and refuses nothing on its own
-account.
-"""
+"""A program text that the debugger has accepted, as a session shows it: where each instruction stands, what its
+operands are, and where the data lies."""
 from __future__ import annotations
 
-import string
 from dataclasses import dataclass, field
 from functools import cached_property
-from typing import Callable, Iterator
+from typing import Callable, Iterator, Sequence
 
+from .reading import tree
+from .reading.accepted import AcceptedReader
+from .reading.instructions import WITH_RESULT, WITHOUT_RESULT
+from .reading.tree import Call, Definition, Jump, Phi, Value
 from .renaming import Renaming
 
-NAME = frozenset(string.ascii_letters + string.digits + "._$")
-SPACING = frozenset(" \t\r")
-SIGILS = {"$": "global", "%": "temporary", "@": "label", ":": "aggregate"}
 JUMPS = frozenset(("jmp", "jnz", "ret", "hlt"))
 STORED = {"storel": 8, "storew": 4, "storeh": 2, "storeb": 1}
 LOADED = {"loadl": 8, "loadw": 4, "loadsw": 4, "loaduw": 4, "loadsh": 2, "loaduh": 2, "loadsb": 1, "loadub": 1}
@@ -24,48 +21,6 @@ BUILT_IN = {"$putchar": 1024, "$puts": 1040, "$exit": 1056}
 ITEM_BYTES = {"b": 1, "h": 2, "w": 4, "l": 8}
 FUNCTIONS, FUNCTION_BYTES, DATA = 4096, 16, 65_536
 STACK, STACK_BYTES = 16_777_216, 1 << 20
-
-
-@dataclass(frozen=True)
-class Token:
-    kind: str
-    text: str
-    line: int
-
-
-def tokens(text: str) -> Iterator[Token]:
-    """The tokens of a text, each the longest piece from its place on; a run of newlines is as many tokens."""
-    at, line, end = 0, 1, len(text)
-    while at < end:
-        first = text[at]
-        if first in SPACING:
-            at += 1
-            continue
-        if first == "#":
-            newline = text.find("\n", at)
-            at = end if newline < 0 else newline
-            continue
-        kind, behind = token_end(text, at)
-        yield Token(kind, text[at:behind], line)
-        line += kind == "newline"
-        at = behind
-
-
-def token_end(text: str, at: int) -> tuple[str, int]:
-    """The kind of the token that begins there, and the place behind it."""
-    first, behind = text[at], at + 1
-    if first == "\n":
-        return "newline", behind
-    if first == '"':
-        while text[behind] != '"':
-            behind += 2 if text[behind] == "\\" else 1
-        return "string", behind + 1
-    if first in SIGILS or first.isalnum() or first == "-":
-        while behind < len(text) and text[behind] in NAME:
-            behind += 1
-        kind = SIGILS.get(first) or ("number" if first.isdigit() or first == "-" else "word")
-        return kind, behind
-    return "symbol", behind
 
 
 @dataclass(frozen=True)
@@ -159,144 +114,74 @@ class Data:
     section: str = ""
 
 
-class Reader:
-    """Reads definitions from tokens."""
+class View:
+    """The definitions of a text that was read, as a session shows them: constants as they are written."""
 
-    def __init__(self, text: str):
-        self.tokens = list(tokens(text)) + [Token("end", "", 0)]
-        self.at = 0
-        self.functions: dict[str, Function] = {}
+    def __init__(self, definitions: Sequence[Definition]):
+        self.operands: dict[tuple[Value, str], Operand] = {}
+        self.functions = {each.name: self.function(each) for each in definitions if isinstance(each, tree.Function)}
         self.data: list[Data] = []
-        self.section = ""
+        for each in definitions:
+            if isinstance(each, tree.Data):
+                self.data.append(laid_out(each, self.data[-1].address + self.data[-1].size if self.data else DATA))
 
-    @property
-    def token(self) -> Token:
-        return self.tokens[self.at]
+    def operand(self, value: Value, type: str) -> Operand:
+        """One object for all that are alike."""
+        known = self.operands.get((value, type))
+        if known is None:
+            known = self.operands[value, type] = Operand(str(value), type)
+        return known
 
-    def take(self) -> Token:
-        self.at += 1
-        return self.tokens[self.at - 1]
+    def function(self, read: tree.Function) -> Function:
+        function = Function(read.name, read.line, read.returns, read.parameters)
+        for each in read.blocks:
+            body = [self.instruction(instruction) for instruction in each.instructions]
+            function.blocks[each.name] = Block(each.name, each.line, [self.phi(phi) for phi in each.phis],
+                                               [*body, self.jump(each.jump, function)])
+        return function
 
-    def skip(self, *texts: str) -> bool:
-        """Takes the next token where it is one of these."""
-        if self.token.text in texts and self.token.kind != "string":
-            self.at += 1
-            return True
-        return False
+    def phi(self, read: Phi) -> Instruction:
+        operands = tuple(self.operand(value, read.cls) for _, value in read.sources)
+        return Instruction(read.line, "phi", read.result, read.cls, operands, tuple(label for label, _ in read.sources))
 
-    def skip_newlines(self) -> None:
-        while self.token.kind == "newline":
-            self.at += 1
+    def instruction(self, read: tree.Instruction | Call) -> Instruction:
+        if isinstance(read, Call):
+            given = (self.operand(value, type) for type, value in read.arguments)
+            return Instruction(read.line, "call", read.result, read.kind, (self.operand(read.target, "l"), *given))
+        name = "loadsw" if read.name == "loadw" else read.name
+        is_set = read.result is not None
+        classes = WITH_RESULT[name, read.cls] if is_set else WITHOUT_RESULT[name]
+        # The number of bytes is no operand.
+        count = int(read.operands[2]) if name == "blit" else 0
+        return Instruction(read.line, name, read.result, read.cls if is_set else None,
+                           tuple(map(self.operand, read.operands, classes)), (), count)
 
-    def read(self) -> None:
-        while self.token.kind != "end":
-            word = self.take()
-            if word.text == "section":
-                self.skip_newlines()
-                self.section = self.take().text[1:-1]
-            elif word.text == "data":
-                self.read_data()
-                self.section = ""
-            elif word.text == "function":
-                self.read_function()
-                self.section = ""
-
-    def read_data(self) -> None:
-        """An object, behind its word; it lies at the next multiple of its alignment."""
-        self.skip_newlines()
-        name = self.take()
-        alignment, size = 16, 0
-        while not self.skip("{"):
-            if self.take().text == "align":
-                self.skip_newlines()
-                alignment = int(self.take().text)
-        letter, is_first = "b", True
-        pointers = []
-        while not self.skip("}"):
-            token = self.take()
-            if token.kind == "word":
-                letter, is_first = token.text, True
-            elif token.text == "+":
-                self.skip_newlines()
-                self.take()
-            elif token.kind in ("number", "string", "global"):
-                if token.kind == "global":
-                    pointers.append((size, token.text))
-                size += item_size(letter, token, is_first)
-                is_first = False
-        end = self.data[-1].address + self.data[-1].size if self.data else DATA
-        self.data.append(Data(name.text, name.line, -(-end // alignment) * alignment, size, tuple(pointers),
-                              self.section))
-
-    def read_function(self) -> None:
-        type = self.take().text if self.token.kind == "word" else None
-        name = self.take()
-        self.skip("(")
-        parameters = []
-        while not self.skip(")"):
-            parameters.append((self.take().text, self.take().text))
-            self.skip(",")
-        function = Function(name.text, name.line, type, parameters)
-        self.skip_newlines()
-        self.skip("{")
-        self.skip_newlines()
-        while not self.skip("}"):
-            self.read_block(function)
-        self.functions[name.text] = function
-
-    def read_block(self, function: Function) -> None:
-        """A block, with the jump that goes on to the next one where it has none."""
-        label = self.take()
-        block = function.blocks[label.text] = Block(label.text, label.line)
-        self.skip_newlines()
-        while self.token.kind != "label" and self.token.text != "}":
-            instruction = self.read_instruction(function)
-            (block.phis if instruction.operation == "phi" else block.body).append(instruction)
-            self.skip_newlines()
-        if self.token.kind == "label" and (not block.body or block.body[-1].operation not in JUMPS):
-            block.body.append(Instruction(self.token.line, "jmp", labels=(self.token.text,)))
-
-    def read_instruction(self, function: Function) -> Instruction:
-        first = self.take()
-        result = type = None
-        word = first
-        if first.kind == "temporary":
-            self.skip("=")
-            result, type, word = first.text, self.take().text, self.take()
-        operation = "loadsw" if word.text == "loadw" else word.text
-        if operation == "call":
-            return Instruction(first.line, operation, result, type, self.read_call())
-        operands: list[Operand] = []
-        labels: list[str] = []
-        count = 0
-        while self.token.kind != "newline" and self.token.text != "}":
-            token = self.take()
-            if token.kind == "label":
-                labels.append(token.text)
-            elif operation == "blit" and len(operands) == 2 and token.kind == "number":
-                count = int(token.text)
-            elif token.kind != "symbol":
-                operands.append(Operand(token.text, operand_type(operation, type, len(operands), function)))
-        return Instruction(first.line, operation, result, type, tuple(operands), tuple(labels), count)
-
-    def read_call(self) -> tuple[Operand, ...]:
-        """What is called, and the arguments."""
-        operands = [Operand(self.take().text, "l")]
-        self.skip("(")
-        while not self.skip(")"):
-            type = self.take().text
-            operands.append(Operand(self.take().text, type))
-            self.skip(",")
-        return tuple(operands)
+    def jump(self, read: Jump, function: Function) -> Instruction:
+        """The jump of a block; that of one without goes on to the next one, from the line of its label."""
+        if read.value is None:
+            return Instruction(read.line, "jmp" if read.name == "on" else read.name, labels=read.labels)
+        type = "w" if read.name == "jnz" or function.type != "l" else "l"
+        return Instruction(read.line, read.name, operands=(self.operand(read.value, type),), labels=read.labels)
 
 
-def item_size(letter: str, token: Token, is_first: bool) -> int:
+def laid_out(read: tree.Data, end: int) -> Data:
+    """An object behind the end of the one before: it lies at the next multiple of its alignment."""
+    alignment = 16 if read.alignment is None else read.alignment
+    size, pointers = 0, []
+    for item in read.items:
+        if item.is_global:
+            pointers.append((size, str(item.value)))
+        size += item_size(item.letter, str(item.value))
+    # The name of a section is as it is written, between its quotes.
+    return Data(read.name, read.line, -(-end // alignment) * alignment, size, tuple(pointers),
+                (read.section or "")[1:-1])
+
+
+def item_size(letter: str, written: str) -> int:
     """How many bytes an item of data takes; `z N` is N zero bytes."""
     if letter == "z":
-        return int(token.text) if is_first else 0
-    if token.kind == "string":
-        return string_size(token.text)
-    return ITEM_BYTES[letter]
+        return int(written)
+    return string_size(written) if written[0] == '"' else ITEM_BYTES[letter]
 
 
 def string_size(text: str) -> int:
@@ -313,33 +198,15 @@ def string_size(text: str) -> int:
     return size
 
 
-def operand_type(operation: str, type: str | None, index: int, function: Function) -> str:
-    """The class in which an operand is read: docs/LANGUAGE.md, the table of what is wanted of an operand."""
-    if operation in LOADED or operation in ALLOCATIONS or operation == "blit" or operation == "storel":
-        return "l"
-    if operation in STORED:
-        return "l" if index else "w"
-    if operation in EXTENSIONS or operation == "jnz":
-        return "w"
-    if operation == "ret":
-        return "l" if function.type == "l" else "w"
-    if operation in ("shl", "shr", "sar") and index:
-        return "w"
-    if operation[0] == "c" and operation != "copy":
-        return operation[-1]
-    return type or "w"
-
-
 class Program:
     """A program's text, by lines and as its definitions."""
 
     def __init__(self, source: bytes, renaming: Renaming | None = None):
         if renaming:
             source = renaming.told(source.decode("latin-1")).encode("latin-1")
-        reader = Reader(source.decode("latin-1"))
-        reader.read()
+        view = View(AcceptedReader(source.decode("latin-1")).read().definitions)
         self.lines = [line.rstrip("\r") for line in source.decode("utf-8", "replace").split("\n")]
-        self.functions, self.data = reader.functions, reader.data
+        self.functions, self.data = view.functions, view.data
         names = list(BUILT_IN.items())
         names += [(name, FUNCTIONS + FUNCTION_BYTES * n) for n, name in enumerate(self.functions)]
         names += [(data.name, data.address) for data in self.data]

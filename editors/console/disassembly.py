@@ -11,6 +11,7 @@ import threading
 from typing import Any, NamedTuple
 
 from terminal.lowered import Lowered, lowered_of
+from terminal.reading.refusals import Refused
 from terminal.renaming import Renaming
 from terminal.sourcemap import Line, SourceMap
 from terminal.text import Function, Program
@@ -134,7 +135,7 @@ class Disassembly:
         named = launch.get("map")
         try:
             listing = Listing(os.path.abspath(str(launch.get("program", ""))), None if named is None else str(named))
-        except (OSError, ValueError, LookupError):
+        except (OSError, ValueError, LookupError, Refused):
             # A text that isn't read here, though the adapter took it, is shown without a disassembly.
             return
         if is_read is self.is_read:
