@@ -3,8 +3,9 @@ from __future__ import annotations
 
 import pathlib
 import random
-from typing import Iterator
+from typing import Callable, Iterator
 
+from harness.shrinking import smaller_text
 from hostile_tests.programs import random_program
 
 
@@ -17,3 +18,13 @@ def random_files(place: pathlib.Path, word: str, count: int) -> Iterator[tuple[i
         file.write_bytes(text)
         yield number, file, text, list(map(str, arguments))
         file.unlink()
+
+
+def small_fault(number: int, file: pathlib.Path, source: bytes, tried: Callable[[bytes], str | None]) -> str:
+    """What is told of a random program that fails: the smallest that was found to fail, too, and its fault."""
+    def fails(text: bytes) -> str | None:
+        file.write_bytes(text)
+        return tried(text)
+
+    small = smaller_text(source, fails)
+    return f"random program {number}: {fails(small)}, as of {small.decode('latin-1')!r}"

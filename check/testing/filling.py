@@ -19,7 +19,7 @@ from ..following import Follower, Read
 from ..heap import roles_of
 from ..kinds import DEFAULT
 from ..shadow import PART_BITS
-from .chance import random_files
+from .chance import random_files, small_fault
 from .gathered import run_of
 from .texts import TEXTS
 
@@ -116,7 +116,8 @@ def random_fault(program: str, place: pathlib.Path) -> str | None:
     for number, file, source, words in random_files(place, "filled", PROGRAMS):
         fault, count = run_fault(program, file, source, words, str(number))
         if fault:
-            return f"random program {number}: {fault}"
+            return small_fault(number, file, source,
+                               lambda text: run_fault(program, file, text, words, str(number))[0])
         filled += count
     return None if filled > 50 else f"only {filled} lines filled something"
 

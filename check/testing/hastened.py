@@ -10,7 +10,7 @@ from ..following import Follower
 from ..heap import roles_of
 from ..kinds import ALL, DEFAULT
 from ..shadow import Object, Part
-from .chance import random_files
+from .chance import random_files, small_fault
 from .gathered import run_of
 from .texts import TEXTS
 
@@ -90,7 +90,7 @@ def random_fault(program: str, place: pathlib.Path) -> str | None:
     for number, file, source, words in random_files(place, "hastened", PROGRAMS):
         fault, count = run_fault(program, file, source, words)
         if fault:
-            return f"random program {number}: {fault}"
+            return small_fault(number, file, source, lambda text: run_fault(program, file, text, words)[0])
         quick += count
     return None if quick > 1000 else f"only {quick} moves were quick"
 

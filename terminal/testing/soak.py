@@ -6,12 +6,15 @@ import os
 import random
 import subprocess
 
+from harness.shrinking import smaller_lines
 from terminal.scratch import Launch
 from terminal.shell import Leave, Shell
 from terminal.text import Program
 from terminal.waiting import Waiting
 
 LIMIT = 2000
+# How many sessions are tried for a shorter one that breaks.
+MOST_SESSIONS = 120
 
 
 class QuietShell(Shell):
@@ -75,30 +78,44 @@ class Typist:
 
 
 def session_fault(debugger: str, file: str, seed: int, lines: int, history: int | None = None) -> str | None:
-    """What breaks in a session of so many lines, or what its saved lines lead to otherwise; or None."""
+    """What breaks in a session of so many lines, with the fewest of them that were found to break it; or None."""
     with open(file, "rb") as opened:
         source = opened.read()
-    # By the name alone, so that every checkout types the same.
-    chosen = random.Random(f"{seed} {os.path.basename(file)}")
-    shell = QuietShell(Launch(debugger, file, (), LIMIT, history), file, source, Waiting(), budget=LIMIT)
+    launch = Launch(debugger, file, (), LIMIT, history)
+    shell = QuietShell(launch, file, source, Waiting(), budget=LIMIT)
     if shell.session.pipe.refused:
         return None
-    typist, typed = Typist(shell.session.program, chosen), []
+    # By the name alone, so that every checkout types the same.
+    typist = Typist(shell.session.program, random.Random(f"{seed} {os.path.basename(file)}"))
+    typed = [typist.line() for _ in range(lines)]
+    if not typed_fault(shell, typed):
+        return None
+
+    def fails(few: list[str]) -> str | None:
+        return typed_fault(QuietShell(launch, file, source, Waiting(), budget=LIMIT), few)
+
+    few = smaller_lines(typed, fails, MOST_SESSIONS)
+    return f"seed {seed}: {fails(few)}, as typed by {few}"
+
+
+def typed_fault(shell: Shell, typed: list[str]) -> str | None:
+    """What breaks in a session of these lines, or what its saved lines lead to otherwise; or None."""
+    line = ""
     try:
-        for _ in range(lines):
-            typed.append(typist.line())
-            shell.run(typed[-1])
-        return state_fault(debugger, file, shell, history)
+        for line in typed:
+            shell.run(line)
+        return state_fault(shell)
     except (Leave, Exception) as error:
-        return f"seed {seed}: {error!r} at {typed[-1]!r}, behind {typed[:-1]}"
+        return f"{error!r} at {line!r}"
     finally:
         shell.session.close()
 
 
-def state_fault(debugger: str, file: str, shell: Shell, history: int | None) -> str | None:
+def state_fault(shell: Shell) -> str | None:
     """Whether a run of the saved lines ends where the session is, with the same frames, temporaries and output."""
     asked = ["where", "temps", "out", "stops"]
-    words = [debugger, file, "--limit", str(LIMIT)] + (["--history", str(history)] if history else [])
+    launch = shell.session.launch
+    words = launch.command(launch.history)
     script = "".join(line + "\n" for line in [*shell.session.lines, *asked])
     run = subprocess.run(words, input=script, capture_output=True, text=True, timeout=60)
     wanted = [line for question in asked for line in shell.session.send(question)]
