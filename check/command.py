@@ -17,7 +17,7 @@ from terminal.sourcemap import SourceMap
 from terminal.text import Program
 
 from . import fast
-from .ends import fault_error, refusal_error
+from .ends import fault_error, lowering_error, refusal_error
 from .following import Excepted, Follower
 from .heap import WrongHeap, roles_of
 from .kinds import ALL, WrongKind, chosen
@@ -287,6 +287,16 @@ def refused(pipe: Pipe, asked: Asked, source: bytes, out: TextIO) -> int:
         asked.file = first_text(asked.lowered) or asked.file if not errors[0].line else asked.file
         tell_formatted(asked, [], errors, SourceMap.beside(asked.file).place, out)
     return pipe.refused.status if pipe.refused else UNREAD
+
+
+def lowering_refused(said: str, asked: Asked, out: TextIO) -> int:
+    """Tells why texts weren't lowered, as the lowering says it, or in the form for editors or machines."""
+    if asked.format == "text":
+        print(said, end="", file=sys.stderr)
+    else:
+        asked.file, error = lowering_error(said.strip(), asked.lowered)
+        tell_formatted(asked, [], [error], lambda line: "", out)
+    return REFUSED
 
 
 def tell_formatted(asked: Asked, found: list[Suspicion], errors: list[Error], source: Callable[[int], str],

@@ -2,10 +2,13 @@
 place of the text that it comes of, and a refusal."""
 from __future__ import annotations
 
+import re
 from dataclasses import replace
+from typing import Sequence
 
 from page.table import Table
 from terminal.answers import meaning_of
+from terminal.launching import first_text
 from terminal.lowered import lowered_of
 from terminal.pipe import Pipe
 from terminal.scratch import Launch, frames_of
@@ -45,3 +48,12 @@ def refusal_error(loaded: str, source: bytes) -> Error:
     number = int(rest[1]) if rest else 0
     lines = ["", *source.decode("utf-8", "replace").split("\n")]
     return Error(code, number, f"{code}: {meaning_of(code, lines[number].strip() if number < len(lines) else '')}")
+
+
+def lowering_error(said: str, texts: Sequence[str]) -> tuple[str, Error]:
+    """Why one of these texts wasn't lowered, and which: the lowering says `FILE:LINE: WHAT`."""
+    for text in texts:
+        found = re.fullmatch(r":(\d+): (.*)", said.removeprefix(text), re.DOTALL) if said.startswith(text) else None
+        if found:
+            return text, Error("refused", int(found[1]), found[2])
+    return first_text(texts), Error("refused", 0, said)

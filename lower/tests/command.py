@@ -1,4 +1,5 @@
 """The wrapper's --lower, which lowers and runs in one go, and the time that a large text takes."""
+import json
 import os
 import pathlib
 import shutil
@@ -82,6 +83,7 @@ class Wrapper:
         self.top, self.running = pathlib.Path(place), running
         shutil.copy(TOP / "qrev", self.top / "qrev")
         (self.top / "lower").symlink_to(FOLDER)
+        (self.top / "check").symlink_to(TOP / "check")
         (self.top / "release").mkdir()
         shutil.copy(TOP / "release" / "program", self.top / "release" / "program")
         (self.top / "release" / "qrev-x86_64-linux").symlink_to(running.program)
@@ -140,12 +142,31 @@ def wrapper_faults(running: Running) -> Results:
         run = wrapper.run("--lower", "wrong.ssa", "1")
         told = "wrong.ssa:8: %y is used in `ret`, and nothing defines it\n"
         yield "command/--lower refuses", differ("run", (1, "", told), (run.returncode, run.stdout, run.stderr))
+        yield from refused_checks(wrapper, told)
         run = wrapper.run("--lower", "--report", "a.ssa", "1")
         yield "command/--lower with a report", None if "a.ssa:7: $half is defined nowhere" in run.stderr and \
             "fault halted" in run.stdout else f"{run.stdout!r}, {run.stderr!r}"
         run = wrapper.run("--lower", "nothing.ssa")
         yield "command/--lower without the file", differ("status", (2, ""), (run.returncode, run.stdout))
         yield "command/--lower leaves nothing", differ("files", [], list((wrapper.top / "tmp").iterdir()))
+
+
+def refused_checks(wrapper: Wrapper, said: str) -> Results:
+    """A check of a text that isn't lowered says so in the form that it is asked for: the second text is the wrong one."""
+    words = ["--check", "--lower", "b.ssa", "wrong.ssa", "1", "--format"]
+    run = wrapper.run(*words, "text")
+    yield "command/--check of a refused text", differ("run", (1, "", said), (run.returncode, run.stdout, run.stderr))
+    run = wrapper.run(*words, "gnu")
+    yield "command/--check of a refused text, gnu", differ(
+        "run", (1, said.replace(":8: ", ":8: error: "), ""), (run.returncode, run.stdout, run.stderr))
+    run = wrapper.run(*words, "json")
+    results = json.loads(run.stdout or "{}").get("runs", [{}])[0].get("results", [])
+    places = [each["physicalLocation"] for result in results for each in result["locations"]]
+    told = [(result["level"], result["message"]["text"]) for result in results]
+    yield "command/--check of a refused text, json", differ(
+        "results", (1, [("error", said.partition(":8: ")[2].strip())], [{"artifactLocation": {"uri": "wrong.ssa"},
+                                                                         "region": {"startLine": 8}}]),
+        (run.returncode, told, places))
 
 
 def compared_faults(running: Running) -> Results:
