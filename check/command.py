@@ -151,6 +151,13 @@ def pair_of(word: str) -> tuple[str, str]:
     return kind, name
 
 
+def look_for_excepted(program: Program, excepted: Excepted) -> None:
+    """A name that the program doesn't have is a slip, by which nothing would be left out."""
+    for kind, name in sorted(excepted.pairs):
+        if name not in program.addresses:
+            raise BadCommand(f"--except {kind}:{name}: the program has no object or function {name}")
+
+
 def version() -> str:
     found = re.search(r"(?m)^## ([0-9.]+)", (TOP / "CHANGELOG.md").read_text())
     return found[1] if found else "0"
@@ -203,6 +210,7 @@ def checked(programs: Programs, asked: Asked, place: pathlib.Path, out: TextIO) 
         return refused(pipe, asked, source, out)
     try:
         table = table_of(Program(source))
+        look_for_excepted(table.program, asked.excepted)
         find = found_fast if asked.is_fast else found_fully
         outcome = find(programs, launch, table, asked)
     except (TooLong, fast.Failed) as error:
@@ -220,8 +228,9 @@ def found_fully(programs: Programs, launch: Launch, table: Table, asked: Asked) 
         checker = programs.fast(False)
         limit = programs.full if checker else limit
     gathered = run_of(launch, table, limit)
-    heap = roles_of(table.program, asked.heap, asked.has_no_heap)
-    follower = Told(table, part_of(gathered, b"D"), asked.kinds, heap, asked.excepted)
+    heap, lowered = roles_of(table.program, asked.heap, asked.has_no_heap), lowered_of(asked.file)
+    follower = Told(table, part_of(gathered, b"D"), asked.kinds, heap, asked.excepted,
+                    others=lowered.runtime | lowered.outside)
     follower.moves = len(gathered.places) - 1
     moves = follower.follow(list(gathered.places), iter(gathered.values))
     follower.end()
@@ -239,13 +248,16 @@ def gone_on(outcome: Outcome, checker: str, launch: Launch, table: Table, asked:
     """With what the fast pass tells of the same run beyond: other places, and how often it came at those that are
     known."""
     further = fast_outcome(checker, launch, table, asked)
-    known = {(each.function, each.label, each.index, each.kind): each for each in outcome.found}
+    known: dict[tuple[str, str, int, str], list[Suspicion]] = {}
+    for each in outcome.found:
+        known.setdefault(each.at, []).append(each)
     for each in further.found:
-        same = known.get((each.function, each.label, each.index, each.kind))
-        if same:
-            same.count = max(same.count, each.count)
-        else:
+        same = known.get(each.at, [])
+        if not same:
             outcome.found.append(each)
+        elif len(same) == 1:
+            # At a place in a runtime to which several calls led the fast pass counts them all together.
+            same[0].count = max(same[0].count, each.count)
     outcome.found.sort(key=lambda each: (each.position, each.kind))
     return Outcome(outcome.found, further.moves, further.end, further.is_over, further.last, outcome.moves)
 

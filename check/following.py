@@ -6,7 +6,7 @@ from __future__ import annotations
 
 from dataclasses import dataclass, field
 from itertools import islice
-from typing import Iterator
+from typing import AbstractSet, Iterator
 
 from page.table import Table
 from terminal.text import ALLOCATIONS, EXTENSIONS, LOADED, STORED, Instruction, Operand
@@ -17,7 +17,7 @@ from .heap import GIVERS, size_asked
 from .objects import MOST_BLOCK, Memory, Objects, loaded
 from .quick import LOOKS, Step, step_of
 from .shadow import CUT, MASK, MIXED, NUMBER, SET, Object, Part, Shadow
-from .telling import Suspicion, bits_told, distance_told, object_told, origin_told
+from .telling import Place, Suspicion, bits_told, distance_told, object_told, origin_told, own_call
 
 DIVISIONS = frozenset(("div", "rem", "udiv", "urem"))
 SHIFTS = frozenset(("shl", "shr", "sar"))
@@ -51,15 +51,18 @@ class Follower:
     """The shadow of a run in the state where it stands, and the suspicions up to there."""
 
     def __init__(self, table: Table, data: bytes, kinds: frozenset[str], heap: dict[str, str],
-                 excepted: Excepted | None = None, pokes: dict[int, str] | None = None):
+                 excepted: Excepted | None = None, pokes: dict[int, str] | None = None,
+                 others: AbstractSet[str] = frozenset()):
+        """The others are functions that aren't the program's own, as those of the runtime of a lowered text."""
         self.table, self.program, self.pokes = table, table.program, pokes or {}
         self.objects = Objects(self.program)
         self.memory = Memory(self.program, self.objects, data)
-        self.kinds, self.heap, self.excepted = kinds, heap, excepted or Excepted()
+        self.kinds, self.heap, self.excepted, self.others = kinds, heap, excepted or Excepted(), others
         self.looks_at_operations = bool(kinds & LOOKS)
         self.is_quick = True
         self.frames: list[Frame] = []
-        self.found: dict[tuple[int, str], Suspicion] = {}
+        # By the place and the kind; of a move in a function that isn't the program's own also by the call that led there.
+        self.found: dict[tuple[int, str, tuple[str, str, int] | None], Suspicion] = {}
         self.position, self.here = 0, 0
         self.heap_depth = 0
         self.block_places: dict[Object, int] = {}
@@ -177,13 +180,18 @@ class Follower:
         function, label, index, instruction = self.table.places[here]
         if self.excepted.pairs and self.excepted.holds(kind, meant, function):
             return
-        known = self.found.get((here, kind))
+        call = own_call(self.calls(), self.others) if function in self.others else None
+        key = here, kind, call[:3] if call else None
+        known = self.found.get(key)
         if known:
             known.count += 1
             return
         position = self.position if at is None else at
-        calls = tuple(frame.place for frame in reversed(self.frames) if frame.place)
-        self.found[here, kind] = Suspicion(kind, position, function, label, index, instruction, text, calls=calls)
+        self.found[key] = Suspicion(kind, position, function, label, index, instruction, text, calls=tuple(self.calls()))
+
+    def calls(self) -> Iterator[Place]:
+        """The places of the calls that are open, the innermost one first."""
+        return (frame.place for frame in reversed(self.frames) if frame.place)
 
     def use(self, read: Read, what: str, mask: int = MASK["l"]) -> bool:
         """Notes that open bits of an operand are used, if it has some; it counts as set from then on."""

@@ -4,7 +4,7 @@ from __future__ import annotations
 
 import json
 from dataclasses import dataclass
-from typing import AbstractSet, Any, Callable, Iterator, Sequence
+from typing import AbstractSet, Any, Callable, Iterable, Iterator, Sequence
 from urllib.parse import quote
 
 from terminal.text import Instruction
@@ -31,11 +31,16 @@ class Suspicion:
     # The calls that were open at the first move, the innermost one first, if they are known.
     calls: tuple[Place, ...] = ()
 
+    @property
+    def at(self) -> tuple[str, str, int, str]:
+        """The place and the kind."""
+        return self.function, self.label, self.index, self.kind
+
     def call_from(self, others: AbstractSet[str]) -> Place | None:
         """Of a move in one of these functions, as those of a runtime, the call by the program itself that led there."""
         if self.function not in others:
             return None
-        return next((place for place in self.calls if place[0] not in others), None)
+        return own_call(self.calls, others)
 
     def call_lines(self, others: AbstractSet[str], source: Callable[[int], str]) -> list[str]:
         """That call, if there is one, as a line."""
@@ -67,6 +72,11 @@ class Error:
         """The same as compilers write it."""
         at = gnu_place(source, file, self.line) if self.line else file
         return f"{at}: error: {self.text}" + (f" [{self.place}]" if self.place else "")
+
+
+def own_call(calls: Iterable[Place], others: AbstractSet[str]) -> Place | None:
+    """Of calls, the innermost one first, the first that isn't made in one of these functions."""
+    return next((place for place in calls if place[0] not in others), None)
 
 
 def counted(number: int, what: str) -> str:

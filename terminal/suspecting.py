@@ -34,7 +34,8 @@ def followed(shell: Shell, at: Timeline, most: int, kinds: frozenset[str]) -> tu
         raise Refused(failed[0])
     data = next(part[5:] for part in gathered.parts if part[:1] == b"D")
     follower = Follower(table, data, kinds, roles_of(program, None),
-                        pokes={poke.position: poke.line for poke in at.pokes})
+                        pokes={poke.position: poke.line for poke in at.pokes},
+                        others=shell.lowered.runtime | shell.lowered.outside)
     return follower, gathered, follower.follow(list(gathered.places), iter(gathered.values))
 
 

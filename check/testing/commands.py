@@ -66,6 +66,8 @@ COMMANDS: list[tuple[str, list[str], int, str | None, str]] = [
     ("heap and none", [SQUARES, "--heap", "take=fill", "--no-heap"], 64, "",
      "qrev: --heap and --no-heap exclude each other\n"),
     ("bad exception", [SQUARES, "--except", "bounds"], 64, "", "qrev: --except bounds: KIND:$NAME was expected"),
+    ("exception of nothing", [SQUARES, "--except", "bounds:$bias", "--except", "undef:$nope"], 64, "",
+     "qrev: --except undef:$nope: the program has no object or function $nope\n"),
     ("no heap", [str(TEXTS / "heap-off-by-one.ssa"), "--no-heap"], 0, "no suspicion in 24 moves, done 0\n", ""),
     ("named heap", [str(TEXTS / "heap-off-by-one.ssa"), "--heap", "take=malloc"], 3, None, ""),
     ("strict", [str(TEXTS / "heap-blocks-overlap.ssa"), "--kinds", "strict"], 3, None, ""),
@@ -190,6 +192,24 @@ def inside_fault(program: str) -> str | None:
     return None if well else f"{lines} and {shown!r}"
 
 
+def called_fault(program: str) -> str | None:
+    """Two bad calls of one function of the runtime of a lowered text are told at both, the one of a loop once."""
+    text = ("export function w $main() {\n@start\n\t%slot =l alloc4 4\n\t%other =l alloc4 4\n\tjmp @loop\n@loop\n"
+            "\t%i =w phi @start 0, @loop %j\n\t%n =l call $strlen(l %slot)\n\t%j =w add %i, 1\n\t%c =w csltw %j, 3\n"
+            "\tjnz %c, @loop, @end\n@end\n\t%m =l call $strlen(l %other)\n\tret 0\n}\n")
+    with tempfile.TemporaryDirectory(prefix="check-") as place:
+        folder = pathlib.Path(place)
+        (folder / "a.ssa").write_text(text)
+        subprocess.run([str(TOP / "lower" / "qrev-lower"), "--link", "--output", "out.ssa", "a.ssa"], cwd=folder,
+                       check=True)
+        told = run(program, str(folder / "out.ssa")).stdout
+        log = json.loads(run(program, str(folder / "out.ssa"), "--format", "json").stdout)
+    called = re.findall(r"undef: jnz of .*?(  \(3 times\))?\n  called at .*\(a\.ssa:(\d+)\)", told)
+    lines = [(result["locations"][0]["physicalLocation"]["region"]["startLine"], result["occurrenceCount"])
+             for result in log["runs"][0]["results"]]
+    return None if called == [("  (3 times)", "8"), ("", "13")] and lines == [(8, 3), (13, 1)] else f"{told!r}, {lines}"
+
+
 def unnamed_fault(program: str) -> str | None:
     """A lowered text that is refused as a whole goes by the name of the text that it was lowered from."""
     with tempfile.TemporaryDirectory(prefix="check-") as place:
@@ -260,7 +280,7 @@ def cases(program: str) -> Iterator[Case]:
         yield f"command {name}", partial(written_fault, program, *written)
     for name, call in (("help", help_fault), ("count", count_fault), ("json", json_fault),
                        ("errors", errors_fault), ("halted", halted_fault), ("inside", inside_fault),
-                       ("unnamed", unnamed_fault),
+                       ("called", called_fault), ("unnamed", unnamed_fault),
                        ("lowered", lowered_fault), ("wide", wide_fault), ("long name", long_name_fault)):
         yield f"command {name}", partial(call, program)
     for page in (TOP / "README.md", TOP / "docs" / "CHECKING.md"):
