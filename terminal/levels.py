@@ -58,43 +58,49 @@ class Levels:
         return (place in self.returns) - (place == self.entry)
 
 
-def own_hits(program: Program, scratch: Scratch, at: Timeline, function: str,
-             places: list[tuple[str, int]]) -> Iterator[tuple[int, tuple[str, int]]]:
+def own_hits(program: Program, scratch: Scratch, at: Timeline, function: str, places: list[tuple[str, int]],
+             last: int | None = None) -> Iterator[tuple[int, tuple[str, int]]]:
     """The states before `at`, the latest first, in which its innermost frame stood at one of these places of its
     function, as the innermost one; the last is that in which the frame began. Behind a poke a state stands at the place
-    of the one before, which comes next."""
+    of the one before, which comes next. It isn't looked for them far before the position `last`."""
     first = (program.functions[function].first, 0)
-    here = scratch.go(at).where()[0]
-    if (here.label, here.index) == first and not at.poke_at(at.position - 1):
-        # The frame begins here, and what stood at these places before is another call.
+    if begins(program, scratch, at, function):
+        # What stood at these places before is another call.
         return
     wanted = [(function, *place) for place in dict.fromkeys([*places, first])]
-    for position, place in judged(program, scratch.go(at), function, wanted):
+    for position, place in judged(program, scratch.go(at), function, wanted, last):
         yield position, place[1:]
         if place[1:] == first and not at.poke_at(position - 1):
             return
 
 
-def judged(program: Program, scratch: Scratch, function: str,
-           wanted: list[CodePlace]) -> Iterator[tuple[int, CodePlace]]:
+def begins(program: Program, scratch: Scratch, at: Timeline, function: str) -> bool:
+    """Whether the innermost frame of a state, a call of that function, begins there."""
+    here = scratch.go(at).where()[0]
+    return (here.label, here.index) == (program.functions[function].first, 0) and not at.poke_at(at.position - 1)
+
+
+def judged(program: Program, scratch: Scratch, function: str, wanted: list[CodePlace],
+           last: int | None) -> Iterator[tuple[int, CodePlace]]:
     """The hits of a run back at wanted places that are in the frame from which it begins."""
     levels = Levels(program, function)
     places = list(dict.fromkeys([*wanted, *levels.places]))
     if function not in program.again:
-        hits = scratch.hits(False, [stop_line(place) for place in wanted])
+        hits = scratch.hits(False, [stop_line(place) for place in wanted], last=last)
         yield from ((hit.position, wanted[hit.stop]) for hit in hits if hit.stop is not None)
     elif levels.is_counted and not scratch.timeline.pokes and len(places) <= MOST_STOPS:
-        yield from counted(scratch, levels, places, len(wanted))
+        yield from counted(scratch, levels, places, len(wanted), last)
     else:
-        yield from compared(scratch, wanted)
+        yield from compared(scratch, wanted, last)
 
 
-def counted(scratch: Scratch, levels: Levels, places: list[CodePlace], wanted: int) -> Iterator[tuple[int, CodePlace]]:
+def counted(scratch: Scratch, levels: Levels, places: list[CodePlace], wanted: int,
+            last: int | None) -> Iterator[tuple[int, CodePlace]]:
     """As above for a function that calls itself; the first of the places are the wanted ones."""
     here = scratch.where()[0]
     level = levels.step_back((here.function, here.label, here.index))
     steps = [levels.step_back(place) for place in places]
-    for text in scratch.texts(False, [stop_line(place) for place in places]):
+    for text in scratch.texts(False, [stop_line(place) for place in places], last=last):
         found = BREAK.findall(text)
         stops = [scratch.numbers[int(number)] for number, _ in found]
         before = list(accumulate((steps[stop] for stop in stops), initial=level))
@@ -104,9 +110,9 @@ def counted(scratch: Scratch, levels: Levels, places: list[CodePlace], wanted: i
         level = before[-1]
 
 
-def compared(scratch: Scratch, wanted: list[CodePlace]) -> Iterator[tuple[int, CodePlace]]:
+def compared(scratch: Scratch, wanted: list[CodePlace], last: int | None) -> Iterator[tuple[int, CodePlace]]:
     """The same by the number of frames at each hit, where pokes or calls by an address are in the way of counting."""
     depth = len(scratch.where())
-    for hit in scratch.hits(False, [stop_line(place) for place in wanted], ["where"]):
+    for hit in scratch.hits(False, [stop_line(place) for place in wanted], ["where"], last=last):
         if hit.stop is not None and len(hit.answers[0]) == depth:
             yield hit.position, wanted[hit.stop]

@@ -8,8 +8,8 @@ from typing import Sequence
 from .causes import ASKED, Cause
 from .expressions import Wrong
 from .frames import steps_begun
-from .levels import MOST_STOPS, own_hits, stop_line
-from .scratch import Refused
+from .levels import MOST_STOPS, begins, own_hits, stop_line
+from .scratch import FAR, Refused
 from .shell import Shell, command
 from .text import Function
 from .timeline import Timeline
@@ -144,20 +144,48 @@ def why_not(shell: Shell, label: str) -> Cause:
     return cause
 
 
-def last_times(shell: Shell, function: Function, at: Timeline,
-               places: list[tuple[str, int]]) -> dict[tuple[str, int], int]:
-    """For each place of a call, the last position before this one at which it stood there, if it did."""
+def last_times(shell: Shell, function: Function, at: Timeline, places: list[tuple[str, int]],
+               far: int = FAR) -> dict[tuple[str, int], int]:
+    """For each place of a call, the last position before this one at which it stood there, if it did.
+
+    What isn't found in so many moves back is first looked for from the start on: there a run forward tells sooner that
+    no call came to a place than a run back."""
     found: dict[tuple[str, int], int] = {}
+    program, scratch = shell.session.program, shell.session.scratch
+    if begins(program, scratch, at, function.name):
+        return found
     for first in range(0, len(places), MOST_STOPS // 2):
         left, there = places[first:first + MOST_STOPS // 2], at
+        last = None if at.pokes else at.position - far
         while left:
             # What is found isn't stopped at any more: a round of a loop may come to it often.
-            hits = own_hits(shell.session.program, shell.session.scratch, there, function.name, left)
-            hit = next((hit for hit in hits if hit[1] in left), None)
-            if not hit:
+            hits = own_hits(program, scratch, there, function.name, left, last)
+            hit = next((hit for hit in hits if hit[1] in left or not at.pokes), None)
+            if hit and hit[1] in left:
+                found[hit[1]], there = hit[0], at.at(hit[0])
+                left = [place for place in left if place != hit[1]]
+            elif hit or last is None or last <= 0:
                 break
-            found[hit[1]], there = hit[0], at.at(hit[0])
-            left = [place for place in left if place != hit[1]]
+            else:
+                left, last = came_to(shell, function, at, left), None
+    return found
+
+
+def came_to(shell: Shell, function: Function, at: Timeline, places: list[tuple[str, int]]) -> list[tuple[str, int]]:
+    """Those of the places of a function to which any call of it came before a state behind which there are no pokes."""
+    there = at.at(0)
+    start = shell.session.scratch.go(there).where()[0]
+    # Where the run begins it doesn't stop.
+    found = [place for place in places if (start.function, start.label, start.index) == (function.name, *place)]
+    left = [place for place in places if place not in found]
+    while left:
+        lines = [stop_line((function.name, *place)) for place in left]
+        hit = next(shell.session.scratch.go(there).hits(True, lines, last=at.position), None)
+        if hit is None or hit.stop is None or hit.position >= at.position:
+            break
+        place, there = left[hit.stop], at.at(hit.position)
+        found.append(place)
+        left = [each for each in left if each != place]
     return found
 
 

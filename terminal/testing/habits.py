@@ -434,6 +434,24 @@ def gone_round(program: str) -> str | None:
             session.close()
 
 
+def far(program: str) -> str | None:
+    """That a block isn't reached is found out behind a long run too in little more than what the run took."""
+    with tempfile.TemporaryDirectory(prefix="far-") as folder:
+        text = ENDLESS.replace("jmp @loop\n}", "jnz 1, @loop, @end\n@end\n\tret 0\n}")
+        session = Held(program, written(folder, "endless.ssa", text))
+        try:
+            begun = processor_seconds(session)
+            session.do("goto 40000001")
+            session.do("why jump")
+            run = processor_seconds(session) - begun
+            fault = missing(session.do("why not @end"), "control didn't come to @end in this call of $main",
+                            "#40000000 $main @loop 1  line 7: jnz 1, @loop, @end")
+            taken = processor_seconds(session) - begun - run
+            return fault or (f"it takes {taken:.1f} seconds, and the run {run:.1f}" if taken > 1.75 * run else None)
+        finally:
+            session.close()
+
+
 def patient(_program: str) -> str | None:
     """A check that takes long is waited for once, and not at each cause."""
     lookout = object.__new__(Lookout)
@@ -615,7 +633,7 @@ def stops_kept(program: str) -> str | None:
 
 HABITS = {call.__name__.replace("_", " "): call for call in (
     interrupted, interrupted_at_the_prompt, left, completed, bad_lines, refused, broken, narrow, without_readline,
-    wrapped, memory_told, bounded, fast, followed, suspected, patient, gone_round, deep, saved_and_compared, stops_kept,
+    wrapped, memory_told, bounded, fast, followed, suspected, patient, gone_round, far, deep, saved_and_compared, stops_kept,
     mapped, lowered, bare)}
 
 

@@ -15,14 +15,14 @@ from terminal.asking import held_spans
 from terminal.causes import Question
 from terminal.expressions import parse
 from terminal.pipe import Pipe
-from terminal.scratch import SLICE, Launch, frames_of
+from terminal.scratch import FAR, SLICE, Launch, frames_of
 from terminal.shell import Shell
 from terminal.suspecting import followed
 from terminal.text import ALLOCATIONS, DATA, JUMPS, LOADED, STORED, Instruction, Program
 from terminal.timeline import Timeline
 from terminal.values import is_stack
 from terminal.waiting import Waiting
-from terminal.ways import blocks_of
+from terminal.ways import blocks_of, last_times
 
 from .soak import QuietShell
 
@@ -282,19 +282,39 @@ def spans_of(trace: Trace, function: str, name: str, value: int) -> list[tuple[i
 
 
 def way_faults(debugger: str, file: str, seed: int, questions: int) -> list[str]:
-    """Where `path` tells other blocks of a call than it went through, also where the call has just begun."""
-    shell, trace, chosen = begun(debugger, file, seed)
+    """Where `path` tells other blocks of a call than it went through, also where the call has just begun; and where
+    `why not` has other last times at its blocks and jumps, of a run in slices of five moves."""
+    shell, trace, chosen = begun(debugger, file, seed, 5)
     try:
-        found = []
+        found: list[str | None] = []
         begins = [position for position, state in enumerate(trace.states) if state.frames[0].index == 0]
         for _ in range(questions):
             position = chosen.choice(chosen.choice((begins, range(len(trace.states)))))
             function = shell.session.program.functions[trace.states[position].frames[0].function]
             told, wanted = blocks_of(shell, function, Timeline(position)), way_of(trace, position)
             found.append(None if told == wanted else f"the way to #{position} is {told} and not {wanted}")
+            places = [(block.label, index) for block in function.blocks.values() for index in (0, len(block.body) - 1)]
+            times = last_times(shell, function, Timeline(position), list(dict.fromkeys(places)), chosen.choice((10, FAR)))
+            before = times_of(trace, position, places)
+            found.append(None if times == before else f"before #{position} it stood at {times} and not at {before}")
         return [fault for fault in found if fault]
     finally:
         shell.session.close()
+
+
+def times_of(trace: Trace, position: int, places: list[tuple[str, int]]) -> dict[tuple[str, int], int]:
+    """For each of these places the last state before one in which its innermost frame stood there."""
+    depth = len(trace.states[position].frames)
+    found: dict[tuple[str, int], int] = {}
+    for at in range(position - 1, -1, -1):
+        frames = trace.states[at].frames
+        if len(frames) < depth:
+            # The frame begins behind this state.
+            break
+        here = (frames[0].label, frames[0].index)
+        if len(frames) == depth and here in places:
+            found.setdefault(here, at)
+    return found
 
 
 def way_of(trace: Trace, position: int) -> list[tuple[int, str]]:
@@ -311,10 +331,10 @@ def way_of(trace: Trace, position: int) -> list[tuple[int, str]]:
     return stack[-1]
 
 
-def begun(debugger: str, file: str, seed: int) -> tuple[Shell, Trace, random.Random]:
+def begun(debugger: str, file: str, seed: int, limit: int = SLICE) -> tuple[Shell, Trace, random.Random]:
     with open(file, "rb") as opened:
         source = opened.read()
-    shell = QuietShell(Launch(debugger, file, (), SLICE), file, source, Waiting())
+    shell = QuietShell(Launch(debugger, file, (), limit), file, source, Waiting())
     return shell, trace_of(debugger, file, shell.session.program), random.Random(seed)
 
 
