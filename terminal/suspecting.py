@@ -10,14 +10,38 @@ from check.telling import bits_told, object_told, origin_told, summary
 from page.gathering import Gathering
 
 from .expressions import Wrong
+from .pipe import PULSE
 from .runs import Suspicious
 from .scratch import Refused
 from .shell import Shell, command
 from .stops import SuspicionStop
 from .timeline import Timeline
+from .waiting import Waiting
 
 # How many moves are looked at.
 MOST = 1_000_000
+
+
+class Watched(Follower):
+    """Tells how far it has come, and can be broken off."""
+
+    waiting: Waiting
+
+    def pulse(self, position: int) -> None:
+        self.waiting.stop_if_pressed()
+        self.waiting.tell(position, "looked at up to ")
+
+
+def gather(gathered: Gathering, waiting: Waiting) -> None:
+    """Gathers a run, and can be broken off."""
+    gathered.begin()
+    try:
+        while not gathered.wait(PULSE).is_done:
+            waiting.stop_if_pressed()
+            waiting.tell(len(gathered.places) - 1, "gathered up to ")
+    finally:
+        gathered.stop()
+    waiting.begin_anew()
 
 
 def followed(shell: Shell, at: Timeline, most: int, kinds: frozenset[str]) -> tuple[Follower, Gathering, int]:
@@ -28,14 +52,15 @@ def followed(shell: Shell, at: Timeline, most: int, kinds: frozenset[str]) -> tu
     except TooLong as error:
         raise Refused(str(error)) from None
     gathered = Gathering(shell.launch, table, most, pokes=at.pokes)
-    gathered.gather()
+    gather(gathered, shell.waiting)
     failed = [part[5:].decode() for part in gathered.parts if part[:1] == b"X"]
     if failed:
         raise Refused(failed[0])
     data = next(part[5:] for part in gathered.parts if part[:1] == b"D")
-    follower = Follower(table, data, kinds, roles_of(program, None),
-                        pokes={poke.position: poke.line for poke in at.pokes},
-                        others=shell.lowered.runtime | shell.lowered.outside)
+    follower = Watched(table, data, kinds, roles_of(program, None),
+                       pokes={poke.position: poke.line for poke in at.pokes},
+                       others=shell.lowered.runtime | shell.lowered.outside)
+    follower.waiting = shell.waiting
     return follower, gathered, follower.follow(list(gathered.places), iter(gathered.values))
 
 

@@ -49,6 +49,10 @@ class Waiting:
         self.pressed_at, self.first = None, None
         self.begun = self.shown_at = time.monotonic()
 
+    def begin_anew(self) -> None:
+        """The command goes on with another run, whose speed is its own."""
+        self.first, self.begun = None, time.monotonic()
+
     def check(self) -> None:
         """Breaks a question off once its process was given time to answer."""
         if self.pressed_at is not None and time.monotonic() - self.pressed_at > PATIENCE:

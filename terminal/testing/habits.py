@@ -452,6 +452,26 @@ def far(program: str) -> str | None:
             session.close()
 
 
+def looked_at(program: str) -> str | None:
+    """Ctrl-C breaks off a look at the whole run for what is suspicious, and the session goes on."""
+    with tempfile.TemporaryDirectory(prefix="looked-") as folder:
+        session = Held(program, written(folder, "endless.ssa", ENDLESS))
+        try:
+            session.do("goto 900000")
+            for line in ("suspects", "break suspect", "made %i"):
+                session.type(f"{line}\n")
+                # Some of the run is gathered by then, and all of it isn't.
+                session.wait_for("gathered up to ")
+                session.type("\x03")
+                fault = missing(session.wait_for(PROMPT), "stopped by Ctrl-C")
+                if fault:
+                    return f"{line}: {fault}"
+                session.settle(READY)
+            return missing(session.do("stops"), "none") or missing(session.do("s"), "#900001 $main @loop")
+        finally:
+            session.close()
+
+
 def patient(_program: str) -> str | None:
     """A check that takes long is waited for once, and not at each cause."""
     lookout = object.__new__(Lookout)
@@ -633,7 +653,7 @@ def stops_kept(program: str) -> str | None:
 
 HABITS = {call.__name__.replace("_", " "): call for call in (
     interrupted, interrupted_at_the_prompt, left, completed, bad_lines, refused, broken, narrow, without_readline,
-    wrapped, memory_told, bounded, fast, followed, suspected, patient, gone_round, far, deep, saved_and_compared, stops_kept,
+    wrapped, memory_told, bounded, fast, followed, suspected, patient, looked_at, gone_round, far, deep, saved_and_compared, stops_kept,
     mapped, lowered, bare)}
 
 
