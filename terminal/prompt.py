@@ -122,7 +122,7 @@ class Prompt:
                 self.shell.run("frame") if self.shell.session.frames() else self.shell.show()
             except Leave:
                 break
-            was_interrupted = self.shell.waiting.is_pressed
+            was_interrupted = self.shell.waiting.is_heard
         self.keep_history()
 
     def is_leaving(self) -> bool:

@@ -187,7 +187,7 @@ class Runs:
         except Interrupted:
             reached = self.scratch.timeline.position if self.scratch.pipe else position
             position, outcome = (max if is_forward else min)(position, reached), Outcome(STOPPED)
-            self.waiting.begin()
+            self.waiting.heed()
         for stop in self.active:
             stop.ignored = filter.left.get(id(stop), stop.ignored)
         if not outcome and suspicious and last == suspicious.position:

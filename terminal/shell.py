@@ -176,6 +176,7 @@ class Shell:
 
     def show(self, reason: str = "") -> None:
         """A stop: why, the place line, the text around it, and what is displayed."""
+        self.waiting.heed()
         if reason:
             self.say(f"stop: {reason}")
         self.say(self.screen.place_line(), *self.screen.place_lines())
@@ -213,6 +214,8 @@ class Shell:
         try:
             for line in lines:
                 self.do(line)
+                if self.waiting.is_heard:
+                    break
         finally:
             self.nested -= 1
             self.last = ""
@@ -315,15 +318,10 @@ class Shell:
         self.output.begin()
         before = self.session.place
         try:
-            self.do(line)
-        except Quit:
+            self.do_and_tell(line, before)
+        except (Quit, Interrupted):
+            # What is said at last can be broken off too.
             pass
-        except (Wrong, Unset, Refused) as error:
-            self.say(str(error))
-            self.show_if_moved(before)
-        except Interrupted:
-            self.say(STOPPED)
-            self.show_if_moved(before)
         except Ended as end:
             self.say(f"the debugger ended ({end}); `save FILE` still writes the session's lines")
         except RecursionError:
@@ -338,6 +336,18 @@ class Shell:
             for news in self.session.news:
                 self.say(news)
             self.session.news.clear()
+
+    def do_and_tell(self, line: str, before: Place) -> None:
+        """Does what a line asks, and says why it got no further."""
+        try:
+            self.do(line)
+        except (Wrong, Unset, Refused) as error:
+            self.say(str(error))
+            self.show_if_moved(before)
+        except Interrupted:
+            self.waiting.heed()
+            self.say(STOPPED)
+            self.show_if_moved(before)
 
     def fault(self, error: Exception) -> None:
         """A fault of this program itself, which isn't to cost whoever typed the line the session."""

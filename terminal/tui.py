@@ -14,6 +14,7 @@ from .output import Quit, is_plain
 from .panes import Panes, Row, row
 from .scratch import Refused
 from .shell import Leave, Shell, command
+from .waiting import Interrupted
 
 # What a key types. Those that aren't here are about the screen itself (`Screenful.own`).
 TYPED = {"s": "step", "b": "back", "n": "next", "N": "reverse-next", "p": "reverse-next", "c": "continue",
@@ -176,19 +177,27 @@ class Screenful:
 
     def run(self) -> None:
         """Takes keys up to the one that leaves."""
-        self.panes.moved()
         self.window.timeout(LOOKED_EVERY)
         self.has_resized()
-        self.draw()
+        self.draw_whole()
         while True:
             key = self.window.getch()
             if self.has_resized() or key == curses.KEY_RESIZE:
-                self.draw()
+                self.draw_whole()
             if key in (-1, curses.KEY_RESIZE):
                 continue
             if not self.take(key):
                 return
+            self.draw_whole()
+
+    def draw_whole(self) -> None:
+        """Draws, though Ctrl-C was pressed before; pressed again it breaks that off, up to the next key."""
+        self.shell.waiting.begin()
+        try:
+            self.panes.moved()
             self.draw()
+        except Interrupted:
+            pass
 
     def has_resized(self) -> bool:
         """Follows the size of the terminal: the library of the prompt keeps the signal that tells of it."""
@@ -292,7 +301,6 @@ class Screenful:
         self.is_whole = not is_begun and len(self.message) >= self.size[0] // 2
         if is_moving and moved:
             self.cursor = 0
-        self.panes.moved()
 
     def draw_progress(self, text: str) -> None:
         """How far a run is, on the last line."""

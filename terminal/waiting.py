@@ -21,6 +21,8 @@ class Waiting:
 
     def __init__(self) -> None:
         self.pressed_at: float | None = None
+        # Whether it was pressed in this command, and is heeded by now.
+        self.was_pressed = False
         self.is_at_prompt = False
         self.is_shown = False
         self.begun = self.shown_at = time.monotonic()
@@ -44,9 +46,18 @@ class Waiting:
     def is_pressed(self) -> bool:
         return self.pressed_at is not None
 
+    @property
+    def is_heard(self) -> bool:
+        """Whether it was pressed in this command."""
+        return self.is_pressed or self.was_pressed
+
+    def heed(self) -> None:
+        """What there is to show now isn't broken off by Ctrl-C that was pressed before."""
+        self.was_pressed, self.pressed_at = self.is_heard, None
+
     def begin(self) -> None:
         """A command begins."""
-        self.pressed_at, self.first = None, None
+        self.pressed_at, self.was_pressed, self.first = None, False, None
         self.begun = self.shown_at = time.monotonic()
 
     def begin_anew(self) -> None:

@@ -14,10 +14,15 @@ import subprocess
 import sys
 import tempfile
 import time
-from typing import Callable
+from types import SimpleNamespace
+from typing import Any, Callable
 
+from terminal import tui
 from terminal.lookout import PATIENCE, Lookout
+from terminal.scratch import Launch
+from terminal.shell import Shell
 from terminal.timeline import Timeline
+from terminal.waiting import Interrupted, Waiting
 
 from .harness import PROMPT, TOP, Held, Silent, Terminal, last_place
 from .sessions import EXAMPLES, SQUARES
@@ -472,6 +477,68 @@ def looked_at(program: str) -> str | None:
             session.close()
 
 
+class Pressed(Shell):
+    """A session in which Ctrl-C breaks each command off at #101, which takes long to show. It may be pressed once
+    more then."""
+
+    def begin_kept(self, is_pressed_again: bool) -> None:
+        self.said: list[str] = []
+        self.is_pressed_again = is_pressed_again
+
+    def say(self, *lines: str) -> None:
+        self.said += lines
+
+    def do(self, line: str) -> None:
+        self.session.move("step 101")
+        self.session.scratch.drop()
+        self.waiting.pressed_at = time.monotonic() - 1
+        raise Interrupted
+
+    def show(self, reason: str = "") -> None:
+        if self.is_pressed_again:
+            raise Interrupted
+        super().show(reason)
+
+
+def shown_at_last(program: str) -> str | None:
+    """Where Ctrl-C stopped a command the session shows what comes next, and for %at.next of the digits another process
+    is asked; a second one costs the rest of what is shown, and not the session."""
+    file = EXAMPLES / "digits.ssa"
+    for is_again in (False, True):
+        shell = Pressed(Launch(program, str(file), ()), str(file), file.read_bytes(), Waiting())
+        shell.begin_kept(is_again)
+        try:
+            shell.run("finish")
+        except Interrupted:
+            return f"it ends the session, {'pressed again' if is_again else 'pressed once'}"
+        finally:
+            shell.session.close()
+        place = [] if is_again else ["#101 $number @digit 3", "%at.next=frame 1 $main alloc %count+3"]
+        fault = missing("\n".join(shell.said), "stopped by Ctrl-C", *place)
+        if fault:
+            return fault
+    return None
+
+
+def drawn_at_last(_program: str) -> str | None:
+    """Ctrl-C that was pressed while nothing ran breaks off no drawing of the full screen, and a second one ends it."""
+    screen: Any = object.__new__(tui.Screenful)
+    waiting = Waiting()
+    drawn: list[bool] = []
+
+    def draw() -> None:
+        waiting.check()
+        drawn.append(True)
+        waiting.pressed_at = time.monotonic() - 1
+        waiting.check()
+
+    screen.shell, screen.panes = SimpleNamespace(waiting=waiting), SimpleNamespace(moved=lambda: None)
+    screen.draw = draw
+    waiting.pressed_at = time.monotonic() - 1
+    screen.draw_whole()
+    return None if drawn else "nothing is drawn"
+
+
 def patient(_program: str) -> str | None:
     """A check that takes long is waited for once, and not at each cause."""
     lookout = object.__new__(Lookout)
@@ -653,8 +720,8 @@ def stops_kept(program: str) -> str | None:
 
 HABITS = {call.__name__.replace("_", " "): call for call in (
     interrupted, interrupted_at_the_prompt, left, completed, bad_lines, refused, broken, narrow, without_readline,
-    wrapped, memory_told, bounded, fast, followed, suspected, patient, looked_at, gone_round, far, deep, saved_and_compared, stops_kept,
-    mapped, lowered, bare)}
+    wrapped, memory_told, bounded, fast, followed, suspected, patient, looked_at, shown_at_last, drawn_at_last,
+    gone_round, far, deep, saved_and_compared, stops_kept, mapped, lowered, bare)}
 
 
 def tried(call: Callable[[str], str | None], program: str) -> str | None:
