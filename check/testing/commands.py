@@ -80,6 +80,26 @@ WRITTEN: list[tuple[str, str, list[str], int, str]] = [
     ("arguments", TAKES, ["3", "65536"], 3, "1 suspicion in 52 moves, done 0"),
     ("another entry", ROUNDS.replace("$main", "$other"), ["--entry", "other"], 3, "1 suspicion in 52 moves, done 0"),
 ]
+# Calls of the runtime, with the kinds that they come to and the objects that were meant. $next lies right behind $small.
+OBJECTS = ("data $text = align 8 { b \"a text that is long\", b 0 }\ndata $small = align 8 { b \"a text t\" }\n"
+           "data $next = align 8 { b \"hat is lo\", z 16 }\n"
+           "export function w $main() {\n@start\n\t%kept =l copy $next\n")
+LIBRARY: list[tuple[str, list[tuple[str, str]]]] = [
+    ("%r =l call $strcpy(l $small, l $text)", [("bounds", "small")]),
+    ("%r =l call $strcpy(l $next, l $text)", []),
+    ("%r =l call $memcpy(l $small, l $text, l 16)", [("bounds", "small")]),
+    ("%r =l call $memcpy(l $small, l $text, l 8)", []),
+    ("%r =l call $memmove(l $small, l $text, l 16)", [("bounds", "small")]),
+    ("%r =l call $memmove(l $next, l $small, l 24)", [("bounds", "small")]),
+    ("%p =l add $text, 3\n\t%r =l call $memmove(l %p, l $text, l 16)", []),
+    ("%p =l add $text, 3\n\t%r =l call $memmove(l $text, l %p, l 16)", []),
+    ("%p =l add $small, 3\n\t%r =l call $memmove(l %p, l $small, l 8)", [("bounds", "small")]),
+    ("%r =w call $memcmp(l $text, l $small, l 12)", [("bounds", "small")]),
+    ("%r =w call $memcmp(l $text, l $small, l 8)", []),
+    ("%r =w call $strcmp(l $text, l $small)", [("bounds", "small")]),
+    ("%r =w call $strncmp(l $text, l $small, l 12)", [("bounds", "small")]),
+    ("%r =w call $strncmp(l $small, l $text, l 8)", []),
+]
 Case = tuple[str, Callable[[], str | None]]
 
 
@@ -160,16 +180,21 @@ def errors_fault(program: str) -> str | None:
     return None
 
 
+def lowered_in(place: str, text: str) -> str:
+    """The text that comes of a.ssa in a folder."""
+    folder = pathlib.Path(place)
+    (folder / "a.ssa").write_text(text)
+    subprocess.run([str(TOP / "lower" / "qrev-lower"), "--link", "--output", "out.ssa", "a.ssa"], cwd=folder, check=True)
+    return str(folder / "out.ssa")
+
+
 def halted_fault(program: str) -> str | None:
     """A fault in the runtime of a lowered text is told at the call that led there, in the text that was lowered."""
     text = "function $stop() {\n@start\n\tcall $abort()\n\tret\n}\nexport function w $main() {\n@start\n" \
         "\tcall $stop()\n\tret 0\n}\n"
     with tempfile.TemporaryDirectory(prefix="check-") as place:
-        folder = pathlib.Path(place)
-        (folder / "a.ssa").write_text(text)
-        subprocess.run([str(TOP / "lower" / "qrev-lower"), "--link", "--output", "out.ssa", "a.ssa"], cwd=folder,
-                       check=True)
-        told = [run(program, str(folder / "out.ssa"), *words.split()).stdout
+        file = lowered_in(place, text)
+        told = [run(program, file, *words.split()).stdout
                 for words in ("--format gnu", "--fast --format gnu")]
     wanted = re.compile(r"a\.ssa:3: error: halted in \$abort \[#\d+ \$stop @start 0\]\n")
     return None if all(map(wanted.fullmatch, told)) else f"{told}"
@@ -180,12 +205,9 @@ def inside_fault(program: str) -> str | None:
     that nothing has set."""
     text = "export function w $main() {\n@start\n\t%slot =l alloc4 4\n\t%n =l call $strlen(l %slot)\n\tret 0\n}\n"
     with tempfile.TemporaryDirectory(prefix="check-") as place:
-        folder = pathlib.Path(place)
-        (folder / "a.ssa").write_text(text)
-        subprocess.run([str(TOP / "lower" / "qrev-lower"), "--link", "--output", "out.ssa", "a.ssa"], cwd=folder,
-                       check=True)
-        lines = run(program, str(folder / "out.ssa")).stdout.splitlines()
-        shown = run(program, str(folder / "out.ssa"), "--format", "gnu").stdout
+        file = lowered_in(place, text)
+        lines = run(program, file).stdout.splitlines()
+        shown = run(program, file, "--format", "gnu").stdout
     wanted = r"  called at \$main @start 1  line \d+: %n =l call \$strlen\(l %slot\)  \(a\.ssa:4\)"
     well = re.fullmatch(wanted, lines[2]) and lines[1].startswith("  undef: jnz of ") and \
         re.match(r"a\.ssa:4: warning: undef: jnz of .*, in \$strlen \[#\d+ \$main @start 1\]\n", shown)
@@ -198,16 +220,38 @@ def called_fault(program: str) -> str | None:
             "\t%i =w phi @start 0, @loop %j\n\t%n =l call $strlen(l %slot)\n\t%j =w add %i, 1\n\t%c =w csltw %j, 3\n"
             "\tjnz %c, @loop, @end\n@end\n\t%m =l call $strlen(l %other)\n\tret 0\n}\n")
     with tempfile.TemporaryDirectory(prefix="check-") as place:
-        folder = pathlib.Path(place)
-        (folder / "a.ssa").write_text(text)
-        subprocess.run([str(TOP / "lower" / "qrev-lower"), "--link", "--output", "out.ssa", "a.ssa"], cwd=folder,
-                       check=True)
-        told = run(program, str(folder / "out.ssa")).stdout
-        log = json.loads(run(program, str(folder / "out.ssa"), "--format", "json").stdout)
+        file = lowered_in(place, text)
+        told = run(program, file).stdout
+        log = json.loads(run(program, file, "--format", "json").stdout)
     called = re.findall(r"undef: jnz of .*?(  \(3 times\))?\n  called at .*\(a\.ssa:(\d+)\)", told)
     lines = [(result["locations"][0]["physicalLocation"]["region"]["startLine"], result["occurrenceCount"])
              for result in log["runs"][0]["results"]]
     return None if called == [("  (3 times)", "8"), ("", "13")] and lines == [(8, 3), (13, 1)] else f"{told!r}, {lines}"
+
+
+def library_fault(program: str) -> str | None:
+    """What functions of the runtime do behind an object is told, also where they land wholly in another one, and where
+    two addresses are at hand; what they do inside it isn't."""
+    for call, wanted in LIBRARY:
+        with tempfile.TemporaryDirectory(prefix="check-") as place:
+            file = lowered_in(place, OBJECTS + f"\t{call}\n\tret 0\n}}\n")
+            lines = run(program, file, "--format", "gnu").stdout.splitlines()
+        told = [(int(line.split(":")[1]), line.split(": ")[2], line.partition(" of $")[2].split(" ")[0])
+                for line in lines if ": warning: " in line]
+        first = (OBJECTS + call).count("\n") + 1
+        if len(lines) != len(told) or sorted(set(told)) != [(first, kind, name) for kind, name in wanted]:
+            return f"{call}: {lines}"
+    return None
+
+
+def read_only_fault(program: str) -> str | None:
+    """A store into data of a read-only section is told of a text that was lowered too, and a load isn't."""
+    text = ('section ".rodata.str"\ndata $text = { b "%d", b 0 }\nsection ".data" data $other = { w 1 }\n'
+            "export function w $main() {\n@start\n\t%x =w loadub $text\n\tstorew %x, $other\n\tstoreb %x, $text\n"
+            "\tret 0\n}\n")
+    with tempfile.TemporaryDirectory(prefix="check-") as place:
+        told = run(program, lowered_in(place, text), "--format", "gnu").stdout
+    return None if re.fullmatch(r"a\.ssa:8: warning: rodata: storeb into \$text .*\n", told) else f"{told!r}"
 
 
 def unnamed_fault(program: str) -> str | None:
@@ -228,11 +272,8 @@ def lowered_fault(program: str) -> str | None:
             "export function w $main() {\n@start\n\t%q =l add $small, 4\n\tstorew 7, %q\n"
             "\t%r =w call $printf(l $f, ..., w 12)\n\tret 0\n}\n")
     with tempfile.TemporaryDirectory(prefix="check-") as place:
-        folder = pathlib.Path(place)
-        (folder / "a.ssa").write_text(text)
-        subprocess.run([str(TOP / "lower" / "qrev-lower"), "--link", "--output", "out.ssa", "a.ssa"], cwd=folder,
-                       check=True)
-        told = run(program, str(folder / "out.ssa"))
+        file = lowered_in(place, text)
+        told = run(program, file)
     lines = told.stdout.splitlines()
     well = len(lines) == 3 and lines[0].endswith("  (a.ssa:7)") and \
         lines[1].startswith("  bounds: storew at the end of $small")
@@ -280,7 +321,7 @@ def cases(program: str) -> Iterator[Case]:
         yield f"command {name}", partial(written_fault, program, *written)
     for name, call in (("help", help_fault), ("count", count_fault), ("json", json_fault),
                        ("errors", errors_fault), ("halted", halted_fault), ("inside", inside_fault),
-                       ("called", called_fault), ("unnamed", unnamed_fault),
+                       ("called", called_fault), ("unnamed", unnamed_fault), ("library", library_fault), ("read only", read_only_fault),
                        ("lowered", lowered_fault), ("wide", wide_fault), ("long name", long_name_fault)):
         yield f"command {name}", partial(call, program)
     for page in (TOP / "README.md", TOP / "docs" / "CHECKING.md"):

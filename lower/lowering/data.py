@@ -12,6 +12,8 @@ ESCAPED = re.compile(r'[\x00-\x1f\x7f"\\](?=([0-7])?)')
 FEWEST_ZEROS = 8
 WHOLE = (1 << 64) - 1
 DEFAULT_ALIGNMENT = 16
+# A store into data of a section whose name begins so is suspicious.
+READ_ONLY = ".rodata"
 
 
 def size_of(item: Item) -> int:
@@ -71,3 +73,9 @@ def written_data(data: Data, name: str, name_of: Callable[[str], str], address_o
         fields.append(f"{letter} " + " ".join(written_item(item, name_of, address_of) for item in items))
     align = f"align {data.alignment} " if data.alignment is not None else ""
     return f"data {name} = {align}{{ {', '.join(fields)} }}" if fields else f"data {name} = {align}{{ }}"
+
+
+def written_section(data: Data) -> list[str]:
+    """The line before that of an object which isn't to be written to; what else its section is called says nothing
+    here."""
+    return [f'section "{READ_ONLY}"'] if (data.section or "").startswith(READ_ONLY) else []

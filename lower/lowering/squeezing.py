@@ -13,7 +13,6 @@ if TYPE_CHECKING:
     from .writing import Chunk
 
 SPACED = re.compile(r" ?([,=(){}+]) ?")
-DATA = "data "
 
 
 def close(line: str) -> str:
@@ -41,7 +40,7 @@ def squeeze_spaces(chunks: list["Chunk"]) -> None:
 def squeeze_names(chunks: list["Chunk"]) -> dict[str, str]:
     """Gives the shortest names to the temporaries and labels that are written most often; the old names of the new
     ones."""
-    functions = [chunk for chunk in chunks if not chunk.texts[0].startswith(DATA)]
+    functions = [chunk for chunk in chunks if not chunk.symbol.is_data()]
     uses: Counter[str] = Counter(name for chunk in functions for line in chunk.texts for name in LOCAL.findall(line))
     fresh = {"%": short_names(), "@": short_names()}
     new = {name: name[0] + next(fresh[name[0]]) for name, _ in uses.most_common()}

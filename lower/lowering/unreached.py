@@ -14,7 +14,6 @@ from terminal.reading.tokens import STRING as QUOTED
 if TYPE_CHECKING:
     from .writing import Chunk
 
-DATA = re.compile(r"(?:export\s+)?(?:section\s.*\s)?data\s")
 HEAD = re.compile(rf"(?:export\s+)?function\s*([a-z]*)\s*(\${NAME})\s*\(([^)]*)\)\s*\{{")
 CALL = re.compile(rf"(?:=\s*([wl])\s*)?\bcall\s*([$%]{NAME})\s*\(([^)]*)\)")
 GLOBAL = re.compile(rf"\${NAME}")
@@ -41,7 +40,7 @@ class Uses:
 
 def uses_of(chunk: "Chunk") -> Uses:
     found = Uses()
-    if DATA.match(chunk.texts[0]):
+    if chunk.symbol.is_data():
         for line in chunk.texts:
             found.addresses.update(GLOBAL.findall(STRING.sub("", line)))
         found.addresses.discard(chunk.symbol.name)
@@ -73,7 +72,7 @@ def enters(call: Shape, function: Shape) -> bool:
 def reached(chunks: list["Chunk"], entry: str) -> set[str]:
     """The names of the functions that a run from the entry can come to, and of the data that it can."""
     uses = {chunk.symbol.name: uses_of(chunk) for chunk in chunks}
-    shapes = {chunk.symbol.name: shape_of(chunk) for chunk in chunks if not DATA.match(chunk.texts[0])}
+    shapes = {chunk.symbol.name: shape_of(chunk) for chunk in chunks if not chunk.symbol.is_data()}
     live, addressed, calls = {entry}, set[str](), set[Shape]()
     todo = [entry]
     while todo:
@@ -92,7 +91,7 @@ def cut_unreached(chunks: list["Chunk"], entry: str) -> int:
     """Cuts the functions that no call can reach; how many they are."""
     live, count = reached(chunks, entry), 0
     for chunk in chunks:
-        if chunk.symbol.name not in live and not DATA.match(chunk.texts[0]):
+        if chunk.symbol.name not in live and not chunk.symbol.is_data():
             chunk.texts = [chunk.texts[0], *CUT]
             chunk.origins = [chunk.origins[0], *[(0, None)] * len(CUT)]
             count += 1

@@ -5,7 +5,7 @@ from dataclasses import dataclass
 from terminal.reading.tree import Data, Item, Place
 
 from .adapters import Adapters
-from .data import DEFAULT_ALIGNMENT, size_of_data, written_data
+from .data import DEFAULT_ALIGNMENT, size_of_data, written_data, written_section
 from .ends import SECTIONS, array_names
 from .functions import FunctionWriter
 from .linking import Program
@@ -110,7 +110,8 @@ class ProgramWriter:
         definition, unit = symbol.data(), symbol.home()
         text = written_data(definition, symbol.name, lambda raw: self.program.address_name(unit, raw),
                             lambda raw: self.addresses[self.program.refer(unit, raw, True)])
-        return Chunk(symbol, [text], [(definition.line, None)], unit.text.path)
+        texts = [*written_section(definition), text]
+        return Chunk(symbol, texts, [(definition.line, None)] * len(texts), unit.text.path)
 
     def join_arrays(self) -> None:
         """Puts the end of an array of functions right behind it."""
