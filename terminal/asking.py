@@ -7,7 +7,7 @@ from itertools import zip_longest
 from .accesses import Access
 from .answers import COMMANDS as LANGUAGE, Place, read_place
 from .causes import MOST_BYTES_ASKED, Cause, Question
-from .expressions import Node, Unset, Wrong, evaluate, parts_of, temporaries_of, whole
+from .expressions import Node, Unset, Wrong, as_bytes, evaluate, parts_of, temporaries_of, whole
 from .pipe import Pipe
 from .scratch import Refused, frames_of
 from .session import MOVES
@@ -32,7 +32,8 @@ def why(shell: Shell, rest: str) -> None:
     one instruction; `--inside` looks into it."""
     words = [word for word in rest.split() if word != INSIDE]
     shell.causes.is_inside = INSIDE in rest.split()
-    rest = " ".join(words)
+    rest = as_bytes(" ".join(words))
+    words = rest.split()
     if words == ["back"]:
         if len(shell.chain) < 2:
             raise Refused("there is no cause before this one")

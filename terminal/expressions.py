@@ -28,6 +28,10 @@ class Wrong(Exception):
     """What is wrong with a line, in words for whoever typed it."""
 
 
+class Missing(Wrong):
+    """There is no expression where one was expected."""
+
+
 class Unset(Exception):
     """A value that can't be had in this state: a temporary that is unset or isn't there, or dead bytes."""
 
@@ -303,3 +307,9 @@ def temporaries_of(node: Node) -> list[str]:
 def is_fixed(node: Node) -> bool:
     """Whether an expression has the same value in each state."""
     return all(part.kind in ("number", "float", "global", "binary", "unary", "u", "s") for part in parts_of(node))
+
+
+def as_bytes(text: str) -> str:
+    """Bytes that are named as their value is, `w[ADDRESS]`, as WIDTH ADDRESS; any other text as it is."""
+    found = re.fullmatch(r"([a-z])\[(.*)\]", text.strip())
+    return f"{found[1]} {found[2].strip()}" if found and parse(text).kind == "memory" else text

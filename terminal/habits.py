@@ -8,8 +8,7 @@ from .expressions import Unset, Wrong
 from .runs import Places
 from .scratch import Refused
 from .shell import Shell, command
-from .stopping import place_of, stop_named
-from .stops import Stop
+from .stopping import place_of, stop_named, stops_named
 from .timeline import Timeline
 
 
@@ -93,7 +92,7 @@ def disas(shell: Shell, rest: str) -> None:
 @command("disable", "disable [N ..]", is_repeated=False)
 def disable(shell: Shell, rest: str) -> None:
     """Switches stops off by their numbers; without one, all. `enable` switches them on again."""
-    for stop in chosen(shell, rest):
+    for stop in stops_named(shell, rest):
         shell.runs.switch_off(stop)
         shell.say(str(stop))
 
@@ -101,13 +100,9 @@ def disable(shell: Shell, rest: str) -> None:
 @command("enable", "enable [N ..]", is_repeated=False)
 def enable(shell: Shell, rest: str) -> None:
     """Switches stops on again by their numbers; without one, all."""
-    for stop in chosen(shell, rest):
+    for stop in stops_named(shell, rest):
         shell.runs.switch_on(stop)
         shell.say(str(stop))
-
-
-def chosen(shell: Shell, rest: str) -> list[Stop]:
-    return [stop_named(shell, word) for word in rest.split()] or list(shell.runs.stops)
 
 
 @command("commands", "commands [N]", is_repeated=False)

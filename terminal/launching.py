@@ -1,6 +1,8 @@
 """The words of a command line of qrev, and what is said of a program that it refuses."""
 from __future__ import annotations
 
+import os
+import sys
 from typing import Sequence
 
 from .answers import meaning_of
@@ -58,3 +60,14 @@ def refusal(loaded: str, file: str, source: bytes, lowered: Sequence[str] = ()) 
 def first_text(lowered: Sequence[str]) -> str:
     """The first of the texts that a program was lowered from, which may come behind the file that it reads."""
     return next(iter(lowered[2:] if lowered[:1] == ["--input"] else lowered), "")
+
+
+def has_streams() -> bool:
+    """Whether there is a standard output, which is said if there is none. Input and errors that are closed are empty."""
+    if sys.stdin is None:
+        sys.stdin = open(os.devnull)
+    if sys.stderr is None:
+        sys.stderr = open(os.devnull, "w")
+    if sys.stdout is None:
+        print("qrev: standard output is closed", file=sys.stderr)
+    return sys.stdout is not None

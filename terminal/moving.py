@@ -190,7 +190,7 @@ def set_(shell: Shell, rest: str) -> None:
     if rest.split()[:1] and rest.split()[0] in OPTIONS:
         OPTIONS[rest.split()[0]](shell, rest.partition(" ")[2].strip())
         return
-    rest = rest.removeprefix("var ")
+    rest = rest.removeprefix("var ").removeprefix("variable ")
     if MEMORY.match(rest):
         poke(shell, as_poke(rest))
         return

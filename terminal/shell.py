@@ -8,7 +8,7 @@ from typing import Callable, Sequence
 from .answers import Place, live
 from .causes import Cause, Causes
 from .elsewhere import not_known
-from .expressions import Node, Unset, Value, Wrong, evaluate, parse, parts_of, whole
+from .expressions import Missing, Node, Unset, Value, Wrong, evaluate, parse, parts_of, whole
 from .frames import Frames
 from .lookout import Lookout
 from .lowered import lowered_of
@@ -254,7 +254,7 @@ class Shell:
 
     def parsed(self, text: str) -> Node:
         if not text.strip():
-            raise Wrong("an expression was expected")
+            raise Missing("an expression was expected")
         node = parse(text)
         for part in parts_of(node):
             if part.kind == "global":
@@ -375,7 +375,12 @@ class Shell:
         word, slash, letters = word.partition("/")
         found = self.command_named(word)
         self.last = line if found.is_repeated else ""
-        found.call(self, (slash + letters + " " if slash else "") + rest.strip())
+        try:
+            found.call(self, (slash + letters + " " if slash else "") + rest.strip())
+        except Missing:
+            if rest.strip():
+                raise
+            raise Wrong(f"{found.usage} was expected") from None
 
     def command_named(self, word: str) -> Command:
         """The command of that name, or the only one whose full name begins so."""

@@ -3,7 +3,7 @@ from __future__ import annotations
 
 import re
 
-from .expressions import Node, Wrong, temporaries_of
+from .expressions import Node, Wrong, as_bytes, temporaries_of
 from .moving import address_word
 from .scratch import Refused
 from .shell import Shell, command
@@ -107,6 +107,7 @@ def watch(shell: Shell, rest: str) -> None:
     floats, or a range of N bytes. A write of the same value is no change; on the stack bytes that are dead in between
     aren't either."""
     what, condition, text = with_condition(shell, rest)
+    what = as_bytes(what)
     words = what.split()
     if not words:
         raise Wrong("watch %TEMPORARY, $FUNCTION %TEMPORARY, WIDTH ADDRESS or N ADDRESS was expected")
@@ -181,11 +182,16 @@ def stop_named(shell: Shell, text: str) -> Stop:
     return known[text]
 
 
+def stops_named(shell: Shell, rest: str) -> list[Stop]:
+    """Stops by their numbers, also behind a word of gdb; without a number all."""
+    words = rest.removeprefix("breakpoints").split()
+    return [stop_named(shell, word) for word in words] or list(shell.runs.stops)
+
+
 @command("delete d", "delete [N ..]", is_repeated=False)
 def delete(shell: Shell, rest: str) -> None:
     """Takes stops away by their numbers; without one, all."""
-    words = [] if rest == "breakpoints" else rest.split()
-    for stop in [stop_named(shell, word) for word in words] or list(shell.runs.stops):
+    for stop in stops_named(shell, rest):
         shell.runs.delete(stop)
         shell.say(f"deleted {stop.number}")
 

@@ -24,7 +24,7 @@ from terminal.shell import Shell
 from terminal.timeline import Timeline
 from terminal.waiting import Interrupted, Waiting
 
-from .harness import PROMPT, TOP, Held, Silent, Terminal, last_place
+from .harness import FOLDER, PROMPT, TOP, Held, Silent, Terminal, last_place
 from .sessions import EXAMPLES, SQUARES
 
 ENDLESS = """export function w $main() {
@@ -539,6 +539,18 @@ def drawn_at_last(_program: str) -> str | None:
     return None if drawn else "nothing is drawn"
 
 
+def closed(program: str) -> str | None:
+    """Without a standard output a line says so; input that is closed is empty."""
+    for main in (FOLDER / "main", TOP / "check" / "main"):
+        for closing, wanted in (("out", (2, "qrev: standard output is closed\n")), ("in", None)):
+            words = shlex.join([str(main), "--debugger", program, "--", str(SQUARES)])
+            run = subprocess.run(["sh", "-c", f"{words} {'>&-' if closing == 'out' else '<&-'}"], capture_output=True,
+                                 text=True, stdin=subprocess.DEVNULL)
+            if wanted and (run.returncode, run.stderr) != wanted or run.stderr.count("\n") > 1:
+                return f"{main}, {closing}: {run.returncode}, {run.stderr!r}"
+    return None
+
+
 def patient(_program: str) -> str | None:
     """A check that takes long is waited for once, and not at each cause."""
     lookout = object.__new__(Lookout)
@@ -721,7 +733,7 @@ def stops_kept(program: str) -> str | None:
 HABITS = {call.__name__.replace("_", " "): call for call in (
     interrupted, interrupted_at_the_prompt, left, completed, bad_lines, refused, broken, narrow, without_readline,
     wrapped, memory_told, bounded, fast, followed, suspected, patient, looked_at, shown_at_last, drawn_at_last,
-    gone_round, far, deep, saved_and_compared, stops_kept, mapped, lowered, bare)}
+    closed, gone_round, far, deep, saved_and_compared, stops_kept, mapped, lowered, bare)}
 
 
 def tried(call: Callable[[str], str | None], program: str) -> str | None:
