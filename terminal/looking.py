@@ -173,6 +173,7 @@ def select(shell: Shell, index: int) -> None:
     if not 0 <= index < len(frames):
         raise Refused("this is the innermost frame" if index < 0 else f"the outermost frame is {len(frames) - 1}")
     shell.session.selected = index
+    shell.list_anew()
     place = frames[index]
     shell.say(f"frame {index} {place.function} {place.label} {place.index}")
     if index:

@@ -180,10 +180,14 @@ class Shell:
         if reason:
             self.say(f"stop: {reason}")
         self.say(self.screen.place_line(), *self.screen.place_lines())
-        self.line_shown, self.line_listed = 0, None
+        self.list_anew()
         for number, (letters, text) in self.displays.items():
             self.show_display(number, letters, text)
         self.tell_memory()
+
+    def list_anew(self) -> None:
+        """`list` begins around where the session is looked at now."""
+        self.line_shown, self.line_listed = 0, None
 
     def show_display(self, number: int, letters: str, text: str) -> None:
         try:

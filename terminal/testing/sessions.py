@@ -67,6 +67,8 @@ GDB: Lines = [
     ("disas", ["   6  function $fill", "> 18 ", "  23  }"]),
     ("up", ["frame 1 $main @start 1"]), ("disas", ["> 27 ", "  45  }"]), ("list", ["  22 ", "> 27 ", "  32 "]),
     ("set listsize 3", []), ("list 20", ["  19 ", "  20 ", "  21 "]), ("list", ["  22 ", "  24 "]),
+    ("down", ["frame 0 $fill @body 4"]), ("list", ["  17 ", "> 18 ", "  19 "]), ("up", ["frame 1"]),
+    ("list", ["  26 ", "> 27 ", "  28 "]),
     ("info locals", ["10 unset"]), ("i loc", ["10 unset"]), ("info args", ["none"]),
     ("info s", ["> 1  $main @start 1"]),
     ("rwatch w $bias", ["no such command; `readers WIDTH ADDRESS` lists"]), ("made", ["made %x was expected"]),
