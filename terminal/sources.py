@@ -2,6 +2,7 @@
 from __future__ import annotations
 
 import re
+from dataclasses import replace
 from typing import Callable
 
 from .answers import Place
@@ -41,6 +42,14 @@ def source_here(shell: Shell, place: Place | None = None) -> Line | None:
     return shell.screen.map.source(shell.session.program.line_of(frames[0].function, frames[0].label, frames[0].index))
 
 
+def source_selected(shell: Shell) -> Line | None:
+    """The line of the source at which the selected frame stands; of a caller it is that of its call."""
+    frames, selected = shell.session.frames(), shell.session.selected
+    if not selected or not frames:
+        return source_here(shell)
+    return source_here(shell, replace(frames[selected], index=frames[selected].index - 1))
+
+
 def source_lines(shell: Shell, file: str, first: int, last: int, marked: int) -> list[str]:
     """Lines of a source with their numbers; nothing where it isn't found."""
     lines = shell.screen.map.read(file)
@@ -52,7 +61,7 @@ def source_lines(shell: Shell, file: str, first: int, last: int, marked: int) ->
 
 def list_source(shell: Shell, rest: str) -> bool:
     """Shows lines of the source, where there is one; whether it did."""
-    here, typed = source_here(shell), TYPED.fullmatch(rest)
+    here, typed = source_selected(shell), TYPED.fullmatch(rest)
     if typed:
         found = shell.screen.map.lines_from(typed.group(1), 1)
         file = found[0].file if found else typed.group(1)
@@ -74,7 +83,7 @@ def list_source(shell: Shell, rest: str) -> bool:
 
 
 def source_told(shell: Shell, _rest: str) -> list[str]:
-    here, files = source_here(shell), shell.screen.map.files()
+    here, files = source_selected(shell), shell.screen.map.files()
     told = [f"here: {here.file}:{here.number}" if here else "here: no line of a source"]
     found = {file: "" if shell.screen.map.read(file) else ", which isn't found" for file in files}
     return told + [f"{file}: {count} lines in the text{found[file]}" for file, count in files.items()]

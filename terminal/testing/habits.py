@@ -617,18 +617,27 @@ def saved_and_compared(program: str) -> str | None:
 
 
 def mapped(program: str) -> str | None:
-    """The places that a map has for a line are shown: of the text that was lowered, and of the source."""
+    """The places that a map has for a line are shown: of the text that was lowered, and of the source, whose lines are
+    listed around the selected frame's. The call in $main stands on line 27 of the text."""
     with tempfile.TemporaryDirectory(prefix="mapped-") as folder:
-        file = written(folder, "a.ssa", SQUARES.read_text())
+        written(folder, "a.ssa", SQUARES.read_text())
         places = [f"my\\tsquares.ssa\t{number // 2}" if number > 5 else "" for number in range(1, 50)]
         places[17 - 1] += "\tlib\\\\a.my\t3\t0"
         places[18 - 1] += "\tsquares.my\t4\t7"
+        places[27 - 1] += "\tsquares.my\t30\t0"
         written(folder, "a.ssa.map", "\n".join(places) + "\n")
-        session = Held(program, file)
+        written(folder, "squares.my", "".join(f"my {number}\n" for number in range(1, 41)))
+        session = Held(program, "a.ssa", folder=folder)
         try:
             fault = missing(session.do("goto 44"), "  source: my\tsquares.ssa:9: squares.my:4:7\n")
-            fault = fault or missing(session.do("bt"), "(my\tsquares.ssa:13)\n")
+            fault = fault or missing(session.do("bt"), "(my\tsquares.ssa:13: squares.my:30)\n")
+            fault = fault or missing(session.do("s"), "  source: my\tsquares.ssa:9\n")
+            session.do("back")
             fault = fault or missing(session.do("why %place"), "  (my\tsquares.ssa:8: lib\\a.my:3)\n")
+            fault = fault or missing(session.do("list"), "squares.my\n", " my 4\n")
+            session.do("up")
+            fault = fault or missing(session.do("list"), "squares.my\n", "> 30  my 30\n")
+            fault = fault or missing(session.do("info source"), "here: squares.my:30\n")
             return fault or session.replayed_fault()
         finally:
             session.close()
