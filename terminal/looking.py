@@ -8,7 +8,7 @@ from .answers import live, read_output
 from .expressions import Unset, Wrong
 from .habits import save_stops
 from .scratch import Refused
-from .shell import COMMANDS, Shell, command
+from .shell import COMMANDS, Shell, check_format, command
 from .sources import list_source, source_told
 from .values import BYTES, FORMATS, formatted, shown_bytes
 
@@ -129,6 +129,7 @@ def display(shell: Shell, rest: str) -> None:
         for number, (each, shown) in shell.displays.items():
             shell.show_display(number, each, shown)
         return
+    check_format(letters)
     shell.parsed(text)
     number = max(shell.displays, default=0) + 1
     shell.displays[number] = (letters, text)

@@ -67,7 +67,9 @@ class Session:
             word, _, count = line.partition(" ")
             left = int(count) if word in ("step", "back") else 0
             while left > (most := self.most_at_once(word)):
-                self.move(f"{word} {most}")
+                if self.move(f"{word} {most}").refusal:
+                    # The run is over, however many moves were asked for.
+                    break
                 left -= most
                 self.waiting.tell(self.place.position, target=there.position)
                 self.waiting.stop_if_pressed()

@@ -68,6 +68,11 @@ class Switched(Exception):
     """The session of the other text is to go on, where two are compared."""
 
 
+def check_format(letters: str) -> None:
+    if letters and letters not in FORMATS:
+        raise Wrong(f"/{letters}: one of {', '.join('/' + letter for letter in FORMATS)} was expected")
+
+
 class FrameState:
     """The state of the selected frame, as expressions look at it."""
 
@@ -287,8 +292,7 @@ class Shell:
         """An expression and its value, in the format of a letter or as it is read best."""
         value = self.evaluate(text)
         width = value.width or "l"
-        if letters and letters not in FORMATS:
-            raise Wrong(f"/{letters}: one of {', '.join('/' + letter for letter in FORMATS)} was expected")
+        check_format(letters)
         if isinstance(value.number, float):
             width = width if width in FLOATS else "d"
             bits = bits_of(value.number, width)

@@ -25,6 +25,8 @@ def place_in_source(shell: Shell, text: str) -> tuple[str, str, int] | None:
     if not typed:
         return None
     found = shell.screen.map.lines_from(typed.group(1), int(typed.group(2)))
+    if not found and is_text(shell, typed.group(1)):
+        return shell.session.program.place_at(int(typed.group(2)))
     if not found:
         files = ", ".join(shell.screen.map.files()) or "none, since the text has no map with debug lines"
         raise Wrong(f"{text}: no code at that line or behind it; the sources are: {files}"[:240])
@@ -32,6 +34,12 @@ def place_in_source(shell: Shell, text: str) -> tuple[str, str, int] | None:
     own = [program.place_at(line) for line in found[1] if program.place_at(line)]
     exact = [place for place, line in zip(own, found[1]) if place and program.line_of(*place) == line]
     return next(iter(exact or own), None)
+
+
+def is_text(shell: Shell, file: str) -> bool:
+    """Whether a file is the text that runs, which isn't one that was lowered."""
+    name = shell.named[0]
+    return name == file or name.endswith("/" + file)
 
 
 def source_here(shell: Shell, place: Place | None = None) -> Line | None:

@@ -126,6 +126,8 @@ def why_not(shell: Shell, label: str) -> Cause:
         raise Refused("the run is over; `back` goes into it, where a frame can be asked about")
     at = shell.frames.frame(shell.session.timeline, shell.session.selected)
     function = shell.session.program.functions[frames[shell.session.selected].function]
+    # A label may be typed without its sigil, as a function may.
+    label = f"@{label}" if f"@{label}" in function.blocks else label
     if label not in function.blocks:
         raise Wrong(f"{label}: {function.name} has no such label; it has {', '.join(function.blocks)}"[:240])
     jumps = [(block.label, len(block.body) - 1) for block in function.blocks.values() if label in block.body[-1].labels]
