@@ -61,7 +61,8 @@ class Follower:
         self.looks_at_operations = bool(kinds & LOOKS)
         self.is_quick = True
         self.frames: list[Frame] = []
-        # By the place and the kind; of a move in a function that isn't the program's own also by the call that led there.
+        # By the place and the kind; of a move in a function that isn't the program's own also by the call that led
+        # there.
         self.found: dict[tuple[int, str, tuple[str, str, int] | None], Suspicion] = {}
         self.position, self.here = 0, 0
         self.heap_depth = 0
@@ -187,7 +188,8 @@ class Follower:
             known.count += 1
             return
         position = self.position if at is None else at
-        self.found[key] = Suspicion(kind, position, function, label, index, instruction, text, calls=tuple(self.calls()))
+        calls = tuple(self.calls())
+        self.found[key] = Suspicion(kind, position, function, label, index, instruction, text, calls=calls)
 
     def calls(self) -> Iterator[Place]:
         """The places of the calls that are open, the innermost one first."""

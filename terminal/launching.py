@@ -63,7 +63,7 @@ def first_text(lowered: Sequence[str]) -> str:
 
 
 def has_streams() -> bool:
-    """Whether there is a standard output, which is said if there is none. Input and errors that are closed are empty."""
+    """Whether there is a standard output, which is said if there is none. Input that is closed is empty."""
     if sys.stdin is None:
         sys.stdin = open(os.devnull)
     if sys.stderr is None:

@@ -80,7 +80,8 @@ WRITTEN: list[tuple[str, str, list[str], int, str]] = [
     ("arguments", TAKES, ["3", "65536"], 3, "1 suspicion in 52 moves, done 0"),
     ("another entry", ROUNDS.replace("$main", "$other"), ["--entry", "other"], 3, "1 suspicion in 52 moves, done 0"),
 ]
-# Calls of the runtime, with the kinds that they come to and the objects that were meant. $next lies right behind $small.
+# Calls of the runtime, with the kinds that they come to and the objects that were meant. $next lies right behind
+# $small.
 OBJECTS = ("data $text = align 8 { b \"a text that is long\", b 0 }\ndata $small = align 8 { b \"a text t\" }\n"
            "data $next = align 8 { b \"hat is lo\", z 16 }\n"
            "export function w $main() {\n@start\n\t%kept =l copy $next\n")
@@ -184,7 +185,8 @@ def lowered_in(place: str, text: str) -> str:
     """The text that comes of a.ssa in a folder."""
     folder = pathlib.Path(place)
     (folder / "a.ssa").write_text(text)
-    subprocess.run([str(TOP / "lower" / "qrev-lower"), "--link", "--output", "out.ssa", "a.ssa"], cwd=folder, check=True)
+    subprocess.run([str(TOP / "lower" / "qrev-lower"), "--link", "--output", "out.ssa", "a.ssa"], cwd=folder,
+                   check=True)
     return str(folder / "out.ssa")
 
 
@@ -321,7 +323,8 @@ def cases(program: str) -> Iterator[Case]:
         yield f"command {name}", partial(written_fault, program, *written)
     for name, call in (("help", help_fault), ("count", count_fault), ("json", json_fault),
                        ("errors", errors_fault), ("halted", halted_fault), ("inside", inside_fault),
-                       ("called", called_fault), ("unnamed", unnamed_fault), ("library", library_fault), ("read only", read_only_fault),
+                       ("called", called_fault), ("unnamed", unnamed_fault), ("library", library_fault),
+                       ("read only", read_only_fault),
                        ("lowered", lowered_fault), ("wide", wide_fault), ("long name", long_name_fault)):
         yield f"command {name}", partial(call, program)
     for page in (TOP / "README.md", TOP / "docs" / "CHECKING.md"):

@@ -294,7 +294,8 @@ def way_faults(debugger: str, file: str, seed: int, questions: int) -> list[str]
             told, wanted = blocks_of(shell, function, Timeline(position)), way_of(trace, position)
             found.append(None if told == wanted else f"the way to #{position} is {told} and not {wanted}")
             places = [(block.label, index) for block in function.blocks.values() for index in (0, len(block.body) - 1)]
-            times = last_times(shell, function, Timeline(position), list(dict.fromkeys(places)), chosen.choice((10, FAR)))
+            far = chosen.choice((10, FAR))
+            times = last_times(shell, function, Timeline(position), list(dict.fromkeys(places)), far)
             before = times_of(trace, position, places)
             found.append(None if times == before else f"before #{position} it stood at {times} and not at {before}")
         return [fault for fault in found if fault]
