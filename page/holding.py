@@ -74,9 +74,9 @@ class Held:
     def gathered(self, pokes: tuple[Poke, ...]) -> Gathering:
         return Gathering(self.launch, self.table, self.most, None if pokes else self.total, pokes).begin()
 
-    def suspicions(self) -> list[dict[str, Any]]:
+    def suspicions(self) -> list[dict[str, Any]] | None:
         """Those of the run as it is now; of a run that is too long for arrays none are looked for."""
-        return [] if self.long else suspicions_of(self.gathering.wait())
+        return None if self.long else suspicions_of(self.gathering.wait())
 
     def told(self) -> dict[str, Any]:
         """The program as the page reads it, and the command that plays its script."""

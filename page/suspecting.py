@@ -14,15 +14,15 @@ from .gathering import Gathering
 MOST_MOVES = 300_000
 
 
-def suspicions_of(gathering: Gathering) -> list[dict[str, Any]]:
-    """The suspicions of a run that is whole, in the order of their moves."""
+def suspicions_of(gathering: Gathering) -> list[dict[str, Any]] | None:
+    """The suspicions of a run that is whole, in the order of their moves; nothing if it isn't looked at."""
     if gathering.is_stopped or len(gathering.places) > MOST_MOVES + 1 or not gathering.end:
-        return []
+        return None
     program = gathering.table.program
     try:
         table_of(program)
     except TooLong:
-        return []
+        return None
     data = next(part[5:] for part in gathering.parts if part[:1] == b"D")
     follower = Follower(gathering.table, data, DEFAULT, roles_of(program, None), pokes=gathering.pokes)
     follower.follow(list(gathering.places), iter(gathering.values))

@@ -24,6 +24,8 @@ class App {
     this.view = [0, 1];
     this.pins = [];
     this.suspicions = [];
+    // Why no suspicion is known, while that says nothing of the run.
+    this.unlooked = "";
     // Whether the runtime of a lowered text counts as its instructions.
     this.isFolded = false;
     this.walk = new Walk(this);
@@ -80,6 +82,7 @@ class App {
     this.cells.build();
     this.output.build();
     this.header(was);
+    this.suspected([], "the run is still being looked at");
     this.causes.isInside = !this.isFolded;
     this.cursor = cursor ?? run.moves;
     this.selected = this.firstFrame();
@@ -97,21 +100,26 @@ class App {
 
   /** Asks for the suspicions of a run, and shows them, unless another run is shown by then. */
   async suspect(run) {
-    const found = this.long ? [] : await this.source.suspicions();
+    const found = this.long ? null : await this.source.suspicions();
     if (this.run !== run) return;
-    this.suspicions = found;
+    this.suspected(found ?? [], found ? "" : "no suspicion is looked for in a run as long as this one: ./qrev --check does that");
+    this.timeline.draw();
+  }
+
+  /** Shows suspicions, or none where it isn't known whether there are any. */
+  suspected(found, unlooked) {
+    Object.assign(this, {suspicions: found, unlooked});
     const button = byId("suspects"), number = found.length;
     button.hidden = !number;
     button.textContent = `▲ ${number} suspicion${number === 1 ? "" : "s"}`;
     button.title = found.slice(0, 8).map(each => `#${each.position} ${each.kind}: ${each.text}`).join("\n");
     this.code.suspects();
-    this.timeline.draw();
   }
 
   /** To the next suspicion, or to the first behind the last. */
   toSuspicion() {
     const found = this.suspicions;
-    if (!found.length) return this.say("nothing in this run is suspected");
+    if (!found.length) return this.say(this.unlooked || "nothing in this run is suspected");
     const next = found.find(each => each.position > this.cursor) ?? found[0];
     this.goTo(next.position);
     this.say(`${next.kind}: ${next.text}${next.count > 1 ? ` (${next.count} times)` : ""}`);

@@ -47,15 +47,20 @@ export class Keys {
   press(event) {
     if (event.ctrlKey || event.metaKey || event.altKey || !this.app.run?.isComplete
       || document.querySelector("dialog[open]")) return;
-    if (event.target.matches("input, textarea")) {
-      if (event.key === "Escape") event.target.blur();
-      return;
-    }
+    if (event.target.matches("input, textarea")) return this.leave(event);
     // A button that has the focus takes the key that presses it.
     if (event.key === "Enter" && event.target.matches("button")) return;
-    const act = this.acts[event.key];
+    // Capitals that no Shift made are those of Caps Lock.
+    const act = this.acts[event.shiftKey || event.key.length > 1 ? event.key : event.key.toLowerCase()];
     if (!act) return;
     event.preventDefault();
     act(event.shiftKey);
+  }
+
+  /** Enter leaves the position's field, which goes there if it was changed; Escape leaves it as it was. */
+  leave({key, target}) {
+    if (key !== "Escape" && key !== "Enter") return;
+    if (key === "Escape") this.app.draw();
+    target.blur();
   }
 }

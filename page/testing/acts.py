@@ -23,6 +23,12 @@ SQUARES, DIGITS, QUEENS = (str(EXAMPLES / f"{name}.ssa") for name in ("squares",
 STATE = "[app.cursor, app.walk.chosen?.question.label ?? '', document.getElementById('place').textContent]"
 
 
+# A load past the end of $d behind 400,000 moves, more than suspicions are looked for in.
+TURNS = ("data $d = { w 5, w 6 }\ndata $e = { w 7 }\nexport function w $main() {\n@start\n\tjmp @loop\n@loop\n"
+         "\t%i =l phi @start 0, @loop %n\n\t%n =l add %i, 1\n\t%c =w cultl %n, 133334\n\tjnz %c, @loop, @end\n@end\n"
+         "\t%p =l add $d, 8\n\t%x =w loadw %p\n\tret %x\n}\n")
+
+
 @contextmanager
 def opened(program: str, *words: str, width: int = 1440, height: int = 900) -> Iterator[Browser]:
     """The page of a program in a browser; what went wrong in it is raised at the end."""
@@ -42,7 +48,7 @@ def first_fault(browser: Browser, steps: list[tuple[list[str], str, object]]) ->
     for keys, script, wanted in steps:
         for key in keys:
             browser.key(key[2:] if key.startswith("S-") else key, shift=key.startswith("S-"))
-        given = browser.run(script)
+        given = waited(browser, script, wanted)
         if given != wanted:
             return f"{' '.join(keys)}: {script} gives {json.dumps(given)} and not {json.dumps(wanted)}"
     return None
@@ -89,6 +95,53 @@ def keys(program: str) -> str | None:
         pressed = {key[2:] if key.startswith("S-") else key for step in KEYS for key in step[0]}
         left = [key for key in untried if key not in pressed | {"ArrowUp", "="}]
         return fault or (f"no test presses {left}" if left else None)
+
+
+def typed_position(program: str) -> str | None:
+    """The field of the position: Enter goes there, and leaves the field also where nothing was typed; Escape leaves it
+    as it was. And keys under Caps Lock."""
+    with opened(program, SQUARES) as browser:
+        for typed, key, wanted in (("44", "Enter", [44, "44", ""]), ("7", "Escape", [44, "44", ""]),
+                                   ("", "Enter", [44, "44", ""]), ("#4", "Enter", [4, "4", ""])):
+            browser.key("g")
+            browser.type(typed)
+            browser.key(key)
+            given = browser.run("[app.cursor, document.getElementById('position').value, document.activeElement.id]")
+            if given != wanted:
+                return f"{typed!r} and {key} give {given} and not {wanted}"
+        browser.run("document.body.dispatchEvent(new KeyboardEvent('keydown', {key: 'T', bubbles: true}))")
+        theme = browser.run("document.documentElement.dataset.theme")
+        return None if theme == "dark" else f"T under Caps Lock gives the theme {theme}"
+
+
+def unlooked(program: str) -> str | None:
+    """Before it is known whether something is suspicious, and where a run isn't looked at, no key says that nothing is;
+    and no mark is left of a run that was changed by hand."""
+    said, marks = "document.getElementById('said').textContent", "app.suspicions.map(each => each.position)"
+    with opened(program, SQUARES) as browser:
+        waited(browser, marks, [44])
+        browser.run("app.source.suspicions = () => new Promise(done => { app.come = done; })")
+        browser.run("(app.go(45), app.make('poke w $bias 0'))")
+        waited(browser, "app.run.isComplete && app.cursor", 46)
+        browser.key("x")
+        lines = "document.querySelectorAll('.line .suspect, .line.is-suspect').length"
+        given = [browser.run(each) for each in (said, marks, lines, "document.getElementById('suspects').hidden")]
+        if given != ["the run is still being looked at", [], 0, True]:
+            return f"while it is looked at: {given}"
+        browser.run("app.come([])")
+        waited(browser, "app.unlooked", "")
+        browser.key("x")
+        if browser.run(said) != "nothing in this run is suspected":
+            return f"behind that {browser.run(said)!r}"
+    with tempfile.TemporaryDirectory(prefix="page-") as place:
+        text = pathlib.Path(place, "turns.ssa")
+        text.write_text(TURNS)
+        with opened(program, str(text)) as browser:
+            waited(browser, "app.unlooked.includes('as long as this')", True)
+            browser.key("x")
+            given = browser.run(said)
+            wanted = "no suspicion is looked for in a run as long as this one: ./qrev --check does that"
+            return None if given == wanted else f"of a run of 400,000 moves it says {given!r}"
 
 
 def pointer(program: str) -> str | None:
@@ -443,7 +496,8 @@ def lowered_text(program: str) -> str | None:
         None
 
 
-CASES = {"keys": keys, "a lowered text": lowered_text, "pointer": pointer, "a value by hand and the script": by_hand,
+CASES = {"keys": keys, "a lowered text": lowered_text, "pointer": pointer, "a position that is typed": typed_position,
+         "suspicions that aren't known": unlooked, "a value by hand and the script": by_hand,
          "another way by hand": other_way, "export": export, "export's size": size,
          "hostile texts": hostile, "the server ends": ended,
          "side by side": side_by_side}
