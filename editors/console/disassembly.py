@@ -38,6 +38,14 @@ class Row(NamedTuple):
     source: Line | None = None
 
 
+class Place(NamedTuple):
+    """A place of the text: the line of a source that it came from, if a map tells one, and whether it is of the
+    runtime."""
+
+    source: Line | None
+    is_of_runtime: bool
+
+
 def rows_of_function(function: Function, lowered: Lowered, origins: SourceMap) -> list[Row]:
     """The rows of a function, in the order of its text, with floats where it had them before it was lowered."""
     rows, labels = [], set()
@@ -57,7 +65,7 @@ class Listing:
         self.program = Program(pathlib.Path(path).read_bytes(), Renaming(lowered.renamed) if lowered.renamed else None)
         lowered.tell_classes(self.program)
         origins = map_of(path, source_map)
-        self.folder = origins.file.parent
+        self.folder, self.has_map, self.runtime = origins.file.parent, bool(origins.lines), lowered.runtime
         functions = sorted(self.program.functions.values(), key=lambda function: function.line)
         self.rows = [row for function in functions for row in rows_of_function(function, lowered, origins)]
 
@@ -68,6 +76,13 @@ class Listing:
             return address(self.program.line_of(found[1], found[2], int(found[3]))) if found else None
         except (KeyError, IndexError):
             return None
+
+    def at(self, place: str) -> Place | None:
+        """What is known of a place, as `$f @b 3` is named."""
+        address_of, row = self.reference(place), None
+        if address_of:
+            row = next((row for row in self.rows if address(row.line) == address_of), None)
+        return Place(row.source, place.partition(" ")[0] in self.runtime) if row else None
 
     def instructions(self, reference: str, offset: int, first: int, count: int) -> list[dict[str, Any]] | None:
         """So many rows, the first so many behind an address; rows that there aren't are told as invalid."""
@@ -141,6 +156,14 @@ class Disassembly:
         if is_read is self.is_read:
             self.listing = listing
             is_read.set()
+
+    def has_map(self) -> bool:
+        """Whether the text is shown by the lines of a source."""
+        return self.is_read.wait(PATIENCE) and self.listing is not None and self.listing.has_map
+
+    def at(self, place: str) -> Place | None:
+        """What is known of a place of the text."""
+        return self.listing.at(place) if self.listing else None
 
     def referenced(self, body: bytes) -> bytes:
         """The answer to `stackTrace` with the address of each frame's place."""

@@ -27,6 +27,8 @@ LEAVING = frozenset(("restart", "terminate", "disconnect"))
 MOVES = re.compile(r"(?m)^[ \t]*(step|back|continue|reverse|set|poke)\b")
 # Stops at which nothing was met: where a suspicious move comes next there it is told in their place.
 PLAIN = frozenset(("step", "entry"))
+# That of a fault, which an editor shows as an exception; and so is that of a suspicious move.
+FAULT = "exception"
 # Seconds for which requests wait behind the beginning of a run, and of a move from here.
 HOLD, OWN_HOLD = 0.25, 10.0
 # Seconds after which what waits for a run looks again.
@@ -180,9 +182,13 @@ class Guard:
         body = read(stop).get("body", {})
         found = POSITION.match(str(body.get("description", "")))
         if not run or not run.is_begun or not found:
+            self.told = []
             return False
         here, run.is_standing = int(found[1]), True
         met = self.met(run, here, str(body.get("reason")))
+        if body.get("reason") == FAULT and not met:
+            # The session stood before the move that faulted, or stands behind it already.
+            met = self.before(run, here)
         if not met:
             self.told = []
             is_unjudged = body.get("reason") == "entry" and run.search.known <= here and not run.search.is_over
@@ -190,7 +196,8 @@ class Guard:
             if not run.is_given_up:
                 self.remark_unknown(run, here)
             return False
-        if met[0].position == here:
+        if met[0].position == here or body.get("reason") == FAULT and met[0].position == here - 1:
+            # A move that faults is told with its fault, in one stop.
             self.tell(suspicious(stop, met), met, None)
             return True
         run.hold_until = time.monotonic() + OWN_HOLD
@@ -212,6 +219,12 @@ class Guard:
                     or is_forward and self.place_met(run, here, reason) is not None, SECONDS)
             place = None if run.is_given_up else self.place_met(run, here, reason)
             return [each for each in run.search.found if each.position == place and each.kind in self.kinds]
+
+    def before(self, run: Run, here: int) -> list[Suspicion]:
+        """What is suspicious about the move that led to where a run stands, by what is known."""
+        if run.is_given_up or here - 1 not in self.places(run):
+            return []
+        return [each for each in run.search.found if each.position == here - 1 and each.kind in self.kinds]
 
     def place_met(self, run: Run, here: int, reason: str) -> int | None:
         """The position of the first suspicious move between a run's start and its stop, by what is known."""
@@ -343,14 +356,17 @@ class Guard:
     # What is told.
 
     def informed(self, body: bytes, position: int | None) -> bytes:
-        """The answer to `exceptionInfo`, of a suspicion where the session stands before one."""
-        if not self.told or self.told[0].position != position:
-            return body
+        """The answer to `exceptionInfo`, of a suspicion where the session stands before one, or at the fault of one."""
         message = read(body)
+        fault: dict[str, Any] = message.get("body", {}) if message.get("success") else {}
+        if not self.told or position is None or self.told[0].position != position - bool(fault):
+            return body
         number = message.pop("seq")
         message.pop("message", None)
-        info = {"exceptionId": f"suspicion: {', '.join(each.kind for each in self.told)}", "breakMode": "always",
-                "description": "\n".join([self.told[0].first, *(f"  {each.second}" for each in self.told)])}
+        suspicion = f"suspicion: {', '.join(each.kind for each in self.told)}"
+        told = [self.told[0].first, *(f"  {each.second}" for each in self.told)]
+        info = {"exceptionId": "; ".join([*filter(None, [fault.get("exceptionId")]), suspicion]), "breakMode": "always",
+                "description": "\n".join([*filter(None, [fault.get("description")]), *told])}
         return written({**message, "success": True, "body": info, "seq": number})
 
 
@@ -360,9 +376,10 @@ def is_at(place: str, met: list[Suspicion]) -> bool:
 
 
 def suspicious(stop: bytes, met: list[Suspicion]) -> bytes:
-    """A stop of the adapter, as it is told before a suspicious move."""
+    """A stop of the adapter, as it is told before a suspicious move, or with the fault of one."""
     message = read(stop)
     number, at = message.pop("seq"), message.get("body", {})
-    body = {"reason": "exception", "description": at.get("description"), "text": f"suspicious: {met[0].second}"}
+    fault = f"{at.get('text')}; " if at.get("reason") == FAULT else ""
+    body = {"reason": FAULT, "description": at.get("description"), "text": f"{fault}suspicious: {met[0].second}"}
     rest = {name: value for name, value in at.items() if name in ("threadId", "allThreadsStopped")}
     return written({**message, "body": {**body, **rest}, "seq": number})

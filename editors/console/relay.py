@@ -17,11 +17,14 @@ from .frames import Frames, framed, read, renumbered, written
 from .guard import CHANGING, MOVING, Guard
 from .launching import Beginning, Launcher, Ways
 from .questions import HELP, POSITION, TOP, WORDS, Changes, Prompter, is_question
+from .stepping import Stepper
 from .suspicions import with_filters, without_filters
 
 # Starts an adapter that sees when a message has come, and when the editor, or this, went away.
 STARTS = TOP / "release" / "with-input-copy"
 STOPPED = b'{"type":"event","event":"stopped"'
+# What a hover takes for a name that isn't there, though it is an expression: memory, and words for where the run stands.
+NO_NAME = re.compile(r"\b[bhwlsd]\[|^\s*(depth|position)\s*$")
 GOTO = re.compile(r"goto +#?(\d{1,19})$")
 # Seconds for which a question waits until the requests before it are answered, and all of them where the editor leaves.
 PATIENCE, LEAVE = 2.0, 20.0
@@ -52,6 +55,7 @@ class Relay:
         self.prompter: Prompter | None = None
         self.guard = Guard(words, self.news, self.forward, self.show, self.remark)
         self.disassembly = Disassembly()
+        self.stepper = Stepper(self.news, self.disassembly, self.forward)
         self.launcher = Launcher(words, self.news, Ways(self.send_launch, self.forward, self.end_session, self.show,
                                                         self.respond, self.tell, self.tell_lines))
         self.check: Check | None = None
@@ -145,6 +149,7 @@ class Relay:
         command = str(message.get("command"))
         is_typed = command == "evaluate" and given.get("context") == "repl"
         line = str(given.get("expression", "")).strip() if is_typed else ""
+        self.stepper.hold(command)
         self.guard.hold(command, line)
         if is_question(line) or line in ("help", "h"):
             self.questions.put((message, line))
@@ -163,11 +168,16 @@ class Relay:
         if command == "initialize":
             self.has_links = given.get("clientID") == "vscode"
             self.launcher.first_line = 0 if given.get("linesStartAt1") is False else 1
+        elif command == "evaluate" and given.get("context") == "hover" and \
+                NO_NAME.search(str(given.get("expression", ""))):
+            given = {**given, "context": "variables"}
+            raw = framed(written({**message, "arguments": given}))
         elif command == "completions":
             self.typed[message.get("seq", 0)] = str(given.get("text", ""))
         elif command == "setExceptionBreakpoints":
             self.guard.choose(given, self.launch, self.changes)
             raw = without_filters(message, given, raw)
+        self.stepper.ask(message.get("seq"), command, given, self.position)
         with self.news:
             self.asked(message, command, given)
         return raw
@@ -197,6 +207,7 @@ class Relay:
             self.changes, self.position = Changes(), None
             self.drop_helpers()
             self.guard.forget()
+            self.stepper.end()
 
     def drop_helpers(self) -> None:
         if self.prompter:
@@ -230,10 +241,12 @@ class Relay:
             raw, body = frames.next()
             if body is None:
                 break
-            if self.launcher.takes(body) or self.guard.takes(body) or \
-                    body.startswith(STOPPED) and self.guard.keeps(body):
+            if self.launcher.takes(body) or self.guard.takes(body):
                 continue
-            self.show(self.told(body))
+            shown = self.stepper.takes(body)
+            if shown is None or shown.startswith(STOPPED) and self.guard.keeps(shown):
+                continue
+            self.show(self.told(shown))
             self.launcher.tell_fresh()
         if raw:
             with self.turn:
@@ -330,6 +343,7 @@ class Relay:
         move."""
         if found := POSITION.match(line):
             self.position = int(found[1])
+            self.stepper.stand(line)
             self.changes.stopped(self.position)
 
     def remark(self, line: str) -> None:

@@ -53,6 +53,10 @@ The cursor is there; LINE is nil where the run is over."
   (mapcar (lambda (variable) (list (gethash "name" variable) (gethash "value" variable)))
           (gethash "variables" (qrev-dap-test-ask "variables" (list :variablesReference reference)))))
 
+(defun qrev-dap-test-has-filters ()
+  "Whether the console stands before the adapter, so that runs stop before suspicious moves."
+  (gethash "exceptionBreakpointFilters" (dap--debug-session-current-capabilities (qrev-dap-session))))
+
 (ert-deftest qrev-dap-test-session ()
   (let ((file (expand-file-name "squares.ssa" user-emacs-directory)))
     (find-file file)
@@ -74,8 +78,7 @@ The cursor is there; LINE is nil where the run is over."
     (with-current-buffer (find-file-noselect file) (dap-breakpoint-delete-all))
     (qrev-dap-test-wait (lambda () (equal (gethash "result" (qrev-dap-test-ask "evaluate" '(:expression "stops" :context "repl")))
                                           "none")))
-    ;; Where the console stands before the adapter, a run stops before a suspicious move.
-    (when (gethash "exceptionBreakpointFilters" (dap--debug-session-current-capabilities (qrev-dap-session)))
+    (when (qrev-dap-test-has-filters)
       (qrev-dap-test-place "$fill @body 4" 18 (call-interactively (key-binding (kbd "C-c C-c")))))
     ;; The session stays open at the end of the run, and goes back from it.
     (qrev-dap-test-place "#88 done 30" nil (call-interactively (key-binding (kbd "C-c C-c"))))
@@ -85,6 +88,17 @@ The cursor is there; LINE is nil where the run is over."
     (qrev-dap-test-place "$main @end 2" 44 (call-interactively (key-binding (kbd "C-c C-n"))))
     (dap-disconnect (qrev-dap-session))
     (should (qrev-dap-test-wait (lambda () (file-exists-p (expand-file-name "emacs.script.transcript" user-emacs-directory)))))))
+
+(ert-deftest qrev-dap-test-filters ()
+  "Without a breakpoint a run stops before a suspicious move too."
+  ;; The adapter alone has no filters.
+  (skip-unless (string-suffix-p "/qrev-dap" qrev-dap-adapter))
+  (let ((file (expand-file-name "squares.ssa" user-emacs-directory)))
+    (find-file file)
+    (dap-breakpoint-delete-all)
+    (qrev-dap-test-place "$main @start 0" 27 (qrev-dap file nil))
+    (qrev-dap-test-place "$fill @body 4" 18 (call-interactively (key-binding (kbd "C-c C-c"))))
+    (dap-disconnect (qrev-dap-session))))
 
 ;; (1.5 + 2) / 2 * 4 is 7.
 (defconst qrev-dap-test-floats "export function w $main() {
@@ -127,6 +141,8 @@ function d $half(d %x) {
     (qrev-dap-test-place "$main @start 0" 27
       (dap-debug (copy-tree (cdr (assoc name dap-debug-template-configurations)))))
     (qrev-dap-test-place "$fill @start 0" 8 (dap-step-in (qrev-dap-session)))
+    (when (qrev-dap-test-has-filters)
+      (qrev-dap-test-place "$fill @body 4" 18 (dap-step-out (qrev-dap-session))))
     (qrev-dap-test-place "$main @start 1" 28 (dap-step-out (qrev-dap-session)))
     (dap-disconnect (qrev-dap-session)))
   (should (qrev-dap-test-wait (lambda () (file-exists-p (expand-file-name "session.script.transcript" user-emacs-directory))))))

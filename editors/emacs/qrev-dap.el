@@ -45,6 +45,17 @@ Where it names no program, that is the text of this buffer."
  "qrev: this text, recorded"
  (list :type "qrev" :request "launch" :name "qrev: recorded" :stopOnEntry t :record "session.script"))
 
+(defun qrev-dap-configure (configure session breakpoints callback &rest more)
+  "Send the filters of SESSION also where there are no BREAKPOINTS.
+CONFIGURE is what dap-mode does with these, CALLBACK and MORE: without a
+breakpoint it sends no filters, so that none would be on."
+  (if (and (zerop (hash-table-count breakpoints)) (fboundp 'dap--set-exception-breakpoints)
+           (equal (plist-get (dap--debug-session-launch-args session) :type) "qrev"))
+      (dap--set-exception-breakpoints session callback)
+    (apply configure session breakpoints callback more)))
+
+(advice-add 'dap--configure-breakpoints :around #'qrev-dap-configure)
+
 (defun qrev-dap-session ()
   "The session that is open."
   (or (dap--cur-session) (user-error "No session is open: M-x qrev-dap")))

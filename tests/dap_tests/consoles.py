@@ -149,6 +149,19 @@ def links(console: Console) -> None:
         raise Wrong(f"no place of line 17: {place}")
 
 
+def hovers(console: Console) -> None:
+    """Expressions of memory and of where the run stands, as a selection in an editor and dap-mode's `dap-eval` ask."""
+    console.begin("squares.ssa")
+    console.asked("goto 44")
+    for expression, wanted in [("w[$squares + 8]", "4"), ("w[$bias]", "0"), ("%i + w[$squares + 12]", "13"),
+                               ("b[%place - 4]", "9"), ("depth", "2"), ("position", "44"), ("place", "65552"),
+                               ("%square", "16")]:
+        message = console.answer("evaluate", {"expression": expression, "context": "hover", "frameId": 1})
+        got = message["body"]["result"] if message["success"] else message["message"]
+        if not got.startswith(wanted):
+            raise Wrong(f"{expression}: {got!r} in place of {wanted!r}")
+
+
 def while_it_runs(console: Console) -> None:
     """A run without an end: a question waits for a pause, and knows where the run stands then."""
     console.begin("forever.ssa", history=1000)
@@ -180,7 +193,7 @@ def helped(console: Console) -> None:
 
 CASES: dict[str, tuple[Callable[[Console], None], str]] = {
     "squares": (squares, "test"), "changed by hand": (changed, "test"), "another frame": (another_frame, "test"),
-    "links": (links, "vscode"), "while it runs": (while_it_runs, "test"), "help": (helped, "test"),
+    "links": (links, "vscode"), "hovers": (hovers, "test"), "while it runs": (while_it_runs, "test"), "help": (helped, "test"),
 }
 
 

@@ -210,7 +210,7 @@ def steps(at: Lowering) -> None:
     at.begin("floats.ssa")
     for command, place in [("next", "floats.ssa:4"), ("stepIn", "floats.ssa:10"), ("next", "floats.ssa:11"),
                            ("stepBack", "floats.ssa:10"), ("stepOut", "floats.ssa:5"), ("next", "floats.ssa:6"),
-                           ("stepBack", "floats.ssa:5"), ("stepIn", "float-convert.ssa"), ("stepOut", "floats.ssa:6")]:
+                           ("stepBack", "floats.ssa:5"), ("stepIn", "floats.ssa:6"), ("stepIn", "done 7")]:
         at.goes(command, place)
 
 

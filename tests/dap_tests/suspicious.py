@@ -29,6 +29,10 @@ ENDLESS = ("data $d = { w 5 }\nexport function $main() {\n@start\n\t%i =l copy 0
 FAR = ("data $d = { w 5, w 6 }\ndata $e = { w 7 }\nexport function w $main() {\n@start\n\tjmp @loop\n@loop\n"
        "\t%i =l phi @start 0, @loop %n\n\t%n =l add %i, 1\n\t%c =w cultl %n, 2000000\n\tjnz %c, @loop, @end\n@end\n"
        "\t%p =l add $d, 8\n\t%x =w loadw %p\n\tret %x\n}\n")
+# A load past the end of $d, which is dead memory; and a division by zero, which is no suspicion.
+FAULTS = ("data $d = { w 5 }\nexport function w $main() {\n@start\n\t%p =l add $d, 4096\n\t%x =w loadw %p\n"
+          "\tret %x\n}\n")
+DIVIDES = "export function w $main() {\n@start\n\t%x =w copy 0\n\t%y =w div 1, %x\n\tret %y\n}\n"
 # Seconds that a run without an end goes on before it is paused.
 WHILE = 1.0
 
@@ -211,6 +215,38 @@ def at_the_start(at: Stopping) -> None:
     at.is_suspicious(stop, only)
     at.leads("continue", "#2 done 5", "end")
     at.is_suspicious(at.stops("reverseContinue"), only)
+
+
+def faulting(at: Stopping) -> None:
+    """A suspicious move that faults is told with its fault, in one stop, in whatever way the run came there."""
+    [(first, second)] = checked(at.program, at.folder, "faults.ssa")
+    # By hand: $d is at 65536, so that 69632 is read, in the second move.
+    expect(first.startswith("#1 ") and "bounds" in second, f"{first} {second}")
+    told = {"reason": "exception", "description": "#2 fault dead address 69632", "threadId": 1,
+            "allThreadsStopped": True, "text": f"dead address 69632; suspicious: {second.strip()}"}
+    at.begin("faults.ssa")
+    for _ in range(2):
+        stop = at.stops("continue")
+        expect(stop == told, f"{stop} in place of {told}")
+        info = at.console.answer("exceptionInfo", {"threadId": 1})["body"]
+        expect(info == {"exceptionId": "dead address 69632; suspicion: bounds", "breakMode": "always",
+                        "description": f"#2 fault dead address 69632\n{first}\n{second}"}, f"{info}")
+    at.is_suspicious(at.stops("stepBack"), (first, second))
+    expect(at.stops("stepIn") == told, "a step to the fault tells otherwise")
+    at.console.answer("setExceptionBreakpoints", {"filters": []})
+    at.leads("stepBack", "#1 $main @start 1", "step")
+    at.leads("continue", "#2 fault dead address 69632", "exception")
+    info = at.console.answer("exceptionInfo", {"threadId": 1})["body"]
+    expect(info["exceptionId"] == "dead address 69632", f"without filters {info}")
+
+
+def faulting_alone(at: Stopping) -> None:
+    """A fault of a move that isn't suspicious is told as it is."""
+    expect(checked(at.program, at.folder, "divides.ssa") == [], "the division is suspicious")
+    at.begin("divides.ssa")
+    stop = at.leads("continue", "#2 fault division by zero", "exception")
+    info = at.console.answer("exceptionInfo", {"threadId": 1})["body"]
+    expect((stop["text"], info["exceptionId"]) == ("division by zero",) * 2, f"{stop} {info}")
 
 
 def without_entry(at: Stopping) -> None:
@@ -430,7 +466,7 @@ CASES: dict[str, Callable[[Stopping], None]] = {
     "capabilities": capabilities, "forward and back": forward_and_back, "steps": steps, "off": off,
     "switched": switched, "not asked": not_asked, "not debugged": not_debugged, "strict": strict,
     "breakpoints": breakpoints, "counted": counted, "at the start": at_the_start,
-    "without a stop at the entry": without_entry,
+    "without a stop at the entry": without_entry, "a fault": faulting, "a fault alone": faulting_alone,
     "changed by hand": changed, "mended by hand": mended, "changed otherwise": changed_otherwise, "at once": pipelined,
     "at random": at_random, "the editor leaves": left, "the editor goes away": gone, "not kept": not_kept,
     "at the limit": limited, "paused": paused, "restarted": again, "recorded": recorded,
@@ -448,7 +484,8 @@ def fault_of(program: str, seconds: float, name: str) -> str | None:
             shutil.copy(file, folder)
         (folder / "first.ssa").write_text(FIRST)
         (folder / "endless.ssa").write_text(ENDLESS)
-        (folder / "far.ssa").write_text(FAR)
+        for file_name, text in {"far": FAR, "faults": FAULTS, "divides": DIVIDES}.items():
+            (folder / f"{file_name}.ssa").write_text(text)
         console = Console(str(RUNNING) if name == "a long run" else program, seconds, folder)
         end = ended if name in ENDED else disconnected
         return end(console, lambda: CASES[name](Stopping(console, program, folder)))
