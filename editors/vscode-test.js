@@ -26,8 +26,8 @@ const vscode = {
   StatusBarAlignment: { Left: 1 },
   DebugConfigurationProviderTriggerKind: { Initial: 1, Dynamic: 2 },
   DebugAdapterExecutable: class {
-    constructor(command, args) {
-      Object.assign(this, { command, args });
+    constructor(command, args, options) {
+      Object.assign(this, { command, args, options });
     }
   },
   window: {
@@ -58,17 +58,31 @@ const vscode = {
     onDidSaveTextDocument: (call) => { listeners.saved = call; return {}; },
   },
   languages: {
+    registerEvaluatableExpressionProvider: (language, provider) => { registered.names = { language, provider }; return {}; },
+    registerInlineValuesProvider: (language, provider) => { registered.values = { language, provider }; return {}; },
     createDiagnosticCollection: () => ({ set: (uri, list) => marks.set(uri.fsPath, list), delete: (uri) => marks.delete(uri.fsPath), dispose() {} }),
   },
   Uri: { file: (fsPath) => ({ fsPath, scheme: "file" }) },
   Range: class {
     constructor(...at) {
       this.line = at[0];
+      this.start = { line: at[0], character: at[1] };
+      this.end = { line: at[2], character: at[3] };
     }
   },
   Diagnostic: class {
     constructor(range, message, severity) {
       Object.assign(this, { range, message, severity });
+    }
+  },
+  EvaluatableExpression: class {
+    constructor(range, expression) {
+      Object.assign(this, { range, expression });
+    }
+  },
+  InlineValueVariableLookup: class {
+    constructor(range, variableName, caseSensitiveLookup) {
+      Object.assign(this, { range, variableName, caseSensitiveLookup });
     }
   },
   DiagnosticSeverity: { Error: 0, Warning: 1 },
@@ -79,6 +93,7 @@ const vscode = {
   },
   debug: {
     activeDebugSession: undefined,
+    onDidChangeActiveDebugSession: (call) => { listeners.active = call; return {}; },
     registerDebugConfigurationProvider: (type, provider, kind) => { registered.providers.push({ type, provider, kind }); return {}; },
     registerDebugAdapterDescriptorFactory: (type, factory) => { registered.factory = { type, factory }; return {}; },
     registerDebugAdapterTrackerFactory: (type, factory) => { registered.trackers = { type, factory }; return {}; },
@@ -102,6 +117,18 @@ const written = (name, lines) => {
 const WHOLE = "export function w $main() {\n@start\n\t%x =d add d_1, d_2\n\t%y =w dtosi %x\n\tret %y\n}\n";
 const CALLS = "data $d = { b \"four\", b 0 }\nexport function w $main() {\n@start\n\t%n =l call $strlen(l $d)\n\tret 0\n}\n";
 const shown = (file) => (marks.get(file) || []).map((each) => [each.range.line, each.severity, each.code, each.message]);
+
+// A document of VS Code, as far as the extension reads one.
+const documentOf = (lines) => ({
+  lineAt: (line) => ({ text: lines[line] }),
+  getText: ({ start, end }) => lines[start.line].slice(start.character, end.character),
+  getWordRangeAtPosition: ({ line, character }, word) => {
+    for (const { 0: found, index } of lines[line].matchAll(new RegExp(word, "g"))) {
+      if (index <= character && character <= index + found.length) return new vscode.Range(line, index, line, index + found.length);
+    }
+    return undefined;
+  },
+});
 
 // The adapter as a process, to which requests are sent; its messages go to the extension too.
 class Adapter {
@@ -192,6 +219,10 @@ const tests = {
     settings.adapter = process.execPath;
     assert.strictEqual(registered.factory.factory.createDebugAdapterDescriptor(session, undefined).command, process.execPath);
     settings.adapter = path.join(folder, "nowhere");
+    const folders = { ...session, workspaceFolder: { uri: vscode.Uri.file(place) } };
+    settings.adapter = process.execPath;
+    assert.deepStrictEqual(registered.factory.factory.createDebugAdapterDescriptor(folders, undefined).options, { cwd: place });
+    settings.adapter = path.join(folder, "nowhere");
     assert.throws(() => registered.factory.factory.createDebugAdapterDescriptor(session, undefined), /qrev\.adapter/);
     settings.adapter = "";
   },
@@ -208,6 +239,70 @@ const tests = {
     await registered.commands["qrev.check"]({ fsPath: file });
     assert.deepStrictEqual(shown(file), []);
     assert.strictEqual(told.informed.pop(), "qrev: no suspicion");
+  },
+  "a text that was changed is saved before it is checked, shown or opened": async () => {
+    const saved = [];
+    const document = { languageId: "qbe", uri: vscode.Uri.file(text), isDirty: true,
+      save: async () => { saved.push(told.terminals.length); return saved.length < 3; } };
+    vscode.workspace.textDocuments = [document];
+    try {
+      await registered.commands["qrev.prompt"](vscode.Uri.file(text));
+      await registered.commands["qrev.page"](vscode.Uri.file(text));
+      await registered.commands["qrev.page"](vscode.Uri.file(text));
+      assert.deepStrictEqual(saved, [0, 1, 2]);
+      // Where it can't be saved nothing is shown of what was before.
+      assert.strictEqual(told.terminals.splice(0).length, 2);
+      assert.match(told.failed.pop(), /couldn't be saved/);
+    } finally {
+      vscode.workspace.textDocuments = [];
+    }
+  },
+  "a pointer on a name asks for the whole of it, and on anything else for nothing": async () => {
+    const { language, provider } = registered.names;
+    assert.strictEqual(language, "qbe");
+    const document = documentOf(["\t%t.1 =w add %a, 12", "\tcall $f.g(w %t.1)"]);
+    const asked = (line, character) => {
+      const found = provider.provideEvaluatableExpression(document, { line, character });
+      return found && [found.expression, found.range.start.character];
+    };
+    assert.deepStrictEqual([asked(0, 2), asked(0, 4), asked(0, 13), asked(1, 9)], [["%t.1", 1], ["%t.1", 1], ["%a", 13], ["$f.g", 6]]);
+    assert.deepStrictEqual([asked(0, 8), asked(0, 17)], [undefined, undefined]);
+  },
+  "values stand in the lines of the function in which the run stands, up to there": async () => {
+    const { language, provider } = registered.values;
+    assert.strictEqual(language, "qbe");
+    const lines = ["function w $f(w %a) {", "@start", "\tret %a", "}", "export function w $main() {", "@start.1 # %no",
+      "\t%x =w add %y, %y # of %z", "\tret %x", "}"];
+    const stopped = (line) => ({ stoppedLocation: new vscode.Range(line, 0, line, 1) });
+    const found = (from, to, line) => provider.provideInlineValues(documentOf(lines), new vscode.Range(from, 0, to, 0), stopped(line))
+      .map((each) => [each.range.start.line, each.range.start.character, each.variableName]);
+    assert.deepStrictEqual(found(0, 8, 7), [[6, 1, "%x"], [6, 11, "%y"], [7, 5, "%x"]]);
+    assert.deepStrictEqual(found(0, 8, 6), [[6, 1, "%x"], [6, 11, "%y"]]);
+    assert.deepStrictEqual(found(7, 8, 7), [[7, 5, "%x"]]);
+    assert.deepStrictEqual(found(0, 8, 2), [[0, 16, "%a"], [2, 5, "%a"]]);
+  },
+  "the status bar tells that a run takes long, and of two sessions the active one": async () => {
+    const sessions = ["1", "2"].map((id) => ({ type: "qrev", id, configuration: { program: `/${id}.ssa` } }));
+    const followers = sessions.map((each) => registered.trackers.factory.createDebugAdapterTracker(each));
+    const stop = (at, description) => followers[at].onDidSendMessage({ type: "event", event: "stopped", body: { description } });
+    const active = (at) => { vscode.debug.activeDebugSession = sessions[at]; listeners.active(); return items[0].text; };
+    active(0);
+    stop(0, "#1 $f @a 0");
+    stop(1, "#2 $g @b 0");
+    assert.deepStrictEqual([active(0), active(1)], ["$(location) #1 $f @a 0", "$(location) #2 $g @b 0"]);
+    followers[0].onWillReceiveMessage({ seq: 7, type: "request", command: "continue", arguments: {} });
+    followers[0].onDidSendMessage({ type: "response", request_seq: 7, command: "continue", success: true });
+    assert.strictEqual(active(0), "$(location) #1 $f @a 0");
+    await new Promise((done) => { setTimeout(done, 600); });
+    assert.deepStrictEqual([active(0), active(1)], ["$(sync~spin) qrev runs", "$(location) #2 $g @b 0"]);
+    stop(0, "#9 done 1");
+    assert.strictEqual(active(0), "$(location) #9 done 1");
+    followers[1].onWillStopSession();
+    assert.deepStrictEqual([active(0), items[0].isShown], ["$(location) #9 done 1", true]);
+    followers[0].onExit();
+    vscode.debug.activeDebugSession = undefined;
+    listeners.active();
+    assert.strictEqual(items[0].isShown, false);
   },
   "a refused text is marked when it is saved, until it is mended; by default without a run": async () => {
     const bad = written("bad.ssa", "function w $main() {\n@start\n\tret %y\n}\n");
@@ -286,8 +381,14 @@ const tests = {
     const follower = registered.trackers.factory.createDebugAdapterTracker(session);
     vscode.debug.activeDebugSession = { ...session, configuration: { program: text } };
     follower.onDidSendMessage({ type: "event", event: "stopped", body: { description: "#44 $fill @body 4" } });
-    await registered.commands["qrev.prompt"]();
-    assert.deepStrictEqual([told.terminals[2].shellArgs, told.terminals[2].sent], [["--prompt", text], ["goto 44"]]);
+    // Also where the button over that text is pressed.
+    for (const given of [undefined, vscode.Uri.file(text)]) {
+      await registered.commands["qrev.prompt"](given);
+      const { shellArgs, sent } = told.terminals.pop();
+      assert.deepStrictEqual([shellArgs, sent], [["--prompt", text], ["goto 44"]]);
+    }
+    await registered.commands["qrev.prompt"](whole.uri);
+    assert.deepStrictEqual(told.terminals.pop().sent, []);
     follower.onExit();
     vscode.debug.activeDebugSession = undefined;
   },

@@ -7,6 +7,7 @@ const fs = require("fs");
 const path = require("path");
 const vscode = require("vscode");
 const { Marks, folderOf, inTerminal } = require("./tools");
+const { Names, Values } = require("./values");
 const { Changes, why } = require("./why");
 
 const TYPE = "qrev";
@@ -14,6 +15,9 @@ const LANGUAGE = "qbe";
 const NAME = "qrev: this text";
 // What a line says of a place: `#44 $fill @body 4`, or how the run ended.
 const PLACE = /^#(\d+) (.+)$/;
+// Requests behind which a run goes on until it is told where it stands; and milliseconds behind which the status tells that it does.
+const RUNS = ["continue", "reverseContinue", "next", "stepIn", "stepOut", "stepBack", "restartFrame"];
+const LONG = 300;
 
 // A launch of the text that is shown, or nothing if that is another one.
 function launchOfEditor() {
@@ -47,7 +51,7 @@ class Adapters {
     this.context = context;
   }
 
-  createDebugAdapterDescriptor() {
+  createDebugAdapterDescriptor(session) {
     const program = adapterOf(this.context);
     folderOf(this.context);
     try {
@@ -60,11 +64,45 @@ class Adapters {
         throw new Error(`qrev: ${program} can't be run (${error.code}); the setting qrev.adapter names another one`);
       }
     }
-    return new vscode.DebugAdapterExecutable(program, []);
+    // Paths of a launch that don't begin with / go from the folder that is open.
+    const { workspaceFolder } = session;
+    return new vscode.DebugAdapterExecutable(program, [], workspaceFolder ? { cwd: workspaceFolder.uri.fsPath } : {});
   }
 }
 
-// Where the run stands, on the status bar, with the ways back beside it.
+// Where the run of a session stands, and what was changed in it by hand.
+class Place {
+  constructor() {
+    this.changes = new Changes();
+    this.running();
+  }
+
+  stands(line) {
+    const found = PLACE.exec(line || "");
+    clearTimeout(this.timer);
+    this.isRunning = false;
+    this.line = line || "";
+    this.position = found ? Number(found[1]) : undefined;
+    if (found) this.changes.stopped(this.position);
+  }
+
+  // A value that is set in a view is a move, of which no event tells.
+  set() {
+    this.stands(this.line.replace(/^#\d+/, `#${this.position + 1}`));
+  }
+
+  // A run that takes long is told by `call`; where it stood is known until it stands elsewhere.
+  running(call) {
+    clearTimeout(this.timer);
+    if (call) this.timer = setTimeout(() => { this.isRunning = true; call(); }, LONG);
+  }
+
+  get text() {
+    return this.isRunning ? "$(sync~spin) qrev runs" : this.position === undefined ? "$(location) qrev" : `$(location) ${this.line}`;
+  }
+}
+
+// Where the run of the active session stands, on the status bar, with the ways back beside it.
 class Status {
   constructor() {
     const item = (priority, text, tooltip, command) => {
@@ -72,39 +110,33 @@ class Status {
       Object.assign(made, { text, tooltip, command });
       return made;
     };
-    this.place = item(103, "", "Where the run stands: click to go to another position", "qrev.goto");
-    this.items = [this.place, item(102, "$(debug-step-back)", "qrev: Step Back", "qrev.stepBack"),
+    this.item = item(103, "", "Where the run stands: click to go to another position", "qrev.goto");
+    this.items = [this.item, item(102, "$(debug-step-back)", "qrev: Step Back", "qrev.stepBack"),
       item(101, "$(debug-reverse-continue)", "qrev: Reverse", "qrev.reverse")];
-    this.position = undefined;
-    this.line = "";
-    this.changes = new Changes();
+    // By session.
+    this.places = new Map();
   }
 
-  show(line) {
-    const found = PLACE.exec(line || "");
-    this.line = line || "";
-    this.position = found ? Number(found[1]) : undefined;
-    if (found) this.changes.stopped(this.position);
-    this.place.text = found ? `$(location) ${line}` : "$(location) qrev";
-    this.items.forEach((item) => item.show());
+  of(session) {
+    return this.places.get(session.id) || new Place();
   }
 
-  // A value that is set in a view is a move, of which no event tells.
-  set() {
-    this.show(this.line.replace(/^#\d+/, `#${this.position + 1}`));
+  draw() {
+    const active = vscode.debug.activeDebugSession;
+    // An adapter may stand before its session is the active one.
+    const place = (active && this.places.get(active.id)) || (active ? undefined : [...this.places.values()].pop());
+    if (place) this.item.text = place.text;
+    this.items.forEach((item) => (place ? item.show() : item.hide()));
   }
 
-  run() {
-    this.place.text = "$(sync~spin) qrev runs";
-  }
-
-  hide() {
-    this.position = undefined;
-    this.changes = new Changes();
-    this.items.forEach((item) => item.hide());
+  end(session) {
+    this.of(session).running();
+    this.places.delete(session.id);
+    this.draw();
   }
 
   dispose() {
+    this.places.forEach((place) => place.running());
     this.items.forEach((item) => item.dispose());
   }
 }
@@ -116,10 +148,11 @@ class Follower {
     this.session = session;
     // Requests that aren't answered yet, by their numbers.
     this.open = new Map();
+    this.place = new Place();
   }
 
   onWillReceiveMessage(message) {
-    if (this.status.position !== undefined) this.open.set(message.seq, { message, position: this.status.position });
+    if (this.place.position !== undefined) this.open.set(message.seq, { message, position: this.place.position });
   }
 
   onDidSendMessage(message) {
@@ -132,57 +165,66 @@ class Follower {
     const asked = this.open.get(response.request_seq);
     this.open.delete(response.request_seq);
     if (!asked || !response.success) return;
-    this.status.changes.asked(asked.message, asked.position);
-    if (["setVariable", "setExpression"].includes(asked.message.command) && this.status.position !== undefined) this.status.set();
+    this.place.changes.asked(asked.message, asked.position);
+    if (["setVariable", "setExpression"].includes(asked.message.command)) this.place.set();
+    if (RUNS.includes(asked.message.command)) this.place.running(() => this.status.draw());
+    this.status.draw();
   }
 
   told(message) {
-    if (message.event === "stopped") this.status.show(message.body && message.body.description);
-    else if (message.event === "continued") this.status.run();
-    else if (message.event === "terminated" || message.event === "exited") this.status.hide();
+    if (message.event === "stopped") {
+      this.place.stands(message.body && message.body.description);
+      this.status.places.set(this.session.id, this.place);
+      this.status.draw();
+    } else if (message.event === "terminated" || message.event === "exited") this.status.end(this.session);
   }
 
   onWillStopSession() {
-    this.status.hide();
+    this.status.end(this.session);
   }
 
   onExit() {
-    this.status.hide();
+    this.status.end(this.session);
   }
+}
+
+// The session that is active, if it is one of qrev that stands or stood somewhere, and where.
+function standing(status) {
+  const session = vscode.debug.activeDebugSession;
+  const place = session && session.type === TYPE ? status.of(session) : new Place();
+  return place.position === undefined ? {} : { session, place };
 }
 
 // Goes to a position by as many steps, forward or back, as it is away.
 async function goTo(status) {
-  const session = vscode.debug.activeDebugSession;
-  if (!session || session.type !== TYPE || status.position === undefined) return;
+  const { session, place } = standing(status);
+  if (!session) return;
   const text = await vscode.window.showInputBox({
-    prompt: "The position to go to, 0 and up", value: String(status.position),
+    prompt: "The position to go to, 0 and up", value: String(place.position),
     validateInput: (given) => (/^#?\d{1,10}$/.test(given.trim()) ? undefined : "a number was expected"),
   });
   if (text === undefined) return;
-  await moveTo(session, status, Number(text.trim().replace("#", "")));
+  await moveTo(session, place, Number(text.trim().replace("#", "")));
 }
 
-async function moveTo(session, status, position) {
-  const away = position - status.position;
+async function moveTo(session, place, position) {
+  const away = position - place.position;
   if (away) await session.customRequest("evaluate", { expression: `${away > 0 ? "step" : "back"} ${Math.abs(away)}`, context: "repl" });
 }
 
 // Asks why a value is what it is: the one that was clicked, or the one at the cursor.
 async function askWhy(context, status, given) {
-  const session = vscode.debug.activeDebugSession;
-  if (!session || session.type !== TYPE || status.position === undefined) return;
-  await why(context, session, status.position, status.changes, given, (position) => moveTo(session, status, position));
+  const { session, place } = standing(status);
+  if (session) await why(context, session, place.position, place.changes, given, (position) => moveTo(session, place, position));
 }
 
-// The prompt, with `why` and all else of the terminal: at the position of the session that is debugged, or at the start.
+// The prompt, with `why` and all else of the terminal: at the position of the session that debugs the text, or at the start.
 function openPrompt(context, status, given) {
-  const session = vscode.debug.activeDebugSession;
-  const isDebugged = session && session.type === TYPE && !given && status.position !== undefined;
-  const launch = isDebugged ? session.configuration : {};
-  const text = isDebugged ? vscode.Uri.file(launch.program) : given;
-  const lines = isDebugged && status.position ? [`goto ${status.position}`] : [];
-  return inTerminal(context, "qrev", ["--prompt"], text, lines, launch);
+  const { session, place } = standing(status);
+  const launch = session ? session.configuration : {};
+  if (!session || (given && given.fsPath !== launch.program)) return inTerminal(context, "qrev", ["--prompt"], given, []);
+  const lines = place.position ? [`goto ${place.position}`] : [];
+  return inTerminal(context, "qrev", ["--prompt"], vscode.Uri.file(launch.program), lines, launch);
 }
 
 function activate(context) {
@@ -196,6 +238,9 @@ function activate(context) {
     marks,
     vscode.workspace.onDidOpenTextDocument((document) => marks.saved(document)),
     vscode.workspace.onDidSaveTextDocument((document) => marks.saved(document)),
+    vscode.languages.registerEvaluatableExpressionProvider(LANGUAGE, new Names()),
+    vscode.languages.registerInlineValuesProvider(LANGUAGE, new Values()),
+    vscode.debug.onDidChangeActiveDebugSession(() => status.draw()),
     vscode.debug.registerDebugConfigurationProvider(TYPE, configurations),
     vscode.debug.registerDebugConfigurationProvider(TYPE, { provideDebugConfigurations: () => configurations.provideDebugConfigurations() },
       vscode.DebugConfigurationProviderTriggerKind.Dynamic),

@@ -157,7 +157,7 @@ class Marks {
 
   // As the command: with a word on what came of it.
   async command(given) {
-    const file = textOf(given);
+    const file = await textOf(given);
     if (!file) return;
     const answer = await vscode.window.withProgress({ location: vscode.ProgressLocation.Notification,
       title: `qrev checks ${path.basename(file)}` }, () => this.look(file));
@@ -176,13 +176,21 @@ class Marks {
   }
 }
 
-// The text that a command is for: the one that it was given, or the one that is shown.
-function textOf(given) {
-  if (given && given.fsPath) return given.fsPath;
+// The text that a command is for: the one that it was given, or the one that is shown; as it is in the editor, so it is saved.
+async function textOf(given) {
   const editor = vscode.window.activeTextEditor;
-  if (editor && editor.document.languageId === LANGUAGE) return editor.document.uri.fsPath;
-  vscode.window.showInformationMessage("qrev: open a text of QBE (.ssa) first");
-  return undefined;
+  const shown = editor && editor.document.languageId === LANGUAGE ? editor.document.uri.fsPath : undefined;
+  const file = given && given.fsPath ? given.fsPath : shown;
+  if (!file) {
+    vscode.window.showInformationMessage("qrev: open a text of QBE (.ssa) first");
+    return undefined;
+  }
+  const changed = vscode.workspace.textDocuments.find((each) => each.isDirty && each.uri.fsPath === file);
+  if (changed && !await changed.save()) {
+    vscode.window.showErrorMessage(`qrev: ${path.basename(file)} couldn't be saved`);
+    return undefined;
+  }
+  return file;
 }
 
 // Whether a text is of whole QBE, so that it has to be lowered first.
@@ -202,7 +210,7 @@ async function wordsOf(context, file, launch) {
 
 // Runs qrev in a terminal of VS Code, which stays open as long as it runs.
 async function inTerminal(context, name, before, given, lines, launch = {}) {
-  const file = textOf(given);
+  const file = await textOf(given);
   if (!file) return;
   const terminal = vscode.window.createTerminal({ name, cwd: path.dirname(file), shellPath: scriptOf(context),
     shellArgs: [...before, ...await wordsOf(context, file, launch)] });
