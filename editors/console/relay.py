@@ -23,7 +23,7 @@ from .suspicions import with_filters, without_filters
 # Starts an adapter that sees when a message has come, and when the editor, or this, went away.
 STARTS = TOP / "release" / "with-input-copy"
 STOPPED = b'{"type":"event","event":"stopped"'
-# What a hover takes for a name that isn't there, though it is an expression: memory, and words for where the run stands.
+# What a hover takes for a name that isn't there, though it is an expression: memory, and where the run stands.
 NO_NAME = re.compile(r"\b[bhwlsd]\[|^\s*(depth|position)\s*$")
 GOTO = re.compile(r"goto +#?(\d{1,19})$")
 # Seconds for which a question waits until the requests before it are answered, and all of them where the editor leaves.

@@ -21,8 +21,9 @@ FILTERS = [
     {"filter": "strict", "label": "Strict", "default": False,
      "description": "Stops before a load, an argument or a result that nothing set, which right C programs have"},
 ]
-# How many moves are looked at: few first, for the stops of a short run, and then as many as `suspects` looks at.
-STAGES = (50_000, 1_000_000)
+# How many moves are looked at: few first, for the stops of a short run; and where that goes on some more, for stops that
+# aren't far, beside as many as `suspects` looks at.
+FIRST, NEXT, MOST = 50_000, 200_000, 1_000_000
 # Behind these the fast pass of --check looks for accesses alone, up to so many.
 FAR = 100_000_000
 # Seconds for which one run is looked at, and a stop waits for that, at most.
@@ -88,7 +89,8 @@ class Search:
         self.known = 0
         self.is_over = False
         self.fault = ""
-        self.prompter: Prompter | None = None
+        self.prompters: list[Prompter] = []
+        self.is_closed = False
         self.far: subprocess.Popen[str] | None = None
         last = changes.lines[-1][0] + 1 if changes.lines else 0
         self.is_changed = bool(changes.lines)
@@ -99,14 +101,17 @@ class Search:
         bound.daemon = True
         bound.start()
         try:
-            self.prompter = Prompter(launch, words)
-            for most in STAGES:
-                if not self.goes_on(self.prompter.answer(way, 0, f"suspects strict {most}")):
-                    break
-                if not self.far and not self.is_changed:
+            prompter = self.begin_prompt(launch, words)
+            if self.goes_on(prompter.answer(way, 0, f"suspects strict {FIRST}")):
+                if not self.is_changed:
                     self.far = begin_check(launch, words, ["--fast", "--limit", str(FAR)])
-            else:
-                self.take_far()
+                other = self.begin_prompt(launch, words)
+                beside = threading.Thread(
+                    target=lambda: self.goes_on(prompter.answer(way, 0, f"suspects strict {NEXT}")), daemon=True)
+                beside.start()
+                if self.goes_on(other.answer(way, 0, f"suspects strict {MOST}")):
+                    self.take_far()
+                beside.join()
         except OSError as error:
             self.fault = f"the prompt can't be run: {error.strerror}"
         finally:
@@ -115,6 +120,14 @@ class Search:
             with self.news:
                 self.is_over = True
                 self.news.notify_all()
+
+    def begin_prompt(self, launch: dict[str, Any], words: list[str]) -> Prompter:
+        prompter = Prompter(launch, words)
+        with self.news:
+            self.prompters.append(prompter)
+        if self.is_closed:
+            prompter.close()
+        return prompter
 
     def take_far(self) -> None:
         """Keeps what the fast pass tells of the moves behind those that are known."""
@@ -130,17 +143,22 @@ class Search:
         """Keeps what the prompt told; whether the run goes on behind it."""
         summary = SUMMARY.search(told)
         if not summary:
-            self.fault = told.split("\n")[0]
+            # A search that is broken off knows what it has found up to there.
+            self.fault = "" if self.is_closed else told.split("\n")[0]
             return False
+        known = int(summary[1]) if summary[2].startswith(GOES_ON) else WHOLE
         with self.news:
-            self.found = suspicions_in(told)
-            self.known = int(summary[1]) if summary[2].startswith(GOES_ON) else WHOLE
+            # What is looked at beside it may have come further.
+            if known > self.known:
+                self.found, self.known = suspicions_in(told), known
             self.news.notify_all()
-        return self.known != WHOLE
+        return known != WHOLE
 
     def close(self) -> None:
-        if self.prompter:
-            self.prompter.close()
+        with self.news:
+            self.is_closed, prompters = True, list(self.prompters)
+        for prompter in prompters:
+            prompter.close()
         if self.far:
             self.far.kill()
 

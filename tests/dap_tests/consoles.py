@@ -193,7 +193,8 @@ def helped(console: Console) -> None:
 
 CASES: dict[str, tuple[Callable[[Console], None], str]] = {
     "squares": (squares, "test"), "changed by hand": (changed, "test"), "another frame": (another_frame, "test"),
-    "links": (links, "vscode"), "hovers": (hovers, "test"), "while it runs": (while_it_runs, "test"), "help": (helped, "test"),
+    "links": (links, "vscode"), "hovers": (hovers, "test"), "while it runs": (while_it_runs, "test"),
+    "help": (helped, "test"),
 }
 
 

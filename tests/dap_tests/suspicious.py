@@ -6,11 +6,18 @@ import pathlib
 import random
 import shutil
 import subprocess
+import sys
 import tempfile
+import threading
 import time
 from collections.abc import Callable, Iterable, Iterator
 
 from harness.running import EXAMPLES, TOP
+
+sys.path.insert(0, str(TOP))
+
+from editors.console.questions import Changes
+from editors.console.suspicions import MOST, Search
 
 from .consoles import BUILT, GONE, Console, disconnected
 from .driver import ended, expect
@@ -33,6 +40,10 @@ FAR = ("data $d = { w 5, w 6 }\ndata $e = { w 7 }\nexport function w $main() {\n
 FAULTS = ("data $d = { w 5 }\nexport function w $main() {\n@start\n\t%p =l add $d, 4096\n\t%x =w loadw %p\n"
           "\tret %x\n}\n")
 DIVIDES = "export function w $main() {\n@start\n\t%x =w copy 0\n\t%y =w div 1, %x\n\tret %y\n}\n"
+# A suspicious load behind 30,000 rounds of three moves, and then as many rounds as there are.
+NEAR = ("data $d = { w 5, w 6 }\ndata $e = { w 7 }\nexport function w $main() {\n@start\n\tjmp @loop\n@loop\n"
+        "\t%i =l phi @start 0, @loop %n\n\t%n =l add %i, 1\n\t%c =w cultl %n, 30000\n\tjnz %c, @loop, @end\n@end\n"
+        "\t%p =l add $d, 8\n\t%x =w loadw %p\n\tjmp @on\n@on\n\tjmp @on\n}\n")
 # Seconds that a run without an end goes on before it is paused.
 WHILE = 1.0
 
@@ -453,6 +464,23 @@ def recorded(at: Stopping) -> None:
     expect(lines == ["continue", "back 44", ""], f"the record is {lines}")
 
 
+def soon(at: Stopping) -> None:
+    """A stop that isn't far is told before as much is looked at as there is; one before which something is suspicious
+    is led back to that."""
+    [(first, second)] = checked(at.program, at.folder, "near.ssa --limit 200000")
+    expect(first.startswith("#90002 "), first)
+    launch = {"program": str(at.folder / "near.ssa")}
+    search = Search(launch, ["--built"] if BUILT in at.program else [], Changes(), threading.Condition())
+    try:
+        with search.news:
+            is_known = search.news.wait_for(lambda: search.known > 90_002, at.console.seconds)
+            found = [each.position for each in search.found]
+        expect(is_known and search.known < MOST and found == [90_002], f"#{search.known}: {found} {search.fault}")
+    finally:
+        search.close()
+    at.begin("squares.ssa")
+
+
 def far(at: Stopping) -> None:
     """Behind the moves that `suspects` looks at the fast pass finds accesses."""
     at.begin("far.ssa", history=1000, limit=20_000_000)
@@ -470,7 +498,7 @@ CASES: dict[str, Callable[[Stopping], None]] = {
     "changed by hand": changed, "mended by hand": mended, "changed otherwise": changed_otherwise, "at once": pipelined,
     "at random": at_random, "the editor leaves": left, "the editor goes away": gone, "not kept": not_kept,
     "at the limit": limited, "paused": paused, "restarted": again, "recorded": recorded,
-    "a long run": brought_to_a_stand, "far from the start": far,
+    "a long run": brought_to_a_stand, "soon": soon, "far from the start": far,
 }
 # Cases behind which nobody is left to be asked to end.
 ENDED = ("the editor leaves", "the editor goes away", "recorded")
@@ -484,7 +512,7 @@ def fault_of(program: str, seconds: float, name: str) -> str | None:
             shutil.copy(file, folder)
         (folder / "first.ssa").write_text(FIRST)
         (folder / "endless.ssa").write_text(ENDLESS)
-        for file_name, text in {"far": FAR, "faults": FAULTS, "divides": DIVIDES}.items():
+        for file_name, text in {"far": FAR, "near": NEAR, "faults": FAULTS, "divides": DIVIDES}.items():
             (folder / f"{file_name}.ssa").write_text(text)
         console = Console(str(RUNNING) if name == "a long run" else program, seconds, folder)
         end = ended if name in ENDED else disconnected
