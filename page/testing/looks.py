@@ -43,6 +43,9 @@ code = box(document.getElementById("code"));
     const [label, number] = [each.querySelector(".name"), each.querySelector(".number")].map(box);
     if (label.width < 8 || number.width < 6 || label.right > number.left + 1) found.push(`${each.textContent} is cut`);
   }
+  for (const each of document.querySelectorAll(".beside")) {
+    if (each.scrollWidth > each.clientWidth + 1) found.push(`${each.textContent} is cut beside its line`);
+  }
   const height = parseFloat(document.getElementById("timeline").style.height);
   if (!(height > 120 && height < innerHeight / 2)) found.push(`the timeline is ${height} tall`);
   return found;
