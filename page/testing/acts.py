@@ -124,7 +124,7 @@ def unlooked(program: str) -> str | None:
         browser.run("(app.go(45), app.make('poke w $bias 0'))")
         waited(browser, "app.run.isComplete && app.cursor", 46)
         browser.key("x")
-        lines = "document.querySelectorAll('.line .suspect, .line.is-suspect').length"
+        lines = "document.querySelectorAll('.beside.is-suspect').length"
         given = [browser.run(each) for each in (said, marks, lines, "document.getElementById('suspects').hidden")]
         if given != ["the run is still being looked at", [], 0, True]:
             return f"while it is looked at: {given}"
@@ -139,9 +139,9 @@ def unlooked(program: str) -> str | None:
         with opened(program, str(text)) as browser:
             waited(browser, "app.unlooked.includes('as long as this')", True)
             browser.key("x")
-            given = browser.run(said)
+            told = browser.run(said)
             wanted = "no suspicion is looked for in a run as long as this one: ./qrev --check does that"
-            return None if given == wanted else f"of a run of 400,000 moves it says {given!r}"
+            return None if told == wanted else f"of a run of 400,000 moves it says {told!r}"
 
 
 def pointer(program: str) -> str | None:
