@@ -26,6 +26,8 @@ STOPPED = b'{"type":"event","event":"stopped"'
 # What a hover takes for a name that isn't there, though it is an expression: memory, and where the run stands.
 NO_NAME = re.compile(r"\b[bhwlsd]\[|^\s*(depth|position)\s*$")
 GOTO = re.compile(r"goto +#?(\d{1,19})$")
+# Questions of one word that are asked as a watch too.
+ALONE = ("why", "suspects", "path")
 # Seconds for which a question waits until the requests before it are answered, and all of them where the editor leaves.
 PATIENCE, LEAVE = 2.0, 20.0
 
@@ -147,8 +149,7 @@ class Relay:
     def request(self, message: dict[str, Any], given: dict[str, Any], raw: bytes) -> bytes:
         """What goes to the adapter for a request: itself, another one, or nothing."""
         command = str(message.get("command"))
-        is_typed = command == "evaluate" and given.get("context") == "repl"
-        line = str(given.get("expression", "")).strip() if is_typed else ""
+        line = self.typed_line(given) if command == "evaluate" else ""
         self.stepper.hold(command)
         self.guard.hold(command, line)
         if is_question(line) or line in ("help", "h"):
@@ -181,6 +182,13 @@ class Relay:
         with self.news:
             self.asked(message, command, given)
         return raw
+
+    def typed_line(self, given: dict[str, Any]) -> str:
+        """What is typed in the console, which some editors ask as a watch; nothing of what else is evaluated."""
+        line, context = str(given.get("expression", "")).strip(), given.get("context")
+        # One that makes links asks for its watches anew at each stop.
+        is_watch = context == "watch" and not self.has_links and (" " in line or line in ALONE)
+        return line if context == "repl" or is_watch and (is_question(line) or GOTO.match(line)) else ""
 
     def asked(self, message: dict[str, Any], command: str, given: dict[str, Any]) -> None:
         """Keeps what a request that goes to the adapter means for the run."""

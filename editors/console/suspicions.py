@@ -21,8 +21,8 @@ FILTERS = [
     {"filter": "strict", "label": "Strict", "default": False,
      "description": "Stops before a load, an argument or a result that nothing set, which right C programs have"},
 ]
-# How many moves are looked at: few first, for the stops of a short run; and where that goes on some more, for stops that
-# aren't far, beside as many as `suspects` looks at.
+# How many moves are looked at: few first, for the stops of a short run; and where that goes on some more, for stops
+# that aren't far, beside as many as `suspects` looks at.
 FIRST, NEXT, MOST = 50_000, 200_000, 1_000_000
 # Behind these the fast pass of --check looks for accesses alone, up to so many.
 FAR = 100_000_000

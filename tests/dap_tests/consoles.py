@@ -162,6 +162,29 @@ def hovers(console: Console) -> None:
             raise Wrong(f"{expression}: {got!r} in place of {wanted!r}")
 
 
+def watches(console: Console) -> None:
+    """Questions that an editor asks as a watch, as Kate's console does with what stands behind `p`."""
+    console.begin("squares.ssa")
+    for line, wanted in [("goto 44", "#44 $fill @body 4"), ("why %place", "%place = 65552 ($bias+0) was set by\n"),
+                         ("why 2", "control came to @body by\n"), ("suspects", "[1] #44 $fill @body 4  line 18"),
+                         ("%square", "16"), ("w[$bias]", "0"), ("x", None)]:
+        message = console.answer("evaluate", {"expression": line, "context": "watch", "frameId": 1})
+        got = message["body"]["result"] if message["success"] else None
+        if got is None or wanted is None:
+            if got is not wanted:
+                raise Wrong(f"{line}: {message} in place of {wanted!r}")
+        elif not got.startswith(wanted):
+            raise Wrong(f"{line}: {got!r} in place of {wanted!r}")
+
+
+def watches_anew(console: Console) -> None:
+    """VS Code asks for its watches at each stop: a question there is none."""
+    console.begin("squares.ssa")
+    message = console.answer("evaluate", {"expression": "why %place", "context": "watch", "frameId": 1})
+    if message["success"]:
+        raise Wrong(f"{message}")
+
+
 def while_it_runs(console: Console) -> None:
     """A run without an end: a question waits for a pause, and knows where the run stands then."""
     console.begin("forever.ssa", history=1000)
@@ -193,7 +216,8 @@ def helped(console: Console) -> None:
 
 CASES: dict[str, tuple[Callable[[Console], None], str]] = {
     "squares": (squares, "test"), "changed by hand": (changed, "test"), "another frame": (another_frame, "test"),
-    "links": (links, "vscode"), "hovers": (hovers, "test"), "while it runs": (while_it_runs, "test"),
+    "links": (links, "vscode"), "hovers": (hovers, "test"), "watches": (watches, "Kate"),
+    "watches anew": (watches_anew, "vscode"), "while it runs": (while_it_runs, "test"),
     "help": (helped, "test"),
 }
 
