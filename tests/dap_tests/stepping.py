@@ -10,23 +10,9 @@ from collections.abc import Callable, Iterator
 
 from .consoles import Console, disconnected
 from .driver import expect
+from .lowering import FLOATS
 from .sessions import Case, Message
 
-# (1.5 + 2) / 2 * 4 is 7. Lines are counted from that of $main, which is 1.
-FLOATS = """export function w $main() {
-@start
-	%a =d add d_1.5, d_2
-	%b =d call $half(d %a)
-	%c =w dtosi %b
-	ret %c
-}
-function d $half(d %x) {
-@start
-	%y =d div %x, d_2
-	%z =d mul %y, d_4
-	ret %z
-}
-"""
 # The runtime calls a function of the program: 2 numbers are sorted, by one comparison at least.
 SORTS = """data $n = { w 2, w 1 }
 export function w $main() {
