@@ -286,11 +286,13 @@ export class Code {
   /** A sign at each line of which a move is suspected. */
   suspects() {
     for (const row of this.rows.values()) row.lastElementChild.classList.remove("is-suspect");
-    for (const {line, kind} of this.app.suspicions) {
+    const kinds = new Map();
+    for (const {line, kind} of this.app.suspicions) kinds.set(line, (kinds.get(line) ?? new Set()).add(kind));
+    for (const [line, found] of kinds) {
       const beside = this.rows.get(line)?.lastElementChild;
       if (!beside) continue;
       beside.classList.add("is-suspect");
-      beside.dataset.kind = kind;
+      beside.dataset.kind = [...found].join(", ");
     }
   }
 

@@ -133,6 +133,12 @@ def unlooked(program: str) -> str | None:
         browser.key("x")
         if browser.run(said) != "nothing in this run is suspected":
             return f"behind that {browser.run(said)!r}"
+        # Two kinds of one line, of which one came twice.
+        kinds = "['bounds', 'stray', 'bounds'].map(kind => ({position: 44, line: 18, kind, text: ''}))"
+        beside = "[...document.querySelectorAll('.beside.is-suspect')].map(each => each.dataset.kind)"
+        shown = browser.run(f"(app.suspected({kinds}, ''), {beside})")
+        if shown != ["bounds, stray"]:
+            return f"beside a line of two kinds stands {shown}"
     with tempfile.TemporaryDirectory(prefix="page-") as place:
         text = pathlib.Path(place, "turns.ssa")
         text.write_text(TURNS)
