@@ -195,8 +195,9 @@ def record_of(arguments: object) -> Optional[Record]:
         return None
     words = [arguments["program"], *map(str, arguments.get("args", [])), "--entry", arguments.get("entry", "main"),
              "--limit", str(arguments.get("limit", 1_000_000))]
-    if "history" in arguments:
-        words += ["--history", str(arguments["history"])]
+    for name in ("memory", "history"):
+        if name in arguments:
+            words += [f"--{name}", str(arguments[name])]
     return Record(arguments["record"], words)
 
 

@@ -15,6 +15,8 @@ from .sessions import FOLDER, Message
 LIMIT = 1_000_000
 # A run is paused within so many seconds, on a machine that does much else.
 PATIENCE = 5.0
+# The copies of states may take 64 MiB, and the rest of the adapter not so much.
+LITTLE = 128 << 20
 
 
 class Copied(Adapter):
@@ -57,7 +59,7 @@ class Copied(Adapter):
 def begin(adapter: Copied, arguments: Message | None = None, client: Message | None = None) -> None:
     """A session that stands at its start."""
     adapter.answer("initialize", {"adapterID": "qrev", **(client or {})})
-    adapter.answer("launch", {"program": "forever.ssa", "history": 1_000_000, **(arguments or {})})
+    adapter.answer("launch", {"program": "forever.ssa", **(arguments or {})})
     adapter.event("initialized")
     adapter.answer("configurationDone")
     expect(adapter.event("stopped")["reason"] == "entry", "it doesn't stand at its start")
@@ -98,6 +100,11 @@ def paused_and_back(adapter: Copied, folder: pathlib.Path, arguments: Message | 
 def paused_with_few(adapter: Copied, folder: pathlib.Path) -> None:
     """The same where few moves can be undone."""
     paused_and_back(adapter, folder, {"history": 1})
+
+
+def paused_with_little(adapter: Copied, folder: pathlib.Path) -> None:
+    """The same where copies of states may take little."""
+    paused_and_back(adapter, folder, {"memory": 1})
 
 
 def stands_already(adapter: Copied, folder: pathlib.Path) -> None:
@@ -159,6 +166,28 @@ def back_to_the_oldest(adapter: Copied, folder: pathlib.Path) -> None:
     adapter.answer("disconnect")
 
 
+def back_to_the_start(adapter: Copied, folder: pathlib.Path) -> None:
+    """If nothing is said, a run back goes to the start from wherever the run is, in little memory."""
+    begin(adapter)
+    adapter.answer("continue", {"threadId": 1})
+    time.sleep(2)
+    at = position(pause(adapter))
+    expect(at > LIMIT, f"it came to #{at} alone")
+    used = resident(adapter)
+    expect(used < LITTLE, f"{used >> 20} MiB after {at} moves")
+    adapter.answer("reverseContinue", {"threadId": 1})
+    stopped = adapter.event("stopped")
+    expect(position(stopped) == 0 and stopped["reason"] == "entry", f"from #{at} back to {stopped}")
+    adapter.answer("disconnect")
+
+
+def resident(adapter: Copied) -> int:
+    """How many bytes of memory the adapter has."""
+    status = pathlib.Path(f"/proc/{adapter.process.pid}/status").read_text()
+    kibibytes = next(line for line in status.splitlines() if line.startswith("VmRSS:"))
+    return int(kibibytes.split()[1]) << 10
+
+
 def call_without_an_end(adapter: Copied, folder: pathlib.Path) -> None:
     """A step over a call that doesn't return is paused in it."""
     begin(adapter)
@@ -172,7 +201,7 @@ def call_without_an_end(adapter: Copied, folder: pathlib.Path) -> None:
 def every_move_kept(adapter: Copied, folder: pathlib.Path) -> None:
     """Where each move is kept a run ends at the limit, since it takes memory."""
     adapter.answer("initialize", {"adapterID": "qrev"})
-    adapter.answer("launch", {"program": "forever.ssa"})
+    adapter.answer("launch", {"program": "forever.ssa", "history": "all"})
     adapter.event("initialized")
     adapter.answer("configurationDone")
     adapter.event("stopped")
@@ -184,7 +213,7 @@ def every_move_kept(adapter: Copied, folder: pathlib.Path) -> None:
 def not_debugged(adapter: Copied, folder: pathlib.Path) -> None:
     """A run that isn't debugged goes on past the limit, and is ended."""
     adapter.answer("initialize", {"adapterID": "qrev"})
-    adapter.answer("launch", {"program": "forever.ssa", "history": 1000, "noDebug": True})
+    adapter.answer("launch", {"program": "forever.ssa", "noDebug": True})
     adapter.event("initialized")
     adapter.answer("configurationDone")
     expect(adapter.is_silent(1), "it doesn't go on")
@@ -263,11 +292,13 @@ def progress(adapter: Copied, folder: pathlib.Path) -> None:
 CASES: dict[str, Callable[[Copied, pathlib.Path], None]] = {
     "paused, back, and on": paused_and_back,
     "paused with few undo records": paused_with_few,
+    "paused with few copies": paused_with_little,
     "it stands already": stands_already,
     "asked while it runs": asked_while_it_runs,
     "a breakpoint while it runs": breakpoint_while_it_runs,
     "moved while it runs": moved_while_it_runs,
     "back to the oldest state": back_to_the_oldest,
+    "back to the start": back_to_the_start,
     "a call without an end": call_without_an_end,
     "the limit of the launch": limit_of_the_launch,
     "every move kept": every_move_kept,
@@ -295,7 +326,7 @@ def at_once(program: str, seconds: float) -> str | None:
         folder = pathlib.Path(place).resolve()
         shutil.copy(FOLDER / "forever.ssa", folder)
         adapter = Copied(program, seconds, folder)
-        launch = {"program": "forever.ssa", "history": 1000}
+        launch = {"program": "forever.ssa"}
         asked: list[tuple[str, Message | None]] = [
             ("initialize", {"adapterID": "qrev"}), ("launch", launch), ("configurationDone", None),
             ("continue", {"threadId": 1}), ("threads", None), ("pause", {"threadId": 1}), ("disconnect", None)]

@@ -102,9 +102,8 @@ class Session:
         random = self.random
         given: Message = {"program": str(self.program), "record": str(self.record), "args": [
             str(one) if random.randrange(2) else one for one in self.args], "limit": random.choice((1, 2, 7, 50, 200))}
-        history = random.choice((None, None, None, 1, 2, 3, 10, 60))
-        if history is not None:
-            given["history"] = history
+        given.update(random.choice(({}, {}, {"memory": 1}, {"history": "all"}, *(
+            {"history": most} for most in (1, 2, 3, 10, 60)))))
         if random.randrange(3) == 0:
             given["stopOnEntry"] = bool(random.randrange(2))
         if random.randrange(15) == 0:
@@ -428,5 +427,5 @@ def fault_of(program: str, qrev: str, folder: str, seed: int, requests: int, sec
 def replayed_fault(qrev: str, name: str, given: Message, folder: pathlib.Path, seconds: float) -> Optional[str]:
     """What `qrev` does otherwise with the record of a session of these arguments, or None."""
     words = [given["program"], *map(str, given["args"]), "--limit", str(given["limit"])]
-    words += ["--history", str(given["history"])] if "history" in given else []
+    words += [word for name in ("memory", "history") if name in given for word in (f"--{name}", str(given[name]))]
     return replay_fault(qrev, Record(name, words), folder, seconds)

@@ -53,7 +53,7 @@ class Debuggee:
 
     def __init__(self, launched: Launch, text: bytes, first_line: int, sources: Optional[SourceMap],
                  record: Optional[str]) -> None:
-        loaded, self.session = load(text, launched.entry, launched.args, launched.limit, launched.history)
+        loaded, self.session = load(text, launched.entry, launched.args, launched.limit, launched.kept.history)
         self.launched, self.first_line, self.sources = launched, first_line, sources
         self.names, self.record = launched.names(), record
         self.rules: dict[int, Rule] = {}

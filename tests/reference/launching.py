@@ -10,12 +10,25 @@ from .messages import Message, is_number
 from .names import Names
 from .tokens import GREATEST_TEXT
 
-GREATEST_ARGUMENT, GREATEST_LIMIT, GREATEST_HISTORY = 2**64 - 1, 2**32 - 1, 1_000_000
-DEFAULT_LIMIT = 1_000_000
+GREATEST_ARGUMENT, GREATEST_LIMIT, GREATEST_HISTORY, GREATEST_MEMORY = 2**64 - 1, 2**32 - 1, 1_000_000, 65_536
+DEFAULT_LIMIT, DEFAULT_MEMORY = 1_000_000, 64
 
 
 class BadLaunch(Exception):
     """A launch that is refused, and why."""
+
+
+class Kept(NamedTuple):
+    """How states are kept: by copies of so many MiB, or else by undo records, of the newest moves or of all."""
+
+    memory: Optional[int]
+    history: Optional[int]
+
+    def words(self) -> list[str]:
+        """The words of a command line that keeps them so."""
+        if self.memory is None:
+            return ["--history", "all" if self.history is None else str(self.history)]
+        return [] if self.memory == DEFAULT_MEMORY else ["--memory", str(self.memory)]
 
 
 class Launch(NamedTuple):
@@ -23,7 +36,7 @@ class Launch(NamedTuple):
     entry: str
     args: list[int]
     limit: int
-    history: Optional[int]
+    kept: Kept
     stops_on_entry: bool
     record: Optional[str]
     map: Optional[str]
@@ -69,7 +82,7 @@ class Launch(NamedTuple):
     def command_line(self) -> str:
         """The words that replay the record."""
         words = ["qrev", self.program, *map(str, self.args), "--entry", self.entry, "--limit", str(self.limit)]
-        return " ".join(words + ([] if self.history is None else ["--history", str(self.history)]))
+        return " ".join(words + self.kept.words())
 
 
 def number_or_fail(given: Message, name: str, greatest: int) -> Optional[int]:
@@ -78,6 +91,24 @@ def number_or_fail(given: Message, name: str, greatest: int) -> Optional[int]:
     if name in given and not is_number(value, 1, greatest):
         raise BadLaunch(f"{name}: not a number from 1 to {greatest}")
     return value
+
+
+def kept_of(given: Message) -> Kept:
+    """How a launch has states kept."""
+    history, memory = given.get("history"), given.get("memory")
+    if "history" in given and "memory" in given:
+        raise BadLaunch("memory and history: only one of them can be said")
+    if "history" not in given and "memory" not in given:
+        return Kept(DEFAULT_MEMORY, None)
+    if history == "all":
+        return Kept(None, None)
+    if "history" in given:
+        if not is_number(history, 1, GREATEST_HISTORY):
+            raise BadLaunch(f"history: not a number from 1 to {GREATEST_HISTORY}, nor all")
+        return Kept(None, history)
+    if not is_number(memory, 1, GREATEST_MEMORY):
+        raise BadLaunch(f"memory: not a number of MiB from 1 to {GREATEST_MEMORY}")
+    return Kept(memory, None)
 
 
 def argument(item: object) -> int:
@@ -99,7 +130,7 @@ def launch_of(given: Message) -> Launch:
         raise BadLaunch(f"args: not a number from 0 to {GREATEST_ARGUMENT}")
     args = [argument(item) for item in args]
     limit = number_or_fail(given, "limit", GREATEST_LIMIT) or DEFAULT_LIMIT
-    history = number_or_fail(given, "history", GREATEST_HISTORY)
+    kept = kept_of(given)
     stops_on_entry = given.get("stopOnEntry", True)
     if not isinstance(stops_on_entry, bool):
         raise BadLaunch("stopOnEntry: no flag")
@@ -111,4 +142,4 @@ def launch_of(given: Message) -> Launch:
         raise BadLaunch("record: no path")
     if "map" in given and not isinstance(given["map"], str):
         raise BadLaunch("map: no path")
-    return Launch(given["program"], entry, args, limit, history, stops_on_entry, record, given.get("map"), no_debug)
+    return Launch(given["program"], entry, args, limit, kept, stops_on_entry, record, given.get("map"), no_debug)

@@ -9,3 +9,4 @@ pub mod Refusing
 pub mod Onward
 pub mod Hitting
 pub mod Quiet
+pub mod AtDepths

@@ -2,3 +2,4 @@
 pub mod Walk
 pub mod Held
 pub mod Hits
+pub mod CallDepths

@@ -15,11 +15,13 @@ ghost use Rattle.qil_stops.specs.Readings.{AllTell};
 ghost use Rattle.qil_checkpoints.specs.Walk.{after_poke, HasWidth, IsWalk};
 ghost use Rattle.qil_checkpoints.specs.Held.{first_of, Holds, held_timeline};
 ghost use Rattle.qil_checkpoints.specs.Hits.{IsQuiet};
+ghost use Rattle.qil_checkpoints.specs.CallDepths.{IsFirstShallow};
 
 use crate::keeping::{forget_later, keep_copy};
 use crate::poked::{KeptPoke, Poked};
 use crate::replaying::{copy_ahead, go_back, jump, poke};
 use crate::searching::{hit_or_lowest, search_back};
+use crate::shallow::{moves_back, search_shallow};
 use crate::spacing::Spacing;
 use arrayvec::ArrayVec;
 use qil_code::Slot;
@@ -27,7 +29,7 @@ use qil_history::HasProgram;
 use qil_machine::PokeError;
 use qil_meaning::Reason;
 use qil_stops::looking::{is_over, readings, stopped};
-use qil_stops::{HasCopies, NumberedStop, Restorable};
+use qil_stops::{DepthEnd, HasCopies, NumberedStop, Restorable};
 use std::alloc::{AllocError, Allocator};
 use std::marker::Model;
 
@@ -203,6 +205,7 @@ impl<A: Allocator + Copy, M: HasCopies<A>> Checkpoints<A, M> {
         ensures program { (M.present self.new.machine).program ≡ (M.present self.old.machine).program }
         ensures run { RunsBack (named_stops (M.present self.old.machine).program stops.now) limit (held_timeline M.present M.kept self.old) result.0 result.1 (held_timeline M.present M.kept self.new) }
         ensures near { self.new.position ≤ self.old.position }
+        ensures few { result.1 ≤ self.old.position }
     {
         let now = self.position;
         let lowest = now.saturating_sub(limit);
@@ -224,6 +227,27 @@ impl<A: Allocator + Copy, M: HasCopies<A>> Checkpoints<A, M> {
         );
         self.position = hit.position;
         (hit.reason, now - hit.position)
+    }
+
+    /// How many moves back the first place is, after a move, where at most `most` calls are open, if up to so many moves lead to one.
+    pub(crate) fn moves_to_depth<C: HasProgram<A>>(
+        &mut self,
+        most: usize,
+        limit: u64,
+    ) -> Option<u64>
+    where
+        M: Restorable<A, C>,
+        ensures program { (M.present self.new.machine).program ≡ (M.present self.old.machine).program }
+        ensures position { self.new.position ≡ self.old.position }
+        ensures same { held_timeline M.present M.kept self.new ≡ held_timeline M.present M.kept self.old }
+        ensures first { IsFirstShallow (held_timeline M.present M.kept self.old) most limit result }
+    {
+        let now = self.position;
+        let lowest = now.saturating_sub(limit);
+        let (positions, pokes) = (self.positions.as_slice(), self.pokes.as_slice());
+        let found = search_shallow(&mut self.machine, positions, pokes, most, lowest, now);
+        jump(&mut self.machine, positions, pokes, now);
+        moves_back(found, now)
     }
 
     /// Pokes, and keeps that as a move. Where there is no memory for that, a poke that wasn't refused is undone.
@@ -318,6 +342,19 @@ impl<A: Allocator + Copy, M: HasCopies<A>> Checkpoints<A, M> {
         }
     }
 
+    /// Why a run ends where no more calls are open than were asked for: at the end of the run that comes first.
+    pub(crate) fn shallow_end<C: HasProgram<A>>(&self) -> DepthEnd
+    where
+        M: Restorable<A, C>,
+        ensures { result ≡ cond (at_end (held_timeline M.present M.kept self.now)) (DepthEnd.Stopped Reason.End) DepthEnd.Depth }
+    {
+        if is_over(&self.machine) {
+            DepthEnd::Stopped(Reason::End)
+        } else {
+            DepthEnd::Depth
+        }
+    }
+
     /// How many moves were made: steps and pokes.
     pub fn moves<C: HasProgram<A>>(&self) -> u64
     where
@@ -330,9 +367,10 @@ impl<A: Allocator + Copy, M: HasCopies<A>> Checkpoints<A, M> {
     }
 
     /// What is read.
-    pub(crate) fn reader<C: HasProgram<A>>(&self) -> &M
+    pub fn reader<C: HasProgram<A>>(&self) -> &M
     where
         M: Restorable<A, C>,
+        ensures same { result.now ≡ self.now.machine }
         ensures now { state_of (M.whole result.now) ≡ (held_timeline M.present M.kept self.now).now }
         ensures program { (M.whole result.now).program ≡ (M.present self.now.machine).program }
     {

@@ -3,6 +3,7 @@
 #![tactic(auto)]
 
 mod checkpoints;
+mod depths;
 mod history;
 mod hit;
 mod keeping;
@@ -10,6 +11,7 @@ mod poked;
 mod replaying;
 mod running;
 mod searching;
+mod shallow;
 mod spacing;
 
 pub use checkpoints::Checkpoints;

@@ -188,7 +188,7 @@ pub(crate) fn replay<A: Allocator + Copy, C: HasProgram<A>, M: Restorable<A, C>>
 }
 
 /// Makes the moves from a position to a later one again, of which these are all pokes.
-fn run_through<A: Allocator + Copy, C: HasProgram<A>, M: Restorable<A, C>>(
+pub(crate) fn run_through<A: Allocator + Copy, C: HasProgram<A>, M: Restorable<A, C>>(
     machine: &mut M,
     pokes: &[Poked],
     from: u64,

@@ -40,7 +40,7 @@ impl<A: Allocator + Copy, M: HasCopies<A>> Checkpoints<A, M> {
     }
 
     /// Keeps a copy where one is to be kept.
-    fn keep_between<C: HasProgram<A>>(&mut self)
+    pub(crate) fn keep_between<C: HasProgram<A>>(&mut self)
     where
         M: Restorable<A, C>,
         ensures program { (M.present self.new.machine).program ≡ (M.present self.old.machine).program }

@@ -149,7 +149,7 @@ fn last_hit<A: Allocator + Copy, C: HasProgram<A>, M: Restorable<A, C>>(
 
 /// Where the part before a position begins that is looked through: at the last copy before it, or at the lowest position that
 /// is looked at.
-fn part_start(positions: &[u64], lowest: u64, end: u64) -> u64
+pub(crate) fn part_start(positions: &[u64], lowest: u64, end: u64) -> u64
     requires some { lowest < end }
     requires start { FromStart positions.now }
     ensures low { lowest ≤ result }

@@ -167,7 +167,11 @@ impl<'c, A: Allocator + Copy> History<A, Machine<'c, A>> for Deltas<'c, A> {
         0
     }
 
-    fn machine(&self) -> &Machine<'c, A> {
+    fn machine(&self) -> &Machine<'c, A>
+        ensures same { result.now ≡ self.now.machine }
+        ensures now { state_of result.now ≡ (moved_timeline self.now).now }
+        ensures program { result.now.program ≡ self.now.machine.program }
+    {
         &self.machine
     }
 }

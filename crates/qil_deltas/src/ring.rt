@@ -193,7 +193,11 @@ impl<'c, A: Allocator + Copy> History<A, Machine<'c, A>> for Ring<'c, A> {
         self.newest.gone
     }
 
-    fn machine(&self) -> &Machine<'c, A> {
+    fn machine(&self) -> &Machine<'c, A>
+        ensures same { result.now ≡ self.now.machine }
+        ensures now { state_of result.now ≡ (recent_timeline self.now).now }
+        ensures program { result.now.program ≡ self.now.machine.program }
+    {
         &self.machine
     }
 }

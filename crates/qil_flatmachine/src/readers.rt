@@ -183,6 +183,13 @@ impl<'c, A: Allocator + Copy> FlatMachine<'c, A> {
         self.output.as_slice()
     }
 
+    /// The first dead address of the stack.
+    pub fn top(&self) -> u64
+        ensures { result ≡ self.now.whole.memory.top }
+    {
+        self.memory.top()
+    }
+
     /// The byte so far after an address, if it is live. After the last address there is none.
     pub fn byte_after(&self, address: u64, offset: u64) -> Option<u8>
         ensures { result ≡ live self.now.whole.memory (address + offset) }

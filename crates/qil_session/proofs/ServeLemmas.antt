@@ -24,7 +24,7 @@ use Rattle.qil_streams.specs.Device.{IsPrefixOf}
 use Rattle.std.proofs.Common.{subst}
 use Rattle.std.proofs.Math.Seq.{take-append_seam, take-append-add}
 use Rattle.qil_session.specs.declared.session.Next.{Next}
-use Rattle.qil_session.specs.Serve.{AreServed, IsServed, IsCutShort, IsTooLong}
+use Rattle.qil_session.specs.Serve.{AreServed, one_alone, both, IsServed, IsCutShort, IsTooLong}
 use Rattle.qil_streams.proofs.ScriptLemmas.{WholeLines-line, WholeLines-whole_part, WholeLines-end, WholeLines-last}
 use Rattle.qil_session.proofs.KeptLemmas.{command_of-kept}
 use Rattle.qil_replies.specs.Reached.{Reported, Reached}
@@ -346,12 +346,28 @@ line_read r old new slice kept line before after e f h =
 -- two scripts, the second from where the first left the session
 pub in_turn : {A T U : Type 0} (r : Result T IoFault) (first there now : SessionState A) (one two left left' w0 w1 w2 : Option (List ℕ)) (v : U)
     → Promise (Ok v) first one left w0 w1 there → Promise r there two left' w1 w2 now
-    → OnOk r (IfSome one (λ script. IfSome two (λ more. (text : List ℕ) × Appends w0 w2 text × AreServed first script more text now)))
-in_turn (Err e) first there now one two left left' w0 w1 w2 v p q = tt
-in_turn (Ok x) first there now None two left left' w0 w1 w2 v p q = tt
-in_turn (Ok x) first there now (Some script) None left left' w0 w1 w2 v p q = tt
-in_turn (Ok x) first there now (Some script) (Some more) left left' w0 w1 w2 v p q =
-    (p.0 ++ q.0, Appends-append w0 w1 w2 p.0 q.0 p.1 q.1, record { there = there; first = p.0; second = q.0; one_is = p.2.0; two_is = q.2.0; text_is = refl })
+    → IfSome one (λ script. IfSome two (λ more. (text : List ℕ) × Appends w0 w2 text × AreServed r first script more left left' text now))
+in_turn r first there now None two left left' w0 w1 w2 v p q = tt
+in_turn r first there now (Some script) None left left' w0 w1 w2 v p q = tt
+in_turn r first there now (Some script) (Some more) left left' w0 w1 w2 v p q =
+    (p.0 ++ q.0, Appends-append w0 w1 w2 p.0 q.0 p.1 q.1, both there p.0 q.0 p.2.0 p.2.1 q.2 refl)
+
+served_cast : {A : Type 0} (T U : Type 0) (fault : IoFault) (s : SessionState A) (script : List ℕ) (left : Option (List ℕ)) (text : List ℕ) (now : SessionState A)
+    → IsServed {T = T} (Err fault) s script left text now → IsServed {T = U} (Err fault) s script left text now
+served_cast T U Read s script left text now h = h
+served_cast T U Write s script left text now h = h
+served_cast T U TooLong s script left text now h = h
+
+-- the first wasn't answered to its end, and that is handed on
+pub one_of_two : {A T U : Type 0} (r : Result T IoFault) (on : Result U IoFault) (fault : IoFault) (first now : SessionState A) (one two left w0 w1 : Option (List ℕ)) → r ≡ Err fault → IsErrAnd on (λ e. e ≡ fault)
+    → Promise r first one left w0 w1 now
+    → IfSome one (λ script. IfSome two (λ more. (text : List ℕ) × Appends w0 w1 text × AreServed on first script more left two text now))
+one_of_two r on fault first now None two left w0 w1 e h p = tt
+one_of_two r on fault first now (Some script) None left w0 w1 e h p = tt
+one_of_two r (Ok x) fault first now (Some script) (Some more) left w0 w1 e h p = absurd h
+one_of_two {A} {T} {U} r (Err other) fault first now (Some script) (Some more) left w0 w1 e h p =
+    let q = rw e at p in
+    (q.0, q.1, one_alone fault (ap Err h) (served_cast T U fault first script left q.0 now q.2) refl)
 
 -- ---- a script of two is too long
 

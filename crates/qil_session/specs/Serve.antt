@@ -44,14 +44,12 @@ IsServed (Err Read) s script left text now =
 -- those to the lines that end among the first 2^24 bytes
 IsServed (Err TooLong) s script left text now = IsAnsweredTo s (whole_lines_of (take (2 ^ 24) script)) text now × IsTooLong script
 
--- Two scripts were answered one after the other: the second where the first left the session.
-pub record AreServed {A : Type 0} (s : SessionState A) (one two : List ℕ) (text : List ℕ) (now : SessionState A) : Type 0 where
-  pub there : SessionState A
-  pub first : List ℕ
-  pub second : List ℕ
-  pub one_is : IsAnsweredTo s (lines_of one) first there
-  pub two_is : IsAnsweredTo there (lines_of two) second now
-  pub text_is : text ≡ first ++ second
+-- Two scripts one after the other, by what `serve_in_turn` returns. The first wasn't answered to its end, and of the second nothing
+-- was taken; or it was, and the second was served from where the first left the session.
+pub data AreServed {A T : Type 0} (result : Result T IoFault) (s : SessionState A) (one two : List ℕ) (left left' : Option (List ℕ)) (text : List ℕ) (now : SessionState A) : Type 0 where
+  one_alone : (fault : IoFault) → result ≡ Err fault → IsServed {T = T} (Err fault) s one left text now → left' ≡ Some two → AreServed result s one two left left' text now
+  both : (there : SessionState A) (first second : List ℕ) → IsAnsweredTo s (lines_of one) first there → ¬ IsTooLong one → IsServed result there two left' second now → text ≡ first ++ second
+      → AreServed result s one two left left' text now
 
 -- which device's faults rose, and by how much
 abbrev pub CountsServe : {T : Type 0} → Result T IoFault → ℕ → ℕ → ℕ → ℕ → Type 0

@@ -1,6 +1,6 @@
 //! A script is served: its lines are read and answered one after the other.
 
-ghost use Rattle.std.specs.Prelude.{◌≡◌, ℕ, ◌+◌, ◌-◌, ◌^◌, ◌<◌, ◌≤◌, ◌↔◌, ◌⊎◌, List, Err, OnOk, IfSome};
+ghost use Rattle.std.specs.Prelude.{◌≡◌, ℕ, ◌+◌, ◌-◌, ◌^◌, ◌<◌, ◌≤◌, ◌↔◌, ◌⊎◌, List, Err, IfSome};
 ghost use Rattle.std.specs.Io.KnownBytes.{Appends};
 ghost use Rattle.qil_meaning.specs.Timeline.{position};
 ghost use Rattle.qil_session.specs.Kept.{session_state};
@@ -114,9 +114,10 @@ pub fn serve_in_turn<
     requires writes { W.failures sink.old < 2 ^ 64 - 1 }
     requires before { position (H.timeline session.old.history) < 2 ^ 59 }
     requires limit { session.old.limit ≤ 4294967295 }
-    ensures served { OnOk result (IfSome (S.remaining first.old) (λ one. IfSome (T.remaining second.old) (λ two. (text : List ℕ)
+    ensures served { IfSome (S.remaining first.old) (λ one. IfSome (T.remaining second.old) (λ two. (text : List ℕ)
         × Appends (W.contents sink.old) (W.contents sink.new) text
-        × AreServed (session_state H.wants_memory H.program H.timeline session.old) one two text (session_state H.wants_memory H.program H.timeline session.new)))) }
+        × AreServed result (session_state H.wants_memory H.program H.timeline session.old) one two (S.remaining first.new) (T.remaining second.new) text (session_state H.wants_memory H.program H.timeline session.new))) }
+    ensures unread { S.failures first.old < S.failures first.new → second.new ≡ second.old }
     ensures read_fault { (result ≡ Err IoFault.Read) ↔ ((S.failures first.old < S.failures first.new) ⊎ (T.failures second.old < T.failures second.new)) }
     ensures write_fault { (result ≡ Err IoFault.Write) ↔ (W.failures sink.old < W.failures sink.new) }
     ensures too_long { result ≡ Err IoFault.TooLong → IfSome (S.remaining first.old) (λ one. IfSome (T.remaining second.old) (λ two. IsTooLong one ⊎ IsTooLong two)) }

@@ -16,10 +16,9 @@ use crate::showing::show_bytes;
 use crate::stopping::{add_break, delete, watch_bytes, watch_temp};
 use qil_code::Code;
 use qil_commands::{Command, Refused};
-use qil_deltas::Runs;
-use qil_machine::Machine;
+use qil_deltas::{DepthRuns, Runs};
 use qil_replies::{CommandRefusal, Reply, code_of, put_place, put_reply};
-use qil_stops::{DepthEnd, History, Stops, run_back_to_depth, run_to_depth};
+use qil_stops::{DepthEnd, Stops};
 use qil_streams::{Put, PutError};
 use std::alloc::{AllocError, Allocator};
 use std::marker::Model;
@@ -191,7 +190,7 @@ impl<'c, A: Allocator + Copy + 'c, H: Runs<A, Code<'c, A>>> Session<A, H> {
 }
 
 /// Runs over calls. No command makes one: a front end keeps it as the `step N` or `back N` that makes the same moves.
-impl<'c, A: Allocator + Copy + 'c, H: History<A, Machine<'c, A>>> Session<A, H> {
+impl<'c, A: Allocator + Copy + 'c, H: DepthRuns<A, Code<'c, A>>> Session<A, H> {
     /// Moves forward to the first place, after a move, where at most `most` calls are open, or to a stop, the end, the limit, or
     /// where there is no memory for a move. Gives why, and how many moves were made.
     pub fn run_to_depth(&mut self, most: usize) -> (DepthEnd, u64)
@@ -204,7 +203,7 @@ impl<'c, A: Allocator + Copy + 'c, H: History<A, Machine<'c, A>>> Session<A, H> 
         ensures run { RunsToDepth (H.program self.old.history) (named_stops (H.program self.old.history) self.old.stops.kept) most self.old.limit
             (H.timeline self.old.history) result.0 result.1 (H.timeline self.new.history) }
     {
-        run_to_depth(&mut self.history, &self.stops, most, self.limit)
+        self.history.run_to_depth(&self.stops, most, self.limit)
     }
 
     /// The same backward: to a stop, the oldest state that is kept, or the limit. It takes no memory.
@@ -215,7 +214,8 @@ impl<'c, A: Allocator + Copy + 'c, H: History<A, Machine<'c, A>>> Session<A, H> 
         ensures run { RunsBackToDepth (named_stops (H.program self.old.history) self.old.stops.kept) most self.old.limit
             (H.timeline self.old.history) result.0 result.1 (H.timeline self.new.history) }
     {
-        run_back_to_depth(&mut self.history, &self.stops, most, self.limit)
+        self.history
+            .run_back_to_depth(&self.stops, most, self.limit)
     }
 
     /// As `run_back_to_depth`, with these stops in place of the session's.
@@ -226,6 +226,6 @@ impl<'c, A: Allocator + Copy + 'c, H: History<A, Machine<'c, A>>> Session<A, H> 
         ensures run { RunsBackToDepth (named_stops (H.program self.old.history) stops.now.kept) most self.old.limit
             (H.timeline self.old.history) result.0 result.1 (H.timeline self.new.history) }
     {
-        run_back_to_depth(&mut self.history, stops, most, self.limit)
+        self.history.run_back_to_depth(stops, most, self.limit)
     }
 }

@@ -6,11 +6,14 @@ ghost use Rattle.qil_loading.specs.Load.{Checks};
 ghost use Rattle.qrev_recorder.specs.Record.{setup_of, IsBeginning};
 ghost use Rattle.qrev_notices.specs.Conversation.{asked_by};
 ghost use Rattle.qrev_notices.specs.Reading.{heard, Serves};
+ghost use Rattle.qrev_sessions.specs.Copied.{copied_state};
 ghost use Rattle.qrev_adapter.specs.Opened.{HasStarted, IsAccepted};
 
 use crate::session::serve_session;
 use qil_code::Code;
 use qil_deltas::{Deltas, Ring};
+use qil_flat::{FlatCode, flatten};
+use qil_flatmachine::{FlatMachine, RestorableMachine};
 use qil_laying::layout;
 use qil_loading::{LoadError, Loaded, check_text};
 use qil_machine::Machine;
@@ -26,21 +29,23 @@ use qrev_notices::{
 use qrev_protocol::Request;
 use qrev_recorder::{HasMachine, Opening, Recorder};
 use qrev_requests::Launch;
-use qrev_sessions::{BoundedSession, WholeSession};
+use qrev_sessions::{BoundedSession, CopyingSession, ShownOver, WholeSession};
 use qrev_views::Shown;
 use std::alloc::{AllocError, Allocator};
 use std::hash::RandomState;
 
-/// Serves a session that has made no move.
+/// Serves a session that has made no move. `_code` is of a type that names the lifetime of the code, if that of the session doesn't.
 fn open_session<
     'c,
     A: Allocator + Copy + 'c,
-    L: HasMachine<A, Machine<'c, A>> + Drop,
+    L: HasMachine<A, Code<'c, A>> + Drop,
     S: Source,
     W: Sink,
     F: Files<A>,
+    K,
 >(
     live: L,
+    _code: Option<&K>,
     opening: Opening<'c>,
     loaded: &Loaded<'_>,
     launch: &'c Launch<A>,
@@ -95,6 +100,7 @@ fn open_whole<'c, A: Allocator + Copy + 'c, S: Source, W: Sink, F: Files<A>>(
 ) -> Result<Closed<A>, Ended>
     requires limit { opening.limit ≤ 4294967295 }
     requires bound { opening.bound ≡ None }
+    requires records { opening.budget ≡ None }
     requires begins { HasStarted (setup_of opening) loaded.now machine }
     ensures { Serves result (asked_by request.entry) (heard S.remaining W.contents line.old) (heard S.remaining W.contents line.new) }
 {
@@ -106,7 +112,8 @@ fn open_whole<'c, A: Allocator + Copy + 'c, S: Source, W: Sink, F: Files<A>>(
             return Err(Ended::OutOfMemory);
         }
     };
-    open_session(live, opening, loaded, launch, request, files, line)
+    let code: Option<&'c Code<'c, A>> = None;
+    open_session(live, code, opening, loaded, launch, request, files, line)
 }
 
 /// Serves from a machine at its start, over the newest of its deltas.
@@ -123,6 +130,7 @@ fn open_bounded<'c, A: Allocator + Copy + 'c, S: Source, W: Sink, F: Files<A>>(
     requires limit { opening.limit ≤ 4294967295 }
     requires bound { opening.bound ≡ Some bound }
     requires range { (1 ≤ bound) × (bound ≤ 1000000) }
+    requires records { opening.budget ≡ None }
     requires begins { HasStarted (setup_of opening) loaded.now machine }
     ensures { Serves result (asked_by request.entry) (heard S.remaining W.contents line.old) (heard S.remaining W.contents line.new) }
 {
@@ -138,7 +146,8 @@ fn open_bounded<'c, A: Allocator + Copy + 'c, S: Source, W: Sink, F: Files<A>>(
             return Err(Ended::OutOfMemory);
         }
     };
-    open_session(live, opening, loaded, launch, request, files, line)
+    let code: Option<&'c Code<'c, A>> = None;
+    open_session(live, code, opening, loaded, launch, request, files, line)
 }
 
 /// Serves from a machine at its start: over all its deltas, or over the newest if there is a bound.
@@ -153,6 +162,7 @@ fn open_machine<'c, A: Allocator + Copy + 'c, S: Source, W: Sink, F: Files<A>>(
 ) -> Result<Closed<A>, Ended>
     requires limit { opening.limit ≤ 4294967295 }
     requires bound { IfSome opening.bound (λ n. (1 ≤ n) × (n ≤ 1000000)) }
+    requires records { opening.budget ≡ None }
     requires begins { HasStarted (setup_of opening) loaded.now machine }
     ensures { Serves result (asked_by request.entry) (heard S.remaining W.contents line.old) (heard S.remaining W.contents line.new) }
 {
@@ -161,6 +171,140 @@ fn open_machine<'c, A: Allocator + Copy + 'c, S: Source, W: Sink, F: Files<A>>(
     };
     open_bounded(
         machine, bound, opening, loaded, launch, request, files, line,
+    )
+}
+
+/// Serves a program that is numbered, over undo records.
+fn open_records<'c, 't, A: Allocator + Copy + 'c, S: Source, W: Sink, F: Files<A>>(
+    code: &'c Code<'t, A>,
+    opening: Opening<'c>,
+    loaded: &Loaded<'_>,
+    launch: &'c Launch<A>,
+    request: Request<'_>,
+    files: &F,
+    line: &mut Line<A, S, W>,
+) -> Result<Closed<A>, Ended>
+    requires limit { opening.limit ≤ 4294967295 }
+    requires bound { IfSome opening.bound (λ n. (1 ≤ n) × (n ≤ 1000000)) }
+    requires records { opening.budget ≡ None }
+    requires accepted { IsAccepted opening.text.now loaded.now code.now }
+    ensures { Serves result (asked_by request.entry) (heard S.remaining W.contents line.old) (heard S.remaining W.contents line.new) }
+{
+    let machine = match Machine::start(line.alloc, code, opening.entry, opening.args) {
+        Ok(machine) => machine,
+        Err(error) => return refuse_start(error, launch, request, line),
+    };
+    open_machine(machine, opening, loaded, launch, request, files, line)
+}
+
+/// Serves a session over copies of a machine's states. It is generic in the machine that keeps them: what becomes known at a call is
+/// compared with all that its bounds promise.
+fn open_copying<
+    'c,
+    A: Allocator + Copy + 'c,
+    M: ShownOver<A, FlatMachine<'c, A>> + Drop,
+    S: Source,
+    W: Sink,
+    F: Files<A>,
+    K,
+>(
+    live: CopyingSession<A, M>,
+    _code: Option<&K>,
+    opening: Opening<'c>,
+    loaded: &Loaded<'_>,
+    launch: &'c Launch<A>,
+    request: Request<'_>,
+    files: &F,
+    line: &mut Line<A, S, W>,
+) -> Result<Closed<A>, Ended>
+    requires limit { opening.limit ≤ 4294967295 }
+    requires begins { IsBeginning (setup_of opening) loaded.now (copied_state M.present M.kept live.session) }
+    ensures { Serves result (asked_by request.entry) (heard S.remaining W.contents line.old) (heard S.remaining W.contents line.new) }
+{
+    let code: Option<&'c Code<'c, A>> = None;
+    open_session(live, code, opening, loaded, launch, request, files, line)
+}
+
+/// Serves over copies of a machine's states, from its start.
+fn open_copies<'c, A: Allocator + Copy + 'c, S: Source, W: Sink, F: Files<A>>(
+    machine: RestorableMachine<'c, A>,
+    budget: u64,
+    opening: Opening<'c>,
+    loaded: &Loaded<'_>,
+    launch: &'c Launch<A>,
+    request: Request<'_>,
+    files: &F,
+    line: &mut Line<A, S, W>,
+) -> Result<Closed<A>, Ended>
+    requires limit { opening.limit ≤ 4294967295 }
+    requires bound { opening.bound ≡ None }
+    requires copies { opening.budget ≡ Some budget }
+    requires begins { HasStarted (setup_of opening) loaded.now machine.present.whole }
+    ensures { Serves result (asked_by request.entry) (heard S.remaining W.contents line.old) (heard S.remaining W.contents line.new) }
+{
+    let live = match CopyingSession::new(line.alloc, machine, budget, opening.limit) {
+        Ok(live) => live,
+        Err(_) => {
+            request.end();
+            return Err(Ended::OutOfMemory);
+        }
+    };
+    let code: Option<&'c Code<'c, A>> = None;
+    open_copying(live, code, opening, loaded, launch, request, files, line)
+}
+
+/// Serves from a flat machine at its start, over copies of its states.
+fn open_restorable<'c, A: Allocator + Copy + 'c, S: Source, W: Sink, F: Files<A>>(
+    machine: FlatMachine<'c, A>,
+    budget: u64,
+    opening: Opening<'c>,
+    loaded: &Loaded<'_>,
+    launch: &'c Launch<A>,
+    request: Request<'_>,
+    files: &F,
+    line: &mut Line<A, S, W>,
+) -> Result<Closed<A>, Ended>
+    requires limit { opening.limit ≤ 4294967295 }
+    requires bound { opening.bound ≡ None }
+    requires copies { opening.budget ≡ Some budget }
+    requires begins { HasStarted (setup_of opening) loaded.now machine.whole }
+    ensures { Serves result (asked_by request.entry) (heard S.remaining W.contents line.old) (heard S.remaining W.contents line.new) }
+{
+    let machine = match RestorableMachine::new(line.alloc, machine) {
+        Ok(machine) => machine,
+        Err(_) => {
+            request.end();
+            return Err(Ended::OutOfMemory);
+        }
+    };
+    open_copies(
+        machine, budget, opening, loaded, launch, request, files, line,
+    )
+}
+
+/// Serves a program whose code is flat, over copies of states.
+fn open_flat<'c, 't, A: Allocator + Copy + 'c, S: Source, W: Sink, F: Files<A>>(
+    code: &'c FlatCode<'t, A>,
+    budget: u64,
+    opening: Opening<'c>,
+    loaded: &Loaded<'_>,
+    launch: &'c Launch<A>,
+    request: Request<'_>,
+    files: &F,
+    line: &mut Line<A, S, W>,
+) -> Result<Closed<A>, Ended>
+    requires limit { opening.limit ≤ 4294967295 }
+    requires bound { opening.bound ≡ None }
+    requires copies { opening.budget ≡ Some budget }
+    requires accepted { IsAccepted opening.text.now loaded.now code.now.program }
+    ensures { Serves result (asked_by request.entry) (heard S.remaining W.contents line.old) (heard S.remaining W.contents line.new) }
+{
+    let machine = match FlatMachine::start(line.alloc, code, opening.entry, opening.args) {
+        Ok(machine) => machine,
+        Err(error) => return refuse_start(error, launch, request, line),
+    };
+    open_restorable(
+        machine, budget, opening, loaded, launch, request, files, line,
     )
 }
 
@@ -176,14 +320,21 @@ fn open_code<'c, 't, A: Allocator + Copy + 'c, S: Source, W: Sink, F: Files<A>>(
 ) -> Result<Closed<A>, Ended>
     requires limit { opening.limit ≤ 4294967295 }
     requires bound { IfSome opening.bound (λ n. (1 ≤ n) × (n ≤ 1000000)) }
+    requires alone { IfSome opening.budget (λ _. opening.bound ≡ None) }
     requires accepted { IsAccepted opening.text.now loaded.now code.now }
     ensures { Serves result (asked_by request.entry) (heard S.remaining W.contents line.old) (heard S.remaining W.contents line.new) }
 {
-    let machine = match Machine::start(line.alloc, code, opening.entry, opening.args) {
-        Ok(machine) => machine,
-        Err(error) => return refuse_start(error, launch, request, line),
+    let Some(budget) = opening.budget else {
+        return open_records(code, opening, loaded, launch, request, files, line);
     };
-    open_machine(machine, opening, loaded, launch, request, files, line)
+    let flat = match flatten(line.alloc, code) {
+        Ok(flat) => flat,
+        Err(_) => {
+            request.end();
+            return Err(Ended::OutOfMemory);
+        }
+    };
+    open_flat(&flat, budget, opening, loaded, launch, request, files, line)
 }
 
 /// What a session is opened with.
@@ -191,13 +342,15 @@ fn opening_of<'l, A: Allocator>(text: &'l [u8], launch: &'l Launch<A>) -> Openin
     ensures text { result.text.now ≡ text.now }
     ensures limit { result.limit ≤ 4294967295 }
     ensures bound { IfSome result.bound (λ n. (1 ≤ n) × (n ≤ 1000000)) }
+    ensures alone { IfSome result.budget (λ _. result.bound ≡ None) }
 {
     Opening {
         text,
         entry: launch.entry.as_str().as_bytes(),
         args: launch.args.as_slice(),
         limit: launch.limit,
-        bound: launch.bound,
+        bound: launch.kept.bound,
+        budget: launch.kept.budget,
     }
 }
 
@@ -214,6 +367,7 @@ fn open_laid_out<'c, 't, 'i, 'l, A: Allocator + Copy, S: Source, W: Sink, F: Fil
 ) -> Result<Closed<A>, Ended>
     requires limit { opening.limit ≤ 4294967295 }
     requires bound { IfSome opening.bound (λ n. (1 ≤ n) × (n ≤ 1000000)) }
+    requires alone { IfSome opening.budget (λ _. opening.bound ≡ None) }
     requires checks { Checks opening.text.now checked.now }
     requires image { image.now ≡ checked.now.program }
     requires lies { fault_of checked.now.program ≡ None }
@@ -242,6 +396,7 @@ fn open_checked<'a, 'l, A: Allocator + Copy, S: Source, W: Sink, F: Files<A>>(
 ) -> Result<Closed<A>, Ended>
     requires limit { opening.limit ≤ 4294967295 }
     requires bound { IfSome opening.bound (λ n. (1 ≤ n) × (n ≤ 1000000)) }
+    requires alone { IfSome opening.budget (λ _. opening.bound ≡ None) }
     requires checks { Checks opening.text.now checked.now }
     ensures { Serves result (asked_by request.entry) (heard S.remaining W.contents line.old) (heard S.remaining W.contents line.new) }
 {
@@ -264,6 +419,7 @@ fn open_text<'l, A: Allocator + Copy, S: Source, W: Sink, F: Files<A>>(
 ) -> Result<Closed<A>, Ended>
     requires limit { opening.limit ≤ 4294967295 }
     requires bound { IfSome opening.bound (λ n. (1 ≤ n) × (n ≤ 1000000)) }
+    requires alone { IfSome opening.budget (λ _. opening.bound ≡ None) }
     ensures { Serves result (asked_by request.entry) (heard S.remaining W.contents line.old) (heard S.remaining W.contents line.new) }
 {
     let checked = match check_text(line.alloc, keys, opening.text) {

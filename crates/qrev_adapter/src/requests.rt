@@ -6,7 +6,7 @@ ghost use Rattle.qrev_notices.specs.Conversation.{asked_by, spoken, Responds};
 ghost use Rattle.qrev_adapter.specs.Asked.{motion_of, line_of, first_of, travel_of};
 ghost use Rattle.qrev_adapter.specs.Served.{Leaves};
 
-use qil_machine::Machine;
+use qil_machine::Code;
 use qil_state::Status;
 use qil_streams::Sink;
 use qrev_breakpoints::{breakpoint_locations, loaded_sources, set_breakpoints, set_by_words};
@@ -22,7 +22,7 @@ use qrev_notices::{
 use qrev_protocol::Request;
 use qrev_recorder::HasMachine;
 use qrev_requests::Arguments;
-use qrev_views::{as_text, place_text};
+use qrev_views::{Readers, as_text, place_text};
 use std::alloc::{AllocError, Allocator};
 
 /// What follows a response.
@@ -69,7 +69,7 @@ fn put_threads<A: Allocator>(body: Body<A>) -> Result<Body<A>, AllocError> {
 }
 
 /// Where the run ended, if a fault of the program ended it: what isn't there is none.
-fn fault_place<'c, A: Allocator + Copy + 'c, L: HasMachine<A, Machine<'c, A>>>(
+fn fault_place<'c, A: Allocator + Copy + 'c, L: HasMachine<A, Code<'c, A>>>(
     debuggee: &Debuggee<'c, A, L>,
 ) -> Result<String<A>, Failure> {
     let machine = debuggee.machine();
@@ -93,7 +93,7 @@ fn put_exception<A: Allocator>(body: Body<A>, place: &str) -> Result<Body<A>, Al
 }
 
 /// Adds what is known of the fault that ended the run.
-fn exception_info<'c, A: Allocator + Copy + 'c, L: HasMachine<A, Machine<'c, A>>>(
+fn exception_info<'c, A: Allocator + Copy + 'c, L: HasMachine<A, Code<'c, A>>>(
     debuggee: &Debuggee<'c, A, L>,
     body: Body<A>,
 ) -> Result<Body<A>, Failure> {
@@ -102,7 +102,7 @@ fn exception_info<'c, A: Allocator + Copy + 'c, L: HasMachine<A, Machine<'c, A>>
 }
 
 /// The move to the beginning of the call of a frame.
-fn restart_frame<'c, A: Allocator + Copy + 'c, L: HasMachine<A, Machine<'c, A>>>(
+fn restart_frame<'c, A: Allocator + Copy + 'c, L: HasMachine<A, Code<'c, A>>>(
     debuggee: &Debuggee<'c, A, L>,
     asked: Arguments<'_, '_, A>,
 ) -> Result<Then, Failure> {
@@ -198,7 +198,7 @@ fn travel_of(has_lines: bool, command: &str, is_single: bool, depth: usize) -> O
 
 /// Where a request asks to go, if it does: from line to line of a source if there is a map of places, and by single moves if it
 /// says so.
-fn travel_asked<'c, A: Allocator + Copy + 'c, L: HasMachine<A, Machine<'c, A>>>(
+fn travel_asked<'c, A: Allocator + Copy + 'c, L: HasMachine<A, Code<'c, A>>>(
     debuggee: &Debuggee<'c, A, L>,
     command: &str,
     asked: Arguments<'_, '_, A>,
@@ -211,7 +211,7 @@ fn travel_asked<'c, A: Allocator + Copy + 'c, L: HasMachine<A, Machine<'c, A>>>(
 }
 
 /// Does what a request asks that neither looks nor sets, and says what follows.
-fn control<'c, A: Allocator + Copy + 'c, L: HasMachine<A, Machine<'c, A>>>(
+fn control<'c, A: Allocator + Copy + 'c, L: HasMachine<A, Code<'c, A>>>(
     debuggee: &Debuggee<'c, A, L>,
     command: &str,
     asked: Arguments<'_, '_, A>,
@@ -233,7 +233,7 @@ fn control<'c, A: Allocator + Copy + 'c, L: HasMachine<A, Machine<'c, A>>>(
 }
 
 /// Does what a request asks that looks.
-fn look<'c, A: Allocator + Copy + 'c, L: HasMachine<A, Machine<'c, A>>>(
+fn look<'c, A: Allocator + Copy + 'c, L: HasMachine<A, Code<'c, A>>>(
     debuggee: &Debuggee<'c, A, L>,
     command: &str,
     asked: Arguments<'_, '_, A>,
@@ -256,7 +256,7 @@ fn look<'c, A: Allocator + Copy + 'c, L: HasMachine<A, Machine<'c, A>>>(
 }
 
 /// Evaluates what a request asks, which may be a command, and says whether the run stands elsewhere then.
-fn evaluated<'c, A: Allocator + Copy + 'c, L: HasMachine<A, Machine<'c, A>>>(
+fn evaluated<'c, A: Allocator + Copy + 'c, L: HasMachine<A, Code<'c, A>>>(
     debuggee: &mut Debuggee<'c, A, L>,
     asked: Arguments<'_, '_, A>,
     body: Body<A>,
@@ -270,7 +270,7 @@ fn evaluated<'c, A: Allocator + Copy + 'c, L: HasMachine<A, Machine<'c, A>>>(
 }
 
 /// Does what a request asks, adds the members of its body, and says what follows.
-fn answer<'c, A: Allocator + Copy + 'c, L: HasMachine<A, Machine<'c, A>>>(
+fn answer<'c, A: Allocator + Copy + 'c, L: HasMachine<A, Code<'c, A>>>(
     debuggee: &mut Debuggee<'c, A, L>,
     command: &str,
     asked: Arguments<'_, '_, A>,
@@ -290,7 +290,7 @@ fn answer<'c, A: Allocator + Copy + 'c, L: HasMachine<A, Machine<'c, A>>>(
 }
 
 /// Responds that a request isn't done, and why.
-pub fn refuse<'c, A: Allocator + Copy + 'c, L: HasMachine<A, Machine<'c, A>>, W: Sink>(
+pub fn refuse<'c, A: Allocator + Copy + 'c, L: HasMachine<A, Code<'c, A>>, W: Sink>(
     debuggee: &Debuggee<'c, A, L>,
     port: &mut Port<A, W>,
     request: Request<'_>,
@@ -310,7 +310,7 @@ pub fn refuse<'c, A: Allocator + Copy + 'c, L: HasMachine<A, Machine<'c, A>>, W:
 }
 
 /// Does what a request asks, as far as that comes before its response, and gives the body of that.
-fn prepare<'c, A: Allocator + Copy + 'c, L: HasMachine<A, Machine<'c, A>>>(
+fn prepare<'c, A: Allocator + Copy + 'c, L: HasMachine<A, Code<'c, A>>>(
     debuggee: &mut Debuggee<'c, A, L>,
     request: &Request<'_>,
     asked: Arguments<'_, '_, A>,
@@ -320,7 +320,7 @@ fn prepare<'c, A: Allocator + Copy + 'c, L: HasMachine<A, Machine<'c, A>>>(
 }
 
 /// Responds to a request, and says what follows.
-pub fn respond<'c, A: Allocator + Copy + 'c, L: HasMachine<A, Machine<'c, A>>, W: Sink>(
+pub fn respond<'c, A: Allocator + Copy + 'c, L: HasMachine<A, Code<'c, A>>, W: Sink>(
     debuggee: &mut Debuggee<'c, A, L>,
     port: &mut Port<A, W>,
     request: Request<'_>,

@@ -179,7 +179,8 @@ fn progress_after<A: Allocator + Copy>(
 
 /// Whether a run ends at the limit of moves: if a launch says a limit, and if each move is kept, which takes memory for it.
 fn has_limit<A: Allocator + Copy>(launch: &Launch<A>, asked: Arguments<'_, '_, A>) -> bool {
-    launch.bound.is_none() || asked.get("limit").is_some()
+    let keeps_all = launch.kept.bound.is_none() && launch.kept.budget.is_none();
+    keeps_all || asked.get("limit").is_some()
 }
 
 /// Responds to a request that launches nothing.

@@ -8,7 +8,7 @@ ghost use Rattle.qrev_adapter.specs.Served.{Leaves, Hears, GoesOn, Closes, Begin
 
 use crate::requests::{Ending, Then, ending_asked, refuse, respond};
 use json::Scratch;
-use qil_machine::Machine;
+use qil_machine::Code;
 use qil_streams::{Sink, Source};
 use qrev_moving::{
     Course, Pace, Travel, Underway, has_message, run_out, set_out, tell_arrived, tell_broken_off,
@@ -24,13 +24,7 @@ use qrev_requests::{Arguments, Launch};
 use std::alloc::Allocator;
 
 /// Goes where a request asks: until the run stands, which is told, or until a message has come.
-fn go_and_tell<
-    'c,
-    A: Allocator + Copy + 'c,
-    L: HasMachine<A, Machine<'c, A>>,
-    W: Sink,
-    F: Files<A>,
->(
+fn go_and_tell<'c, A: Allocator + Copy + 'c, L: HasMachine<A, Code<'c, A>>, W: Sink, F: Files<A>>(
     debuggee: &mut Debuggee<'c, A, L>,
     port: &mut Port<A, W>,
     files: &F,
@@ -46,7 +40,7 @@ fn go_and_tell<
 }
 
 /// Runs to the end, which is told, or until a message has come.
-fn run_to_end<'c, A: Allocator + Copy + 'c, L: HasMachine<A, Machine<'c, A>>, W: Sink, F: Files<A>>(
+fn run_to_end<'c, A: Allocator + Copy + 'c, L: HasMachine<A, Code<'c, A>>, W: Sink, F: Files<A>>(
     debuggee: &mut Debuggee<'c, A, L>,
     port: &mut Port<A, W>,
     files: &F,
@@ -60,7 +54,7 @@ fn run_to_end<'c, A: Allocator + Copy + 'c, L: HasMachine<A, Machine<'c, A>>, W:
 }
 
 /// Begins the run: the editor has made its breakpoints.
-fn begin<'c, A: Allocator + Copy + 'c, L: HasMachine<A, Machine<'c, A>>, W: Sink, F: Files<A>>(
+fn begin<'c, A: Allocator + Copy + 'c, L: HasMachine<A, Code<'c, A>>, W: Sink, F: Files<A>>(
     debuggee: &mut Debuggee<'c, A, L>,
     port: &mut Port<A, W>,
     files: &F,
@@ -82,7 +76,7 @@ fn begin<'c, A: Allocator + Copy + 'c, L: HasMachine<A, Machine<'c, A>>, W: Sink
 }
 
 /// Brings a run to a stand for a reason of its own, which is told.
-fn stand<'c, A: Allocator + Copy + 'c, L: HasMachine<A, Machine<'c, A>>, W: Sink>(
+fn stand<'c, A: Allocator + Copy + 'c, L: HasMachine<A, Code<'c, A>>, W: Sink>(
     debuggee: &mut Debuggee<'c, A, L>,
     port: &mut Port<A, W>,
     stage: &mut Stage,
@@ -101,7 +95,7 @@ fn stand<'c, A: Allocator + Copy + 'c, L: HasMachine<A, Machine<'c, A>>, W: Sink
 }
 
 /// Brings a run to a stand that is underway, which is told; one that stands already is told of nothing.
-fn pause<'c, A: Allocator + Copy + 'c, L: HasMachine<A, Machine<'c, A>>, W: Sink>(
+fn pause<'c, A: Allocator + Copy + 'c, L: HasMachine<A, Code<'c, A>>, W: Sink>(
     debuggee: &mut Debuggee<'c, A, L>,
     port: &mut Port<A, W>,
     stage: &mut Stage,
@@ -120,7 +114,7 @@ fn pause<'c, A: Allocator + Copy + 'c, L: HasMachine<A, Machine<'c, A>>, W: Sink
 }
 
 /// Goes on with a travel that is underway.
-fn travel_on<'c, A: Allocator + Copy + 'c, L: HasMachine<A, Machine<'c, A>>, W: Sink, F: Files<A>>(
+fn travel_on<'c, A: Allocator + Copy + 'c, L: HasMachine<A, Code<'c, A>>, W: Sink, F: Files<A>>(
     debuggee: &mut Debuggee<'c, A, L>,
     port: &mut Port<A, W>,
     files: &F,
@@ -135,7 +129,7 @@ fn travel_on<'c, A: Allocator + Copy + 'c, L: HasMachine<A, Machine<'c, A>>, W: 
 }
 
 /// Goes on with a run that goes on, unless a message waits.
-fn go_on<'c, A: Allocator + Copy + 'c, L: HasMachine<A, Machine<'c, A>>, W: Sink, F: Files<A>>(
+fn go_on<'c, A: Allocator + Copy + 'c, L: HasMachine<A, Code<'c, A>>, W: Sink, F: Files<A>>(
     debuggee: &mut Debuggee<'c, A, L>,
     port: &mut Port<A, W>,
     files: &F,
@@ -154,7 +148,7 @@ fn go_on<'c, A: Allocator + Copy + 'c, L: HasMachine<A, Machine<'c, A>>, W: Sink
 }
 
 /// Tells what follows a response. A run that isn't debugged goes on to its end, whatever is asked meanwhile.
-fn follow<'c, A: Allocator + Copy + 'c, L: HasMachine<A, Machine<'c, A>>, W: Sink, F: Files<A>>(
+fn follow<'c, A: Allocator + Copy + 'c, L: HasMachine<A, Code<'c, A>>, W: Sink, F: Files<A>>(
     debuggee: &mut Debuggee<'c, A, L>,
     port: &mut Port<A, W>,
     files: &F,
@@ -187,7 +181,7 @@ struct Stage {
 }
 
 /// Begins the run, where it hasn't begun.
-fn begin_once<'c, A: Allocator + Copy + 'c, L: HasMachine<A, Machine<'c, A>>, W: Sink, F: Files<A>>(
+fn begin_once<'c, A: Allocator + Copy + 'c, L: HasMachine<A, Code<'c, A>>, W: Sink, F: Files<A>>(
     debuggee: &mut Debuggee<'c, A, L>,
     port: &mut Port<A, W>,
     files: &F,
@@ -209,7 +203,7 @@ fn begin_once<'c, A: Allocator + Copy + 'c, L: HasMachine<A, Machine<'c, A>>, W:
 }
 
 /// Answers one request, and says how the session ends if it does.
-fn answer_one<'c, A: Allocator + Copy + 'c, L: HasMachine<A, Machine<'c, A>>, W: Sink, F: Files<A>>(
+fn answer_one<'c, A: Allocator + Copy + 'c, L: HasMachine<A, Code<'c, A>>, W: Sink, F: Files<A>>(
     debuggee: &mut Debuggee<'c, A, L>,
     port: &mut Port<A, W>,
     files: &F,
@@ -243,7 +237,7 @@ enum Next {
 }
 
 /// Notes where the path of the file leads that a request is about.
-fn note_path<'c, A: Allocator + Copy + 'c, L: HasMachine<A, Machine<'c, A>>, F: Files<A>>(
+fn note_path<'c, A: Allocator + Copy + 'c, L: HasMachine<A, Code<'c, A>>, F: Files<A>>(
     debuggee: &mut Debuggee<'c, A, L>,
     files: &F,
     asked: Arguments<'_, '_, A>,
@@ -258,7 +252,7 @@ fn note_path<'c, A: Allocator + Copy + 'c, L: HasMachine<A, Machine<'c, A>>, F: 
 fn answer_message<
     'c,
     A: Allocator + Copy + 'c,
-    L: HasMachine<A, Machine<'c, A>>,
+    L: HasMachine<A, Code<'c, A>>,
     W: Sink,
     F: Files<A>,
 >(
@@ -296,7 +290,7 @@ fn answer_message<
 fn answer_messages<
     'c,
     A: Allocator + Copy + 'c,
-    L: HasMachine<A, Machine<'c, A>>,
+    L: HasMachine<A, Code<'c, A>>,
     S: Source,
     W: Sink,
     F: Files<A>,
@@ -330,7 +324,7 @@ fn answer_messages<
 fn close<
     'c,
     A: Allocator + Copy + 'c,
-    L: HasMachine<A, Machine<'c, A>>,
+    L: HasMachine<A, Code<'c, A>>,
     S: Source,
     W: Sink,
     F: Files<A>,
@@ -363,7 +357,7 @@ fn close<
 pub fn serve_session<
     'c,
     A: Allocator + Copy + 'c,
-    L: HasMachine<A, Machine<'c, A>> + Drop,
+    L: HasMachine<A, Code<'c, A>> + Drop,
     S: Source,
     W: Sink,
     F: Files<A>,

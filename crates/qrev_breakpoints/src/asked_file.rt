@@ -1,6 +1,6 @@
 //! The file that a request about lines is about.
 
-use qil_machine::Machine;
+use qil_machine::Code;
 use qrev_debuggee::{Cause, Debuggee, Failure, HasMachine};
 use qrev_map::SourceFile;
 use qrev_requests::Arguments;
@@ -47,7 +47,7 @@ fn source_named<A: Allocator + Copy>(
 }
 
 /// The source that a request is about.
-fn source_asked<'c, A: Allocator + Copy + 'c, L: HasMachine<A, Machine<'c, A>>>(
+fn source_asked<'c, A: Allocator + Copy + 'c, L: HasMachine<A, Code<'c, A>>>(
     debuggee: &Debuggee<'c, A, L>,
     path: &str,
 ) -> Result<AskedFile<A>, Failure> {
@@ -89,7 +89,7 @@ fn is_same<A: Allocator>(one: Option<&String<A>>, other: Option<&String<A>>) -> 
 }
 
 /// Whether a path is that of the program's text.
-fn is_program<'c, A: Allocator + Copy + 'c, L: HasMachine<A, Machine<'c, A>>>(
+fn is_program<'c, A: Allocator + Copy + 'c, L: HasMachine<A, Code<'c, A>>>(
     debuggee: &Debuggee<'c, A, L>,
     path: &str,
 ) -> Result<bool, AllocError> {
@@ -102,7 +102,7 @@ fn is_program<'c, A: Allocator + Copy + 'c, L: HasMachine<A, Machine<'c, A>>>(
 }
 
 /// The file that a request is about: the program's, or a source that its text came from.
-pub fn file_asked<'c, A: Allocator + Copy + 'c, L: HasMachine<A, Machine<'c, A>>>(
+pub fn file_asked<'c, A: Allocator + Copy + 'c, L: HasMachine<A, Code<'c, A>>>(
     debuggee: &Debuggee<'c, A, L>,
     source: Arguments<'_, '_, A>,
 ) -> Result<AskedFile<A>, Failure> {

@@ -2,7 +2,7 @@
 
 use crate::asked_file::{AskedFile, AskedSource, file_asked};
 use crate::stops::BreakpointList;
-use qil_machine::Machine;
+use qil_machine::Code;
 use qil_tree::{Block, Program};
 use qrev_debuggee::{Body, Debuggee, Failure, HasMachine};
 use qrev_requests::Arguments;
@@ -114,7 +114,7 @@ fn put_text_lines<A: Allocator>(
 }
 
 /// Adds the lines of a range at which a breakpoint stays.
-pub fn breakpoint_locations<'c, A: Allocator + Copy + 'c, L: HasMachine<A, Machine<'c, A>>>(
+pub fn breakpoint_locations<'c, A: Allocator + Copy + 'c, L: HasMachine<A, Code<'c, A>>>(
     debuggee: &Debuggee<'c, A, L>,
     asked: Arguments<'_, '_, A>,
     body: Body<A>,

@@ -1,7 +1,7 @@
 //! What a breakpoint asks for besides its place: a condition, a count of hits, a message.
 
 use crate::stops::Flaw;
-use qil_machine::Machine;
+use qil_machine::Code;
 use qrev_debuggee::{Debuggee, Failure, HasMachine, StopRule, hit_rule};
 use qrev_expressions::{Unread, parse};
 use qrev_requests::Arguments;
@@ -73,7 +73,7 @@ fn rule_of<A: Allocator + Copy>(
 }
 
 /// Notes what a breakpoint of a number asks for.
-pub fn add_rule<'c, A: Allocator + Copy + 'c, L: HasMachine<A, Machine<'c, A>>>(
+pub fn add_rule<'c, A: Allocator + Copy + 'c, L: HasMachine<A, Code<'c, A>>>(
     debuggee: &mut Debuggee<'c, A, L>,
     id: u64,
     asked: Arguments<'_, '_, A>,
@@ -89,7 +89,7 @@ pub fn add_rule<'c, A: Allocator + Copy + 'c, L: HasMachine<A, Machine<'c, A>>>(
 }
 
 /// Forgets what breakpoints asked for that aren't there any more.
-pub fn drop_rules<'c, A: Allocator + Copy + 'c, L: HasMachine<A, Machine<'c, A>>>(
+pub fn drop_rules<'c, A: Allocator + Copy + 'c, L: HasMachine<A, Code<'c, A>>>(
     debuggee: &mut Debuggee<'c, A, L>,
 ) {
     let stops = debuggee.stops.as_slice();

@@ -1,6 +1,6 @@
 //! `loadedSources`: the text, and the sources that a map tells of.
 
-use qil_machine::Machine;
+use qil_machine::Code;
 use qrev_debuggee::{Body, Debuggee, Failure, HasMachine};
 use qrev_protocol::{Array, InObject, Whole};
 use qrev_views::SourceMap;
@@ -55,7 +55,7 @@ fn put_sources<A: Allocator + Copy>(
 }
 
 /// Adds the text, and the sources that it came from.
-pub fn loaded_sources<'c, A: Allocator + Copy + 'c, L: HasMachine<A, Machine<'c, A>>>(
+pub fn loaded_sources<'c, A: Allocator + Copy + 'c, L: HasMachine<A, Code<'c, A>>>(
     debuggee: &Debuggee<'c, A, L>,
     body: Body<A>,
 ) -> Result<Body<A>, Failure> {

@@ -4,13 +4,13 @@ use crate::asked_file::{AskedFile, AskedSource, file_asked};
 use crate::places::{FuncPlace, entries};
 use crate::rules::{add_rule, drop_rules, flaw_in};
 use qil_lines::{Place, line_of, place_in};
-use qil_machine::Machine;
+use qil_machine::Code;
 use qil_pieces::Fragment;
 use qil_tree::{Func, Program};
 use qrev_debuggee::{Body, Cause, Debuggee, Done, Failure, HasMachine, RequestedStop, StopFamily};
 use qrev_protocol::{Array, InObject, Whole};
 use qrev_requests::Arguments;
-use qrev_views::{as_text, data_named, data_size, put_source};
+use qrev_views::{as_text, code_of, data_named, data_size, put_source};
 use std::alloc::{AllocError, Allocator};
 
 /// The list of breakpoints in a body.
@@ -111,7 +111,7 @@ enum Made {
 }
 
 /// Deletes the stops of a family, the lowest number first.
-fn delete_stops<'c, A: Allocator + Copy + 'c, L: HasMachine<A, Machine<'c, A>>>(
+fn delete_stops<'c, A: Allocator + Copy + 'c, L: HasMachine<A, Code<'c, A>>>(
     debuggee: &mut Debuggee<'c, A, L>,
     family: StopFamily,
 ) -> Result<(), Failure> {
@@ -130,7 +130,7 @@ fn delete_stops<'c, A: Allocator + Copy + 'c, L: HasMachine<A, Machine<'c, A>>>(
 }
 
 /// Deletes a stop, if it is still there.
-fn delete_stop<'c, A: Allocator + Copy + 'c, L: HasMachine<A, Machine<'c, A>>>(
+fn delete_stop<'c, A: Allocator + Copy + 'c, L: HasMachine<A, Code<'c, A>>>(
     debuggee: &mut Debuggee<'c, A, L>,
     number: u64,
 ) -> Result<(), Failure> {
@@ -141,7 +141,7 @@ fn delete_stop<'c, A: Allocator + Copy + 'c, L: HasMachine<A, Machine<'c, A>>>(
 }
 
 /// Makes a stop by a line. It belongs to the breakpoint of the number that is given, or is one of its own.
-fn make_stop<'c, A: Allocator + Copy + 'c, L: HasMachine<A, Machine<'c, A>>>(
+fn make_stop<'c, A: Allocator + Copy + 'c, L: HasMachine<A, Code<'c, A>>>(
     debuggee: &mut Debuggee<'c, A, L>,
     family: StopFamily,
     id: Option<u64>,
@@ -169,7 +169,7 @@ fn make_stop<'c, A: Allocator + Copy + 'c, L: HasMachine<A, Machine<'c, A>>>(
 }
 
 /// Adds a stop that the session refused.
-fn put_answered<'c, A: Allocator + Copy + 'c, L: HasMachine<A, Machine<'c, A>>>(
+fn put_answered<'c, A: Allocator + Copy + 'c, L: HasMachine<A, Code<'c, A>>>(
     debuggee: &Debuggee<'c, A, L>,
     list: BreakpointList<A>,
     from: usize,
@@ -179,7 +179,7 @@ fn put_answered<'c, A: Allocator + Copy + 'c, L: HasMachine<A, Machine<'c, A>>>(
 }
 
 /// Makes a stop at a place.
-fn stop_at<'c, A: Allocator + Copy + 'c, L: HasMachine<A, Machine<'c, A>>>(
+fn stop_at<'c, A: Allocator + Copy + 'c, L: HasMachine<A, Code<'c, A>>>(
     debuggee: &mut Debuggee<'c, A, L>,
     family: StopFamily,
     id: Option<u64>,
@@ -205,7 +205,7 @@ fn stop_at<'c, A: Allocator + Copy + 'c, L: HasMachine<A, Machine<'c, A>>>(
 }
 
 /// Adds what became of a breakpoint at a line of a file.
-fn put_break<'c, A: Allocator + Copy + 'c, L: HasMachine<A, Machine<'c, A>>>(
+fn put_break<'c, A: Allocator + Copy + 'c, L: HasMachine<A, Code<'c, A>>>(
     debuggee: &mut Debuggee<'c, A, L>,
     list: BreakpointList<A>,
     made: Option<Made>,
@@ -225,7 +225,7 @@ fn put_break<'c, A: Allocator + Copy + 'c, L: HasMachine<A, Machine<'c, A>>>(
 }
 
 /// Makes a breakpoint at the place that a line of the text means.
-fn break_in_text<'c, A: Allocator + Copy + 'c, L: HasMachine<A, Machine<'c, A>>>(
+fn break_in_text<'c, A: Allocator + Copy + 'c, L: HasMachine<A, Code<'c, A>>>(
     debuggee: &mut Debuggee<'c, A, L>,
     list: BreakpointList<A>,
     line: u64,
@@ -255,7 +255,7 @@ fn spot_of<'p, 'a, A: Allocator>(
 }
 
 /// Makes stops at places, which are one breakpoint.
-fn stop_at_all<'c, A: Allocator + Copy + 'c, L: HasMachine<A, Machine<'c, A>>>(
+fn stop_at_all<'c, A: Allocator + Copy + 'c, L: HasMachine<A, Code<'c, A>>>(
     debuggee: &mut Debuggee<'c, A, L>,
     family: StopFamily,
     places: &[FuncPlace],
@@ -278,7 +278,7 @@ fn stop_at_all<'c, A: Allocator + Copy + 'c, L: HasMachine<A, Machine<'c, A>>>(
 }
 
 /// The places at which a run comes to a line of a source.
-fn places_of<'c, A: Allocator + Copy + 'c, L: HasMachine<A, Machine<'c, A>>>(
+fn places_of<'c, A: Allocator + Copy + 'c, L: HasMachine<A, Code<'c, A>>>(
     debuggee: &Debuggee<'c, A, L>,
     source: &AskedSource<A>,
     line: u32,
@@ -291,7 +291,7 @@ fn places_of<'c, A: Allocator + Copy + 'c, L: HasMachine<A, Machine<'c, A>>>(
 
 /// Makes a breakpoint at a line of a source, or at the least line after it from which the text has a line: at all places at which
 /// a run comes to that line, or where there is none at the place that its first line of the text means.
-fn break_in_source<'c, A: Allocator + Copy + 'c, L: HasMachine<A, Machine<'c, A>>>(
+fn break_in_source<'c, A: Allocator + Copy + 'c, L: HasMachine<A, Code<'c, A>>>(
     debuggee: &mut Debuggee<'c, A, L>,
     list: BreakpointList<A>,
     source: &AskedSource<A>,
@@ -326,7 +326,7 @@ fn break_in_source<'c, A: Allocator + Copy + 'c, L: HasMachine<A, Machine<'c, A>
 }
 
 /// Makes one breakpoint at a line of a file.
-fn set_line<'c, A: Allocator + Copy + 'c, L: HasMachine<A, Machine<'c, A>>>(
+fn set_line<'c, A: Allocator + Copy + 'c, L: HasMachine<A, Code<'c, A>>>(
     debuggee: &mut Debuggee<'c, A, L>,
     list: BreakpointList<A>,
     file: &AskedFile<A>,
@@ -361,7 +361,7 @@ fn put_elsewhere<A: Allocator + Copy>(
 }
 
 /// Makes breakpoints at lines of a file in place of those that are there. In a file that the program isn't made from none is made.
-pub fn set_breakpoints<'c, A: Allocator + Copy + 'c, L: HasMachine<A, Machine<'c, A>>>(
+pub fn set_breakpoints<'c, A: Allocator + Copy + 'c, L: HasMachine<A, Code<'c, A>>>(
     debuggee: &mut Debuggee<'c, A, L>,
     asked: Arguments<'_, '_, A>,
     body: Body<A>,
@@ -412,7 +412,7 @@ fn verb_for<'v>(family: StopFamily, words: &[u8]) -> &'v [u8] {
 }
 
 /// Makes one stop by words.
-fn make_by_words<'c, A: Allocator + Copy + 'c, L: HasMachine<A, Machine<'c, A>>>(
+fn make_by_words<'c, A: Allocator + Copy + 'c, L: HasMachine<A, Code<'c, A>>>(
     debuggee: &mut Debuggee<'c, A, L>,
     family: StopFamily,
     words: &[u8],
@@ -440,7 +440,7 @@ fn widest(left: u64) -> (&'static [u8], u64) {
 }
 
 /// Makes a watch of so many bytes at most from an address on, and gives how many it watches.
-fn watch_part<'c, A: Allocator + Copy + 'c, L: HasMachine<A, Machine<'c, A>>>(
+fn watch_part<'c, A: Allocator + Copy + 'c, L: HasMachine<A, Code<'c, A>>>(
     debuggee: &mut Debuggee<'c, A, L>,
     id: Option<u64>,
     address: u64,
@@ -462,7 +462,7 @@ fn watch_part<'c, A: Allocator + Copy + 'c, L: HasMachine<A, Machine<'c, A>>>(
 }
 
 /// Makes watches of all bytes of a data object, which are one breakpoint.
-fn watch_object<'c, A: Allocator + Copy + 'c, L: HasMachine<A, Machine<'c, A>>>(
+fn watch_object<'c, A: Allocator + Copy + 'c, L: HasMachine<A, Code<'c, A>>>(
     debuggee: &mut Debuggee<'c, A, L>,
     address: u64,
     size: u64,
@@ -484,7 +484,7 @@ fn watch_object<'c, A: Allocator + Copy + 'c, L: HasMachine<A, Machine<'c, A>>>(
 }
 
 /// Where the data object lies that is asked for as a whole, and how many bytes it has.
-fn object_asked<'c, A: Allocator + Copy + 'c, L: HasMachine<A, Machine<'c, A>>>(
+fn object_asked<'c, A: Allocator + Copy + 'c, L: HasMachine<A, Code<'c, A>>>(
     debuggee: &Debuggee<'c, A, L>,
     family: StopFamily,
     words: &[u8],
@@ -494,12 +494,12 @@ fn object_asked<'c, A: Allocator + Copy + 'c, L: HasMachine<A, Machine<'c, A>>>(
     }
     let name = words.strip_prefix(b"$")?;
     let data = data_named(debuggee.program(), name)?;
-    let address = debuggee.machine().code().image().address(name)?;
+    let address = code_of(debuggee.machine()).image().address(name)?;
     Some((address, data_size(data)))
 }
 
 /// Makes one breakpoint by the words that a request says.
-fn set_words<'c, A: Allocator + Copy + 'c, L: HasMachine<A, Machine<'c, A>>>(
+fn set_words<'c, A: Allocator + Copy + 'c, L: HasMachine<A, Code<'c, A>>>(
     debuggee: &mut Debuggee<'c, A, L>,
     list: BreakpointList<A>,
     family: StopFamily,
@@ -526,7 +526,7 @@ fn set_words<'c, A: Allocator + Copy + 'c, L: HasMachine<A, Machine<'c, A>>>(
 }
 
 /// Makes the stops of a family that words say, in place of those that are there.
-pub fn set_by_words<'c, A: Allocator + Copy + 'c, L: HasMachine<A, Machine<'c, A>>>(
+pub fn set_by_words<'c, A: Allocator + Copy + 'c, L: HasMachine<A, Code<'c, A>>>(
     debuggee: &mut Debuggee<'c, A, L>,
     asked: Arguments<'_, '_, A>,
     family: StopFamily,

@@ -10,14 +10,14 @@ ghost use Rattle.qrev_debuggee.specs.Moves.{Lined, RanTo, RanBack, RanBackTo, Li
 use crate::client::Client;
 use crate::failure::{Cause, Failure};
 use crate::rules::StopRule;
-use qil_machine::Machine;
+use qil_machine::Code;
 use qil_meaning::Reason;
 use qil_pieces::{Fragment, put_fragments};
 use qil_streams::Buffer;
 use qil_tree::Program;
 use qrev_map::Names;
 use qrev_recorder::{Debugged, DepthEnd, Done, HasMachine, LineError, Recorder};
-use qrev_views::{Shown, SourceMap};
+use qrev_views::{Readers, Shown, SourceMap, code_of};
 use std::alloc::Allocator;
 
 /// The kinds of stops that an editor replaces by one request each.
@@ -87,26 +87,36 @@ impl From<LineError> for Failure {
     }
 }
 
-impl<'c, A: Allocator + Copy + 'c, L: HasMachine<A, Machine<'c, A>>> Debuggee<'c, A, L> {
-    pub fn machine(&self) -> &Machine<'c, A>
-        ensures now { state_of result.now ≡ (L.state self.now.recorder.live).timeline.now }
-        ensures program { result.now.program ≡ (L.state self.now.recorder.live).program }
+/// How many calls are open in the state of a machine.
+fn depth_of<'c, A: Allocator + Copy + 'c, M: Readers<A, Code<'c, A>>>(machine: &M) -> usize
+    ensures { result ≡ length (state_of (M.whole machine.now)).frames }
+{
+    machine.depth()
+}
+
+impl<'c, A: Allocator + Copy + 'c, L: HasMachine<A, Code<'c, A>>> Debuggee<'c, A, L> {
+    /// The session, as what its machine is read from.
+    pub fn machine(&self) -> &L
+        ensures now { state_of (L.whole result.now) ≡ (L.state self.now.recorder.live).timeline.now }
+        ensures program { (L.whole result.now).program ≡ (L.state self.now.recorder.live).program }
     {
-        self.recorder.live().machine()
+        let live = self.recorder.live();
+        live.is_read();
+        live
     }
 
     /// The tree of its program.
     pub fn program(&self) -> &'c Program<'c, A>
         ensures { result.now ≡ (L.state self.now.recorder.live).program }
     {
-        self.machine().code().program()
+        code_of(self.machine()).program()
     }
 
     /// How many calls are open.
     pub fn depth(&self) -> usize
         ensures { result ≡ depth (L.state self.now.recorder.live).timeline }
     {
-        self.machine().frames().len()
+        depth_of(self.machine())
     }
 
     pub fn position(&self) -> u64
@@ -120,6 +130,13 @@ impl<'c, A: Allocator + Copy + 'c, L: HasMachine<A, Machine<'c, A>>> Debuggee<'c
         ensures { result ≡ oldest (L.state self.now.recorder.live).timeline }
     {
         self.recorder.live().oldest()
+    }
+
+    /// The first dead address of the stack.
+    pub fn top(&self) -> u64
+        ensures { result ≡ (L.state self.now.recorder.live).timeline.now.top }
+    {
+        self.recorder.live().top()
     }
 
     /// How many bytes the transcript has.

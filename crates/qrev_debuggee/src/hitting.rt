@@ -2,8 +2,8 @@
 
 use crate::debuggee::{Debuggee, RequestedStop};
 use crate::motion::Why;
-use qil_answers::{func_name, label_name};
-use qil_machine::Machine;
+use qil_answers::{Readers, code_of, func_name, label_name};
+use qil_machine::Code;
 use qil_meaning::Reason;
 use qil_pieces::{Fragment, put_fragments};
 use qil_streams::Buffer;
@@ -19,15 +19,15 @@ fn place_told(answer: &[u8]) -> Option<&[u8]> {
 }
 
 /// The place of the innermost frame, as the session tells it; nothing where no call is open.
-fn place_now<A: Allocator + Copy>(
+fn place_now<'c, A: Allocator + Copy + 'c, M: Readers<A, Code<'c, A>>>(
     alloc: A,
-    machine: &Machine<'_, A>,
+    machine: &M,
 ) -> Result<Buffer<A>, AllocError> {
     let mut text = Buffer::new(alloc);
-    let Some(frame) = machine.frames().last() else {
+    let Some(frame) = machine.frame(0) else {
         return Ok(text);
     };
-    let code = machine.code();
+    let code = code_of(machine);
     let put = put_fragments(
         &mut text,
         &[
@@ -74,7 +74,7 @@ fn id_of(stops: &[RequestedStop], number: u64) -> u64 {
 }
 
 /// The breakpoints at which a run stands that a stop ended, the lowest number first: that of the stop, and all at this place.
-pub fn hits<'c, A: Allocator + Copy + 'c, L: HasMachine<A, Machine<'c, A>>>(
+pub fn hits<'c, A: Allocator + Copy + 'c, L: HasMachine<A, Code<'c, A>>>(
     debuggee: &Debuggee<'c, A, L>,
     why: Why,
 ) -> Result<Vec<u64, A>, AllocError> {

@@ -5,7 +5,7 @@ ghost use Rattle.qrev_debuggee.specs.Moves.{Moves, MoveFails, WentToBeginning, w
 
 use crate::debuggee::Debuggee;
 use crate::failure::Failure;
-use qil_machine::Machine;
+use qil_machine::Code;
 use qil_meaning::Reason;
 use qrev_recorder::{CommandRefusal, DepthEnd, Done, HasMachine};
 use std::alloc::Allocator;
@@ -57,7 +57,7 @@ fn why_at(end: DepthEnd) -> Why
 }
 
 /// Goes back to before a call, and makes the call again. Where the history doesn't go back so far it stays at its oldest state.
-fn go_to_beginning<'c, A: Allocator + Copy + 'c, L: HasMachine<A, Machine<'c, A>>>(
+fn go_to_beginning<'c, A: Allocator + Copy + 'c, L: HasMachine<A, Code<'c, A>>>(
     debuggee: &mut Debuggee<'c, A, L>,
     depth: usize,
 ) -> Result<Why, Failure>
@@ -81,7 +81,7 @@ fn go_to_beginning<'c, A: Allocator + Copy + 'c, L: HasMachine<A, Machine<'c, A>
 }
 
 /// Makes a move, and says why the run stands after it.
-pub fn make_move<'c, A: Allocator + Copy + 'c, L: HasMachine<A, Machine<'c, A>>>(
+pub fn make_move<'c, A: Allocator + Copy + 'c, L: HasMachine<A, Code<'c, A>>>(
     debuggee: &mut Debuggee<'c, A, L>,
     motion: Motion,
 ) -> Result<Why, Failure>

@@ -4,7 +4,8 @@ use crate::operation::{Binary, Operation, Unary};
 use crate::parsing::Expression;
 use crate::scene::{Scene, global, load, temp};
 use crate::value::{Missing, Sized, Value};
-use qil_answers::Machine;
+use qil_answers::{Readers, code_of};
+use qil_code::Code;
 use qrev_map::Names;
 use std::alloc::{AllocError, Allocator};
 use std::num::{
@@ -291,8 +292,8 @@ fn changed(unary: Unary, value: Value) -> Value {
 }
 
 /// The memory at the address that a value is.
-fn loaded<A: Allocator + Copy>(
-    machine: &Machine<'_, A>,
+fn loaded<'c, A: Allocator + Copy + 'c, M: Readers<A, Code<'c, A>>>(
+    machine: &M,
     memory: crate::value::Memory,
     address: Value,
 ) -> Value {
@@ -309,8 +310,8 @@ fn popped<A: Allocator>(values: &mut Vec<Value, A>) -> Value {
 }
 
 /// What an operation gives.
-fn done<A: Allocator + Copy>(
-    machine: &Machine<'_, A>,
+fn done<'c, A: Allocator + Copy + 'c, M: Readers<A, Code<'c, A>>>(
+    machine: &M,
     names: &Names<A>,
     scene: Scene,
     operation: Operation<'_>,
@@ -320,8 +321,8 @@ fn done<A: Allocator + Copy>(
         Operation::Number(number) => Value::Number(i128::from(number), Sized::Unsized),
         Operation::Float(float) => Value::Written(float),
         Operation::Temp(name) => temp(machine, names, scene.number, name),
-        Operation::Global(name) => global(machine, name),
-        Operation::Depth => Value::Number(machine.frames().len() as i128, Sized::Unsized),
+        Operation::Global(name) => global(code_of(machine), name),
+        Operation::Depth => Value::Number(machine.depth() as i128, Sized::Unsized),
         Operation::Position => Value::Number(i128::from(scene.position), Sized::Unsized),
         Operation::Load(memory) => loaded(machine, memory, popped(values)),
         Operation::Unary(unary) => changed(unary, popped(values)),
@@ -333,9 +334,9 @@ fn done<A: Allocator + Copy>(
 }
 
 /// What an expression is worth in a state.
-pub fn evaluate<A: Allocator + Copy>(
+pub fn evaluate<'c, A: Allocator + Copy + 'c, M: Readers<A, Code<'c, A>>>(
     alloc: A,
-    machine: &Machine<'_, A>,
+    machine: &M,
     names: &Names<A>,
     scene: Scene,
     expression: &Expression<'_, A>,

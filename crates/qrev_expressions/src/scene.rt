@@ -7,11 +7,11 @@ ghost use Rattle.qil_memory.specs.Live.{live};
 ghost use Rattle.qrev_expressions.specs.Readings.{IsHeld, number_read};
 
 use crate::value::{Memory, Missing, Sized, Value, signed};
-use qil_answers::{Machine, func_name};
-use qil_frames::Frame;
+use qil_answers::{Readers, code_of, func_name};
+use qil_code::Code;
 use qil_tree::Class;
 use qrev_map::{FloatClass, Names};
-use qrev_views::frame_of;
+use qrev_views::{FrameView, frame_of, value_at};
 use std::alloc::Allocator;
 use std::num::{f32_from_bits_with_nan, f64_from_bits_with_nan};
 
@@ -23,42 +23,39 @@ pub struct Scene {
 }
 
 /// What a frame holds of the temporary of a name, without its sigil, and its class.
-pub fn named_temp<A: Allocator + Copy>(
-    machine: &Machine<'_, A>,
-    frame: &Frame<A>,
+pub fn named_temp<'c, A: Allocator + Copy + 'c, M: Readers<A, Code<'c, A>>>(
+    machine: &M,
+    frame: &FrameView<'_>,
     name: &[u8],
 ) -> Option<(Option<u64>, Option<Class>)>
-    ensures { IfSome result (λ found. IsHeld machine.now.program machine.now.frames frame.now name.now found.0) }
+    ensures { IfSome result (λ found. IsHeld (M.whole machine.now).program (M.whole machine.now).frames frame.now name.now found.0) }
 {
     // What these two say is that the slots of a frame have the names of its function.
-    let _known = machine.code().func(frame.func());
-    let _frames = machine.frames();
-    let code = machine.code();
+    let _known = code_of(machine).func(frame.func());
+    let _there = machine.frame(0);
+    let code = code_of(machine);
     let slot = code.slot_of(frame.func(), name)?;
     let value = *frame.slots().get(usize::from(slot.index))?;
     Some((value, code.class_of(frame.func(), slot)))
 }
 
 /// The number in so many bytes from an address on, if all of them are live.
-pub fn bits_at<A: Allocator + Copy>(
-    machine: &Machine<'_, A>,
+pub fn bits_at<'c, A: Allocator + Copy + 'c, M: Readers<A, Code<'c, A>>>(
+    machine: &M,
     address: u64,
     width: u64,
 ) -> Option<u64>
     requires { IsWidth width }
-    ensures { result ≡ number_read (loaded (live machine.now.memory) address width) }
+    ensures { result ≡ number_read (loaded (live (M.whole machine.now).memory) address width) }
 {
-    match machine.bytes(address, width) {
-        Ok(value) => Some(value),
-        Err(_) => None,
-    }
+    value_at(machine, address, width)
 }
 
 /// The address of data or of a function, by its name without its sigil.
-pub fn address_named<A: Allocator + Copy>(machine: &Machine<'_, A>, name: &[u8]) -> Option<u64>
-    ensures { result ≡ address_of machine.now.program name.now }
+pub fn address_named<A: Allocator + Copy>(code: &Code<'_, A>, name: &[u8]) -> Option<u64>
+    ensures { result ≡ address_of code.now name.now }
 {
-    machine.code().image().address(name)
+    code.image().address(name)
 }
 
 /// The single that the low bits of a value are.
@@ -80,8 +77,8 @@ fn temp_value(value: Option<u64>, class: Option<Class>, float: Option<FloatClass
 }
 
 /// What a temporary is worth, by its name in the text that was lowered or in the one that is run.
-pub fn temp<A: Allocator + Copy>(
-    machine: &Machine<'_, A>,
+pub fn temp<'c, A: Allocator + Copy + 'c, M: Readers<A, Code<'c, A>>>(
+    machine: &M,
     names: &Names<A>,
     number: u64,
     name: &[u8],
@@ -90,9 +87,9 @@ pub fn temp<A: Allocator + Copy>(
         return Value::Missing(Missing::NoFrame);
     };
     let name = names.run(b"%", name);
-    match named_temp(machine, frame, name) {
+    match named_temp(machine, &frame, name) {
         Some((value, class)) => {
-            let float = names.class_of(func_name(machine.code(), frame.func()), name);
+            let float = names.class_of(func_name(code_of(machine), frame.func()), name);
             temp_value(value, class, float)
         }
         None => Value::Missing(Missing::NoSuchName),
@@ -100,15 +97,19 @@ pub fn temp<A: Allocator + Copy>(
 }
 
 /// What the address of data or of a function is worth.
-pub fn global<A: Allocator + Copy>(machine: &Machine<'_, A>, name: &[u8]) -> Value {
-    match address_named(machine, name) {
+pub fn global<A: Allocator + Copy>(code: &Code<'_, A>, name: &[u8]) -> Value {
+    match address_named(code, name) {
         Some(address) => Value::Number(i128::from(address), Sized::Long),
         None => Value::Missing(Missing::NoSuchName),
     }
 }
 
 /// What the memory at an address is worth.
-pub fn load<A: Allocator + Copy>(machine: &Machine<'_, A>, address: u64, memory: Memory) -> Value {
+pub fn load<'c, A: Allocator + Copy + 'c, M: Readers<A, Code<'c, A>>>(
+    machine: &M,
+    address: u64,
+    memory: Memory,
+) -> Value {
     let bits = match memory {
         Memory::Byte => bits_at(machine, address, 1),
         Memory::Half => bits_at(machine, address, 2),

@@ -4,7 +4,7 @@ use crate::evaluating::low_bits;
 use crate::operation::Operation;
 use crate::parsing::Expression;
 use crate::value::{Memory, Missing, Sized, Value};
-use qil_answers::Machine;
+use qil_code::Code;
 use qil_tree::Class;
 use qrev_views::{Showing, Style, told_value, value_text};
 use std::alloc::{AllocError, Allocator};
@@ -62,7 +62,7 @@ fn counted_text<A: Allocator + Copy>(
 /// A number, as it was read or as it was worked out.
 fn number_told<A: Allocator + Copy>(
     alloc: A,
-    machine: &Machine<'_, A>,
+    code: &Code<'_, A>,
     showing: Showing,
     read: Option<u32>,
     (number, sized): (i128, Sized),
@@ -71,7 +71,7 @@ fn number_told<A: Allocator + Copy>(
         Some(width) => {
             let style = Style::of(None, showing.is_hex);
             let bits = cut(bits_in(number, sized), width);
-            told_value(alloc, machine, style, class_of(sized), Some(bits))
+            told_value(alloc, code, style, class_of(sized), Some(bits))
         }
         None => counted_text(alloc, showing, number, sized),
     }
@@ -101,7 +101,7 @@ pub enum Told<A: Allocator> {
 /// A value that an expression is worth, as a text.
 pub fn tell<A: Allocator + Copy>(
     alloc: A,
-    machine: &Machine<'_, A>,
+    code: &Code<'_, A>,
     showing: Showing,
     expression: &Expression<'_, A>,
     value: Value,
@@ -109,7 +109,7 @@ pub fn tell<A: Allocator + Copy>(
     match value {
         Value::Number(number, sized) => {
             let read = read_width(expression);
-            let text = number_told(alloc, machine, showing, read, (number, sized))?;
+            let text = number_told(alloc, code, showing, read, (number, sized))?;
             Ok(Told::Text(text))
         }
         Value::Single(float) => {

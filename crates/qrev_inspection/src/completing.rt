@@ -1,11 +1,11 @@
 //! `completions`: the commands, and the names that a sigil begins.
 
-use qil_machine::Machine;
+use qil_machine::Code;
 use qil_tree::{Block, Data, Func, Program};
 use qrev_debuggee::{Body, Debuggee, Failure, HasMachine};
 use qrev_protocol::{Array, InArray, InObject, Object, Whole};
 use qrev_requests::Arguments;
-use qrev_views::{frame_of, sigiled};
+use qrev_views::{Readers, code_of, frame_of, sigiled};
 use std::alloc::{AllocError, Allocator};
 
 /// The most that are offered at once.
@@ -125,18 +125,18 @@ fn offer_names<'w, A: Allocator + Copy>(
 }
 
 /// The names of the temporaries of a frame, if there is such a frame.
-fn temps_in<'c, A: Allocator + Copy>(
-    machine: &Machine<'c, A>,
+fn temps_in<'m, 'c, A: Allocator + Copy + 'c, M: Readers<A, Code<'c, A>>>(
+    machine: &'m M,
     number: u64,
-) -> Option<&'c [&'c [u8]]> {
+) -> Option<&'m [&'c [u8]]> {
     let func = frame_of(machine, number)?.func();
-    Some(machine.code().func(func)?.temps.names())
+    Some(code_of(machine).func(func)?.temps.names())
 }
 
 /// Offers the temporaries of a frame.
 // What is large is the first parameter here, as it is where it is handed on: else each call takes it anew.
-fn offer_temps<'w, A: Allocator + Copy>(
-    machine: &Machine<'_, A>,
+fn offer_temps<'w, 'c, A: Allocator + Copy + 'c, M: Readers<A, Code<'c, A>>>(
+    machine: &M,
     number: u64,
     offer: Offer<'w, A>,
 ) -> Result<Offer<'w, A>, AllocError> {
@@ -159,18 +159,18 @@ fn offer_blocks<'w, A: Allocator + Copy>(
 }
 
 /// The text of the function of a frame, if there is such a frame.
-fn func_of<'c, A: Allocator + Copy>(
-    machine: &Machine<'c, A>,
+fn func_of<'c, A: Allocator + Copy + 'c, M: Readers<A, Code<'c, A>>>(
+    machine: &M,
     number: u64,
 ) -> Option<&'c Func<'c, A>> {
     let index = frame_of(machine, number)?.func().index;
-    let funcs = machine.code().program().funcs.as_slice();
+    let funcs = code_of(machine).program().funcs.as_slice();
     funcs.get(usize::from(index))
 }
 
 /// Offers the labels of the function of a frame.
-fn offer_labels<'w, A: Allocator + Copy>(
-    machine: &Machine<'_, A>,
+fn offer_labels<'w, 'c, A: Allocator + Copy + 'c, M: Readers<A, Code<'c, A>>>(
+    machine: &M,
     number: u64,
     offer: Offer<'w, A>,
 ) -> Result<Offer<'w, A>, AllocError> {
@@ -250,8 +250,8 @@ fn typed_in<'q, A: Allocator + Copy>(asked: Arguments<'_, 'q, A>, first: u64) ->
 
 /// Offers what the sigil of a word asks for: of the frame of a number, or of the program; and commands, where nothing stands
 /// before it.
-fn offer_fitting<'w, A: Allocator + Copy>(
-    machine: &Machine<'_, A>,
+fn offer_fitting<'w, 'c, A: Allocator + Copy + 'c, M: Readers<A, Code<'c, A>>>(
+    machine: &M,
     number: u64,
     typed: Typed<'_>,
     offer: Offer<'w, A>,
@@ -259,15 +259,15 @@ fn offer_fitting<'w, A: Allocator + Copy>(
     match typed.word.as_bytes().first() {
         Some(b'%') => offer_temps(machine, number, offer),
         Some(b'@') => offer_labels(machine, number, offer),
-        Some(b'$') => offer_globals(machine.code().program(), offer),
+        Some(b'$') => offer_globals(code_of(machine).program(), offer),
         _ if typed.is_first => offer_commands(offer),
         _ => Ok(offer),
     }
 }
 
 /// Adds what may stand in place of a word.
-fn put_targets<A: Allocator + Copy>(
-    machine: &Machine<'_, A>,
+fn put_targets<'c, A: Allocator + Copy + 'c, M: Readers<A, Code<'c, A>>>(
+    machine: &M,
     number: u64,
     typed: Typed<'_>,
     alloc: A,
@@ -285,7 +285,7 @@ fn put_targets<A: Allocator + Copy>(
 }
 
 /// Adds what may stand in place of the word that ends at a column of a line.
-pub fn completions<'c, A: Allocator + Copy + 'c, L: HasMachine<A, Machine<'c, A>>>(
+pub fn completions<'c, A: Allocator + Copy + 'c, L: HasMachine<A, Code<'c, A>>>(
     debuggee: &Debuggee<'c, A, L>,
     asked: Arguments<'_, '_, A>,
     body: Body<A>,

@@ -3,14 +3,14 @@
 use crate::looking::showing_said;
 use crate::results::{address_in, cause_of, letter_of, put_reference, put_result, put_type};
 use qil_commands::{Command, read_command};
-use qil_machine::Machine;
+use qil_machine::Code;
 use qrev_debuggee::{Body, Cause, Debuggee, Done, Failure, HasMachine, Why};
 use qrev_expressions::{
     Expression, Missing, Scene, Told, Unread, Value, evaluate as worth, parse, tell,
 };
 use qrev_map::Names;
 use qrev_requests::Arguments;
-use qrev_views::{Showing, as_text, sigiled};
+use qrev_views::{Readers, Showing, as_text, code_of, sigiled};
 use std::alloc::{AllocError, Allocator};
 
 /// An expression, and how its value is asked for.
@@ -22,15 +22,15 @@ pub struct Asked<'x> {
 }
 
 /// Adds what an expression is worth.
-fn put_value<A: Allocator + Copy>(
+fn put_value<'c, A: Allocator + Copy + 'c, M: Readers<A, Code<'c, A>>>(
     alloc: A,
     body: Body<A>,
-    machine: &Machine<'_, A>,
+    machine: &M,
     showing: Showing,
     expression: &Expression<'_, A>,
     value: Value,
 ) -> Result<Body<A>, Failure> {
-    let text = match tell(alloc, machine, showing, expression, value)? {
+    let text = match tell(alloc, code_of(machine), showing, expression, value)? {
         Told::Text(text) => text,
         Told::Missing(missing) => return Err(Failure::Because(cause_of(missing))),
     };
@@ -43,9 +43,9 @@ fn put_value<A: Allocator + Copy>(
 }
 
 /// What a text is worth as an expression, if it is one.
-fn worth_of<'x, A: Allocator + Copy>(
+fn worth_of<'x, 'c, A: Allocator + Copy + 'c, M: Readers<A, Code<'c, A>>>(
     alloc: A,
-    machine: &Machine<'_, A>,
+    machine: &M,
     names: &Names<A>,
     scene: Scene,
     text: &'x [u8],
@@ -75,7 +75,7 @@ fn has_quit(text: &str) -> bool {
 }
 
 /// Answers lines of commands, and says why the run stands if one of them moved the session.
-fn answer_lines<'c, A: Allocator + Copy + 'c, L: HasMachine<A, Machine<'c, A>>>(
+fn answer_lines<'c, A: Allocator + Copy + 'c, L: HasMachine<A, Code<'c, A>>>(
     debuggee: &mut Debuggee<'c, A, L>,
     text: &str,
 ) -> Result<Option<Why>, Failure> {
@@ -101,7 +101,7 @@ fn put_answers<A: Allocator + Copy>(
 }
 
 /// Answers lines of commands, adds their answers, and says why the run stands if one of them moved the session.
-fn console<'c, A: Allocator + Copy + 'c, L: HasMachine<A, Machine<'c, A>>>(
+fn console<'c, A: Allocator + Copy + 'c, L: HasMachine<A, Code<'c, A>>>(
     debuggee: &mut Debuggee<'c, A, L>,
     text: &str,
     body: Body<A>,
@@ -143,7 +143,7 @@ fn is_command(text: &str) -> bool {
 }
 
 /// What is made of a text that is no expression: in the console it is lines of commands, and as a watch it may be one.
-fn answer_lines_of<'c, A: Allocator + Copy + 'c, L: HasMachine<A, Machine<'c, A>>>(
+fn answer_lines_of<'c, A: Allocator + Copy + 'c, L: HasMachine<A, Code<'c, A>>>(
     debuggee: &mut Debuggee<'c, A, L>,
     context: &str,
     text: &str,
@@ -163,9 +163,9 @@ fn answer_lines_of<'c, A: Allocator + Copy + 'c, L: HasMachine<A, Machine<'c, A>
 }
 
 /// What an editor shows where it leaves a sigil out: a temporary before data or a function.
-fn hovered<A: Allocator + Copy>(
+fn hovered<'c, A: Allocator + Copy + 'c, M: Readers<A, Code<'c, A>>>(
     alloc: A,
-    machine: &Machine<'_, A>,
+    machine: &M,
     names: &Names<A>,
     asked: Asked<'_>,
     body: Body<A>,
@@ -204,7 +204,7 @@ enum Tried<A: Allocator> {
 }
 
 /// Adds the value of a text, if it is an expression.
-fn try_expression<'c, A: Allocator + Copy + 'c, L: HasMachine<A, Machine<'c, A>>>(
+fn try_expression<'c, A: Allocator + Copy + 'c, L: HasMachine<A, Code<'c, A>>>(
     debuggee: &Debuggee<'c, A, L>,
     said: Asked<'_>,
     is_hover: bool,
@@ -226,7 +226,7 @@ fn try_expression<'c, A: Allocator + Copy + 'c, L: HasMachine<A, Machine<'c, A>>
 }
 
 /// Adds the value of an expression, or in the console the answers to commands.
-pub fn evaluate<'c, A: Allocator + Copy + 'c, L: HasMachine<A, Machine<'c, A>>>(
+pub fn evaluate<'c, A: Allocator + Copy + 'c, L: HasMachine<A, Code<'c, A>>>(
     debuggee: &mut Debuggee<'c, A, L>,
     asked: Arguments<'_, '_, A>,
     body: Body<A>,

@@ -1,13 +1,26 @@
 //! The requests that look at a state: frames, scopes, variables.
 
-use qil_frames::Frame;
-use qil_machine::Machine;
+ghost use Rattle.std.specs.Prelude.{◌≡◌, ◌⊎◌, ◌+◌, ◌-◌, ◌<◌, ◌==◌, ◌++◌, ℕ, List, Option, Some, IfErr, IfOk, drop, length, slice_get};
+ghost use Rattle.json.specs.Token.{Token};
+ghost use Rattle.qil_memory.specs.Live.{live};
+ghost use Rattle.qil_frames.specs.Frames.{SlotFrame};
+ghost use Rattle.qil_meaning.specs.Timeline.{position};
+ghost use Rattle.qil_state.specs.State.{frame_state};
+ghost use Rattle.qrev_protocol.specs.Outgoing.{Adds};
+ghost use Rattle.qrev_debuggee.specs.declared.failure.Failure.TheVariants.{Because};
+ghost use Rattle.qrev_debuggee.specs.declared.failure.Cause.TheVariants.{NoSuchFrame, NoSuchVariables};
+ghost use Rattle.qrev_views.specs.Frames.{ShowsStack};
+ghost use Rattle.qrev_views.specs.Scopes.{scopes_tokens};
+ghost use Rattle.qrev_views.specs.Variables.{ShowsTemps};
+ghost use Rattle.qrev_inspection.specs.Shown.{ShowsFrame, variables_member};
+
+use qil_machine::Code;
 use qrev_debuggee::{Body, Cause, Client, Debuggee, Failure, HasMachine};
 use qrev_map::Names;
 use qrev_requests::Arguments;
 use qrev_views::{
-    DATA, MACHINE, OBJECTS, POINTED, Page, Showing, frame_of, put_data, put_frames, put_machine,
-    put_object_parts, put_pointed_parts, put_scopes, put_temps,
+    DATA, FrameView, MACHINE, OBJECTS, POINTED, Page, Readers, Showing, frame_of, put_data,
+    put_frames, put_machine, put_object_parts, put_pointed_parts, put_scopes, put_temps,
 };
 use std::alloc::{AllocError, Allocator};
 
@@ -32,11 +45,14 @@ fn page_said<A: Allocator + Copy>(asked: Arguments<'_, '_, A>, start: &str, coun
 }
 
 /// Adds the frames of the page that a request asks for.
-pub fn stack_trace<'c, A: Allocator + Copy + 'c, L: HasMachine<A, Machine<'c, A>>>(
+pub fn stack_trace<'c, A: Allocator + Copy + 'c, L: HasMachine<A, Code<'c, A>>>(
     debuggee: &Debuggee<'c, A, L>,
     asked: Arguments<'_, '_, A>,
     body: Body<A>,
-) -> Result<Body<A>, Failure> {
+) -> Result<Body<A>, Failure>
+    ensures { IfOk result (λ o. (page : Page) × (tokens : List Token)
+        × ShowsStack (position (L.state debuggee.now.recorder.live).timeline) (L.state debuggee.now.recorder.live).timeline.now page tokens × Adds body.out o.out tokens) }
+{
     let page = page_said(asked, "startFrame", "levels");
     Ok(put_frames(
         debuggee.alloc,
@@ -51,21 +67,24 @@ pub fn stack_trace<'c, A: Allocator + Copy + 'c, L: HasMachine<A, Machine<'c, A>
 }
 
 /// Adds the scopes of the frame of a number. Where no call is open, the first one stands for the end of the run.
-fn frame_scopes<A: Allocator + Copy>(
-    machine: &Machine<'_, A>,
+fn frame_scopes<'c, A: Allocator + Copy + 'c, M: Readers<A, Code<'c, A>>>(
+    machine: &M,
     number: u64,
     datas: usize,
     body: Body<A>,
-) -> Result<Body<A>, Failure> {
+) -> Result<Body<A>, Failure>
+    ensures shown { IfOk result (λ o. Adds body.out o.out (scopes_tokens number (slice_get (M.whole machine.now).frames (number - 1)) datas)) }
+    ensures missing { IfErr result (λ why. why ≡ Because NoSuchFrame → (number ≡ 0) ⊎ (length (M.whole machine.now).frames < number)) }
+{
     let frame = frame_of(machine, number);
-    if frame.is_none() && (number != 1 || !machine.frames().is_empty()) {
+    if frame.is_none() && (number != 1 || machine.depth() > 0) {
         return Err(Failure::Because(Cause::NoSuchFrame));
     }
     Ok(put_scopes(body, frame, number, datas)?)
 }
 
 /// Adds the scopes of a frame.
-pub fn scopes<'c, A: Allocator + Copy + 'c, L: HasMachine<A, Machine<'c, A>>>(
+pub fn scopes<'c, A: Allocator + Copy + 'c, L: HasMachine<A, Code<'c, A>>>(
     debuggee: &Debuggee<'c, A, L>,
     asked: Arguments<'_, '_, A>,
     body: Body<A>,
@@ -76,7 +95,7 @@ pub fn scopes<'c, A: Allocator + Copy + 'c, L: HasMachine<A, Machine<'c, A>>>(
 }
 
 /// Adds the variables of the machine.
-fn machine_variables<'c, A: Allocator + Copy + 'c, L: HasMachine<A, Machine<'c, A>>>(
+fn machine_variables<'c, A: Allocator + Copy + 'c, L: HasMachine<A, Code<'c, A>>>(
     debuggee: &Debuggee<'c, A, L>,
     page: Page,
     body: Body<A>,
@@ -87,13 +106,14 @@ fn machine_variables<'c, A: Allocator + Copy + 'c, L: HasMachine<A, Machine<'c, 
         debuggee.position(),
         debuggee.oldest(),
         debuggee.machine(),
+        debuggee.top(),
         page,
     )?
     .end()
 }
 
 /// Adds the data of the program.
-fn data_variables<'c, A: Allocator + Copy + 'c, L: HasMachine<A, Machine<'c, A>>>(
+fn data_variables<'c, A: Allocator + Copy + 'c, L: HasMachine<A, Code<'c, A>>>(
     debuggee: &Debuggee<'c, A, L>,
     showing: Showing,
     page: Page,
@@ -112,40 +132,49 @@ fn data_variables<'c, A: Allocator + Copy + 'c, L: HasMachine<A, Machine<'c, A>>
 }
 
 /// Adds the temporaries of the frame of a number.
-fn temp_variables<A: Allocator + Copy>(
+fn temp_variables<'c, A: Allocator + Copy + 'c, M: Readers<A, Code<'c, A>>>(
     alloc: A,
-    machine: &Machine<'_, A>,
+    machine: &M,
     names: &Names<A>,
-    frame: &Frame<A>,
+    frame: &FrameView<'_>,
     number: u64,
     showing: Showing,
     page: Page,
     body: Body<A>,
-) -> Result<Body<A>, AllocError> {
+) -> Result<Body<A>, AllocError>
+    ensures { (k : ℕ) → slice_get (M.whole machine.now).frames k ≡ Some frame.now
+        → IfOk result (λ o. (items : List Token) × ShowsTemps (M.whole machine.now).program (live (M.whole machine.now).memory) names.now.text.items showing (number == 1)
+        (frame_state (M.whole machine.now).program (drop (k + 1) (M.whole machine.now).frames) frame.now) page items × Adds body.out o.out (variables_member items)) }
+{
     let list = body.array("variables")?;
-    put_temps(alloc, list, machine, names, frame, number, showing, page)?.end()
+    let list = put_temps(alloc, list, machine, names, frame, number, showing, page)?;
+    let body = list.end()?;
+    Ok(body)
 }
 
 /// Adds the temporaries of the frame of a number, if there is one.
-fn frame_variables<A: Allocator + Copy>(
+fn frame_variables<'c, A: Allocator + Copy + 'c, M: Readers<A, Code<'c, A>>>(
     alloc: A,
-    machine: &Machine<'_, A>,
+    machine: &M,
     names: &Names<A>,
     number: u64,
     showing: Showing,
     page: Page,
     body: Body<A>,
-) -> Result<Body<A>, Failure> {
+) -> Result<Body<A>, Failure>
+    ensures shown { IfOk result (λ o. (tokens : List Token) × ShowsFrame (M.whole machine.now) names.now.text.items showing number page tokens × Adds body.out o.out tokens) }
+    ensures missing { IfErr result (λ why. why ≡ Because NoSuchVariables → (number ≡ 0) ⊎ (length (M.whole machine.now).frames < number)) }
+{
     match frame_of(machine, number) {
         Some(frame) => Ok(temp_variables(
-            alloc, machine, names, frame, number, showing, page, body,
+            alloc, machine, names, &frame, number, showing, page, body,
         )?),
         None => Err(Failure::Because(Cause::NoSuchVariables)),
     }
 }
 
 /// Adds the parts of the data object of a number.
-fn object_variables<'c, A: Allocator + Copy + 'c, L: HasMachine<A, Machine<'c, A>>>(
+fn object_variables<'c, A: Allocator + Copy + 'c, L: HasMachine<A, Code<'c, A>>>(
     debuggee: &Debuggee<'c, A, L>,
     number: u64,
     showing: Showing,
@@ -169,7 +198,7 @@ fn object_variables<'c, A: Allocator + Copy + 'c, L: HasMachine<A, Machine<'c, A
 }
 
 /// Adds what a temporary points to, by the number of its frame and its own there.
-fn pointed_variables<'c, A: Allocator + Copy + 'c, L: HasMachine<A, Machine<'c, A>>>(
+fn pointed_variables<'c, A: Allocator + Copy + 'c, L: HasMachine<A, Code<'c, A>>>(
     debuggee: &Debuggee<'c, A, L>,
     number: u64,
     showing: Showing,
@@ -196,7 +225,7 @@ fn pointed_variables<'c, A: Allocator + Copy + 'c, L: HasMachine<A, Machine<'c, 
 }
 
 /// Adds the variables of a scope, or the parts of one.
-pub fn variables<'c, A: Allocator + Copy + 'c, L: HasMachine<A, Machine<'c, A>>>(
+pub fn variables<'c, A: Allocator + Copy + 'c, L: HasMachine<A, Code<'c, A>>>(
     debuggee: &Debuggee<'c, A, L>,
     asked: Arguments<'_, '_, A>,
     body: Body<A>,

@@ -3,11 +3,11 @@
 ghost use Rattle.std.specs.Prelude.{◌<◌, ◌≤◌};
 
 use base64::engine::general_purpose::STANDARD;
-use qil_machine::Machine;
+use qil_machine::Code;
 use qil_pieces::Fragment;
 use qrev_debuggee::{Body, Cause, Debuggee, Failure, HasMachine};
 use qrev_requests::Arguments;
-use qrev_views::number_text;
+use qrev_views::{Readers, byte_at, number_text};
 use std::alloc::{AllocError, Allocator};
 
 /// The most bytes that one request reads.
@@ -61,15 +61,15 @@ fn number_of(bytes: &[u8]) -> u64 {
 }
 
 /// The live bytes from an address on, up to the first dead one, and at most so many.
-fn live_bytes<A: Allocator + Copy>(
+fn live_bytes<'c, A: Allocator + Copy + 'c, M: Readers<A, Code<'c, A>>>(
     alloc: A,
-    machine: &Machine<'_, A>,
+    machine: &M,
     start: u64,
     most: u64,
 ) -> Result<Vec<u8, A>, Failure> {
     let mut bytes = Vec::new(alloc);
     for offset in 0..most {
-        match machine.byte(start.wrapping_add(offset)) {
+        match byte_at(machine, start.wrapping_add(offset)) {
             Some(byte) => match bytes.push(byte) {
                 Ok(()) => {}
                 Err(_) => return Err(Failure::OutOfMemory),
@@ -126,9 +126,9 @@ fn put_read<A: Allocator + Copy>(
 }
 
 /// Adds so many bytes from an address on.
-fn put_memory<A: Allocator + Copy>(
+fn put_memory<'c, A: Allocator + Copy + 'c, M: Readers<A, Code<'c, A>>>(
     alloc: A,
-    machine: &Machine<'_, A>,
+    machine: &M,
     (start, count): (u64, u64),
     body: Body<A>,
 ) -> Result<Body<A>, Failure> {
@@ -148,7 +148,7 @@ fn span_said<A: Allocator + Copy>(asked: Arguments<'_, '_, A>) -> Result<(u64, u
 }
 
 /// Adds the bytes from an address on.
-pub fn read_memory<'c, A: Allocator + Copy + 'c, L: HasMachine<A, Machine<'c, A>>>(
+pub fn read_memory<'c, A: Allocator + Copy + 'c, L: HasMachine<A, Code<'c, A>>>(
     debuggee: &Debuggee<'c, A, L>,
     asked: Arguments<'_, '_, A>,
     body: Body<A>,
@@ -158,9 +158,13 @@ pub fn read_memory<'c, A: Allocator + Copy + 'c, L: HasMachine<A, Machine<'c, A>
 }
 
 /// Whether so many bytes from an address on are live.
-fn are_live<A: Allocator + Copy>(machine: &Machine<'_, A>, start: u64, count: usize) -> bool {
+fn are_live<'c, A: Allocator + Copy + 'c, M: Readers<A, Code<'c, A>>>(
+    machine: &M,
+    start: u64,
+    count: usize,
+) -> bool {
     for offset in 0..count {
-        if machine.byte(start.wrapping_add(offset as u64)).is_none() {
+        if byte_at(machine, start.wrapping_add(offset as u64)).is_none() {
             return false;
         }
     }
@@ -168,7 +172,7 @@ fn are_live<A: Allocator + Copy>(machine: &Machine<'_, A>, start: u64, count: us
 }
 
 /// Pokes bytes, as wide as they fit.
-fn poke_all<'c, A: Allocator + Copy + 'c, L: HasMachine<A, Machine<'c, A>>>(
+fn poke_all<'c, A: Allocator + Copy + 'c, L: HasMachine<A, Code<'c, A>>>(
     debuggee: &mut Debuggee<'c, A, L>,
     start: u64,
     bytes: &[u8],
@@ -208,7 +212,7 @@ fn bytes_said<A: Allocator + Copy>(
 }
 
 /// Pokes bytes, if all that stand there are live.
-fn poke_live<'c, A: Allocator + Copy + 'c, L: HasMachine<A, Machine<'c, A>>>(
+fn poke_live<'c, A: Allocator + Copy + 'c, L: HasMachine<A, Code<'c, A>>>(
     debuggee: &mut Debuggee<'c, A, L>,
     start: u64,
     bytes: &[u8],
@@ -220,7 +224,7 @@ fn poke_live<'c, A: Allocator + Copy + 'c, L: HasMachine<A, Machine<'c, A>>>(
 }
 
 /// Writes the bytes that are said, and gives how many they are.
-fn write_said<'c, A: Allocator + Copy + 'c, L: HasMachine<A, Machine<'c, A>>>(
+fn write_said<'c, A: Allocator + Copy + 'c, L: HasMachine<A, Code<'c, A>>>(
     debuggee: &mut Debuggee<'c, A, L>,
     asked: Arguments<'_, '_, A>,
 ) -> Result<u64, Failure> {
@@ -233,7 +237,7 @@ fn write_said<'c, A: Allocator + Copy + 'c, L: HasMachine<A, Machine<'c, A>>>(
 }
 
 /// Writes bytes from an address on, if all are live.
-pub fn write_memory<'c, A: Allocator + Copy + 'c, L: HasMachine<A, Machine<'c, A>>>(
+pub fn write_memory<'c, A: Allocator + Copy + 'c, L: HasMachine<A, Code<'c, A>>>(
     debuggee: &mut Debuggee<'c, A, L>,
     asked: Arguments<'_, '_, A>,
     body: Body<A>,

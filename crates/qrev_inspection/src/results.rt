@@ -1,9 +1,9 @@
 //! What an expression is worth, as an editor is told it.
 
-use qil_machine::Machine;
+use qil_machine::Code;
 use qrev_debuggee::{Body, Cause};
 use qrev_expressions::{Missing, Sized, Value, low_bits};
-use qrev_views::{Showing, number_text};
+use qrev_views::{Readers, Showing, byte_at, number_text};
 use std::alloc::{AllocError, Allocator};
 
 /// Why a value that is missing can't be had.
@@ -64,12 +64,15 @@ pub fn letter_of(value: Value) -> &'static str {
 }
 
 /// The address that a value is, if it is that of a live byte.
-pub fn address_in<A: Allocator + Copy>(machine: &Machine<'_, A>, value: Value) -> Option<u64> {
+pub fn address_in<'c, A: Allocator + Copy + 'c, M: Readers<A, Code<'c, A>>>(
+    machine: &M,
+    value: Value,
+) -> Option<u64> {
     let Value::Number(number, Sized::Long) = value else {
         return None;
     };
     let address = low_bits(number);
-    if machine.byte(address).is_some() {
+    if byte_at(machine, address).is_some() {
         Some(address)
     } else {
         None

@@ -3,7 +3,7 @@
 use crate::looking::showing_said;
 use crate::results::{cause_of, put_type};
 use qil_answers::func_name;
-use qil_machine::Machine;
+use qil_machine::Code;
 use qil_pieces::Fragment;
 use qil_tree::{Class, Data};
 use qrev_debuggee::{Body, Cause, Debuggee, Done, Failure, HasMachine};
@@ -14,8 +14,8 @@ use qrev_expressions::{
 use qrev_map::{FloatClass, Names};
 use qrev_requests::Arguments;
 use qrev_views::{
-    DATA, MACHINE, Showing, Style, data_float, data_named, data_word, frame_of, letter_of,
-    number_text, told_value,
+    DATA, MACHINE, Readers, Showing, Style, code_of, data_float, data_named, data_word, frame_of,
+    letter_of, number_text, told_value, value_at,
 };
 use std::alloc::{AllocError, Allocator};
 use std::num::{f32_to_bits_with_nan, f64_to_bits_with_nan, nearest_f64_to_f32_with_nan};
@@ -33,12 +33,12 @@ struct Set<'l> {
 fn put_value<A: Allocator + Copy>(
     alloc: A,
     body: Body<A>,
-    machine: &Machine<'_, A>,
+    code: &Code<'_, A>,
     showing: Showing,
     set: Set<'_>,
 ) -> Result<Body<A>, AllocError> {
     let style = Style::of(set.float, showing.is_hex);
-    let value = told_value(alloc, machine, style, set.class, set.value)?;
+    let value = told_value(alloc, code, style, set.class, set.value)?;
     let body = body.text("value", value.as_str())?;
     put_type(body, showing, set.letter)?.number("variablesReference", 0)
 }
@@ -75,9 +75,9 @@ fn is_plain(text: &[u8]) -> bool {
 }
 
 /// The value that a text says, in the words of a command: it may be an expression. What is none is the session's to refuse.
-fn words_of<A: Allocator + Copy>(
+fn words_of<'c, A: Allocator + Copy + 'c, M: Readers<A, Code<'c, A>>>(
     alloc: A,
-    machine: &Machine<'_, A>,
+    machine: &M,
     names: &Names<A>,
     scene: Scene,
     float: Option<FloatClass>,
@@ -103,7 +103,7 @@ fn words_of<A: Allocator + Copy>(
 }
 
 /// Answers the line that sets a temporary.
-fn answer_set<'c, 'x, A: Allocator + Copy + 'c, L: HasMachine<A, Machine<'c, A>>>(
+fn answer_set<'c, 'x, A: Allocator + Copy + 'c, L: HasMachine<A, Code<'c, A>>>(
     debuggee: &mut Debuggee<'c, A, L>,
     name: &'x [u8],
     value: &'x [u8],
@@ -117,8 +117,8 @@ fn answer_set<'c, 'x, A: Allocator + Copy + 'c, L: HasMachine<A, Machine<'c, A>>
 }
 
 /// What the innermost frame holds of the temporary of a name, and what that is.
-fn temp_now<'l, A: Allocator + Copy>(
-    machine: &Machine<'_, A>,
+fn temp_now<'l, 'c, A: Allocator + Copy + 'c, M: Readers<A, Code<'c, A>>>(
+    machine: &M,
     names: &Names<A>,
     name: &[u8],
 ) -> Set<'l> {
@@ -130,8 +130,8 @@ fn temp_now<'l, A: Allocator + Copy>(
             float: None,
         };
     };
-    let (value, class) = named_temp(machine, frame, name).unwrap_or((None, None));
-    let float = names.class_of(func_name(machine.code(), frame.func()), name);
+    let (value, class) = named_temp(machine, &frame, name).unwrap_or((None, None));
+    let float = names.class_of(func_name(code_of(machine), frame.func()), name);
     Set {
         value,
         letter: letter_of(float, class),
@@ -149,7 +149,7 @@ fn innermost(position: u64) -> Scene {
 }
 
 /// As `words_of`, in a session.
-fn words_in<'c, A: Allocator + Copy + 'c, L: HasMachine<A, Machine<'c, A>>>(
+fn words_in<'c, A: Allocator + Copy + 'c, L: HasMachine<A, Code<'c, A>>>(
     debuggee: &Debuggee<'c, A, L>,
     scene: Scene,
     float: Option<FloatClass>,
@@ -166,7 +166,7 @@ fn words_in<'c, A: Allocator + Copy + 'c, L: HasMachine<A, Machine<'c, A>>>(
 }
 
 /// As `temp_now`, in a session.
-fn temp_in<'c, 'l, A: Allocator + Copy + 'c, L: HasMachine<A, Machine<'c, A>>>(
+fn temp_in<'c, 'l, A: Allocator + Copy + 'c, L: HasMachine<A, Code<'c, A>>>(
     debuggee: &Debuggee<'c, A, L>,
     name: &[u8],
 ) -> Set<'l> {
@@ -174,7 +174,7 @@ fn temp_in<'c, 'l, A: Allocator + Copy + 'c, L: HasMachine<A, Machine<'c, A>>>(
 }
 
 /// The name that a temporary has in the text, of the one that is told.
-fn name_in<'c, A: Allocator + Copy + 'c, L: HasMachine<A, Machine<'c, A>>>(
+fn name_in<'c, A: Allocator + Copy + 'c, L: HasMachine<A, Code<'c, A>>>(
     debuggee: &Debuggee<'c, A, L>,
     told: &[u8],
 ) -> Result<Vec<u8, A>, AllocError> {
@@ -183,7 +183,7 @@ fn name_in<'c, A: Allocator + Copy + 'c, L: HasMachine<A, Machine<'c, A>>>(
 }
 
 /// Sets a temporary of the innermost frame, and gives its value after that.
-fn set_temp<'c, 'x, 'l, A: Allocator + Copy + 'c, L: HasMachine<A, Machine<'c, A>>>(
+fn set_temp<'c, 'x, 'l, A: Allocator + Copy + 'c, L: HasMachine<A, Code<'c, A>>>(
     debuggee: &mut Debuggee<'c, A, L>,
     name: &'x [u8],
     value: &'x str,
@@ -197,7 +197,7 @@ fn set_temp<'c, 'x, 'l, A: Allocator + Copy + 'c, L: HasMachine<A, Machine<'c, A
 }
 
 /// Answers the line that writes a word of this letter to a data object.
-fn answer_poke<'c, 'x, A: Allocator + Copy + 'c, L: HasMachine<A, Machine<'c, A>>>(
+fn answer_poke<'c, 'x, A: Allocator + Copy + 'c, L: HasMachine<A, Code<'c, A>>>(
     debuggee: &mut Debuggee<'c, A, L>,
     letter: &'x str,
     name: &'x [u8],
@@ -214,18 +214,20 @@ fn answer_poke<'c, 'x, A: Allocator + Copy + 'c, L: HasMachine<A, Machine<'c, A>
 }
 
 /// The shown word of a data object.
-fn word_now<A: Allocator + Copy>(machine: &Machine<'_, A>, data: &Data<'_, A>) -> Option<u64> {
+fn word_now<'c, A: Allocator + Copy + 'c, M: Readers<A, Code<'c, A>>>(
+    machine: &M,
+    data: &Data<'_, A>,
+) -> Option<u64> {
     let (_, width) = data_word(data);
-    let address = machine
-        .code()
+    let address = code_of(machine)
         .image()
         .address(data.name.bytes())
         .unwrap_or(0);
-    machine.bytes(address, width).ok()
+    value_at(machine, address, width)
 }
 
 /// What the shown word of a data object holds, and what that is; and the letter in which it is poked.
-fn data_in<'c, 'l, A: Allocator + Copy + 'c, L: HasMachine<A, Machine<'c, A>>>(
+fn data_in<'c, 'l, A: Allocator + Copy + 'c, L: HasMachine<A, Code<'c, A>>>(
     debuggee: &Debuggee<'c, A, L>,
     name: &[u8],
 ) -> Option<(Set<'l>, &'l str)> {
@@ -242,7 +244,7 @@ fn data_in<'c, 'l, A: Allocator + Copy + 'c, L: HasMachine<A, Machine<'c, A>>>(
 }
 
 /// Writes the shown word of a data object, and gives its value after that.
-fn set_data<'c, 'x, 'l, A: Allocator + Copy + 'c, L: HasMachine<A, Machine<'c, A>>>(
+fn set_data<'c, 'x, 'l, A: Allocator + Copy + 'c, L: HasMachine<A, Code<'c, A>>>(
     debuggee: &mut Debuggee<'c, A, L>,
     name: &'x [u8],
     value: &'x str,
@@ -292,8 +294,8 @@ fn poked(memory: Memory) -> (&'static str, &'static str, u64, Option<FloatClass>
 }
 
 /// What the memory at an address holds.
-fn memory_now<A: Allocator + Copy>(
-    machine: &Machine<'_, A>,
+fn memory_now<'c, A: Allocator + Copy + 'c, M: Readers<A, Code<'c, A>>>(
+    machine: &M,
     memory: Memory,
     address: u64,
 ) -> Option<u64> {
@@ -306,7 +308,7 @@ fn memory_now<A: Allocator + Copy>(
 }
 
 /// Answers the line that writes a word of this letter to an address.
-fn answer_poke_at<'c, 'x, A: Allocator + Copy + 'c, L: HasMachine<A, Machine<'c, A>>>(
+fn answer_poke_at<'c, 'x, A: Allocator + Copy + 'c, L: HasMachine<A, Code<'c, A>>>(
     debuggee: &mut Debuggee<'c, A, L>,
     letter: &'x str,
     address: u64,
@@ -323,7 +325,7 @@ fn answer_poke_at<'c, 'x, A: Allocator + Copy + 'c, L: HasMachine<A, Machine<'c,
 }
 
 /// Writes a value to memory, and gives what is there after that.
-fn set_memory<'c, 'x, 'l, A: Allocator + Copy + 'c, L: HasMachine<A, Machine<'c, A>>>(
+fn set_memory<'c, 'x, 'l, A: Allocator + Copy + 'c, L: HasMachine<A, Code<'c, A>>>(
     debuggee: &mut Debuggee<'c, A, L>,
     scene: Scene,
     memory: Memory,
@@ -342,9 +344,9 @@ fn set_memory<'c, 'x, 'l, A: Allocator + Copy + 'c, L: HasMachine<A, Machine<'c,
 }
 
 /// The address that an expression without its last operation, a load, is worth.
-fn address_worth<A: Allocator + Copy>(
+fn address_worth<'c, A: Allocator + Copy + 'c, M: Readers<A, Code<'c, A>>>(
     alloc: A,
-    machine: &Machine<'_, A>,
+    machine: &M,
     names: &Names<A>,
     scene: Scene,
     expression: Expression<'_, A>,
@@ -360,7 +362,7 @@ fn address_worth<A: Allocator + Copy>(
 }
 
 /// As `address_worth`, in a session.
-fn address_in<'c, A: Allocator + Copy + 'c, L: HasMachine<A, Machine<'c, A>>>(
+fn address_in<'c, A: Allocator + Copy + 'c, L: HasMachine<A, Code<'c, A>>>(
     debuggee: &Debuggee<'c, A, L>,
     scene: Scene,
     expression: Expression<'_, A>,
@@ -375,7 +377,7 @@ fn address_in<'c, A: Allocator + Copy + 'c, L: HasMachine<A, Machine<'c, A>>>(
 }
 
 /// Sets what an expression names, and gives its value after that.
-fn set_said<'c, 'x, 'l, A: Allocator + Copy + 'c, L: HasMachine<A, Machine<'c, A>>>(
+fn set_said<'c, 'x, 'l, A: Allocator + Copy + 'c, L: HasMachine<A, Code<'c, A>>>(
     debuggee: &mut Debuggee<'c, A, L>,
     scene: Scene,
     text: &'x str,
@@ -406,7 +408,10 @@ fn set_said<'c, 'x, 'l, A: Allocator + Copy + 'c, L: HasMachine<A, Machine<'c, A
 }
 
 /// Why nothing can be set in a scope, if so it is: only the temporaries of the innermost frame can be, and data.
-fn refusal_of<A: Allocator + Copy>(machine: &Machine<'_, A>, reference: u64) -> Option<Cause> {
+fn refusal_of<'c, A: Allocator + Copy + 'c, M: Readers<A, Code<'c, A>>>(
+    machine: &M,
+    reference: u64,
+) -> Option<Cause> {
     if reference == MACHINE {
         return Some(Cause::ReadOnly);
     }
@@ -423,7 +428,7 @@ fn is_part(reference: u64) -> bool {
 }
 
 /// Sets a variable of a scope, and gives its value after that.
-fn set_in<'c, 'x, 'l, A: Allocator + Copy + 'c, L: HasMachine<A, Machine<'c, A>>>(
+fn set_in<'c, 'x, 'l, A: Allocator + Copy + 'c, L: HasMachine<A, Code<'c, A>>>(
     debuggee: &mut Debuggee<'c, A, L>,
     reference: u64,
     name: &'x [u8],
@@ -439,7 +444,7 @@ fn set_in<'c, 'x, 'l, A: Allocator + Copy + 'c, L: HasMachine<A, Machine<'c, A>>
 }
 
 /// Sets the variable that is asked for, and gives its value after that.
-fn set_asked<'c, 'l, A: Allocator + Copy + 'c, L: HasMachine<A, Machine<'c, A>>>(
+fn set_asked<'c, 'l, A: Allocator + Copy + 'c, L: HasMachine<A, Code<'c, A>>>(
     debuggee: &mut Debuggee<'c, A, L>,
     asked: Arguments<'_, '_, A>,
 ) -> Result<Set<'l>, Failure> {
@@ -456,18 +461,19 @@ fn set_asked<'c, 'l, A: Allocator + Copy + 'c, L: HasMachine<A, Machine<'c, A>>>
 }
 
 /// Sets a variable.
-pub fn set_variable<'c, A: Allocator + Copy + 'c, L: HasMachine<A, Machine<'c, A>>>(
+pub fn set_variable<'c, A: Allocator + Copy + 'c, L: HasMachine<A, Code<'c, A>>>(
     debuggee: &mut Debuggee<'c, A, L>,
     asked: Arguments<'_, '_, A>,
     body: Body<A>,
 ) -> Result<Body<A>, Failure> {
     let set = set_asked(debuggee, asked)?;
     let showing = showing_said(debuggee.client, asked);
-    Ok(put_value(debuggee.alloc, body, debuggee.machine(), showing, set)?)
+    let code = code_of(debuggee.machine());
+    Ok(put_value(debuggee.alloc, body, code, showing, set)?)
 }
 
 /// Sets what an expression names.
-pub fn set_expression<'c, A: Allocator + Copy + 'c, L: HasMachine<A, Machine<'c, A>>>(
+pub fn set_expression<'c, A: Allocator + Copy + 'c, L: HasMachine<A, Code<'c, A>>>(
     debuggee: &mut Debuggee<'c, A, L>,
     asked: Arguments<'_, '_, A>,
     body: Body<A>,
@@ -483,5 +489,6 @@ pub fn set_expression<'c, A: Allocator + Copy + 'c, L: HasMachine<A, Machine<'c,
     let text = asked.text("expression").unwrap_or("");
     let set = set_said(debuggee, scene, text, value)?;
     let showing = showing_said(debuggee.client, asked);
-    Ok(put_value(debuggee.alloc, body, debuggee.machine(), showing, set)?)
+    let code = code_of(debuggee.machine());
+    Ok(put_value(debuggee.alloc, body, code, showing, set)?)
 }

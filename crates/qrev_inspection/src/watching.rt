@@ -2,12 +2,14 @@
 
 use qil_answers::func_name;
 use qil_layout::FuncId;
-use qil_machine::Machine;
+use qil_machine::Code;
 use qil_pieces::Fragment;
 use qrev_debuggee::{Body, Debuggee, Failure, HasMachine};
 use qrev_map::Names;
 use qrev_requests::Arguments;
-use qrev_views::{DATA, data_named, data_size, data_word, frame_of, joined, sigiled};
+use qrev_views::{
+    DATA, Readers, code_of, data_named, data_size, data_word, frame_of, joined, sigiled,
+};
 use std::alloc::{AllocError, Allocator};
 
 /// What `watch` says of a temporary.
@@ -80,7 +82,11 @@ fn put_unwatchable<A: Allocator>(body: Body<A>, why: &str) -> Result<Body<A>, Al
 }
 
 /// Whether the frame of a number is the innermost one of its function.
-fn is_innermost<A: Allocator + Copy>(machine: &Machine<'_, A>, number: u64, func: FuncId) -> bool {
+fn is_innermost<'c, A: Allocator + Copy + 'c, M: Readers<A, Code<'c, A>>>(
+    machine: &M,
+    number: u64,
+    func: FuncId,
+) -> bool {
     for inner in 1..number {
         if let Some(other) = frame_of(machine, inner) {
             if other.func() == func {
@@ -92,13 +98,13 @@ fn is_innermost<A: Allocator + Copy>(machine: &Machine<'_, A>, number: u64, func
 }
 
 /// The function of the frame of a number, if it has a temporary of this name.
-fn func_with<A: Allocator + Copy>(
-    machine: &Machine<'_, A>,
+fn func_with<'c, A: Allocator + Copy + 'c, M: Readers<A, Code<'c, A>>>(
+    machine: &M,
     number: u64,
     temp: &[u8],
 ) -> Option<FuncId> {
     let func = frame_of(machine, number)?.func();
-    match machine.code().slot_of(func, temp) {
+    match code_of(machine).slot_of(func, temp) {
         Some(_) => Some(func),
         None => None,
     }
@@ -122,9 +128,9 @@ fn put_temp_watch<A: Allocator + Copy>(
 }
 
 /// Adds what watches a temporary of a frame.
-fn temp_watch<A: Allocator + Copy>(
+fn temp_watch<'c, A: Allocator + Copy + 'c, M: Readers<A, Code<'c, A>>>(
     alloc: A,
-    machine: &Machine<'_, A>,
+    machine: &M,
     names: &Names<A>,
     number: u64,
     name: &[u8],
@@ -136,7 +142,7 @@ fn temp_watch<A: Allocator + Copy>(
         Some(func) => put_temp_watch(
             alloc,
             is_innermost(machine, number, func),
-            func_name(machine.code(), func),
+            func_name(code_of(machine), func),
             plain,
             body,
         ),
@@ -196,14 +202,14 @@ fn put_data_watch<A: Allocator + Copy>(
 }
 
 /// Adds what watches a data object.
-fn data_watch<A: Allocator + Copy>(
+fn data_watch<'c, A: Allocator + Copy + 'c, M: Readers<A, Code<'c, A>>>(
     alloc: A,
-    machine: &Machine<'_, A>,
+    machine: &M,
     name: &[u8],
     body: Body<A>,
 ) -> Result<Body<A>, AllocError> {
     let plain = name.strip_prefix(b"$").unwrap_or(name);
-    match data_named(machine.code().program(), plain) {
+    match data_named(code_of(machine).program(), plain) {
         Some(data) => put_data_watch(alloc, data_word(data), data_size(data), plain, body),
         None => put_unwatchable(body, "nothing to watch"),
     }
@@ -237,9 +243,9 @@ fn watched_by<A: Allocator + Copy>(asked: Arguments<'_, '_, A>, name: &[u8]) -> 
 }
 
 /// Adds what watches a variable.
-fn put_watch<A: Allocator + Copy>(
+fn put_watch<'c, A: Allocator + Copy + 'c, M: Readers<A, Code<'c, A>>>(
     alloc: A,
-    machine: &Machine<'_, A>,
+    machine: &M,
     names: &Names<A>,
     watched: Watched,
     name: &[u8],
@@ -253,7 +259,7 @@ fn put_watch<A: Allocator + Copy>(
 }
 
 /// Adds which stop would watch a variable.
-pub fn data_breakpoint_info<'c, A: Allocator + Copy + 'c, L: HasMachine<A, Machine<'c, A>>>(
+pub fn data_breakpoint_info<'c, A: Allocator + Copy + 'c, L: HasMachine<A, Code<'c, A>>>(
     debuggee: &Debuggee<'c, A, L>,
     asked: Arguments<'_, '_, A>,
     body: Body<A>,

@@ -1,17 +1,18 @@
 //! Whether a run stands where a stop ended it.
 
 use crate::logging::add_message;
-use qil_machine::Machine;
+use qil_machine::Code;
 use qrev_debuggee::{Debuggee, HasMachine, StopRule, Why, hits};
 use qrev_expressions::{Missing, Scene, Unread, evaluate, holds, parse};
 use qrev_map::Names;
+use qrev_views::Readers;
 use std::alloc::{AllocError, Allocator};
 
 /// Whether a condition holds in a state. What can't be had in this state doesn't hold; what can be had in none does, so that the
 /// run stands where that is seen.
-fn condition_holds<A: Allocator + Copy>(
+fn condition_holds<'c, A: Allocator + Copy + 'c, M: Readers<A, Code<'c, A>>>(
     alloc: A,
-    machine: &Machine<'_, A>,
+    machine: &M,
     names: &Names<A>,
     scene: Scene,
     condition: &str,
@@ -29,9 +30,9 @@ fn condition_holds<A: Allocator + Copy>(
 }
 
 /// Whether what a rule asks for holds, where the run comes to it.
-fn rule_holds<A: Allocator + Copy>(
+fn rule_holds<'c, A: Allocator + Copy + 'c, M: Readers<A, Code<'c, A>>>(
     alloc: A,
-    machine: &Machine<'_, A>,
+    machine: &M,
     names: &Names<A>,
     scene: Scene,
     rule: &mut StopRule<A>,
@@ -57,9 +58,9 @@ enum Judged {
 }
 
 /// What becomes of it by a rule.
-fn judge_rule<A: Allocator + Copy>(
+fn judge_rule<'c, A: Allocator + Copy + 'c, M: Readers<A, Code<'c, A>>>(
     alloc: A,
-    machine: &Machine<'_, A>,
+    machine: &M,
     names: &Names<A>,
     scene: Scene,
     rule: &mut StopRule<A>,
@@ -80,7 +81,7 @@ fn rule_of<A: Allocator>(rules: &[StopRule<A>], id: u64) -> Option<usize> {
 }
 
 /// What becomes of the run at the breakpoint of a number, and what is told there.
-fn judge_one<'c, A: Allocator + Copy + 'c, L: HasMachine<A, Machine<'c, A>>>(
+fn judge_one<'c, A: Allocator + Copy + 'c, L: HasMachine<A, Code<'c, A>>>(
     debuggee: &mut Debuggee<'c, A, L>,
     id: u64,
     log: &mut String<A>,
@@ -93,7 +94,7 @@ fn judge_one<'c, A: Allocator + Copy + 'c, L: HasMachine<A, Machine<'c, A>>>(
         position: debuggee.position(),
     };
     let alloc = debuggee.alloc;
-    let machine = debuggee.recorder.live().machine();
+    let machine = debuggee.recorder.live();
     let Some(rule) = debuggee.rules.as_mut_slice().get_mut(index) else {
         return Ok(true);
     };
@@ -117,7 +118,7 @@ fn judge_one<'c, A: Allocator + Copy + 'c, L: HasMachine<A, Machine<'c, A>>>(
 }
 
 /// Whether the run stands at one of the breakpoints at which it came, which it then is told of; and adds what is told at others.
-pub fn judge<'c, A: Allocator + Copy + 'c, L: HasMachine<A, Machine<'c, A>>>(
+pub fn judge<'c, A: Allocator + Copy + 'c, L: HasMachine<A, Code<'c, A>>>(
     debuggee: &mut Debuggee<'c, A, L>,
     why: Why,
     log: &mut String<A>,

@@ -1,11 +1,11 @@
 //! Steps from line to line of a source, by the map of places.
 
 use qil_lines::{Place, line_of};
-use qil_machine::Machine;
+use qil_machine::Code;
 use qil_meaning::Reason;
 use qil_tree::{Func, Program};
 use qrev_debuggee::{Debuggee, Failure, HasMachine, Motion, Why, make_move};
-use qrev_views::SourceMap;
+use qrev_views::{Readers, SourceMap};
 use std::alloc::Allocator;
 
 /// Where an editor asks to go.
@@ -26,8 +26,11 @@ pub struct Stand {
 }
 
 /// The line of the text at which a run stands, or 0 where no call is open.
-fn line_now<A: Allocator + Copy>(machine: &Machine<'_, A>, program: &Program<'_, A>) -> u32 {
-    let Some(frame) = machine.frames().last() else {
+fn line_now<'c, A: Allocator + Copy + 'c, M: Readers<A, Code<'c, A>>>(
+    machine: &M,
+    program: &Program<'_, A>,
+) -> u32 {
+    let Some(frame) = machine.frame(0) else {
         return 0;
     };
     let place = Place {
@@ -45,7 +48,7 @@ fn line_now<A: Allocator + Copy>(machine: &Machine<'_, A>, program: &Program<'_,
 }
 
 /// Where a run stands.
-pub fn stand_of<'c, A: Allocator + Copy + 'c, L: HasMachine<A, Machine<'c, A>>>(
+pub fn stand_of<'c, A: Allocator + Copy + 'c, L: HasMachine<A, Code<'c, A>>>(
     debuggee: &Debuggee<'c, A, L>,
 ) -> Stand {
     Stand {
@@ -88,12 +91,12 @@ fn func_has_source<A: Allocator + Copy>(source_map: &SourceMap<A>, func: &Func<'
 }
 
 /// Whether the innermost call is of a function that came from no source.
-fn is_in_sourceless<A: Allocator + Copy>(
-    machine: &Machine<'_, A>,
+fn is_in_sourceless<'c, A: Allocator + Copy + 'c, M: Readers<A, Code<'c, A>>>(
+    machine: &M,
     program: &Program<'_, A>,
     source_map: &SourceMap<A>,
 ) -> bool {
-    let Some(frame) = machine.frames().last() else {
+    let Some(frame) = machine.frame(0) else {
         return false;
     };
     match program
@@ -128,7 +131,7 @@ pub enum Next {
 }
 
 /// Whether so many moves were made since a position that a request is done.
-pub fn is_spent<'c, A: Allocator + Copy + 'c, L: HasMachine<A, Machine<'c, A>>>(
+pub fn is_spent<'c, A: Allocator + Copy + 'c, L: HasMachine<A, Code<'c, A>>>(
     debuggee: &Debuggee<'c, A, L>,
     begun: u64,
 ) -> bool {
@@ -136,7 +139,7 @@ pub fn is_spent<'c, A: Allocator + Copy + 'c, L: HasMachine<A, Machine<'c, A>>>(
 }
 
 /// Whether a run is in a call that a step into calls doesn't show.
-fn hides_call<'c, A: Allocator + Copy + 'c, L: HasMachine<A, Machine<'c, A>>>(
+fn hides_call<'c, A: Allocator + Copy + 'c, L: HasMachine<A, Code<'c, A>>>(
     debuggee: &Debuggee<'c, A, L>,
     start: Stand,
 ) -> bool {
@@ -150,7 +153,7 @@ fn hides_call<'c, A: Allocator + Copy + 'c, L: HasMachine<A, Machine<'c, A>>>(
 }
 
 /// Makes the next move of a step to another line.
-fn line_motion<'c, A: Allocator + Copy + 'c, L: HasMachine<A, Machine<'c, A>>>(
+fn line_motion<'c, A: Allocator + Copy + 'c, L: HasMachine<A, Code<'c, A>>>(
     debuggee: &Debuggee<'c, A, L>,
     start: Stand,
     into: bool,
@@ -166,7 +169,7 @@ fn line_motion<'c, A: Allocator + Copy + 'c, L: HasMachine<A, Machine<'c, A>>>(
 }
 
 /// Whether a step to another line is there.
-fn line_arrived<'c, A: Allocator + Copy + 'c, L: HasMachine<A, Machine<'c, A>>>(
+fn line_arrived<'c, A: Allocator + Copy + 'c, L: HasMachine<A, Code<'c, A>>>(
     debuggee: &Debuggee<'c, A, L>,
     start: Stand,
 ) -> bool {
@@ -177,7 +180,7 @@ fn line_arrived<'c, A: Allocator + Copy + 'c, L: HasMachine<A, Machine<'c, A>>>(
 }
 
 /// Makes a move of a step to another line, and says whether the run stands there.
-pub fn line_step<'c, A: Allocator + Copy + 'c, L: HasMachine<A, Machine<'c, A>>>(
+pub fn line_step<'c, A: Allocator + Copy + 'c, L: HasMachine<A, Code<'c, A>>>(
     debuggee: &mut Debuggee<'c, A, L>,
     start: Stand,
     into: bool,
@@ -195,7 +198,7 @@ pub fn line_step<'c, A: Allocator + Copy + 'c, L: HasMachine<A, Machine<'c, A>>>
 }
 
 /// Goes back to a place that came from a source, which is on the line whose beginning is wanted.
-fn line_back_to<'c, A: Allocator + Copy + 'c, L: HasMachine<A, Machine<'c, A>>>(
+fn line_back_to<'c, A: Allocator + Copy + 'c, L: HasMachine<A, Code<'c, A>>>(
     debuggee: &mut Debuggee<'c, A, L>,
     begun: u64,
 ) -> Result<Why, Failure> {
@@ -218,7 +221,7 @@ fn line_back_to<'c, A: Allocator + Copy + 'c, L: HasMachine<A, Machine<'c, A>>>(
 }
 
 /// Whether the run left a line, going back.
-fn left_line<'c, A: Allocator + Copy + 'c, L: HasMachine<A, Machine<'c, A>>>(
+fn left_line<'c, A: Allocator + Copy + 'c, L: HasMachine<A, Code<'c, A>>>(
     debuggee: &Debuggee<'c, A, L>,
     target: Stand,
 ) -> bool {
@@ -229,7 +232,7 @@ fn left_line<'c, A: Allocator + Copy + 'c, L: HasMachine<A, Machine<'c, A>>>(
 }
 
 /// Goes back to the beginning of the line of the source at which the run stands then, or of the line before.
-pub fn line_back<'c, A: Allocator + Copy + 'c, L: HasMachine<A, Machine<'c, A>>>(
+pub fn line_back<'c, A: Allocator + Copy + 'c, L: HasMachine<A, Code<'c, A>>>(
     debuggee: &mut Debuggee<'c, A, L>,
     begun: u64,
 ) -> Result<Why, Failure> {

@@ -1,15 +1,15 @@
 //! What a breakpoint tells in place of a stop: a text with expressions in braces.
 
-use qil_machine::Machine;
+use qil_machine::Code;
 use qrev_expressions::{Missing, Scene, Told, Unread, evaluate, parse, tell};
 use qrev_map::Names;
-use qrev_views::Showing;
+use qrev_views::{Readers, Showing, code_of};
 use std::alloc::{AllocError, Allocator};
 
 /// Adds what an expression is worth, or why it is worth nothing.
-fn add_worth<A: Allocator + Copy>(
+fn add_worth<'c, A: Allocator + Copy + 'c, M: Readers<A, Code<'c, A>>>(
     alloc: A,
-    machine: &Machine<'_, A>,
+    machine: &M,
     names: &Names<A>,
     scene: Scene,
     text: &str,
@@ -26,7 +26,7 @@ fn add_worth<A: Allocator + Copy>(
         has_types: false,
         has_references: false,
     };
-    match tell(alloc, machine, showing, &expression, value)? {
+    match tell(alloc, code_of(machine), showing, &expression, value)? {
         Told::Text(text) => log.push_str(text.as_str()),
         Told::Missing(Missing::Dead) => log.push_str("dead"),
         Told::Missing(Missing::NoSuchName) => add_braced(text, log),
@@ -42,9 +42,9 @@ fn add_braced<A: Allocator>(text: &str, log: &mut String<A>) -> Result<(), Alloc
 }
 
 /// Adds a message as a line: what stands in braces is an expression.
-pub fn add_message<A: Allocator + Copy>(
+pub fn add_message<'c, A: Allocator + Copy + 'c, M: Readers<A, Code<'c, A>>>(
     alloc: A,
-    machine: &Machine<'_, A>,
+    machine: &M,
     names: &Names<A>,
     scene: Scene,
     message: &str,

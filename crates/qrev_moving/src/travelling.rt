@@ -9,7 +9,7 @@ use crate::lines::{Next, Stand, Travel, is_spent, line_back, line_step};
 use crate::underway::{
     Course, Onward, Pace, Underway, behind_piece, next_piece, tell_over, tell_underway,
 };
-use qil_machine::Machine;
+use qil_machine::Code;
 use qil_meaning::Reason;
 use qil_streams::Sink;
 use qrev_debuggee::{Debuggee, Failure, HasMachine, Motion, Why, make_move};
@@ -20,7 +20,7 @@ use std::alloc::{AllocError, Allocator};
 const FULL: &str = "the script is full: no line more is taken\n";
 
 /// Makes the next move of a travel.
-fn move_on<'c, A: Allocator + Copy + 'c, L: HasMachine<A, Machine<'c, A>>>(
+fn move_on<'c, A: Allocator + Copy + 'c, L: HasMachine<A, Code<'c, A>>>(
     debuggee: &mut Debuggee<'c, A, L>,
     travel: Travel,
     start: Stand,
@@ -34,7 +34,7 @@ fn move_on<'c, A: Allocator + Copy + 'c, L: HasMachine<A, Machine<'c, A>>>(
 }
 
 /// Makes the next move of a travel, and says whether the run stands after it; what breakpoints tell is added.
-fn travel_on<'c, A: Allocator + Copy + 'c, L: HasMachine<A, Machine<'c, A>>>(
+fn travel_on<'c, A: Allocator + Copy + 'c, L: HasMachine<A, Code<'c, A>>>(
     debuggee: &mut Debuggee<'c, A, L>,
     travel: Travel,
     start: Stand,
@@ -53,7 +53,7 @@ fn travel_on<'c, A: Allocator + Copy + 'c, L: HasMachine<A, Machine<'c, A>>>(
 }
 
 /// Travels until the run stands or a breakpoint tells something.
-fn travel_far<'c, A: Allocator + Copy + 'c, L: HasMachine<A, Machine<'c, A>>>(
+fn travel_far<'c, A: Allocator + Copy + 'c, L: HasMachine<A, Code<'c, A>>>(
     debuggee: &mut Debuggee<'c, A, L>,
     underway: Underway,
     log: &mut String<A>,
@@ -91,7 +91,7 @@ fn why_standing(next: Next) -> Option<Why> {
 }
 
 /// Travels on, and tells what breakpoints tell; gives why the run stands, if it does.
-fn travel_and_log<'c, A: Allocator + Copy + 'c, L: HasMachine<A, Machine<'c, A>>, W: Sink>(
+fn travel_and_log<'c, A: Allocator + Copy + 'c, L: HasMachine<A, Code<'c, A>>, W: Sink>(
     debuggee: &mut Debuggee<'c, A, L>,
     port: &mut Port<A, W>,
     underway: Underway,
@@ -113,7 +113,7 @@ fn travel_and_log<'c, A: Allocator + Copy + 'c, L: HasMachine<A, Machine<'c, A>>
 }
 
 /// Tells that a run stands that was underway, for a reason of its own.
-pub fn tell_arrived<'c, A: Allocator + Copy + 'c, L: HasMachine<A, Machine<'c, A>>, W: Sink>(
+pub fn tell_arrived<'c, A: Allocator + Copy + 'c, L: HasMachine<A, Code<'c, A>>, W: Sink>(
     debuggee: &mut Debuggee<'c, A, L>,
     port: &mut Port<A, W>,
     pace: Pace,
@@ -128,7 +128,7 @@ pub fn tell_arrived<'c, A: Allocator + Copy + 'c, L: HasMachine<A, Machine<'c, A
 }
 
 /// Tells that a run was paused that was underway.
-pub fn tell_broken_off<'c, A: Allocator + Copy + 'c, L: HasMachine<A, Machine<'c, A>>, W: Sink>(
+pub fn tell_broken_off<'c, A: Allocator + Copy + 'c, L: HasMachine<A, Code<'c, A>>, W: Sink>(
     debuggee: &mut Debuggee<'c, A, L>,
     port: &mut Port<A, W>,
     pace: Pace,
@@ -143,7 +143,7 @@ pub fn tell_broken_off<'c, A: Allocator + Copy + 'c, L: HasMachine<A, Machine<'c
 
 /// Makes the next piece of a travel, past breakpoints that don't stop the run. Where the run stands behind it this is told; else
 /// what is underway is given, and whether it waits for a message.
-fn make_piece<'c, A: Allocator + Copy + 'c, L: HasMachine<A, Machine<'c, A>>, W: Sink, F: Files<A>>(
+fn make_piece<'c, A: Allocator + Copy + 'c, L: HasMachine<A, Code<'c, A>>, W: Sink, F: Files<A>>(
     debuggee: &mut Debuggee<'c, A, L>,
     port: &mut Port<A, W>,
     files: &F,
@@ -170,7 +170,7 @@ fn make_piece<'c, A: Allocator + Copy + 'c, L: HasMachine<A, Machine<'c, A>>, W:
 pub fn travel_and_tell<
     'c,
     A: Allocator + Copy + 'c,
-    L: HasMachine<A, Machine<'c, A>>,
+    L: HasMachine<A, Code<'c, A>>,
     W: Sink,
     F: Files<A>,
 >(
@@ -195,7 +195,7 @@ pub fn travel_and_tell<
 }
 
 /// Runs to the end, past all stops, or until so many moves were made as one run may; why it stands then.
-fn run_far<'c, A: Allocator + Copy + 'c, L: HasMachine<A, Machine<'c, A>>>(
+fn run_far<'c, A: Allocator + Copy + 'c, L: HasMachine<A, Code<'c, A>>>(
     debuggee: &mut Debuggee<'c, A, L>,
 ) -> Result<Why, Failure> {
     let begun = debuggee.position();
@@ -212,7 +212,7 @@ fn run_far<'c, A: Allocator + Copy + 'c, L: HasMachine<A, Machine<'c, A>>>(
 }
 
 /// Tells that the script takes no line more, and how far the run came; nothing where memory ran out.
-fn tell_failed<'c, A: Allocator + Copy + 'c, L: HasMachine<A, Machine<'c, A>>, W: Sink>(
+fn tell_failed<'c, A: Allocator + Copy + 'c, L: HasMachine<A, Code<'c, A>>, W: Sink>(
     debuggee: &mut Debuggee<'c, A, L>,
     port: &mut Port<A, W>,
     failure: Failure,
@@ -228,13 +228,7 @@ fn tell_failed<'c, A: Allocator + Copy + 'c, L: HasMachine<A, Machine<'c, A>>, W
 }
 
 /// Runs on to the end without a stop, and tells the output and how the run ended; or until a message has come.
-pub fn run_out<
-    'c,
-    A: Allocator + Copy + 'c,
-    L: HasMachine<A, Machine<'c, A>>,
-    W: Sink,
-    F: Files<A>,
->(
+pub fn run_out<'c, A: Allocator + Copy + 'c, L: HasMachine<A, Code<'c, A>>, W: Sink, F: Files<A>>(
     debuggee: &mut Debuggee<'c, A, L>,
     port: &mut Port<A, W>,
     files: &F,

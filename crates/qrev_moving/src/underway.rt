@@ -3,7 +3,7 @@
 ghost use Rattle.qrev_notices.specs.Conversation.{spoken, Tells};
 
 use crate::lines::{Stand, Travel, stand_of};
-use qil_machine::Machine;
+use qil_machine::Code;
 use qil_meaning::Reason;
 use qil_streams::Sink;
 use qrev_debuggee::{Debuggee, HasMachine, Why};
@@ -57,7 +57,7 @@ pub enum Onward {
 }
 
 /// Sets out on a travel.
-pub fn set_out<'c, A: Allocator + Copy + 'c, L: HasMachine<A, Machine<'c, A>>>(
+pub fn set_out<'c, A: Allocator + Copy + 'c, L: HasMachine<A, Code<'c, A>>>(
     debuggee: &Debuggee<'c, A, L>,
     travel: Travel,
 ) -> Underway {
@@ -113,7 +113,7 @@ fn progress_due(pieces: u64) -> Option<Progress> {
 }
 
 /// Tells how far a run is, where the editor shows it, and it is time to.
-pub fn tell_underway<'c, A: Allocator + Copy + 'c, L: HasMachine<A, Machine<'c, A>>, W: Sink>(
+pub fn tell_underway<'c, A: Allocator + Copy + 'c, L: HasMachine<A, Code<'c, A>>, W: Sink>(
     debuggee: &Debuggee<'c, A, L>,
     port: &mut Port<A, W>,
     pace: Pace,
@@ -133,7 +133,7 @@ pub fn tell_underway<'c, A: Allocator + Copy + 'c, L: HasMachine<A, Machine<'c, 
 }
 
 /// Tells that a run is over of which was told how far it is.
-pub fn tell_over<'c, A: Allocator + Copy + 'c, L: HasMachine<A, Machine<'c, A>>, W: Sink>(
+pub fn tell_over<'c, A: Allocator + Copy + 'c, L: HasMachine<A, Code<'c, A>>, W: Sink>(
     debuggee: &Debuggee<'c, A, L>,
     port: &mut Port<A, W>,
     pace: Pace,

@@ -8,10 +8,10 @@ ghost use Rattle.qrev_notices.specs.Conversation.{spoken, Tells};
 use crate::port::Port;
 use crate::stopped::output_event;
 use crate::trouble::Trouble;
-use qil_machine::Machine;
+use qil_machine::Code;
 use qil_streams::Sink;
 use qrev_debuggee::{Debuggee, HasMachine, Opening, Record};
-use qrev_requests::Launch;
+use qrev_requests::{BUDGET, Kept, Launch};
 use qrev_views::number_text;
 use std::alloc::{AllocError, Allocator};
 
@@ -69,6 +69,20 @@ fn add_program<A: Allocator + Copy>(
     Ok(())
 }
 
+/// Adds how the states of the run are kept, if it isn't as a run without an option keeps them.
+fn add_kept<A: Allocator + Copy>(
+    alloc: A,
+    text: &mut String<A>,
+    kept: Kept,
+) -> Result<(), AllocError> {
+    match (kept.budget, kept.bound) {
+        (Some(budget), _) if budget == BUDGET => Ok(()),
+        (Some(budget), _) => add_number(alloc, text, " --memory ", budget / 1_048_576),
+        (None, Some(bound)) => add_number(alloc, text, " --history ", bound),
+        (None, None) => text.push_str(" --history all"),
+    }
+}
+
 /// Adds its options.
 fn add_options<A: Allocator + Copy>(
     alloc: A,
@@ -78,10 +92,7 @@ fn add_options<A: Allocator + Copy>(
     text.push_str(" --entry ")?;
     text.push_str(launch.entry.as_str())?;
     add_number(alloc, text, " --limit ", launch.limit)?;
-    match launch.bound {
-        Some(bound) => add_number(alloc, text, " --history ", bound),
-        None => Ok(()),
-    }
+    add_kept(alloc, text, launch.kept)
 }
 
 /// The command line that plays a record, up to the record.
@@ -206,7 +217,7 @@ pub fn record_fault<A: Allocator + Copy, F: Files<A>>(
 }
 
 /// Writes a record, and says whether it could.
-fn write<'c, A: Allocator + Copy + 'c, L: HasMachine<A, Machine<'c, A>>, F: Files<A>>(
+fn write<'c, A: Allocator + Copy + 'c, L: HasMachine<A, Code<'c, A>>, F: Files<A>>(
     debuggee: &Debuggee<'c, A, L>,
     record: &str,
     files: &F,
@@ -224,7 +235,7 @@ fn write<'c, A: Allocator + Copy + 'c, L: HasMachine<A, Machine<'c, A>>, F: File
 }
 
 /// Writes the record of a session, if one was asked for, and tells nothing of it.
-pub fn keep_record<'c, A: Allocator + Copy + 'c, L: HasMachine<A, Machine<'c, A>>, F: Files<A>>(
+pub fn keep_record<'c, A: Allocator + Copy + 'c, L: HasMachine<A, Code<'c, A>>, F: Files<A>>(
     debuggee: &Debuggee<'c, A, L>,
     files: &F,
 ) -> Result<(), AllocError> {
@@ -235,7 +246,7 @@ pub fn keep_record<'c, A: Allocator + Copy + 'c, L: HasMachine<A, Machine<'c, A>
 }
 
 /// Writes a record, and gives what the editor is told of it.
-fn record_text<'c, A: Allocator + Copy + 'c, L: HasMachine<A, Machine<'c, A>>, F: Files<A>>(
+fn record_text<'c, A: Allocator + Copy + 'c, L: HasMachine<A, Code<'c, A>>, F: Files<A>>(
     debuggee: &Debuggee<'c, A, L>,
     launch: &Launch<A>,
     record: &str,
@@ -252,7 +263,7 @@ fn record_text<'c, A: Allocator + Copy + 'c, L: HasMachine<A, Machine<'c, A>>, F
 pub fn write_record<
     'c,
     A: Allocator + Copy + 'c,
-    L: HasMachine<A, Machine<'c, A>>,
+    L: HasMachine<A, Code<'c, A>>,
     F: Files<A>,
     W: Sink,
 >(

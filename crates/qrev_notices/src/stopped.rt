@@ -6,8 +6,8 @@ ghost use Rattle.qrev_notices.specs.Last.{IsNamedEvent, TellsLast};
 
 use crate::port::Port;
 use crate::trouble::Trouble;
-use qil_answers::func_name;
-use qil_machine::Machine;
+use qil_answers::{Readers, code_of, func_name, is_final};
+use qil_machine::Code;
 use qil_meaning::Reason;
 use qil_pieces::Fragment;
 use qil_state::{Fault, Status};
@@ -139,14 +139,14 @@ fn tell_new<A: Allocator + Copy, W: Sink>(
 }
 
 /// Tells what is new of the output. After a move back that is nothing until the output is longer than what was told.
-fn tell_output<'c, A: Allocator + Copy + 'c, L: HasMachine<A, Machine<'c, A>>, W: Sink>(
+fn tell_output<'c, A: Allocator + Copy + 'c, L: HasMachine<A, Code<'c, A>>, W: Sink>(
     debuggee: &mut Debuggee<'c, A, L>,
     port: &mut Port<A, W>,
 ) -> Result<(), Trouble>
     ensures { Tells result (spoken W.contents port.old) (spoken W.contents port.new) }
 {
-    let machine = debuggee.recorder.live().machine();
-    let is_over = machine.is_final();
+    let machine = debuggee.recorder.live();
+    let is_over = is_final(machine);
     let output = machine.output();
     tell_new(debuggee.alloc, output, is_over, &mut debuggee.output, port)
 }
@@ -297,18 +297,20 @@ fn foreign_text<A: Allocator + Copy>(
 }
 
 /// The function in which a run was halted.
-fn halted_in<'m, A: Allocator + Copy>(machine: &'m Machine<'_, A>) -> Option<&'m [u8]> {
+fn halted_in<'c, A: Allocator + Copy + 'c, M: Readers<A, Code<'c, A>>>(
+    machine: &M,
+) -> Option<&'c [u8]> {
     if machine.status() != Status::Faulted(Fault::Halted) {
         return None;
     }
-    let frame = machine.frames().last()?;
-    Some(func_name(machine.code(), frame.func()))
+    let frame = machine.frame(0)?;
+    Some(func_name(code_of(machine), frame.func()))
 }
 
 /// How a run ended, if it was halted in a function that isn't the program's own: what isn't there is no fault of the program.
-pub fn ended_elsewhere<A: Allocator + Copy>(
+pub fn ended_elsewhere<'c, A: Allocator + Copy + 'c, M: Readers<A, Code<'c, A>>>(
     alloc: A,
-    machine: &Machine<'_, A>,
+    machine: &M,
     names: &Names<A>,
 ) -> Result<Option<String<A>>, AllocError> {
     let Some(func) = halted_in(machine) else {
@@ -321,7 +323,7 @@ pub fn ended_elsewhere<A: Allocator + Copy>(
 }
 
 /// The breakpoints to tell: those that were looked at, or else all at which the run stands.
-fn hits_told<'c, A: Allocator + Copy + 'c, L: HasMachine<A, Machine<'c, A>>>(
+fn hits_told<'c, A: Allocator + Copy + 'c, L: HasMachine<A, Code<'c, A>>>(
     debuggee: &mut Debuggee<'c, A, L>,
     why: Why,
 ) -> Result<Vec<u64, A>, AllocError> {
@@ -333,7 +335,7 @@ fn hits_told<'c, A: Allocator + Copy + 'c, L: HasMachine<A, Machine<'c, A>>>(
 }
 
 /// The message that says that the run stands.
-fn stopped_message<'c, A: Allocator + Copy + 'c, L: HasMachine<A, Machine<'c, A>>>(
+fn stopped_message<'c, A: Allocator + Copy + 'c, L: HasMachine<A, Code<'c, A>>>(
     debuggee: &mut Debuggee<'c, A, L>,
     why: Why,
 ) -> Result<Object<A, Whole>, AllocError>
@@ -355,7 +357,7 @@ fn stopped_message<'c, A: Allocator + Copy + 'c, L: HasMachine<A, Machine<'c, A>
 }
 
 /// Tells what is new of the output, and that the run stands.
-pub fn tell_stopped<'c, A: Allocator + Copy + 'c, L: HasMachine<A, Machine<'c, A>>, W: Sink>(
+pub fn tell_stopped<'c, A: Allocator + Copy + 'c, L: HasMachine<A, Code<'c, A>>, W: Sink>(
     debuggee: &mut Debuggee<'c, A, L>,
     why: Why,
     port: &mut Port<A, W>,
@@ -368,7 +370,7 @@ pub fn tell_stopped<'c, A: Allocator + Copy + 'c, L: HasMachine<A, Machine<'c, A
 }
 
 /// The message that says that the run was paused, and where it stands.
-fn paused_message<'c, A: Allocator + Copy + 'c, L: HasMachine<A, Machine<'c, A>>>(
+fn paused_message<'c, A: Allocator + Copy + 'c, L: HasMachine<A, Code<'c, A>>>(
     debuggee: &Debuggee<'c, A, L>,
 ) -> Result<Object<A, Whole>, AllocError>
     ensures { IfOk result (λ o. IsNamedEvent (codes "stopped") o.out.tokens) }
@@ -382,7 +384,7 @@ fn paused_message<'c, A: Allocator + Copy + 'c, L: HasMachine<A, Machine<'c, A>>
 }
 
 /// Tells what is new of the output, and that the run was paused.
-pub fn tell_paused<'c, A: Allocator + Copy + 'c, L: HasMachine<A, Machine<'c, A>>, W: Sink>(
+pub fn tell_paused<'c, A: Allocator + Copy + 'c, L: HasMachine<A, Code<'c, A>>, W: Sink>(
     debuggee: &mut Debuggee<'c, A, L>,
     port: &mut Port<A, W>,
 ) -> Result<(), Trouble>
@@ -394,7 +396,7 @@ pub fn tell_paused<'c, A: Allocator + Copy + 'c, L: HasMachine<A, Machine<'c, A>
 }
 
 /// How a run that wasn't debugged ended, as a line.
-fn end_text<'c, A: Allocator + Copy + 'c, L: HasMachine<A, Machine<'c, A>>>(
+fn end_text<'c, A: Allocator + Copy + 'c, L: HasMachine<A, Code<'c, A>>>(
     debuggee: &Debuggee<'c, A, L>,
 ) -> Result<String<A>, AllocError> {
     let alloc = debuggee.alloc;
@@ -408,7 +410,7 @@ fn end_text<'c, A: Allocator + Copy + 'c, L: HasMachine<A, Machine<'c, A>>>(
 }
 
 /// Tells what is new of the output of a run that wasn't debugged, how it ended, and that the session can be ended.
-pub fn tell_end<'c, A: Allocator + Copy + 'c, L: HasMachine<A, Machine<'c, A>>, W: Sink>(
+pub fn tell_end<'c, A: Allocator + Copy + 'c, L: HasMachine<A, Code<'c, A>>, W: Sink>(
     debuggee: &mut Debuggee<'c, A, L>,
     port: &mut Port<A, W>,
 ) -> Result<(), Trouble>

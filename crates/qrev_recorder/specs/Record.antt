@@ -1,5 +1,5 @@
 -- What a recorder keeps: a script of lines that were answered, and the transcript that it has.
-use Rattle.std.specs.Prelude.{◌≡◌, ℕ, true, List, [], ◌∷◌, ◌++◌, Option, Result}
+use Rattle.std.specs.Prelude.{◌≡◌, ℕ, Bool, true, false, List, [], ◌∷◌, ◌++◌, Option, Some, None, Result}
 use Rattle.qil_rules.specs.Verdict.{Verdict}
 use Rattle.qil_meaning.specs.State.{State}
 use Rattle.qil_meaning.specs.Timeline.{begun}
@@ -15,9 +15,14 @@ use Rattle.qil_replies.specs.Transcript.{Setup, Begins, opened, load_lines}
 use Rattle.qil_replies.specs.Reached.{Reached}
 use Rattle.qrev_recorder.specs.declared.recorder.Opening.{Opening}
 
+-- where copies are kept, in so many bytes, no move wants memory; undo records want some
+abbrev pub moves_want_memory : Option ℕ → Bool
+moves_want_memory None = true
+moves_want_memory (Some budget) = false
+
 -- what `debug` is given for the same session
 abbrev pub setup_of : Opening → Setup
-setup_of o = record { text = o.text.now; entry = o.entry.now; args = o.args.now; limit = o.limit; keeps = o.bound; moves_want_memory = true }
+setup_of o = record { text = o.text.now; entry = o.entry.now; args = o.args.now; limit = o.limit; keeps = o.bound; moves_want_memory = moves_want_memory o.budget }
 
 -- a session at the start of an accepted text
 pub record IsBeginning {A : Type 0} (s : Setup) (loaded : Loaded) (state : SessionState A) : Type 0 where

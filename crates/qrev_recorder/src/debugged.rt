@@ -10,8 +10,9 @@ ghost use Rattle.qil_replies.specs.SessionState.{SessionState, text_in};
 ghost use Rattle.qil_replies.specs.Answers.{Replies};
 
 use qil_commands::{Command, Refused};
+use qil_history::{HasProgram, Readers};
 use qil_replies::Reply;
-use qil_stops::{DepthEnd, HasState, Stops};
+use qil_stops::{DepthEnd, Stops};
 use qil_streams::{Buffer, Put, PutError};
 use std::alloc::Allocator;
 
@@ -65,10 +66,17 @@ pub trait Debugged<A: Allocator> {
         ensures { result ≡ at_end (state self.now).timeline };
 }
 
-/// A session whose machine can be looked at.
-pub trait HasMachine<A: Allocator, M: HasState<A>>: Debugged<A> {
-    /// The machine now.
-    fn machine(&self) -> &M
-        ensures now { state_of (M.whole result.now) ≡ (Self.state self.now).timeline.now }
-        ensures program { (M.whole result.now).program ≡ (Self.state self.now).program };
+/// A session that is read as the machine that it is now. The readers are its own: with a type of their own beside it, a session that
+/// becomes known would be compared with all that such a type promises.
+///
+/// A user is generic in `L: HasMachine<A, Code<'c, A>>`, under `A: Allocator + 'c`.
+pub trait HasMachine<A: Allocator, C: HasProgram<A>>: Debugged<A> + Readers<A, C> {
+    /// Says that the state is the machine's.
+    fn is_read(&self)
+        ensures now { state_of (Self.whole self.now) ≡ (Self.state self.now).timeline.now }
+        ensures program { (Self.whole self.now).program ≡ (Self.state self.now).program };
+
+    /// The first dead address of the stack.
+    fn top(&self) -> u64
+        ensures { result ≡ (Self.state self.now).timeline.now.top };
 }

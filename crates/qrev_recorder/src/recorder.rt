@@ -36,6 +36,8 @@ pub struct Opening<'l> {
     pub limit: u64,
     /// The most moves that can be undone, if there is a bound.
     pub bound: Option<u64>,
+    /// How many bytes the copies of states may take, where they are kept and no undo records. Then there is no bound.
+    pub budget: Option<u64>,
 }
 
 /// What was done in a session: a script, and its transcript.

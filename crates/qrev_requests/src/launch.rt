@@ -1,10 +1,25 @@
 //! What the arguments of a launch say.
 
-ghost use Rattle.std.specs.Prelude.{◌≤◌, unwrap_or, IfSome, IfOk};
+ghost use Rattle.std.specs.Prelude.{◌≡◌, ◌&&◌, ◌≤◌, false, unwrap_or, is_some, IfSome, IfOk};
 
 use crate::arguments::Arguments;
 use json::Value;
 use std::alloc::{AllocError, Allocator};
+
+/// How many bytes the copies of states may take, if nothing is said: 64 MiB.
+pub const BUDGET: u64 = 64 << 20;
+
+/// How the states of a run are kept: by copies of some of them, by undo records of all moves, or by those of the newest.
+#[derive(Clone, Copy)]
+pub struct Kept {
+    /// The most moves that can be undone, if there is a bound.
+    pub bound: Option<u64>,
+    /// How many bytes copies of states may take, if those are kept and no undo records.
+    pub budget: Option<u64>,
+    ghost least: { 1 ≤ unwrap_or bound 1 },
+    ghost most: { unwrap_or bound 1 ≤ 1000000 },
+    ghost alone: { (is_some budget && is_some bound) ≡ false },
+}
 
 /// What is debugged, and how.
 #[derive(Drop)]
@@ -13,8 +28,7 @@ pub struct Launch<A: Allocator> {
     pub entry: String<A>,
     pub args: Vec<u64, A>,
     pub limit: u64,
-    /// The most moves that can be undone, if there is a bound.
-    pub bound: Option<u64>,
+    pub kept: Kept,
     pub stops_on_entry: bool,
     pub record: Option<String<A>>,
     /// The path of the map of places: none is looked for if it is empty.
@@ -22,8 +36,6 @@ pub struct Launch<A: Allocator> {
     /// Whether the run is debugged: else it goes to its end, past all stops.
     pub debugs: bool,
     ghost bounded: { limit ≤ 4294967295 },
-    ghost least: { 1 ≤ unwrap_or bound 1 },
-    ghost most: { unwrap_or bound 1 ≤ 1000000 },
 }
 
 /// Why a launch is refused before anything is loaded.
@@ -34,6 +46,8 @@ pub enum Unfit {
     Args,
     Limit,
     History,
+    Memory,
+    MemoryAndHistory,
     StopOnEntry,
     NoDebug,
     Record,
@@ -54,7 +68,9 @@ pub fn unfit_words(unfit: Unfit) -> &'static str {
         Unfit::Entry => "entry: no name",
         Unfit::Args => "args: not a number from 0 to 18446744073709551615",
         Unfit::Limit => "limit: not a number from 1 to 4294967295",
-        Unfit::History => "history: not a number from 1 to 1000000",
+        Unfit::History => "history: not a number from 1 to 1000000, nor all",
+        Unfit::Memory => "memory: not a number of MiB from 1 to 65536",
+        Unfit::MemoryAndHistory => "memory and history: only one of them can be said",
         Unfit::StopOnEntry => "stopOnEntry: no flag",
         Unfit::NoDebug => "noDebug: no flag",
         Unfit::Record => "record: no path",
@@ -171,6 +187,47 @@ fn number_in<A: Allocator + Copy>(
     }
 }
 
+/// How states are kept by what `history` says: a number of moves, or all.
+fn kept_by_records<A: Allocator + Copy>(value: &Value<'_, A>) -> Result<Kept, Unfit> {
+    if value.as_str() == Some("all") {
+        return Ok(Kept {
+            bound: None,
+            budget: None,
+        });
+    }
+    match number_said(value) {
+        Some(number) if number >= 1 && number <= 1_000_000 => Ok(Kept {
+            bound: Some(number),
+            budget: None,
+        }),
+        _ => Err(Unfit::History),
+    }
+}
+
+/// How states are kept by what `memory` says: how many MiB copies may take.
+fn kept_by_copies<A: Allocator + Copy>(value: &Value<'_, A>) -> Result<Kept, Unfit> {
+    match number_said(value) {
+        Some(number) if number >= 1 && number <= 65_536 => Ok(Kept {
+            bound: None,
+            budget: Some(number * 1_048_576),
+        }),
+        _ => Err(Unfit::Memory),
+    }
+}
+
+/// How the states of a run are kept.
+fn kept_said<A: Allocator + Copy>(asked: Arguments<'_, '_, A>) -> Result<Kept, Unfit> {
+    match (asked.get("history"), asked.get("memory")) {
+        (None, None) => Ok(Kept {
+            bound: None,
+            budget: Some(BUDGET),
+        }),
+        (Some(value), None) => kept_by_records(value),
+        (None, Some(value)) => kept_by_copies(value),
+        (Some(_), Some(_)) => Err(Unfit::MemoryAndHistory),
+    }
+}
+
 /// What the arguments say.
 pub fn launch_said<A: Allocator + Copy>(
     alloc: A,
@@ -180,7 +237,7 @@ pub fn launch_said<A: Allocator + Copy>(
     let entry = entry_said(alloc, asked)?;
     let args = numbers_said(alloc, asked)?;
     let limit = number_in(asked, "limit", 4_294_967_295, Unfit::Limit)?;
-    let bound = number_in(asked, "history", 1_000_000, Unfit::History)?;
+    let kept = kept_said(asked)?;
     let stops_on_entry = flag_said(asked, "stopOnEntry", true, Unfit::StopOnEntry)?;
     let no_debug = flag_said(asked, "noDebug", false, Unfit::NoDebug)?;
     let record = text_said(alloc, asked, "record", Unfit::Record)?;
@@ -190,7 +247,7 @@ pub fn launch_said<A: Allocator + Copy>(
         entry,
         args,
         limit: limit.unwrap_or(1_000_000),
-        bound,
+        kept,
         stops_on_entry,
         record,
         map,

@@ -5,4 +5,4 @@ mod arguments;
 mod launch;
 
 pub use arguments::Arguments;
-pub use launch::{Launch, Unfit, launch_said, unfit_words};
+pub use launch::{BUDGET, Kept, Launch, Unfit, launch_said, unfit_words};

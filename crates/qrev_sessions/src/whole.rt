@@ -12,8 +12,8 @@ use crate::replying::{put_reply, reply};
 use crate::running::{Way, run};
 use qil_commands::{Command, Refused};
 use qil_deltas::Deltas;
-use qil_history::History;
-use qil_machine::Machine;
+use qil_history::{FrameView, History, Readers};
+use qil_machine::{Code, Slot, Status};
 use qil_session::{Reply, Session};
 use qil_stops::{DepthEnd, Stops, is_over};
 use qil_streams::{Buffer, PutError};
@@ -89,8 +89,44 @@ impl<'c, A: Allocator + Copy + 'c> Debugged<A> for WholeSession<'c, A> {
     }
 }
 
-impl<'c, A: Allocator + Copy + 'c> HasMachine<A, Machine<'c, A>> for WholeSession<'c, A> {
-    fn machine(&self) -> &Machine<'c, A> {
-        self.session.history().machine()
+impl<'c, A: Allocator + Copy + 'c> Readers<A, Code<'c, A>> for WholeSession<'c, A> {
+    ghost whole = { λ s. s.session.history.machine };
+
+    fn code(&self) -> &Code<'c, A> {
+        self.session.history().machine().code()
+    }
+
+    fn status(&self) -> Status {
+        self.session.history().machine().status()
+    }
+
+    fn depth(&self) -> usize {
+        self.session.history().machine().depth()
+    }
+
+    fn frame(&self, inner: usize) -> Option<FrameView<'_>> {
+        self.session.history().machine().frame(inner)
+    }
+
+    fn output(&self) -> &[u8] {
+        self.session.history().machine().output()
+    }
+
+    fn byte_after(&self, address: u64, offset: u64) -> Option<u8> {
+        self.session.history().machine().byte_after(address, offset)
+    }
+
+    fn value(&self, slot: Slot) -> Option<u64> {
+        self.session.history().machine().value(slot)
+    }
+}
+
+impl<'c, A: Allocator + Copy + 'c> HasMachine<A, Code<'c, A>> for WholeSession<'c, A> {
+    fn is_read(&self) {
+        self.session.history().machine();
+    }
+
+    fn top(&self) -> u64 {
+        self.session.history().machine().top()
     }
 }

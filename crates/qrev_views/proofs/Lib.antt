@@ -6,3 +6,4 @@ pub mod Rows
 pub mod ShownPlaces
 pub mod Stacks
 pub mod Counted
+pub mod ReadNumbers

@@ -1,5 +1,5 @@
 -- Values as texts.
-use Rattle.std.specs.Prelude.{◌≡◌, ℕ, ◌^◌, ◌%◌, Bool, true, false, List, [], ◌∷◌, ◌++◌, ◌⊎◌, codes, decimal, Option, Some, None, from_bits}
+use Rattle.std.specs.Prelude.{◌≡◌, ℕ, ◌^◌, ◌%◌, Bool, true, false, List, [], ◌++◌, ◌⊎◌, codes, decimal, Option, Some, None, from_bits}
 use Rattle.std.specs.Float.{binary32, binary64}
 use Rattle.std.specs.Fmt.{digits}
 use Rattle.ryu.specs.Parse.{parse_float}

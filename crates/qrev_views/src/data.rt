@@ -3,19 +3,21 @@
 ghost use Rattle.std.specs.Prelude.{◌≡◌, [], ◌∷◌, ◌++◌, None, List, IfOk, codes, string_bytes};
 ghost use Rattle.json.specs.Token.{Token};
 ghost use Rattle.qil_layout.specs.Layout.{width_bytes};
-ghost use Rattle.qil_memory.specs.Calls.{IsWidth, loaded};
+ghost use Rattle.qil_memory.specs.Calls.{IsWidth};
 ghost use Rattle.qil_memory.specs.Live.{live};
 ghost use Rattle.qrev_protocol.specs.Outgoing.{Adds};
 ghost use Rattle.qil_pieces.specs.Texts.{text_of};
 ghost use Rattle.qrev_views.specs.Pages.{page_of};
 ghost use Rattle.qrev_views.specs.Texts.{shown_text};
-ghost use Rattle.qrev_views.specs.Variables.{shown_width, width_letter, value_of, data_letter, variable_head, name_member, ShowsData, ShowsEach};
+ghost use Rattle.qrev_views.specs.Variables.{shown_width, width_letter, data_letter, variable_head, name_member, ShowsData, ShowsEach};
 
+use crate::bytes::value_at;
 use crate::remarks::told_value;
 use crate::texts::{joined, sigiled};
 use crate::values::Style;
 use crate::variable::{Page, Showing, add_address, add_expression, add_type, begin_variable};
-use qil_answers::Machine;
+use qil_answers::{Readers, code_of};
+use qil_code::Code;
 use qil_pieces::Fragment;
 use qil_tree::{Class, Data, Field, Item, Program, Width};
 use qrev_map::{FloatClass, Names};
@@ -113,21 +115,6 @@ pub fn width_bytes(width: Width) -> u64
         Width::H => 2,
         Width::W => 4,
         Width::L => 8,
-    }
-}
-
-/// The number in 1, 2, 4 or 8 bytes from an address on, if all of them are live.
-pub fn value_at<A: Allocator + Copy>(
-    machine: &Machine<'_, A>,
-    address: u64,
-    width: u64,
-) -> Option<u64>
-    requires { IsWidth width }
-    ensures { result ≡ value_of (loaded (live machine.now.memory) address width) }
-{
-    match machine.bytes(address, width) {
-        Ok(value) => Some(value),
-        Err(_) => None,
     }
 }
 
@@ -230,28 +217,25 @@ fn add_data_expression<'x, A: Allocator + Copy, U: Drop>(
 }
 
 /// Adds the data object of a number.
-fn put_object<A: Allocator + Copy, U: Drop>(
+fn put_object<'c, A: Allocator + Copy + 'c, M: Readers<A, Code<'c, A>>, U: Drop>(
     alloc: A,
     list: Array<A, U>,
-    machine: &Machine<'_, A>,
+    machine: &M,
     names: &Names<A>,
     data: &Data<'_, A>,
     index: usize,
     showing: Showing,
 ) -> Result<Array<A, U>, AllocError>
-    ensures { IfOk result (λ l. (item : List Token) × ShowsData machine.now.program (live machine.now.memory) names.now.text.items showing data.now item × Adds list.out l.out item) }
+    ensures { IfOk result (λ l. (item : List Token) × ShowsData (M.whole machine.now).program (live (M.whole machine.now).memory) names.now.text.items showing data.now item × Adds list.out l.out item) }
 {
     let (width_letter, width) = data_word(data);
     let float = data_float(names, data);
     let letter = data_letter(float, width_letter);
-    let address = machine
-        .code()
-        .image()
-        .address(data.name.bytes())
-        .unwrap_or(0);
+    let code = code_of(machine);
+    let address = code.image().address(data.name.bytes()).unwrap_or(0);
     let value = value_at(machine, address, width);
     let style = Style::of(float, showing.is_hex);
-    let text = told_value(alloc, machine, style, class_of_width(width), value)?;
+    let text = told_value(alloc, code, style, class_of_width(width), value)?;
     let parts = data_parts(data, index);
     let variable = begin_data(alloc, list, data.name.bytes(), text.as_str(), parts)?;
     let variable = add_type(variable, showing, letter)?;
@@ -262,17 +246,17 @@ fn put_object<A: Allocator + Copy, U: Drop>(
 }
 
 /// Adds the data objects of a page, in the order of the text.
-pub fn put_data<'c, A: Allocator + Copy, U: Drop>(
+pub fn put_data<'c, A: Allocator + Copy + 'c, M: Readers<A, Code<'c, A>>, U: Drop>(
     alloc: A,
     list: Array<A, U>,
-    machine: &Machine<'c, A>,
+    machine: &M,
     program: &Program<'c, A>,
     names: &Names<A>,
     showing: Showing,
     page: Page,
 ) -> Result<Array<A, U>, AllocError>
     ensures { IfOk result (λ l. (items : List Token)
-        × ShowsEach (ShowsData machine.now.program (live machine.now.memory) names.now.text.items showing) (page_of page program.now.datas) items × Adds list.out l.out items) }
+        × ShowsEach (ShowsData (M.whole machine.now).program (live (M.whole machine.now).memory) names.now.text.items showing) (page_of page program.now.datas) items × Adds list.out l.out items) }
 {
     let datas = program.datas.as_slice();
     let (first, after) = page.of(datas.len());

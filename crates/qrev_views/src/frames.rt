@@ -12,8 +12,9 @@ ghost use Rattle.qrev_views.specs.Sources.{counted_line, shown_index, frame_line
 use crate::source_map::{SourceLine, SourceMap};
 use crate::texts::{joined, place_text};
 use crate::variable::Page;
-use qil_answers::{Machine, func_name, label_name};
-use qil_frames::Frame;
+use qil_answers::{Readers, code_of, func_name, label_name};
+use qil_code::Code;
+use qil_history::FrameView;
 use qil_lines::{Place, line_of};
 use qil_pieces::Fragment;
 use qil_tree::Program;
@@ -73,22 +74,20 @@ pub fn put_source<A: Allocator, U: Drop>(
 }
 
 /// The frame of a number.
-pub fn frame_of<'m, A: Allocator + Copy>(
-    machine: &'m Machine<'_, A>,
+pub fn frame_of<'m, 'c, A: Allocator + Copy + 'c, M: Readers<A, Code<'c, A>>>(
+    machine: &'m M,
     number: u64,
-) -> Option<&'m Frame<A>>
-    ensures { MatchOption result ((number ≡ 0) ⊎ (length machine.now.frames < number)) (λ frame. slice_get machine.now.frames (number - 1) ≡ Some frame.now) }
+) -> Option<FrameView<'m>>
+    ensures { MatchOption result ((number ≡ 0) ⊎ (length (M.whole machine.now).frames < number)) (λ frame. slice_get (M.whole machine.now).frames (number - 1) ≡ Some frame) }
 {
-    let frames = machine.frames();
-    let count = frames.len() as u64;
-    if number == 0 || number > count {
+    if number == 0 {
         return None;
     }
-    frames.get((count - number) as usize)
+    machine.frame((number - 1) as usize)
 }
 
 /// The place that is shown of a frame: of a caller its call, after which its index stands.
-pub fn place_of_frame<A: Allocator>(frame: &Frame<A>, number: u64) -> Place
+pub fn place_of_frame(frame: &FrameView<'_>, number: u64) -> Place
     ensures block { result.block ≡ frame.now.block }
     ensures index { result.index ≡ shown_index number frame.now }
 {
@@ -104,7 +103,7 @@ pub fn place_of_frame<A: Allocator>(frame: &Frame<A>, number: u64) -> Place
 }
 
 /// The line of the text that is shown of a frame.
-fn line_of_frame<A: Allocator>(program: &Program<'_, A>, frame: &Frame<A>, number: u64) -> u32
+fn line_of_frame<A: Allocator>(program: &Program<'_, A>, frame: &FrameView<'_>, number: u64) -> u32
     ensures { result ≡ frame_line program.now frame.now number }
 {
     match program
@@ -120,12 +119,11 @@ fn line_of_frame<A: Allocator>(program: &Program<'_, A>, frame: &Frame<A>, numbe
 /// The name of a frame: its function, its block, and the index where it stands.
 fn frame_name<A: Allocator + Copy>(
     alloc: A,
-    machine: &Machine<'_, A>,
-    frame: &Frame<A>,
+    code: &Code<'_, A>,
+    frame: &FrameView<'_>,
 ) -> Result<String<A>, AllocError>
-    ensures { (callers : List SlotFrame) → IfOk result (λ name. string_bytes name ≡ shown_name (frame_state machine.now.program callers frame.now)) }
+    ensures { (callers : List SlotFrame) → IfOk result (λ name. string_bytes name ≡ shown_name (frame_state code.now callers frame.now)) }
 {
-    let code = machine.code();
     joined(
         alloc,
         &[
@@ -218,20 +216,20 @@ fn end_frame<A: Allocator, U: Drop>(
 fn put_frame<'c, A: Allocator + Copy, U: Drop>(
     alloc: A,
     list: Array<A, U>,
-    machine: &Machine<'c, A>,
+    code: &Code<'c, A>,
     program: &Program<'c, A>,
     shown: Shown<'_>,
     source_map: Option<&SourceMap<A>>,
-    frame: &Frame<A>,
+    frame: &FrameView<'_>,
     number: u64,
 ) -> Result<Array<A, U>, AllocError>
     ensures { (callers : List SlotFrame) → IfOk result (λ l. (item : List Token)
         × ShowsFrameAt (IsShownAt shown.entry (origin_of source_map.entry (frame_line program.now frame.now number)) (frame_line program.now frame.now number))
-        number (frame_state machine.now.program callers frame.now) item
+        number (frame_state code.now callers frame.now) item
         × Adds list.out l.out item) }
 {
     let line = line_of_frame(program, frame, number);
-    let name = frame_name(alloc, machine, frame)?;
+    let name = frame_name(alloc, code, frame)?;
     let item = begin_item(list, number, name.as_str())?;
     let item = put_line(alloc, item, shown, source_map, line)?;
     let list = end_frame(item, u64::from(shown.numbering.first_column))?;
@@ -251,13 +249,13 @@ fn end_label<A: Allocator, U: Drop>(item: Object<A, InArray<U>>) -> Result<Array
 }
 
 /// Adds, where no call is open, one item in place of frames: how the run ended.
-fn put_end<A: Allocator + Copy, U: Drop>(
+fn put_end<'c, A: Allocator + Copy + 'c, M: Readers<A, Code<'c, A>>, U: Drop>(
     alloc: A,
     list: Array<A, U>,
     position: u64,
-    machine: &Machine<'_, A>,
+    machine: &M,
 ) -> Result<Array<A, U>, AllocError>
-    ensures { IfOk result (λ l. Adds list.out l.out (end_item position (state_of machine.now))) }
+    ensures { IfOk result (λ l. Adds list.out l.out (end_item position (state_of (M.whole machine.now)))) }
 {
     let place = place_text(alloc, position, machine)?;
     let item = begin_item(list, 1, place.as_str())?;
@@ -266,39 +264,45 @@ fn put_end<A: Allocator + Copy, U: Drop>(
 }
 
 /// A frame, counted from the innermost one.
-fn frame_at<'m, A: Allocator + Copy>(machine: &'m Machine<'_, A>, inner: usize) -> &'m Frame<A>
-    requires { inner < length machine.now.frames }
-    ensures { slice_get machine.now.frames inner ≡ Some result.now }
+fn frame_at<'m, 'c, A: Allocator + Copy + 'c, M: Readers<A, Code<'c, A>>>(
+    machine: &'m M,
+    inner: usize,
+) -> FrameView<'m>
+    requires { inner < length (M.whole machine.now).frames }
+    ensures { slice_get (M.whole machine.now).frames inner ≡ Some result }
 {
-    let frames = machine.frames();
-    &frames[frames.len() - 1 - inner]
+    match machine.frame(inner) {
+        Some(frame) => frame,
+        None => unreachable!(),
+    }
 }
 
 /// Adds the frames of a page, the innermost first.
-fn put_page<'c, A: Allocator + Copy, U: Drop>(
+fn put_page<'c, A: Allocator + Copy + 'c, M: Readers<A, Code<'c, A>>, U: Drop>(
     alloc: A,
     list: Array<A, U>,
-    machine: &Machine<'c, A>,
+    machine: &M,
     program: &Program<'c, A>,
     shown: Shown<'_>,
     source_map: Option<&SourceMap<A>>,
     page: Page,
 ) -> Result<Array<A, U>, AllocError>
-    ensures { IfOk result (λ l. (items : List Token) × ShowsFrames (page.start + 1) (page_of page (frames_state machine.now.program machine.now.frames)) items
+    ensures { IfOk result (λ l. (items : List Token) × ShowsFrames (page.start + 1) (page_of page (frames_state (M.whole machine.now).program (M.whole machine.now).frames)) items
         × Adds list.out l.out items) }
 {
-    let (first, after) = page.of(machine.frames().len());
+    let (first, after) = page.of(machine.depth());
+    let code = code_of(machine);
     let mut list = list;
     for inner in first..after {
         let frame = frame_at(machine, inner);
         list = put_frame(
             alloc,
             list,
-            machine,
+            code,
             program,
             shown,
             source_map,
-            frame,
+            &frame,
             inner as u64 + 1,
         )?;
     }
@@ -307,19 +311,19 @@ fn put_page<'c, A: Allocator + Copy, U: Drop>(
 
 /// Adds the frames of a page, and how many there are in all, each at the line of the source that its line came from, if it came
 /// from one. Where no call is open there is one item, which tells how the run ended after so many moves.
-pub fn put_frames<'c, A: Allocator + Copy, U: Drop>(
+pub fn put_frames<'c, A: Allocator + Copy + 'c, M: Readers<A, Code<'c, A>>, U: Drop>(
     alloc: A,
     body: Object<A, U>,
     position: u64,
-    machine: &Machine<'c, A>,
+    machine: &M,
     program: &Program<'c, A>,
     shown: Shown<'_>,
     source_map: Option<&SourceMap<A>>,
     page: Page,
 ) -> Result<Object<A, U>, AllocError>
-    ensures { IfOk result (λ o. (tokens : List Token) × ShowsStack position (state_of machine.now) page tokens × Adds body.out o.out tokens) }
+    ensures { IfOk result (λ o. (tokens : List Token) × ShowsStack position (state_of (M.whole machine.now)) page tokens × Adds body.out o.out tokens) }
 {
-    let count = machine.frames().len();
+    let count = machine.depth();
     let list = body.array("stackFrames")?;
     if count == 0 {
         let body = put_end(alloc, list, position, machine)?

@@ -2,6 +2,7 @@
 //! a response in the Debug Adapter Protocol. Nothing here moves a session.
 #![tactic(auto)]
 
+mod bytes;
 mod data;
 mod frames;
 mod machine;
@@ -14,10 +15,13 @@ mod texts;
 mod values;
 mod variable;
 
+pub use bytes::{byte_at, value_at};
 pub use data::{OBJECTS, data_float, data_named, data_size, data_word, put_data};
 pub use frames::{Numbering, Shown, frame_of, put_frames, put_source};
 pub use machine::put_machine;
 pub use parts::{put_object_parts, put_pointed_parts, quoted};
+pub use qil_answers::{Readers, code_of};
+pub use qil_history::FrameView;
 pub use remarks::{data_around, remark_of, told_value};
 pub use scopes::{DATA, MACHINE, put_scopes};
 pub use source_map::{SourceLine, SourceMap, plain_path, same_file};

@@ -10,7 +10,8 @@ ghost use Rattle.qrev_views.specs.Variables.{fixed_tokens, machine_rows};
 
 use crate::texts::{as_text, number_text, place_text};
 use crate::variable::{Page, begin_variable, end_read_only};
-use qil_answers::Machine;
+use qil_answers::Readers;
+use qil_code::Code;
 use qrev_protocol::Array;
 use std::alloc::{AllocError, Allocator};
 
@@ -56,14 +57,14 @@ fn put_output<A: Allocator + Copy, U: Drop>(
 }
 
 /// Adds the place.
-fn put_place<A: Allocator + Copy, U: Drop>(
+fn put_place<'c, A: Allocator + Copy + 'c, M: Readers<A, Code<'c, A>>, U: Drop>(
     alloc: A,
     list: Array<A, U>,
     position: u64,
-    machine: &Machine<'_, A>,
+    machine: &M,
 ) -> Result<Array<A, U>, AllocError>
     ensures { IfOk result (λ l. Adds list.out l.out (fixed_tokens
-        (codes "place", shown_text (without_end (state_line position (state_of machine.now).frames (state_of machine.now).status))))) }
+        (codes "place", shown_text (without_end (state_line position (state_of (M.whole machine.now)).frames (state_of (M.whole machine.now)).status))))) }
 {
     let place = place_text(alloc, position, machine)?;
     let list = put_fixed(list, "place", place.as_str())?;
@@ -72,40 +73,44 @@ fn put_place<A: Allocator + Copy, U: Drop>(
 
 /// Adds the variable of a number: the place, the position of the oldest state that is kept, the first dead address of the stack,
 /// and the output.
-fn put_nth<A: Allocator + Copy, U: Drop>(
+fn put_nth<'c, A: Allocator + Copy + 'c, M: Readers<A, Code<'c, A>>, U: Drop>(
     alloc: A,
     list: Array<A, U>,
     position: u64,
     oldest: u64,
-    machine: &Machine<'_, A>,
+    machine: &M,
+    top: u64,
     number: usize,
 ) -> Result<Array<A, U>, AllocError>
-    ensures { (row : List ℕ × List ℕ) → slice_get (machine_rows position oldest (state_of machine.now)) number ≡ Some row
+    requires { top ≡ (state_of (M.whole machine.now)).top }
+    ensures { (row : List ℕ × List ℕ) → slice_get (machine_rows position oldest (state_of (M.whole machine.now))) number ≡ Some row
         → IfOk result (λ l. Adds list.out l.out (fixed_tokens row)) }
 {
     match number {
         0 => put_place(alloc, list, position, machine),
         1 => put_number(alloc, list, "oldest", oldest),
-        2 => put_number(alloc, list, "top", machine.top()),
+        2 => put_number(alloc, list, "top", top),
         _ => put_output(alloc, list, machine.output()),
     }
 }
 
-/// Adds the variables of a page.
-pub fn put_machine<A: Allocator + Copy, U: Drop>(
+/// Adds the variables of a page. `top` is the first dead address of the machine's stack.
+pub fn put_machine<'c, A: Allocator + Copy + 'c, M: Readers<A, Code<'c, A>>, U: Drop>(
     alloc: A,
     list: Array<A, U>,
     position: u64,
     oldest: u64,
-    machine: &Machine<'_, A>,
+    machine: &M,
+    top: u64,
     page: Page,
 ) -> Result<Array<A, U>, AllocError>
-    ensures { IfOk result (λ l. Adds list.out l.out (flat_map fixed_tokens (page_of page (machine_rows position oldest (state_of machine.now))))) }
+    requires { top ≡ (state_of (M.whole machine.now)).top }
+    ensures { IfOk result (λ l. Adds list.out l.out (flat_map fixed_tokens (page_of page (machine_rows position oldest (state_of (M.whole machine.now)))))) }
 {
     let (first, after) = page.of(MACHINE_VARIABLES);
     let mut list = list;
     for number in first..after {
-        list = put_nth(alloc, list, position, oldest, machine, number)?;
+        list = put_nth(alloc, list, position, oldest, machine, top, number)?;
     }
     Ok(list)
 }

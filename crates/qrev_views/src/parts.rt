@@ -5,12 +5,14 @@ ghost use Rattle.qil_memory.specs.Calls.{IsWidth, loaded};
 ghost use Rattle.qil_memory.specs.Live.{live};
 ghost use Rattle.qrev_views.specs.Variables.{value_of};
 
-use crate::data::{value_at, width_bytes};
+use crate::bytes::{byte_at, value_at};
+use crate::data::width_bytes;
 use crate::remarks::{data_around, told_value};
 use crate::texts::joined;
 use crate::values::Style;
 use crate::variable::{Page, Showing, add_address, add_expression, begin_variable};
-use qil_answers::Machine;
+use qil_answers::{Readers, code_of};
+use qil_code::Code;
 use qil_pieces::Fragment;
 use qil_tree::{Class, Data, Field, Item, Width};
 use qrev_protocol::Array;
@@ -108,15 +110,15 @@ fn push_byte<A: Allocator>(text: &mut String<A>, byte: u8) -> Result<(), AllocEr
 }
 
 /// So many live bytes from an address on, between quotes.
-pub fn quoted<A: Allocator + Copy>(
+pub fn quoted<'c, A: Allocator + Copy + 'c, M: Readers<A, Code<'c, A>>>(
     alloc: A,
-    machine: &Machine<'_, A>,
+    machine: &M,
     address: u64,
     count: u64,
 ) -> Result<String<A>, AllocError> {
     let mut text = String::from_str(alloc, "\"")?;
     for offset in 0..count.min(TEXT_LIMIT) {
-        match machine.byte(address.wrapping_add(offset)) {
+        match byte_at(machine, address.wrapping_add(offset)) {
             Some(byte) => push_byte(&mut text, byte)?,
             None => break,
         }
@@ -126,9 +128,9 @@ pub fn quoted<A: Allocator + Copy>(
 }
 
 /// What a part holds, as a text.
-fn part_text<A: Allocator + Copy>(
+fn part_text<'c, A: Allocator + Copy + 'c, M: Readers<A, Code<'c, A>>>(
     alloc: A,
-    machine: &Machine<'_, A>,
+    machine: &M,
     showing: Showing,
     address: u64,
     part: Part,
@@ -138,7 +140,7 @@ fn part_text<A: Allocator + Copy>(
             let value = value_at(machine, address, width_bytes(width));
             told_value(
                 alloc,
-                machine,
+                code_of(machine),
                 Style::of(None, showing.is_hex),
                 class_of(width),
                 value,
@@ -165,10 +167,10 @@ fn size_of(part: Part) -> u64 {
 }
 
 /// Adds a part.
-fn put_part<A: Allocator + Copy, U: Drop>(
+fn put_part<'c, A: Allocator + Copy + 'c, M: Readers<A, Code<'c, A>>, U: Drop>(
     alloc: A,
     list: Array<A, U>,
-    machine: &Machine<'_, A>,
+    machine: &M,
     showing: Showing,
     (index, address): (u64, u64),
     part: Part,
@@ -181,31 +183,34 @@ fn put_part<A: Allocator + Copy, U: Drop>(
     add_address(alloc, variable, showing, address)?.end_item()
 }
 
-impl<A: Allocator + Copy, U: Drop> Parts<A, U> {
-    /// Adds the next part, if the page has it, and goes behind it.
-    fn add(self, alloc: A, machine: &Machine<'_, A>, part: Part) -> Result<Self, AllocError> {
-        let Parts {
-            list,
-            showing,
-            page,
-            index,
-            address,
-        } = self;
-        let count = page.count.min(MOST_PARTS);
-        let is_shown = page.start <= index && index - page.start < count;
-        let list = if is_shown {
-            put_part(alloc, list, machine, showing, (index, address), part)?
-        } else {
-            list
-        };
-        Ok(Parts {
-            list,
-            showing,
-            page,
-            index: index.saturating_add(1),
-            address: address.wrapping_add(size_of(part)),
-        })
-    }
+/// Adds the next part, if the page has it, and goes behind it.
+fn add_part<'c, A: Allocator + Copy + 'c, M: Readers<A, Code<'c, A>>, U: Drop>(
+    alloc: A,
+    parts: Parts<A, U>,
+    machine: &M,
+    part: Part,
+) -> Result<Parts<A, U>, AllocError> {
+    let Parts {
+        list,
+        showing,
+        page,
+        index,
+        address,
+    } = parts;
+    let count = page.count.min(MOST_PARTS);
+    let is_shown = page.start <= index && index - page.start < count;
+    let list = if is_shown {
+        put_part(alloc, list, machine, showing, (index, address), part)?
+    } else {
+        list
+    };
+    Ok(Parts {
+        list,
+        showing,
+        page,
+        index: index.saturating_add(1),
+        address: address.wrapping_add(size_of(part)),
+    })
 }
 
 /// The widest width in which so many zero bytes are numbers.
@@ -220,25 +225,25 @@ fn width_in(count: u64) -> Width {
 }
 
 /// Adds so many numbers of a width.
-fn put_numbers<A: Allocator + Copy, U: Drop>(
+fn put_numbers<'c, A: Allocator + Copy + 'c, M: Readers<A, Code<'c, A>>, U: Drop>(
     alloc: A,
     parts: Parts<A, U>,
-    machine: &Machine<'_, A>,
+    machine: &M,
     width: Width,
     count: u64,
 ) -> Result<Parts<A, U>, AllocError> {
     let mut parts = parts;
     for _ in 0..count {
-        parts = parts.add(alloc, machine, Part::Number(width))?;
+        parts = add_part(alloc, parts, machine, Part::Number(width))?;
     }
     Ok(parts)
 }
 
 /// Adds the items of a field.
-fn put_items<A: Allocator + Copy, U: Drop>(
+fn put_items<'c, A: Allocator + Copy + 'c, M: Readers<A, Code<'c, A>>, U: Drop>(
     alloc: A,
     parts: Parts<A, U>,
-    machine: &Machine<'_, A>,
+    machine: &M,
     width: Width,
     items: &[Item<'_, A>],
 ) -> Result<Parts<A, U>, AllocError> {
@@ -248,21 +253,21 @@ fn put_items<A: Allocator + Copy, U: Drop>(
             Item::Text(text) => Part::Text(text.as_slice().len() as u64),
             _ => Part::Number(width),
         };
-        parts = parts.add(alloc, machine, part)?;
+        parts = add_part(alloc, parts, machine, part)?;
     }
     Ok(parts)
 }
 
 /// Adds the parts of a data object: its items, of zeros as numbers.
-pub fn put_object_parts<'c, A: Allocator + Copy, U: Drop>(
+pub fn put_object_parts<'c, A: Allocator + Copy + 'c, M: Readers<A, Code<'c, A>>, U: Drop>(
     alloc: A,
     list: Array<A, U>,
-    machine: &Machine<'c, A>,
+    machine: &M,
     data: &Data<'c, A>,
     showing: Showing,
     page: Page,
 ) -> Result<Array<A, U>, AllocError> {
-    let address = machine.code().image().address(data.name.bytes());
+    let address = code_of(machine).image().address(data.name.bytes());
     let mut parts = Parts {
         list,
         showing,
@@ -286,12 +291,16 @@ pub fn put_object_parts<'c, A: Allocator + Copy, U: Drop>(
 }
 
 /// How many of so many words from an address on are live.
-fn live_words<A: Allocator + Copy>(machine: &Machine<'_, A>, address: u64, width: u64) -> u64 {
+fn live_words<'c, A: Allocator + Copy + 'c, M: Readers<A, Code<'c, A>>>(
+    machine: &M,
+    address: u64,
+    width: u64,
+) -> u64 {
     for index in 0..PLAIN_COUNT {
         let last = index
             .wrapping_mul(width)
             .wrapping_add(width.wrapping_sub(1));
-        if machine.byte(address.wrapping_add(last)).is_none() {
+        if byte_at(machine, address.wrapping_add(last)).is_none() {
             return index;
         }
     }
@@ -299,15 +308,15 @@ fn live_words<A: Allocator + Copy>(machine: &Machine<'_, A>, address: u64, width
 }
 
 /// Adds what an address points to: a data object's parts, and of other memory the numbers that are live.
-pub fn put_pointed_parts<'c, A: Allocator + Copy, U: Drop>(
+pub fn put_pointed_parts<'c, A: Allocator + Copy + 'c, M: Readers<A, Code<'c, A>>, U: Drop>(
     alloc: A,
     list: Array<A, U>,
-    machine: &Machine<'c, A>,
+    machine: &M,
     address: u64,
     showing: Showing,
     page: Page,
 ) -> Result<Array<A, U>, AllocError> {
-    if let Some((data, start)) = data_around(machine, address) {
+    if let Some((data, start)) = data_around(code_of(machine), address) {
         if start == address {
             return put_object_parts(alloc, list, machine, data, showing, page);
         }

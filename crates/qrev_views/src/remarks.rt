@@ -5,7 +5,7 @@ ghost use Rattle.qrev_views.specs.Values.{IsRemark, IsTold};
 
 use crate::texts::joined;
 use crate::values::{Style, value_text};
-use qil_answers::Machine;
+use qil_code::Code;
 use qil_layout::Callee;
 use qil_pieces::Fragment;
 use qil_tree::{Class, Data};
@@ -19,16 +19,16 @@ const NEAR_ZERO: u64 = 65_536;
 
 /// The data object in which an address lies, or after which it does, and its own address.
 pub fn data_around<'m, 'c, A: Allocator + Copy>(
-    machine: &'m Machine<'c, A>,
+    code: &'m Code<'c, A>,
     address: u64,
 ) -> Option<(&'m Data<'c, A>, u64)> {
-    let image = machine.code().image();
+    let image = code.image();
     let end = FIRST_DATA.saturating_add(image.bytes().len() as u64);
     if address < FIRST_DATA || end <= address {
         return None;
     }
     let mut found = None;
-    for data in machine.code().program().datas.as_slice() {
+    for data in code.program().datas.as_slice() {
         match image.address(data.name.bytes()) {
             Some(start) if start <= address => found = Some((data, start)),
             _ => {}
@@ -68,10 +68,10 @@ fn place_remark<A: Allocator + Copy>(
 /// The function that lies at an address.
 fn function_remark<A: Allocator + Copy>(
     alloc: A,
-    machine: &Machine<'_, A>,
+    code: &Code<'_, A>,
     address: u64,
 ) -> Result<Option<String<A>>, AllocError> {
-    let image = machine.code().image();
+    let image = code.image();
     let Some(Callee::Defined(func)) = image.function_at(address) else {
         return Ok(None);
     };
@@ -84,15 +84,15 @@ fn function_remark<A: Allocator + Copy>(
 /// What lies at an address in the text of the program.
 fn address_remark<A: Allocator + Copy>(
     alloc: A,
-    machine: &Machine<'_, A>,
+    code: &Code<'_, A>,
     address: u64,
 ) -> Result<Option<String<A>>, AllocError> {
-    match data_around(machine, address) {
+    match data_around(code, address) {
         Some((data, start)) => {
             let offset = address.saturating_sub(start);
             Ok(Some(place_remark(alloc, data.name.bytes(), offset)?))
         }
-        None => function_remark(alloc, machine, address),
+        None => function_remark(alloc, code, address),
     }
 }
 
@@ -114,14 +114,14 @@ fn sign_remark<A: Allocator + Copy>(alloc: A, below: u64) -> Result<Option<Strin
 /// What a value of a class also is.
 pub fn remark_of<A: Allocator + Copy>(
     alloc: A,
-    machine: &Machine<'_, A>,
+    code: &Code<'_, A>,
     class: Option<Class>,
     value: u64,
 ) -> Result<Option<String<A>>, AllocError> {
     if matches!(class, Some(Class::W)) {
         return sign_remark(alloc, (1_u64 << 32).wrapping_sub(value));
     }
-    match address_remark(alloc, machine, value)? {
+    match address_remark(alloc, code, value)? {
         Some(remark) => Ok(Some(remark)),
         None => sign_remark(alloc, value.wrapping_neg()),
     }
@@ -146,13 +146,13 @@ fn with_remark<A: Allocator>(
 /// What a value also is, if it is there and isn't written as a float.
 fn remark_for<A: Allocator + Copy>(
     alloc: A,
-    machine: &Machine<'_, A>,
+    code: &Code<'_, A>,
     style: Style,
     class: Option<Class>,
     value: Option<u64>,
 ) -> Result<Option<String<A>>, AllocError> {
     match (style, value) {
-        (Style::Decimal | Style::Hex, Some(value)) => remark_of(alloc, machine, class, value),
+        (Style::Decimal | Style::Hex, Some(value)) => remark_of(alloc, code, class, value),
         _ => Ok(None),
     }
 }
@@ -160,7 +160,7 @@ fn remark_for<A: Allocator + Copy>(
 /// A value of a class, or that it is unset, and what it also is.
 pub fn told_value<A: Allocator + Copy>(
     alloc: A,
-    machine: &Machine<'_, A>,
+    code: &Code<'_, A>,
     style: Style,
     class: Option<Class>,
     value: Option<u64>,
@@ -168,7 +168,7 @@ pub fn told_value<A: Allocator + Copy>(
     ensures { IfOk result (λ text. IsTold style value (string_bytes text)) }
 {
     let written = value_text(alloc, style, value)?;
-    let remark = remark_for(alloc, machine, style, class, value)?;
+    let remark = remark_for(alloc, code, style, class, value)?;
     let text = with_remark(written, remark)?;
     Ok(text)
 }

@@ -1,12 +1,11 @@
 //! The scopes of a frame: its temporaries, the data of the program, and the machine.
 
 ghost use Rattle.std.specs.Prelude.{◌++◌, length, IfOk};
-ghost use Rattle.std.specs.Option.{option_copied};
 ghost use Rattle.qrev_protocol.specs.Outgoing.{Adds};
 ghost use Rattle.qrev_views.specs.Scopes.{scope_name, scope_variables, hinted_scope, locals_scope, scopes_tokens};
 
 use crate::machine::MACHINE_VARIABLES;
-use qil_frames::Frame;
+use qil_history::FrameView;
 use qrev_protocol::{Array, InArray, InObject, Object};
 use std::alloc::{AllocError, Allocator};
 
@@ -67,10 +66,10 @@ fn put_hinted<A: Allocator, U: Drop>(
 /// Adds the scope of the temporaries of the frame of a number, if there is one.
 fn put_locals<A: Allocator, U: Drop>(
     list: Array<A, U>,
-    frame: Option<&Frame<A>>,
+    frame: Option<FrameView<'_>>,
     number: u64,
 ) -> Result<Array<A, U>, AllocError>
-    ensures { IfOk result (λ l. Adds list.out l.out (locals_scope number (option_copied frame.entry))) }
+    ensures { IfOk result (λ l. Adds list.out l.out (locals_scope number frame.entry)) }
 {
     match frame {
         Some(frame) => {
@@ -84,11 +83,11 @@ fn put_locals<A: Allocator, U: Drop>(
 /// Adds the scopes: the temporaries of the frame of a number, if there is one, as many data objects, and the machine.
 pub fn put_scopes<A: Allocator, U: Drop>(
     body: Object<A, U>,
-    frame: Option<&Frame<A>>,
+    frame: Option<FrameView<'_>>,
     number: u64,
     datas: usize,
 ) -> Result<Object<A, U>, AllocError>
-    ensures { IfOk result (λ o. Adds body.out o.out (scopes_tokens number (option_copied frame.entry) datas)) }
+    ensures { IfOk result (λ o. Adds body.out o.out (scopes_tokens number frame.entry datas)) }
 {
     let list = put_locals(body.array("scopes")?, frame, number)?;
     let list = put_scope(list, "Data", DATA, datas)?;

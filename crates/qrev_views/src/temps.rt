@@ -10,15 +10,16 @@ ghost use Rattle.qrev_views.specs.Pages.{page_of};
 ghost use Rattle.qrev_views.specs.Texts.{shown_text};
 ghost use Rattle.qrev_views.specs.Variables.{class_letter, letter_of, live_reference, variable_head, name_member, ShowsTemp, ShowsTemps};
 
+use crate::bytes::byte_at;
 use crate::remarks::told_value;
 use crate::texts::sigiled;
 use crate::values::Style;
 use crate::variable::{
     Page, Showing, add_address, add_expression, add_type, begin_variable, end_variable,
 };
-use qil_answers::{Machine, func_name, temp_name};
-use qil_code::Slot;
-use qil_frames::Frame;
+use qil_answers::{Readers, code_of, func_name, temp_name};
+use qil_code::{Code, Slot};
+use qil_history::FrameView;
 use qil_tree::Class;
 use qrev_map::{FloatClass, Names};
 use qrev_protocol::{Array, InArray, Object};
@@ -49,19 +50,19 @@ pub fn letter_of(float: Option<FloatClass>, class: Option<Class>) -> &'static st
 }
 
 /// Adds a reference to the memory at a value, if that is the address of a live byte.
-fn add_live_address<A: Allocator + Copy, U: Drop>(
+fn add_live_address<'c, A: Allocator + Copy + 'c, M: Readers<A, Code<'c, A>>, U: Drop>(
     alloc: A,
-    machine: &Machine<'_, A>,
+    machine: &M,
     variable: Object<A, InArray<U>>,
     showing: Showing,
     value: Option<u64>,
 ) -> Result<Object<A, InArray<U>>, AllocError>
-    ensures { IfOk result (λ o. Adds variable.out o.out (live_reference showing.has_references (live machine.now.memory) value)) }
+    ensures { IfOk result (λ o. Adds variable.out o.out (live_reference showing.has_references (live (M.whole machine.now).memory) value)) }
 {
     let Some(address) = value else {
         return Ok(variable);
     };
-    if machine.byte(address).is_none() {
+    if byte_at(machine, address).is_none() {
         return Ok(variable);
     }
     let variable = add_address(alloc, variable, showing, address)?;
@@ -69,16 +70,19 @@ fn add_live_address<A: Allocator + Copy, U: Drop>(
 }
 
 /// Whether a value is the address of a live byte.
-fn is_live<A: Allocator + Copy>(machine: &Machine<'_, A>, value: Option<u64>) -> bool {
+fn is_live<'c, A: Allocator + Copy + 'c, M: Readers<A, Code<'c, A>>>(
+    machine: &M,
+    value: Option<u64>,
+) -> bool {
     match value {
-        Some(address) => machine.byte(address).is_some(),
+        Some(address) => byte_at(machine, address).is_some(),
         None => false,
     }
 }
 
 /// The reference of what a temporary of the frame of a number points to, if it is the address of a live byte.
-fn pointed<A: Allocator + Copy>(
-    machine: &Machine<'_, A>,
+fn pointed<'c, A: Allocator + Copy + 'c, M: Readers<A, Code<'c, A>>>(
+    machine: &M,
     number: u64,
     slot: Slot,
     class: Option<Class>,
@@ -120,32 +124,26 @@ fn add_temp_name<A: Allocator + Copy, U: Drop>(
 }
 
 /// Adds a temporary of a frame, by its name in the text that was lowered.
-fn put_temp<A: Allocator + Copy, U: Drop>(
+fn put_temp<'c, A: Allocator + Copy + 'c, M: Readers<A, Code<'c, A>>, U: Drop>(
     alloc: A,
     list: Array<A, U>,
-    machine: &Machine<'_, A>,
+    machine: &M,
     names: &Names<A>,
-    frame: &Frame<A>,
+    frame: &FrameView<'_>,
     number: u64,
     slot: Slot,
     value: Option<u64>,
     showing: Showing,
 ) -> Result<Array<A, U>, AllocError>
-    ensures { (x : List ℕ) → slice_get (names_of machine.now.program frame.now.func) slot.index ≡ Some x
-        → IfOk result (λ l. (item : List Token) × ShowsTemp (func_at machine.now.program frame.now.func) (live machine.now.memory) names.now.text.items showing (number == 1) x value item × Adds list.out l.out item) }
+    ensures { (x : List ℕ) → slice_get (names_of (M.whole machine.now).program frame.now.func) slot.index ≡ Some x
+        → IfOk result (λ l. (item : List Token) × ShowsTemp (func_at (M.whole machine.now).program frame.now.func) (live (M.whole machine.now).memory) names.now.text.items showing (number == 1) x value item × Adds list.out l.out item) }
 {
-    let code = machine.code();
+    let code = code_of(machine);
     let name = temp_name(code, frame.func(), slot);
     let class = code.class_of(frame.func(), slot);
     let float = names.class_of(func_name(code, frame.func()), name);
     let letter = letter_of(float, class);
-    let text = told_value(
-        alloc,
-        machine,
-        Style::of(float, showing.is_hex),
-        class,
-        value,
-    )?;
+    let text = told_value(alloc, code, Style::of(float, showing.is_hex), class, value)?;
     let parts = pointed(machine, number, slot, class, value);
     let told = names.told(b"%", name);
     let variable = begin_temp(alloc, list, told, text.as_str(), parts)?;
@@ -158,23 +156,23 @@ fn put_temp<A: Allocator + Copy, U: Drop>(
 
 /// Adds the temporaries of a page of the frame of a number, in the order in which the function's text first names them. Those of
 /// the innermost frame can be set.
-pub fn put_temps<A: Allocator + Copy, U: Drop>(
+pub fn put_temps<'c, A: Allocator + Copy + 'c, M: Readers<A, Code<'c, A>>, U: Drop>(
     alloc: A,
     list: Array<A, U>,
-    machine: &Machine<'_, A>,
+    machine: &M,
     names: &Names<A>,
-    frame: &Frame<A>,
+    frame: &FrameView<'_>,
     number: u64,
     showing: Showing,
     page: Page,
 ) -> Result<Array<A, U>, AllocError>
-    ensures { (k : ℕ) → slice_get machine.now.frames k ≡ Some frame.now
-        → IfOk result (λ l. (items : List Token) × ShowsTemps machine.now.program (live machine.now.memory) names.now.text.items showing (number == 1)
-        (frame_state machine.now.program (drop (k + 1) machine.now.frames) frame.now) page items × Adds list.out l.out items) }
+    ensures { (k : ℕ) → slice_get (M.whole machine.now).frames k ≡ Some frame.now
+        → IfOk result (λ l. (items : List Token) × ShowsTemps (M.whole machine.now).program (live (M.whole machine.now).memory) names.now.text.items showing (number == 1)
+        (frame_state (M.whole machine.now).program (drop (k + 1) (M.whole machine.now).frames) frame.now) page items × Adds list.out l.out items) }
 {
     // What these two say is that the slots of a frame have the names of its function.
-    let _known = machine.code().func(frame.func());
-    let _frames = machine.frames();
+    let _known = code_of(machine).func(frame.func());
+    let _there = machine.frame(0);
     let slots = frame.slots();
     let (first, after) = page.of(slots.len());
     let mut list = list;

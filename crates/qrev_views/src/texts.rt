@@ -6,7 +6,8 @@ ghost use Rattle.qil_pieces.specs.Texts.{fragment_text};
 ghost use Rattle.qil_answers.specs.Texts.{state_line};
 ghost use Rattle.qrev_views.specs.Texts.{shown_text, without_end};
 
-use qil_answers::{Machine, put_place};
+use qil_answers::{Readers, put_place};
+use qil_code::Code;
 use qil_pieces::{Fragment, put_fragments};
 use qil_streams::{Buffer, PutError};
 use std::alloc::{AllocError, Allocator};
@@ -54,13 +55,13 @@ pub fn number_text<A: Allocator + Copy>(alloc: A, number: u64) -> Result<String<
 }
 
 /// The line of the place after so many moves that led to a machine, without its end.
-pub fn place_text<A: Allocator + Copy>(
+pub fn place_text<'c, A: Allocator + Copy + 'c, M: Readers<A, Code<'c, A>>>(
     alloc: A,
     position: u64,
-    machine: &Machine<'_, A>,
+    machine: &M,
 ) -> Result<String<A>, AllocError>
     ensures { IfOk result (λ text. string_bytes text
-        ≡ shown_text (without_end (state_line position (state_of machine.now).frames (state_of machine.now).status))) }
+        ≡ shown_text (without_end (state_line position (state_of (M.whole machine.now)).frames (state_of (M.whole machine.now)).status))) }
 {
     let mut line = Buffer::new(alloc);
     match put_place(&mut line, position, machine) {

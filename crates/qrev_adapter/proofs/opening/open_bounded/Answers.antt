@@ -1,8 +1,8 @@
 -- Answers to the goals of `open_bounded`.
-use Rattle.std.proofs.Common.{◌∙◌, refl, sym, ap, ℕ, Option}
+use Rattle.std.proofs.Common.{◌∙◌, refl, sym, ap, ℕ, Option, true}
 use Rattle.qil_meaning.specs.Timeline.{begun}
 use Rattle.qil_state.specs.State.{state_of}
-use Rattle.qrev_recorder.specs.Record.{setup_of}
+use Rattle.qrev_recorder.specs.Record.{moves_want_memory, setup_of}
 use Rattle.qrev_recorder.proofs.Beginnings.{is_beginning}
 use Rattle.qrev_adapter.proofs.opening.open_bounded.Goals as goal
 
@@ -13,7 +13,7 @@ open_session-requires g c =
       (refl, tt),
       (
         c.requires.limit,
-        is_beginning (setup_of c.args.opening) c.args.loaded.now started.verdict (state_of c.args.machine) _ _ _ started.begins started.loaded_is c.in-Ok-new.ensures
+        is_beginning (setup_of c.args.opening) c.args.loaded.now started.verdict (state_of c.args.machine) _ _ _ true (sym (ap moves_want_memory c.requires.records)) started.begins started.loaded_is c.in-Ok-new.ensures
             (c.in-Ok.ensures.program ∙ started.program)
             (c.in-Ok.ensures.begun ∙ ap (λ (keeps : Option ℕ). begun keeps (state_of c.args.machine)) (sym c.requires.bound)),
       ),

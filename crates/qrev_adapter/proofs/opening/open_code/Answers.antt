@@ -1,18 +1,13 @@
 -- Answers to the goals of `open_code`.
-use Rattle.std.proofs.Common.{◌∙◌, sym, ap}
-use Rattle.qil_tree.specs.declared.tree.Program.{Program}
-use Rattle.qil_meaning.specs.Start.{start_of}
+use Rattle.std.proofs.Common.{◌∙◌}
 use Rattle.qrev_adapter.proofs.opening.open_code.Goals as goal
 
-pub open_machine-requires-clause-begins : goal.open_machine-requires-clause-begins
-open_machine-requires-clause-begins g c =
+pub open_flat-requires-clause-accepted : goal.open_flat-requires-clause-accepted
+open_flat-requires-clause-accepted g c =
     let accepted = c.requires.accepted in
     record {
       verdict = accepted.verdict;
-      begins = record {
-        accepts = accepted.accepts;
-        starts = ap (λ (p : Program g.row.A.Denot). start_of p c.args.opening.entry.now c.args.opening.args.now) (sym accepted.program) ∙ c.in-Ok.ensures.ok;
-      };
+      accepts = accepted.accepts;
       loaded_is = accepted.loaded_is;
-      program = c.in-Ok.ensures.program ∙ accepted.program;
+      program = c.in-Ok.ensures ∙ accepted.program;
     }

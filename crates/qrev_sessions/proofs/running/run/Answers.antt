@@ -1,10 +1,9 @@
+-- Answers to the goals of `run`.
+use Rattle.std.specs.Prelude.{true}
 use Rattle.qrev_sessions.proofs.running.run.Goals as goal
 
-pub returns-in-Forward-clause-run : goal.returns-in-Forward-clause-run
-returns-in-Forward-clause-run g c = rw (c.in-Forward.is) c.run_to_depth.ensures.run
+pub returns-clause-rest : goal.returns-clause-rest
+returns-clause-rest g c = c.run_over.ensures.rest true
 
-pub returns-in-Back-clause-run : goal.returns-in-Back-clause-run
-returns-in-Back-clause-run g c = rw (c.in-Back.is) c.run_back_to_depth.ensures.run
-
-pub returns-in-BackPast-clause-run : goal.returns-in-BackPast-clause-run
-returns-in-BackPast-clause-run g c = rw (c.in-BackPast.is) c.run_back_past.ensures.run
+pub returns-clause-run : goal.returns-clause-run
+returns-clause-run g c = c.run_over.ensures.run true

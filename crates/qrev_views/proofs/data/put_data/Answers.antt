@@ -28,7 +28,7 @@ loop-index-preserved g c =
       within = search rules;
       added = (
         so_far.0 ++ item.0,
-        item_shown (ShowsData c.args.machine.now.program (live c.args.machine.now.memory) c.args.names.now.text.items c.args.showing) c.of-first.result.0 i datas c.index-datas-index.result so_far.0 item.0 c.loop-index.invariant.begun here so_far.1 item.1,
+        item_shown (ShowsData (g.M.Readers.whole c.args.machine.now).program (live (g.M.Readers.whole c.args.machine.now).memory) c.args.names.now.text.items c.args.showing) c.of-first.result.0 i datas c.index-datas-index.result so_far.0 item.0 c.loop-index.invariant.begun here so_far.1 item.1,
         item.2 ∙ (ap (λ (t : List Token). t ++ item.0) so_far.2 ∙ append_assoc c.args.list.out.tokens so_far.0 item.0),
       );
     }
@@ -37,7 +37,7 @@ pub returns : goal.returns
 returns g c =
     let so_far = c.loop-index.invariant.added in (
       so_far.0,
-      all_shown (ShowsData c.args.machine.now.program (live c.args.machine.now.memory) c.args.names.now.text.items c.args.showing) c.args.page c.of-first.result.0 c.of-first.result.1 c.loop-index.index c.args.program.now.datas so_far.0
+      all_shown (ShowsData (g.M.Readers.whole c.args.machine.now).program (live (g.M.Readers.whole c.args.machine.now).memory) c.args.names.now.text.items c.args.showing) c.args.page c.of-first.result.0 c.of-first.result.1 c.loop-index.index c.args.program.now.datas so_far.0
           (rw c.as_slice-datas.ensures at c.of-first.ensures.first) (rw c.as_slice-datas.ensures at c.of-first.ensures.after) c.loop-index-test.false c.loop-index.invariant.within so_far.1,
       so_far.2,
     )

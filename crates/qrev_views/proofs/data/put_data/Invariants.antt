@@ -11,5 +11,5 @@ abbrev pub invariant-loop-index : goal.invariant-loop-index
 invariant-loop-index g l = record {
   begun : l.first ≤ l.index;
   within : l.index ≤ l.after;
-  added : (items : List Token) × EachSoFar (ShowsData l.fn.machine.program (live l.fn.machine.memory) l.fn.names.text.items l.fn.showing) l.fn.program.datas l.first l.index items × Adds l.fn.list.out l.list.out items;
+  added : (items : List Token) × EachSoFar (ShowsData (g.M.Readers.whole l.fn.machine).program (live (g.M.Readers.whole l.fn.machine).memory) l.fn.names.text.items l.fn.showing) l.fn.program.datas l.first l.index items × Adds l.fn.list.out l.list.out items;
 }

@@ -13,11 +13,11 @@ returns g c =
     let d = c.args.data.now in
     let float = c.data_float-float.result in
     let letter = c.data_letter-letter.ensures (shown_width d.fields) c.data_word-width.ensures.letter in
-    let address : c.unwrap_or-address.result ≡ unwrap_or (address_of c.args.machine.now.program d.name) 0 = rw (c.unwrap_or-address.ensures, c.address.ensures, c.bytes.ensures, c.image.ensures, c.code.ensures) refl in
+    let address : c.unwrap_or-address.result ≡ unwrap_or (address_of (g.M.Readers.whole c.args.machine.now).program d.name) 0 = rw (c.unwrap_or-address.ensures, c.address.ensures, c.bytes.ensures, c.image.ensures, c.code_of-code.ensures) refl in
     let tokens : List Token = variable_head (shown_text (codes "$" ++ d.name)) (string_bytes c.in_ok-text.text) c.data_parts-parts.result
     ++ (type_member c.args.showing.has_types (data_letter float (shown_width d.fields))
     ++ (name_member (shown_text (text_of (data_letter float (shown_width d.fields) ∷ codes "[$" ∷ d.name ∷ codes "]" ∷ [])))
-    ++ (reference c.args.showing.has_references (unwrap_or (address_of c.args.machine.now.program d.name) 0) ++ end_object ∷ []))) in (
+    ++ (reference c.args.showing.has_references (unwrap_or (address_of (g.M.Readers.whole c.args.machine.now).program d.name) 0) ++ end_object ∷ []))) in (
       tokens,
       record {
         float = float;

@@ -9,7 +9,7 @@ use Rattle.qrev_views.proofs.frames.put_frame.Goals as goal
 pub returns : goal.returns
 returns g c = λ callers.
     let placed = c.in_ok-item-2.ensures in (
-      frame_head c.args.number (frame_state c.args.machine.now.program callers c.args.frame.now) ++ (placed.0 ++ key (codes "column") ∷ number (decimal c.from.result) ∷ end_object ∷ []),
+      frame_head c.args.number (frame_state c.args.code.now callers c.args.frame.now) ++ (placed.0 ++ key (codes "column") ∷ number (decimal c.from.result) ∷ end_object ∷ []),
       (placed.0, c.from.result, subst (λ (line : ℕ). IsShownAt c.args.shown (origin_of c.args.source_map line) line placed.0) c.line_of_frame-line.ensures placed.1, refl),
       rw (
         c.in_ok-list.ensures,

@@ -10,5 +10,5 @@ abbrev pub invariant-loop-inner : goal.invariant-loop-inner
 invariant-loop-inner g l = record {
   begun : l.first ≤ l.inner;
   within : l.inner ≤ l.after;
-  added : (items : List Token) × ShowsSoFar (l.fn.page.start + 1) (frames_state l.fn.machine.program l.fn.machine.frames) l.first l.inner items × Adds l.fn.list.out l.list.out items;
+  added : (items : List Token) × ShowsSoFar (l.fn.page.start + 1) (frames_state (g.M.Readers.whole l.fn.machine).program (g.M.Readers.whole l.fn.machine).frames) l.first l.inner items × Adds l.fn.list.out l.list.out items;
 }

@@ -10,5 +10,5 @@ abbrev pub invariant-loop-number : goal.invariant-loop-number
 invariant-loop-number g l = record {
   begun : l.first ≤ l.number;
   within : l.number ≤ l.after;
-  added : Adds l.fn.list.out l.list.out (made fixed_tokens (machine_rows l.fn.position l.fn.oldest (state_of l.fn.machine)) l.first l.number);
+  added : Adds l.fn.list.out l.list.out (made fixed_tokens (machine_rows l.fn.position l.fn.oldest (state_of (g.M.Readers.whole l.fn.machine))) l.first l.number);
 }

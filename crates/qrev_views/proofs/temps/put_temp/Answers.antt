@@ -11,12 +11,12 @@ use Rattle.qrev_views.proofs.temps.put_temp.Goals as goal
 
 pub returns : goal.returns
 returns g c = λ x name.
-    let named : c.temp_name-name.result.now ≡ x = rw (c.temp_name-name.ensures, c.func.ensures, c.code-code.ensures, ap (λ o. unwrap_or o []) name) refl in
-    let class = c.class_of-class.ensures.defined x (rw (c.code-code.ensures, c.func-2.ensures) name) in
+    let named : c.temp_name-name.result.now ≡ x = rw (c.temp_name-name.ensures, c.func.ensures, c.code_of-code.ensures, ap (λ o. unwrap_or o []) name) refl in
+    let class = c.class_of-class.ensures.defined x (rw (c.code_of-code.ensures, c.func-2.ensures) name) in
     let tokens : List Token = variable_head (shown_text (codes "%" ++ c.told-told.result.now)) (string_bytes c.in_ok-text.text) c.pointed-parts.result
-    ++ (type_member c.args.showing.has_types (letter_of c.class_of-float.result (temp_class (func_at c.args.machine.now.program c.args.frame.now.func) x))
+    ++ (type_member c.args.showing.has_types (letter_of c.class_of-float.result (temp_class (func_at (g.M.Readers.whole c.args.machine.now).program c.args.frame.now.func) x))
     ++ (name_member (shown_text (codes "%" ++ x))
-    ++ (live_reference c.args.showing.has_references (live c.args.machine.now.memory) c.args.value ++ (cond (c.args.number == 1) [] read_only ++ end_object ∷ [])))) in (
+    ++ (live_reference c.args.showing.has_references (live (g.M.Readers.whole c.args.machine.now).memory) c.args.value ++ (cond (c.args.number == 1) [] read_only ++ end_object ∷ [])))) in (
       tokens,
       record {
         float = c.class_of-float.result;
@@ -40,7 +40,7 @@ returns g c = λ x name.
         c.as_str.ensures.value,
         c.letter_of-letter.ensures,
         class,
-        c.code-code.ensures,
+        c.code_of-code.ensures,
         c.func-2.ensures,
         named,
       )

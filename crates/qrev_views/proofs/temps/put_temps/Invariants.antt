@@ -14,7 +14,7 @@ abbrev pub invariant-loop-index : goal.invariant-loop-index
 invariant-loop-index g l = record {
   begun : l.first ≤ l.index;
   within : l.index ≤ l.after;
-  added : (k : ℕ) → slice_get l.fn.machine.frames k ≡ Some l.fn.frame
-      → (items : List Token) × EachSoFar (ShowsNamed l.fn.machine.program (live l.fn.machine.memory) l.fn.names.text.items l.fn.showing (l.fn.number == 1) (frame_state l.fn.machine.program (drop (k + 1) l.fn.machine.frames) l.fn.frame))
-      (temps_of_frame l.fn.machine.program (frame_state l.fn.machine.program (drop (k + 1) l.fn.machine.frames) l.fn.frame)) l.first l.index items × Adds l.fn.list.out l.list.out items;
+  added : (k : ℕ) → slice_get (g.M.Readers.whole l.fn.machine).frames k ≡ Some l.fn.frame
+      → (items : List Token) × EachSoFar (ShowsNamed (g.M.Readers.whole l.fn.machine).program (live (g.M.Readers.whole l.fn.machine).memory) l.fn.names.text.items l.fn.showing (l.fn.number == 1) (frame_state (g.M.Readers.whole l.fn.machine).program (drop (k + 1) (g.M.Readers.whole l.fn.machine).frames) l.fn.frame))
+      (temps_of_frame (g.M.Readers.whole l.fn.machine).program (frame_state (g.M.Readers.whole l.fn.machine).program (drop (k + 1) (g.M.Readers.whole l.fn.machine).frames) l.fn.frame)) l.first l.index items × Adds l.fn.list.out l.list.out items;
 }

@@ -1,7 +1,7 @@
--- Each call has its frame.
-use Rattle.qrev_debuggee.proofs.Depth.{calls_are}
+-- The machine has the state of the session.
+use Rattle.std.proofs.Common.{◌∙◌, ap, length}
+use Rattle.qil_meaning.specs.State.{State}
 use Rattle.qrev_debuggee.proofs.debuggee.Debuggee.depth.Goals as goal
 
 pub returns : goal.returns
-returns g c =
-    calls_are c.machine.result.now (g.L.Debugged.state c.args.self.now.recorder.live).timeline.now c.frames.result.now c.frames.ensures.value c.machine.ensures.now
+returns g c = c.depth_of.ensures ∙ ap (λ (s : State). length s.frames) c.machine.ensures.now
