@@ -17,7 +17,10 @@ sys.path.insert(0, str(pathlib.Path(__file__).resolve().parent.parent / "tests")
 from harness.running import TOP, Skipped
 
 SQUARES = TOP / "examples" / "squares.ssa"
+# A run of more moves than the check in Python looks at in a session, and its result: the 30th Fibonacci number.
+LONG, FIB = TOP / "rows" / "speed" / "fib.ssa", 832040
 ADAPTER = TOP / "release" / "qrev-dap-x86_64-linux"
+CHECKER = TOP / "release" / "qrev-check-x86_64-linux"
 SCHEMA = "{http://schemas.microsoft.com/developer/vsx-schema/2011}"
 TYPES = "{http://schemas.openxmlformats.org/package/2006/content-types}"
 # What a manifest of an extension may have, of what VS Code's reference on manifests and on contributions names.
@@ -49,6 +52,7 @@ def faults(seconds: float) -> Iterator[str | Skipped | None]:
             yield from manifest_faults(json.loads(package.read("extension/package.json")), package.namelist())
             package.extractall(f"{folder}/out")
         yield code_fault(f"{folder}/out/extension", seconds)
+        yield fast_fault(f"{folder}/out/extension", seconds)
 
 
 def form_faults(package: zipfile.ZipFile) -> Iterator[str | None]:
@@ -77,12 +81,14 @@ def form_faults(package: zipfile.ZipFile) -> Iterator[str | None]:
     target = told.find(f"{SCHEMA}Installation/{SCHEMA}InstallationTarget")
     host = None if target is None else target.get("Id")
     yield None if host == "Microsoft.VisualStudio.Code" else f"vsix: for {host}"
-    adapter = package.getinfo("extension/qrev/release/qrev-dap-x86_64-linux")
+    programs = [f"extension/qrev/release/{program.name}" for program in (ADAPTER, CHECKER)]
+    yield None if set(programs) <= set(names) and \
+        [package.read(name) for name in programs] == [ADAPTER.read_bytes(), CHECKER.read_bytes()] else \
+        "vsix: the adapter or what looks on behind a check isn't the released one"
     rights = [package.getinfo(name).external_attr >> 16 & 0o777
-              for name in (adapter.filename, "extension/qrev-dap", "extension/qrev/qrev-dap")]
-    yield None if package.read(adapter) == ADAPTER.read_bytes() and rights == [0o755] * 3 else \
-        f"vsix: the adapter isn't the released one, or it and what starts it have the rights " \
-        f"{[oct(each) for each in rights]}"
+              for name in [*programs, "extension/qrev-dap", "extension/qrev/qrev-dap"] if name in names]
+    yield None if rights == [0o755] * 4 else \
+        f"vsix: the programs and what starts the adapter have the rights {[oct(each) for each in rights]}"
 
 
 def manifest_faults(manifest: dict[str, Any], names: list[str]) -> Iterator[str | None]:
@@ -112,3 +118,11 @@ def code_fault(folder: str, seconds: float) -> str | Skipped | None:
                          text=True, timeout=4 * seconds)
     return None if run.returncode == 0 and re.search(r"^[1-9]\d* passed, 0 failed$", run.stdout, re.MULTILINE) else \
         f"vsix: {run.stdout}{run.stderr}"
+
+
+def fast_fault(folder: str, seconds: float) -> str | None:
+    """What the check of a long run in the package ends with otherwise than by the result that it has."""
+    run = subprocess.run([f"{folder}/qrev/qrev", "--check", "--fast", str(LONG)], capture_output=True, text=True,
+                         timeout=2 * seconds)
+    return None if run.returncode == 0 and run.stdout.endswith(f", done {FIB}\n") else \
+        f"vsix: status {run.returncode}, {run.stdout}{run.stderr}"

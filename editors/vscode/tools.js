@@ -23,7 +23,7 @@ const ENDS = { 0: "no suspicion", 4: "no suspicion, but the run ends by a fault"
 
 // What is run below the folder of qrev.
 const PROGRAMS = ["qrev", "qrev-dap", "release/program", "release/fits", "release/with-input-copy", "release/qrev-x86_64-linux",
-  "release/qrev-dap-x86_64-linux", "lower/qrev-lower"];
+  "release/qrev-dap-x86_64-linux", "release/qrev-check-x86_64-linux", "lower/qrev-lower"];
 
 // The clone of the setting, what came with the extension, or the clone that the extension is a link into.
 function folderOf(context) {
