@@ -29,7 +29,7 @@ GOTO = re.compile(r"goto +#?(\d{1,19})$")
 # Questions of one word that are asked as a watch too.
 ALONE = ("why", "suspects", "path")
 # Seconds for which a question waits until the requests before it are answered, and all of them where the editor leaves.
-PATIENCE, LEAVE = 2.0, 20.0
+PATIENCE, LEAVE = 2.0, 60.0
 
 
 class Relay:
