@@ -1,1 +1,1 @@
-"""`./qrev --check`: what a run does that no right compiler's output does (docs/CHECKING.md)."""
+"""`./qrev --check`: what a run does that no correct compiler's output does (docs/CHECKING.md)."""

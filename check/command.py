@@ -1,4 +1,4 @@
-"""The command: its words, the run that it gathers, and what it writes."""
+"""The command: its words, the run that it checks, and what it writes."""
 from __future__ import annotations
 
 import pathlib
@@ -30,7 +30,7 @@ LIMIT = 5_000_000
 MOST_LIMIT = (1 << 32) - 1
 WITH_VALUE = ("--limit", "--kinds", "--heap", "--except", "--format")
 NONE, REFUSED, UNREAD, SOME, FAULT, TOO_LONG = 0, 1, 2, 3, 4, 5
-HELP = f"""Runs a program, and says what it does that no right compiler's output does
+HELP = f"""Runs a program, and says what it does that no correct compiler's output does
 
 Usage: ./qrev --check FILE [ARGS..] [OPTIONS]
        ./qrev --check --lower FILE.. [OPTIONS]
@@ -139,12 +139,12 @@ class Asked:
 
     @property
     def may_go_on(self) -> bool:
-        """Whether what is looked for behind the first moves is what the fast pass tells."""
+        """Whether the fast pass knows the kinds that are looked for after the first moves."""
         return not self.has_kinds or self.kinds <= fast.KINDS
 
 
 def pair_of(word: str) -> tuple[str, str]:
-    """A kind and the object or function that it isn't told of."""
+    """A kind, and the object or function that it isn't reported for."""
     kind, _, name = word.partition(":")
     if kind not in ALL or not name.startswith("$"):
         raise BadCommand(f"--except {word}: KIND:$NAME was expected, with a kind of {', '.join(sorted(ALL))}")
@@ -165,7 +165,7 @@ def version() -> str:
 
 @dataclass
 class Outcome:
-    """What was found in how many moves, and where the run stands then."""
+    """What was found, in how many moves, and where the run stands then."""
 
     found: list[Suspicion]
     moves: int
@@ -183,7 +183,7 @@ class Outcome:
 
 @dataclass
 class Programs:
-    """The debugger, and the program of the fast pass: a path, or whether the one that is built here is wanted."""
+    """The debugger, and the program of the fast pass: a path, or whether to use the one that is built here."""
 
     debugger: str
     checker: str | None = None
@@ -222,7 +222,7 @@ def checked(programs: Programs, asked: Asked, place: pathlib.Path, out: TextIO) 
 
 
 def found_fully(programs: Programs, launch: Launch, table: Table, asked: Asked) -> Outcome:
-    """All kinds in the first moves; and behind them, if the run goes on, what the fast pass tells."""
+    """All kinds in the first moves; and after them, if the run goes on, what the fast pass finds."""
     limit, checker = asked.limit or programs.full, None
     if limit > programs.full and asked.may_go_on:
         checker = programs.fast(False)
@@ -245,8 +245,7 @@ def found_fully(programs: Programs, launch: Launch, table: Table, asked: Asked) 
 
 
 def gone_on(outcome: Outcome, checker: str, launch: Launch, table: Table, asked: Asked) -> Outcome:
-    """With what the fast pass tells of the same run beyond: other places, and how often it came at those that are
-    known."""
+    """Adds what the fast pass finds later in the same run: other places, and the counts at known ones."""
     further = fast_outcome(checker, launch, table, asked)
     known: dict[tuple[str, str, int, str], list[Suspicion]] = {}
     for each in outcome.found:
@@ -269,7 +268,7 @@ def found_fast(programs: Programs, launch: Launch, table: Table, asked: Asked) -
 
 
 def fast_outcome(checker: str, launch: Launch, table: Table, asked: Asked) -> Outcome:
-    """What the fast pass tells of a run, and its end."""
+    """What the fast pass finds in a run, and its end."""
     launch = replace(launch, limit=asked.limit or fast.LIMIT)
     found = [each for each in fast.suspicions(checker, launch, table)
              if each.kind in asked.kinds and not asked.excepted.holds_of(each.kind, fast.meant_by(each), each.function)]

@@ -1,5 +1,5 @@
-"""What ended a run badly, or kept it from beginning, for the forms that editors and machines read: a fault, at the
-place of the text that it comes of, and a refusal."""
+"""What ended a run badly, or kept it from starting, in the forms that editors and machines read: a fault, at its place
+in the text, and a refusal."""
 from __future__ import annotations
 
 import re
@@ -43,7 +43,7 @@ def frames_at(launch: Launch, moves: int) -> list[tuple[str, str, int]]:
 
 
 def refusal_error(loaded: str, source: bytes) -> Error:
-    """A refusal as the debugger tells it: `refused: CODE line L`."""
+    """A refusal as the debugger prints it: `refused: CODE line L`."""
     _, code, *rest = loaded.split()
     number = int(rest[1]) if rest else 0
     lines = ["", *source.decode("utf-8", "replace").split("\n")]

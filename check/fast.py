@@ -1,7 +1,6 @@
-"""The fast pass: four kinds of suspicions of a long run, told by a program of its own, and the lines of the text with
-them.
+"""The fast pass: a separate program finds four kinds of suspicions in a long run, and this adds the lines of the text.
 
-`qrev-check` tells a suspicion by its place, and knows nothing of lines and of how an instruction is written.
+`qrev-check` reports a suspicion by its place. It knows nothing of lines, or how an instruction is written.
 """
 from __future__ import annotations
 
@@ -84,7 +83,7 @@ class End:
 
 
 def end_of(launch: Launch) -> End:
-    """The end of a run, as the debugger tells it."""
+    """The end of a run, as the debugger prints it."""
     pipe = Pipe(launch.command(None))
     try:
         moved, before = (read_moved(lines) for lines in pipe.ask("continue", "back"))

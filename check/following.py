@@ -1,6 +1,6 @@
-"""Goes along a run, move by move, with the shadow of each value, and notes what is suspicious.
+"""Follows a run, move by move, with the shadow of each value, and notes what is suspicious.
 
-The places and values of the run are answers of the proved program; the shadow is worked out here, beside them.
+The places and values of the run are answers of the proved program. The shadow is computed here, beside them.
 """
 from __future__ import annotations
 
@@ -35,7 +35,7 @@ class Read:
 
 @dataclass
 class Excepted:
-    """Kinds that aren't told of an object, or in a function: pairs of a kind and a name."""
+    """Kinds that aren't reported for an object, or in a function: pairs of a kind and a name."""
 
     pairs: set[tuple[str, str]] = field(default_factory=set)
 
@@ -48,7 +48,7 @@ class Excepted:
 
 
 class Follower:
-    """The shadow of a run in the state where it stands, and the suspicions up to there."""
+    """The shadow of a run in its current state, and the suspicions so far."""
 
     def __init__(self, table: Table, data: bytes, kinds: frozenset[str], heap: dict[str, str],
                  excepted: Excepted | None = None, pokes: dict[int, str] | None = None,
@@ -71,7 +71,7 @@ class Follower:
     # The run.
 
     def pulse(self, position: int) -> None:
-        """Called now and then on the way: a command tells by it how far it has come."""
+        """Called now and then on the way, for a command to report its progress."""
 
     def follow(self, places: list[int], values: Iterator[int]) -> int:
         """Goes along all moves of these states; how many they are."""
@@ -102,7 +102,7 @@ class Follower:
         return len(places) - 1
 
     def move(self, instruction: Instruction, there: int, values: Iterator[int]) -> None:
-        """Looks at the instruction that comes next, and goes on to the state behind it."""
+        """Checks the next instruction, and goes on to the state after it."""
         operation = instruction.operation
         reads = self.reads(instruction)
         if len(reads) < len(instruction.operands):
@@ -150,7 +150,7 @@ class Follower:
         return [read for operand in instruction.operands if (read := self.read(operand))]
 
     def read(self, operand: Operand) -> Read | None:
-        """An operand as the instruction wants it; None if it is unset."""
+        """An operand as the instruction takes it; None if it is unset."""
         text, frame = operand.text, self.frames[-1]
         if text[0] == "%":
             value = frame.values.get(text)
@@ -318,6 +318,8 @@ class Follower:
                 self.note("callee", f"call of {callee.value}, which is made from the address of {made.name}", made)
         elif made is NUMBER and not is_open:
             self.note("number", f"call of {callee.value}, a number")
+        elif made is MIXED and callee.value not in self.program.calls:
+            self.note("callee", f"call of {callee.value}, which is made of more than one address")
         elif isinstance(made, Part) or made is CUT:
             self.note("cut", f"call of {callee.value}, an address of which 32 bits were taken")
         name = self.program.calls.get(callee.value)

@@ -1,4 +1,4 @@
-"""A call that is open, with the shadows of its temporaries."""
+"""An active call, with the shadows of its temporaries."""
 from __future__ import annotations
 
 from dataclasses import dataclass

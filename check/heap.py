@@ -1,4 +1,4 @@
-"""Which functions of a program make and free the blocks of its heap: by their names and shapes, or as the user says."""
+"""Which functions of a program make and free heap blocks: by their names and shapes, or as the user says."""
 from __future__ import annotations
 
 from terminal.text import Function, Program

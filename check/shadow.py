@@ -1,8 +1,7 @@
-"""What a value is made of, and which of its bits are open: the rules by which instructions pass both on.
+"""What a value is made of, and which of its bits are open: the rules by which instructions propagate both.
 
-Beside each value stands a shadow. It says which address went into the value, if one did, and which bits nothing has
-set, with the move that brought these in. The shadow of a value never changes the value: the run is the same with and
-without.
+Each value has a shadow. It says which address went into the value, if any, and which bits nothing has set, with the
+move that brought these in. The shadow never changes the value: the run is the same with and without.
 """
 from __future__ import annotations
 
@@ -79,8 +78,7 @@ SET = Shadow(NUMBER)
 
 
 def shadow_of(made: Made, bits: int = 0, origin: Origin | None = None) -> Shadow:
-    """The shadow of a value: `SET` itself for a set one that is made of numbers, so that this can be seen at a
-    glance."""
+    """The shadow of a value: `SET` itself for a set one made of numbers, which is easy to test."""
     if made is NUMBER and not bits:
         return SET
     return Shadow(made, bits, origin if bits else None)
@@ -171,7 +169,7 @@ def open_of_quotient(operation: str, a: int, oa: int, b: int, ob: int, width: st
 
 
 def open_of_shift(operation: str, a: int, oa: int, b: int, ob: int, width: str) -> int:
-    """A shift moves open bits; by an amount of which nothing says what it is, all are open."""
+    """A shift moves open bits; if the amount is open, all are."""
     bits, mask = BITS[width], MASK[width]
     if ob & bits - 1:
         return mask
@@ -222,7 +220,7 @@ def open_of_comparison(relation: str, a: int, oa: int, b: int, ob: int, width: s
 
 
 def open_by(operation: str, width: str, a: int, oa: int, b: int, ob: int, is_same: bool) -> int:
-    """The open bits of the result of an operation on two values, of which one has open bits. The width is that of the
+    """The open bits of the result of an operation on two values, if one has open bits. The width is that of the
     operands."""
     if is_same and (operation in ("sub", "xor") or operation[0] == "c"):
         return 0

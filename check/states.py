@@ -1,4 +1,4 @@
-"""The places and temporaries of a program whose every value can be asked for."""
+"""The places and temporaries of a program, if the debugger can be asked for each temporary by its name."""
 from __future__ import annotations
 
 from page.table import MOST_NAME, Table

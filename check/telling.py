@@ -1,4 +1,4 @@
-"""What is told of a suspicion: the lines for a reader, and the same for editors (as gcc writes it) and machines
+"""The report of a suspicion: the lines for a reader, and the same for editors (as gcc writes it) and machines
 (SARIF)."""
 from __future__ import annotations
 
@@ -127,7 +127,7 @@ def summary(suspicions: Sequence[Suspicion], moves: int, end: str, full: int | N
 
 
 def at_own_places(suspicions: Sequence[Suspicion], others: AbstractSet[str]) -> list[Suspicion]:
-    """The same with each suspicion in one of these functions told at the call by the program itself."""
+    """The same, with each suspicion in one of these functions reported at the program's own call."""
     told = []
     for each in suspicions:
         place = each.call_from(others)

@@ -1,8 +1,7 @@
-"""What is wrong with the configuration for Neovim's nvim-dap on docs/ADAPTER.md, by the requests that nvim-dap makes of
-it.
+"""Tests the configuration for Neovim's nvim-dap on docs/ADAPTER.md, by the requests that nvim-dap makes from it.
 
-No Neovim is here. What it sends is taken from nvim-dap's own pages and its module `dap.session`: who it says that it
-is, when it asks for what, and that a configuration goes to the adapter as it stands, with `${file}` filled in.
+This runs no Neovim. What Neovim sends is taken from nvim-dap's own pages and its module `dap.session`: what it says
+about itself, when it asks for what, and that a configuration goes to the adapter unchanged, with `${file}` filled in.
 """
 from __future__ import annotations
 
@@ -121,7 +120,7 @@ def played(client: Client, launch: Message) -> str | None:
 
 
 def by_places(client: Client) -> str | None:
-    """Where the session stands behind each request that a key makes."""
+    """The session's place after each request that a key makes."""
     moves = [(None, "#0 $main @start 0"), ("continue", "#2 $fill @loop 0"), ("stepBack", "#1 $fill @start 0"),
              ("next", "#2 $fill @loop 0"), ("continue", "#11 $fill @loop 0"), ("reverseContinue", "#2 $fill @loop 0")]
     for command, place in moves:

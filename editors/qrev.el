@@ -201,7 +201,7 @@ With a prefix argument NUMBER ask on about that operand of the last cause."
 
 (defun qrev-check-this () "Check the text of this buffer." (interactive) (qrev-check buffer-file-name))
 
-;;; What a run does that no right compiler's output does
+;;; What a run does that no correct compiler's output does
 
 (defvar-local qrev-checked nil "The text that this buffer is a check of.")
 
@@ -214,7 +214,7 @@ With a prefix argument NUMBER ask on about that operand of the last cause."
 
 ;;;###autoload
 (defun qrev-check (file)
-  "Run the text in FILE, and show what it does that no right compiler's output does."
+  "Run the text in FILE, and show what it does that no correct compiler's output does."
   (interactive (list (or buffer-file-name (read-file-name "Program: " nil nil t))))
   (save-some-buffers nil (lambda () (equal buffer-file-name file)))
   (let* ((file (expand-file-name file))

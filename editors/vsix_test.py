@@ -1,4 +1,4 @@
-"""What is wrong with the package for VS Code that release/vsix makes: its form, and what its code does under Node."""
+"""Tests the package for VS Code that release/vsix makes: its form, and what its code does under Node."""
 from __future__ import annotations
 
 import json
@@ -51,8 +51,16 @@ def faults(seconds: float) -> Iterator[str | Skipped | None]:
             yield from form_faults(package)
             yield from manifest_faults(json.loads(package.read("extension/package.json")), package.namelist())
             package.extractall(f"{folder}/out")
+            extract_with_rights(package, f"{folder}/fast")
         yield code_fault(f"{folder}/out/extension", seconds)
-        yield fast_fault(f"{folder}/out/extension", seconds)
+        yield fast_fault(f"{folder}/fast/extension", seconds)
+
+
+def extract_with_rights(package: zipfile.ZipFile, folder: str) -> None:
+    """What is in the package, with the rights that it says. Without them it is the extension that gives them."""
+    package.extractall(folder)
+    for member in package.infolist():
+        pathlib.Path(folder, member.filename).chmod(member.external_attr >> 16 & 0o777 or 0o644)
 
 
 def form_faults(package: zipfile.ZipFile) -> Iterator[str | None]:
@@ -111,7 +119,7 @@ def manifest_faults(manifest: dict[str, Any], names: list[str]) -> Iterator[str 
 
 
 def code_fault(folder: str, seconds: float) -> str | Skipped | None:
-    """What the extension's code does otherwise than it must, with a stand-in for VS Code's module."""
+    """What the extension's code does wrong, with a stand-in for VS Code's module."""
     if not shutil.which("node"):
         return Skipped("node")
     run = subprocess.run(["node", str(TOP / "editors" / "vscode-test.js"), folder, str(SQUARES)], capture_output=True,
@@ -121,7 +129,7 @@ def code_fault(folder: str, seconds: float) -> str | Skipped | None:
 
 
 def fast_fault(folder: str, seconds: float) -> str | None:
-    """What the check of a long run in the package ends with otherwise than by the result that it has."""
+    """How the check of a long run in the package differs from the expected result."""
     run = subprocess.run([f"{folder}/qrev/qrev", "--check", "--fast", str(LONG)], capture_output=True, text=True,
                          timeout=2 * seconds)
     return None if run.returncode == 0 and run.stdout.endswith(f", done {FIB}\n") else \

@@ -1,6 +1,6 @@
 """One file that shows a run without a server: the page, its modules and the run's arrays in it.
 
-Such a file asks nobody for anything: its own policy forbids it.
+Such a file makes no requests: its own policy forbids them.
 """
 from __future__ import annotations
 
@@ -14,11 +14,13 @@ from typing import Any
 
 STATIC = pathlib.Path(__file__).resolve().parent / "static"
 # In the order in which each finds what it wants of the others.
-MODULES = ("program.js", "run.js", "memory.js", "causes.js", "ghost.js", "element.js", "source.js", "plot.js",
-           "bands.js", "timeline.js",
-           "code.js", "values.js", "tree.js", "cells.js", "output.js", "agreed.js", "keys.js", "app.js")
+MODULES = ("program.js", "workedout.js", "run.js", "memory.js", "causes.js", "ghost.js", "element.js", "source.js",
+           "plot.js", "bands.js", "timeline.js", "stops.js", "marks.js", "code.js", "values.js", "tree.js", "cells.js",
+           "output.js", "agreed.js", "keys.js", "app.js")
 STYLES, PAGE = "page.css", "index.html"
 IMPORT = re.compile(r"^import [^;]*;\n", re.MULTILINE)
+# What nobody runs: comments that fill lines of their own.
+COMMENT = re.compile(r"^\s*(//.*|/\*(?s:.*?)\*/\s*)\n", re.MULTILINE)
 EXPORT = re.compile(r"^export ((?:async )?(?:class|function|const) (\w+))", re.MULTILINE)
 # What an exported file may do: run the script and use the styles that are in it, by their sums, and nothing else.
 POLICY = ("default-src 'none'; script-src '{}'; style-src '{}'; img-src data:; base-uri 'none'; form-action 'none'; "
@@ -36,6 +38,11 @@ def joined(names: tuple[str, ...] = MODULES) -> str:
     return "".join(code)
 
 
+def lean(text: str) -> str:
+    """A script or a style sheet without its comments and without what indents its lines."""
+    return "".join(line.strip() + "\n" for line in COMMENT.sub("", text).split("\n") if line.strip())
+
+
 def sum_of(text: str) -> str:
     """What a policy names an inline script or style by."""
     return "sha256-" + base64.b64encode(hashlib.sha256(text.encode()).digest()).decode()
@@ -45,12 +52,12 @@ def packed(content: bytes) -> str:
     return base64.b64encode(gzip.compress(content, 9, mtime=0)).decode()
 
 
-def exported(told: dict[str, Any], streams: list[bytes]) -> str:
-    """The page with the program and one or more runs in it."""
+def exported(told: dict[str, Any], stream: bytes) -> str:
+    """The page with the program and its run in it."""
     page = (STATIC / PAGE).read_text()
-    code = "\n" + joined().replace("</script", "<\\/script").replace("<!--", "<\\!--")
-    styles = "\n" + (STATIC / STYLES).read_text()
-    run = "\n".join([packed(json.dumps(told).encode()), *map(packed, streams)])
+    code = "\n" + lean(joined()).replace("</script", "<\\/script").replace("<!--", "<\\!--")
+    styles = "\n" + lean((STATIC / STYLES).read_text())
+    run = "\n".join([packed(json.dumps(told).encode()), packed(stream)])
     policy = POLICY.format(sum_of(code), sum_of(styles))
     return replaced(page, {
         '<meta charset="utf-8">': f'<meta charset="utf-8">\n<meta http-equiv="Content-Security-Policy" '

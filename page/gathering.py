@@ -1,8 +1,8 @@
 """A run as arrays: the place of each state, and each value that a move set.
 
-One process of the debugger makes the moves one by one and tells the places. A second follows it, and is asked for the
-values that these places tell to have been set. Both keep no history. What they tell comes in parts, each behind a
-letter and its number of bytes, which the page reads while the rest is gathered:
+One process of the debugger makes the moves one by one and gives the places. A second follows it, and is asked for the
+values that these places show to have been set. Both keep no history. Their answers come in parts, each after a letter
+and its number of bytes, and the page reads them while the rest is gathered:
 
     B  how the run begins: its position, frames, temporaries, pokes        (JSON)
     D  the bytes of the data, and of the stack, in the first state
@@ -29,7 +29,7 @@ from terminal.scratch import Launch
 from terminal.text import DATA
 from terminal.timeline import Poke
 
-from .table import MOST_NAME, Table
+from .table import Table
 
 # Moves that are asked for at a time: few at first, so that something is drawn at once.
 FIRST, CHUNK = 2_000, 40_000
@@ -142,7 +142,7 @@ class Gathering:
         pipe = self.process()
         place = pipe.loaded[1].split(" ", 1)[1]
         entry = self.table.program.functions[place.split(" ")[0]]
-        names = [name for name in dict.fromkeys(name for _, name in entry.parameters) if len(name) <= MOST_NAME]
+        names = self.table.parameters_asked(entry.name)
         self.places.append(self.table.ids[place])
         begin = {"base": 0, "begun": [entry.name],
                  "given": [self.table.temporaries[entry.name, name] for name in names],
@@ -192,7 +192,7 @@ class Gathering:
         return f"{STEP}\n" * count
 
     def take_places(self, told: str) -> bool:
-        """Keeps the places that were told; True where the run is over."""
+        """Keeps the places that came; True if the run is over."""
         lines = PLACE.findall(told)
         known = len(self.places)
         try:
@@ -227,7 +227,7 @@ class Gathering:
             pipe.close()
 
     def add_values(self, told: str) -> None:
-        """Keeps the values among what was told, in their order."""
+        """Keeps the values among the answers, in their order."""
         unset = array("I")
         if UNSET in told:
             found = array("Q")
@@ -265,7 +265,7 @@ def live_bytes(pipe: Pipe, address: int, size: int) -> bytes:
 
 
 def length_of(launch: Launch, most: int) -> int | None:
-    """How many moves a run has, or None where it has more than so many."""
+    """How many moves a run has, or None if it has more than a limit."""
     pipe = Pipe(launch.command(1), renaming=launch.renaming)
     if pipe.refused:
         raise pipe.refused

@@ -1,7 +1,7 @@
-"""What the server holds: the session that the page leads, and the arrays of its run.
+"""What the server holds: the session that the page moves, and the arrays of its run.
 
-Whatever the page does to the session is a line of the command language, and is kept. At each rest of its cursor the
-page is told what the session answers there, and compares that with what it shows.
+The page changes the session only by lines of the command language, and these are kept. Whenever its cursor rests, the
+page gets the session's answers there, and compares them with what it shows.
 """
 from __future__ import annotations
 
@@ -32,6 +32,8 @@ MOST_MOVES = 1 << 21
 MOST_OBJECTS, MOST_BYTES = 64, 256
 # How long the end of a gathering is waited for, in seconds.
 PATIENCE = 3
+STOP = re.compile(r"break \$[\w.$]+ @[\w.$]+ \d{1,9}|watch [bhwl] (\d{1,20}|\$[\w.$]+(\+\d{1,20})?)|"
+                  r"watch \$[\w.$]+ %[\w.$]+|delete \d{1,19}", re.ASCII)
 POKE = re.compile(r"set %[\w.$]+ -?\d{1,20}|poke [bhwl] (\d{1,20}|\$[\w.$]+(\+\d{1,20})?) -?\d{1,20}", re.ASCII)
 
 
@@ -49,6 +51,8 @@ class Held:
         self.asked = 0
         # Which page leads the session: the one that was opened last.
         self.page = 0
+        # The stops that the session has, by number: each as the debugger told it.
+        self.stops: dict[int, str] = {}
         self.waiting = Waiting()
         self.session = Session(launch, source, self.waiting)
         self.refused = self.session.pipe.refused
@@ -81,7 +85,7 @@ class Held:
     def told(self) -> dict[str, Any]:
         """The program as the page reads it, and the command that plays its script."""
         return {**self.table.told(self.title, self.origins, self.lowering), "command": self.command(),
-                "long": self.long is not None}
+                "long": self.long is not None, "stops": list(self.stops.values())}
 
     @property
     def title(self) -> str:
@@ -120,7 +124,7 @@ class Held:
         return tuple(made.get((poke.position, poke.line), poke) for poke in self.pokes())
 
     def answered(self) -> dict[str, Any]:
-        """What the session itself says where it stands, for the page to compare."""
+        """The session's own answers in its current state, for the page to compare."""
         session = self.session
         values = {}
         if not session.place.end:
@@ -151,6 +155,30 @@ class Held:
         self.gathering.stop()
         self.gathering = self.gathered(self.session.timeline.pokes)
         return self.answered()
+
+    def unpoke(self) -> dict[str, Any]:
+        """Takes the last value by hand back: the session stands before it, and goes on as the program does."""
+        pokes = self.pokes()
+        if not pokes:
+            raise Refused("nothing was set by hand")
+        self.go(pokes[-1].position)
+        self.gathering.stop()
+        self.gathering = self.gathered(pokes[:-1])
+        return {**self.answered(), "position": pokes[-1].position}
+
+    def stop(self, line: Any) -> dict[str, Any]:
+        """A stop that the session gets, or has no more: the page finds where the run meets it."""
+        if not isinstance(line, str) or not STOP.fullmatch(line):
+            raise Refused("`break $f @b K`, `watch WIDTH ADDRESS`, `watch $f %x` or `delete N` was expected")
+        answer = self.session.change(line)[0]
+        if answer.startswith("no: "):
+            raise Refused(f"{line}: {answer[4:]}")
+        word, number = answer.split(" ")[:2]
+        if word == "deleted":
+            del self.stops[int(number)]
+        else:
+            self.stops[int(number)] = answer
+        return {"told": answer}
 
     def reach(self, position: int) -> dict[str, Any]:
         """Another window of a long run, with a position in it."""

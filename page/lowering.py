@@ -13,7 +13,7 @@ from .table import Table
 
 
 class Lowering:
-    """Of a text that wasn't lowered nothing is told."""
+    """For a text that wasn't lowered there is nothing."""
 
     def __init__(self, program: Program, source: bytes, launch: Launch, lowered: Lowered):
         self.lowered = lowered

@@ -1,4 +1,4 @@
-"""Two runs side by side, each where the comparison says that they part (docs/COMPARE.md)."""
+"""Two runs side by side, each at the place where the comparison says that they part (docs/COMPARE.md)."""
 from __future__ import annotations
 
 import re
@@ -18,7 +18,7 @@ OWN = ("--events", "--session")
 
 @dataclass
 class Pair:
-    """What a comparison told: its first line, and for each side the event and the position behind it."""
+    """The report of a comparison: its first line, and for each side the event and the position after it."""
     head: str
     events: dict[str, str]
     positions: dict[str, int]
@@ -44,7 +44,7 @@ class Pair:
 
 
 def compared(program: str, words: Sequence[str]) -> Pair:
-    """What the comparison tells of the two texts among the words."""
+    """The comparison's report on the two texts among the words."""
     run = subprocess.run(["qrev-compare", *words], executable=program, stdin=subprocess.DEVNULL, capture_output=True)
     text = run.stdout.decode("latin-1")
     events: dict[str, str] = {}

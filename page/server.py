@@ -1,7 +1,7 @@
-"""The server of the page: on this machine alone, for one page, behind a token in the path.
+"""The server of the page: on this machine only, for one page, with a token in the path.
 
-All that comes from the page is looked at before anything is done: where it is from, its token, its size, its shape.
-What is sent to the page is never markup: names, output and text are data.
+Everything that comes from the page is checked before anything is done: its origin, its token, its size, its shape. What
+is sent to the page is never markup: names, output and text are data.
 """
 from __future__ import annotations
 
@@ -53,7 +53,7 @@ class Server(http.server.ThreadingHTTPServer):
         return f"http://{HOST}:{self.server_port}/{self.token}/"
 
     def handle_error(self, request: Any, client_address: Any) -> None:
-        """A browser that goes away in the middle of an answer is nothing to tell."""
+        """A browser that goes away in the middle of an answer isn't reported."""
 
 
 class Handler(http.server.BaseHTTPRequestHandler):
@@ -86,7 +86,7 @@ class Handler(http.server.BaseHTTPRequestHandler):
     # Who asks.
 
     def asked(self) -> str | None:
-        """The path behind the token, where the request comes from this page of this server; else it is refused."""
+        """The path after the token, if the request comes from this page of this server; else it is refused."""
         host = f"{HOST}:{self.server.server_port}"
         origin = self.headers.get("Origin")
         is_own = (self.headers.get_all("Host") == [host] and origin in (None, f"http://{host}")
@@ -124,7 +124,7 @@ class Handler(http.server.BaseHTTPRequestHandler):
         self.reply(200, TYPES[pathlib.Path(name).suffix], (STATIC / name).read_bytes())
 
     def get(self, held: Held, path: str) -> None:
-        """What is asked of a run."""
+        """The requested part of a run."""
         if path == "api/run":
             held.page += 1
             self.reply_json({**held.told(), "page": held.page})
@@ -148,6 +148,8 @@ class Handler(http.server.BaseHTTPRequestHandler):
                             *self.server.headers):
             self.send_header(name, value)
         self.end_headers()
+        if self.command == "HEAD":
+            return
         for part in held.gathering.streamed():
             self.wfile.write(b"%x\r\n" % len(part) + part + b"\r\n")
         self.wfile.write(b"0\r\n\r\n")
@@ -181,7 +183,7 @@ class Handler(http.server.BaseHTTPRequestHandler):
 
     def acted(self, held: Held, path: str, asked: dict[str, Any]) -> Any:
         """What a request of the page that leads the session is answered; None for an unknown one."""
-        if path not in ("api/go", "api/poke", "api/window"):
+        if path not in ("api/go", "api/poke", "api/unpoke", "api/stop", "api/window"):
             return None
         if asked.get("page") != held.page:
             raise Refused("another page leads this session now; reload this one to lead it again")
@@ -190,11 +192,16 @@ class Handler(http.server.BaseHTTPRequestHandler):
             # A window isn't waited for until the session is where the cursor was before.
             with held.looking:
                 return held.open().reach(position)
+        if path == "api/stop":
+            with held.leading:
+                return held.open().stop(asked.get("line"))
         held.asked += 1
         number = held.asked
         with held.leading:
             if path == "api/poke":
                 return held.open().poke(position, asked.get("line"))
+            if path == "api/unpoke":
+                return held.open().unpoke()
             if number != held.asked:
                 return {"overtaken": "another position was asked for since"}
             return held.open().go(position)

@@ -1,4 +1,4 @@
-"""What the run that is shown does that no right compiler's output does: docs/CHECKING.md."""
+"""What the shown run does that no correct compiler's output does: docs/CHECKING.md."""
 from __future__ import annotations
 
 from typing import Any

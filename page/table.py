@@ -1,12 +1,11 @@
 """The places and temporaries of a program by numbers, and which temporaries a move sets.
 
-The page reads a run as arrays of these numbers. Two places that follow each other tell what the move between them set:
-the instruction's result, the phis behind a jump, the parameters behind a call, the caller's temporary behind a `ret`.
-page/static/run.js works out the same from the same numbers, so only the values are sent.
+The page reads a run as arrays of these numbers. Two successive places show what the move between them set: the
+instruction's result, the phis after a jump, the parameters after a call, the caller's temporary after a `ret`.
+page/static/run.js computes the same from the same numbers, so only the values are sent.
 """
 from __future__ import annotations
 
-import pathlib
 from typing import TYPE_CHECKING, Any, Callable, Iterable
 
 from terminal.sourcemap import ESCAPE, SourceMap, unescaped
@@ -28,7 +27,8 @@ class Origins:
     """Where the lines of a lowered text come from, by the map beside it: the compiler's own text, and its source."""
 
     def __init__(self, file: str):
-        self.lines = [self.read(line) for line in SourceMap.beside(file).lines]
+        self.map = SourceMap.beside(file)
+        self.lines = [self.read(line) for line in self.map.lines]
 
     def read(self, line: str) -> list[list[Any]]:
         """The places of a line of the map: a file with a line, and with a column where that is known."""
@@ -47,8 +47,8 @@ class Origins:
         found = {}
         for file in sorted({place[0] for places in self.lines for place in places})[:MOST_SOURCES]:
             try:
-                path = pathlib.Path(file)
-                if path.is_file() and path.stat().st_size <= MOST_SOURCE:
+                path = self.map.path_of(file)
+                if path and path.stat().st_size <= MOST_SOURCE:
                     found[file] = path.read_text(errors="replace").split("\n")
             except OSError:
                 continue
@@ -78,6 +78,16 @@ class Table:
             for index, instruction in enumerate(block.body):
                 self.ids[f"{function.name} {block.label} {index}"] = len(self.places)
                 self.places.append((function.name, block.label, index, instruction))
+
+    def is_entry(self, place: int) -> bool:
+        """Whether a function begins at a place."""
+        name, label, index, _ = self.places[place]
+        return index == 0 and label == self.program.functions[name].first
+
+    def parameters_asked(self, function: str) -> list[str]:
+        """The parameters of a function that can be asked for."""
+        names = dict.fromkeys(name for _, name in self.program.functions[function].parameters)
+        return [name for name in names if len(name) <= MOST_NAME]
 
     def set_by(self, here: int, there: int) -> Iterable[str]:
         """The temporaries that a move from one place to another sets, in the function to which it leads."""

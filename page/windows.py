@@ -1,9 +1,9 @@
 """A run that is too long for arrays: an overview of whole stacks at equal distances, and windows of some thousand
 moves.
 
-The overview is made by one process that runs to the end, and drawn while it comes. A process goes in some milliseconds,
-back and forward, to any position that it has been at, and beyond that at the speed of a run. So one that has been at
-the end gathers all windows, and another is led to the end in the background, for when the first was sent as much as it
+One process makes the overview by running to the end, and it is drawn meanwhile. A process reaches any position that it
+has been at in some milliseconds, back and forward, and others at the speed of a run. So one that has been at the end
+gathers all windows, and another is led to the end in the background, for when the first has been sent as much as it
 reads.
 """
 from __future__ import annotations
@@ -34,6 +34,8 @@ SPARES, MOST_PROCESSES, KEPT = 2, 4, 32
 JUMP, FORWARD = 0.02, 2e-8
 # The bytes of a stack that are read at the beginning of a window.
 MOST_STACK = 1 << 16
+# How long processes on their way are waited for at the end, in seconds.
+PATIENCE = 2
 # What a window sends a process at most.
 SENT = WINDOW * 160
 
@@ -48,19 +50,18 @@ class Overview:
         self.stride, self.moves, self.end = FIRST_STRIDE, 0, ""
         self.stacks: list[list[int]] = []
         self.is_done = self.is_stopped = False
-        self.seconds = 0.0
+        self.begun, self.seconds = time.monotonic(), 0.0
         self.over = threading.Event()
 
     def look(self) -> None:
         """Runs to the end, and takes a stack at each distance."""
-        begun = time.monotonic()
         try:
             self.take(self.pipe.ask("where"))
             while not self.end and not self.is_stopped and self.moves < MOST_MOVES:
                 self.advance()
         except (Ended, OSError) as error:
             self.end = f"the debugger ended: {error}"
-        self.seconds = time.monotonic() - begun
+        self.seconds = time.monotonic() - self.begun
         self.is_done = True
         self.over.set()
 
@@ -90,8 +91,8 @@ class Overview:
 
     def told(self) -> dict[str, Any]:
         return {"stride": self.stride, "stacks": self.stacks, "moves": self.moves, "end": self.end,
-                "isDone": self.is_done,
-                "seconds": round(self.seconds, 3)}
+                "isDone": self.is_done, "most": MOST_MOVES,
+                "seconds": round(self.seconds or time.monotonic() - self.begun, 3)}
 
 
 def replaying(launch: Launch) -> Pipe:
@@ -108,6 +109,7 @@ class Pool:
         self.free: list[tuple[int, int, Pipe]] = []
         self.coming, self.is_closed = 0, False
         self.lock = threading.Lock()
+        self.come = threading.Condition(self.lock)
 
     def take(self, base: int) -> tuple[int, int, Pipe]:
         """The process that is soonest at a position, where it stands and how far it has been. Of several one is used up
@@ -126,6 +128,8 @@ class Pool:
 
     def give(self, at: int, been: int, pipe: Pipe) -> None:
         with self.lock:
+            if self.is_closed:
+                return pipe.close()
             self.free.append((at, max(at, been), pipe))
             while len(self.free) > MOST_PROCESSES:
                 # Of those that weren't at the end the one that was given first goes.
@@ -155,12 +159,15 @@ class Pool:
             # The run can be looked at without this process.
             pass
         finally:
-            with self.lock:
+            with self.come:
                 self.coming -= 1
+                self.come.notify_all()
 
     def close(self) -> None:
-        self.is_closed = True
-        with self.lock:
+        """Ends all processes, also those that are on their way."""
+        with self.come:
+            self.is_closed = True
+            self.come.wait_for(lambda: not self.coming, PATIENCE)
             for _, _, pipe in self.free:
                 pipe.close()
             self.free = []
@@ -195,7 +202,7 @@ class Window(Gathering):
             self.finish()
 
     def begin_window(self, pipe: Pipe) -> str:
-        """Tells the first state; what is to be asked for the values that are known in it."""
+        """Sends the first state; gives the questions for the values that are known in it."""
         frames = pipe.ask("where")[0]
         function = frames[0].split(" ")[0]
         names = [line.split(" ")[0] for line in pipe.ask("temps")[0] if " = " in line and line.index(" ") <= MOST_NAME]
@@ -244,5 +251,5 @@ class Long:
 
     def close(self) -> None:
         self.overview.is_stopped = True
-        self.overview.over.wait(2)
         self.pool.close()
+        self.overview.over.wait(PATIENCE)

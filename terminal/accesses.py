@@ -1,7 +1,7 @@
 """Which instructions of a run touched some bytes of memory.
 
 The debugger has no watch for reads, and none for a write of the same value. So breakpoints at all loads, or all stores,
-give the positions at which these were run, many at a time, and then the addresses are asked, along these positions.
+give the positions at which these ran, many at a time. Then the addresses are asked for, along these positions.
 """
 from __future__ import annotations
 
@@ -107,7 +107,7 @@ class Accesses:
         return steps_begun(at) - 1 if self.scratch.go(at).place.is_fault else None
 
     def looked_at(self, block: list[tuple[int, Site]], is_write: bool, run: Timeline) -> Iterator[Access]:
-        """The bytes that each move of a block touched, by the operands' values that tell the address."""
+        """The bytes that each move of a block touched, by the values of the operands for the address."""
         if not block:
             return
         self.scratch.go(run.at(block[0][0]))
@@ -160,7 +160,7 @@ class Accesses:
 
 
 def telling(site: Site, is_write: bool) -> tuple[Operand, ...]:
-    """The operands that tell which bytes are touched: the address, or what is called and its argument."""
+    """The operands that decide which bytes are touched: the address, or the callee and its argument."""
     operands = site.instruction.operands
     return operands[:2] if site.instruction.operation == "call" else (operands[1 if is_write else 0],)
 

@@ -1,7 +1,7 @@
 """Where a value comes from: the instruction that set it, with its operands, each of which can be asked about in turn.
 
 The scratch process goes back to it by breakpoints at the definitions of a temporary, or by watches of bytes; nothing is
-asked move by move. A question is about a state of the run, in which the frame that it is about is the innermost one.
+asked move by move. A question is about a state of the run in which its frame is the innermost one.
 """
 from __future__ import annotations
 
@@ -165,7 +165,7 @@ class Causes:
         return f"{head} = {value}" + (f" ({', '.join(said)})" if said else "")
 
     def executed(self, at: Timeline, head: str, wanted: tuple[int, int] | None = None) -> Cause:
-        """The instruction that comes next in a state, with its operands; of a blit the bytes that are asked about."""
+        """The next instruction in a state, with its operands; for a blit the bytes in question."""
         place, instruction = self.innermost(at)
         questions = self.operands_asked(at, instruction)
         read = self.bytes_read(at, instruction, wanted) + self.bytes_copied(at, instruction, wanted)
@@ -206,7 +206,7 @@ class Causes:
         return [self.memory(address, min(count, MOST_BYTES_ASKED), at, width if width in FLOATS else "")]
 
     def bytes_copied(self, at: Timeline, instruction: Instruction, wanted: tuple[int, int] | None) -> list[Question]:
-        """What a call of memcpy or one of its kin copied to bytes that are asked about, where that is live."""
+        """What a call of memcpy or one of its kin copied to the bytes in question, if that is live."""
         operands = instruction.operands
         if instruction.operation != "call" or not wanted or \
                 operands[0].text.split(".")[-1].lstrip("$") not in COPYING or \
@@ -219,7 +219,7 @@ class Causes:
         return [] if None in self.scratch.go(at).memory(address, count) else [self.memory(address, count, at)]
 
     def cells_given(self, at: Timeline, place: Place, instruction: Instruction) -> list[Question]:
-        """The arguments behind the dots of a call, which are in cells of memory."""
+        """The variadic arguments of a call, which are in cells of memory."""
         name = next((operand.text for operand in instruction.operands if operand.text.startswith(CELLS)), "")
         if instruction.operation != "call" or not name:
             return []
@@ -561,7 +561,7 @@ class Causes:
         return hit.position if hit and hit.stop is not None else None
 
     def same_stores(self, address: int, left: set[int], at: Timeline, low: int, writers: Writers) -> bool:
-        """Looks for stores of what was there already, behind the last change; False where they are too many."""
+        """Looks for stores of the same value after the last change; False if there are too many."""
         first, count = address + min(left), max(left) - min(left) + 1
         sites = [site for site in self.accesses.sites(True) if self.accesses.may_touch(site, True, first, count)]
         if at.position <= low:
@@ -582,7 +582,7 @@ class Causes:
         return is_sure
 
     def poked(self, address: int, left: set[int], at: Timeline, low: int) -> list[tuple[int, set[int]]]:
-        """The pokes behind a position that wrote some of the bytes, also those that left them as they were."""
+        """The pokes after a position that wrote some of the bytes, also those that didn't change them."""
         spans = [(poke.position, self.poked_of(poke, address, left)) for poke in at.pokes if poke.position >= low]
         return [(position, span) for position, span in spans if span]
 

@@ -1,4 +1,4 @@
-"""Commands of gdb and rr that aren't here, with what does the same, for the answer to whoever types one by habit."""
+"""Commands of gdb and rr that don't exist here, with what does the same, for users who type one by habit."""
 from __future__ import annotations
 
 import difflib

@@ -1,9 +1,9 @@
 """Expressions of numbers, temporaries, names and memory, as in `%i > 3 && w[$table+4*%i] != 0`.
 
 Values are whole numbers without a bound. A temporary or a piece of memory counts as the signed number of its class;
-`u(..)` is the number without a sign. Equality looks at the bits of the narrower class, so that `%x == 4294967295` holds
-for -1. A temporary that holds a float counts as that, and memory as `d[$x]` and `s[$x]`; a number beside a single is
-made one before they are compared, so that `%x == 0.1` holds where `%x` is shown as 0.1.
+`u(..)` is the unsigned number. Equality compares the bits of the narrower class, so `%x == 4294967295` holds for -1. A
+temporary that holds a float counts as a float, and so does memory as `d[$x]` and `s[$x]`. A number compared with a
+single is first rounded to a single, so `%x == 0.1` holds where `%x` is shown as 0.1.
 """
 from __future__ import annotations
 
@@ -216,7 +216,7 @@ FLOAT_BINARY: dict[str, Callable[[float, float], float]] = {
 
 
 def combined_floats(text: str, first: Value, second: Value) -> Value:
-    """The value of an operation of which an operand is a float."""
+    """The value of an operation with a float operand."""
     if text not in FLOAT_BINARY:
         raise Wrong(f"{text} isn't an operation of floats; u(..) is the bits of one")
     result = FLOAT_BINARY[text](beside(first, second), beside(second, first))

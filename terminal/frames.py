@@ -1,7 +1,7 @@
 """Frames of a state: where each began, what its temporaries were, and which of them a stack address belongs to.
 
-While a frame's callee runs its temporaries can't change: they are those of the state just before the call, which the
-scratch process goes to.
+While a frame's callee runs, the frame's temporaries can't change: they are those of the state just before the call. The
+scratch process goes there.
 """
 from __future__ import annotations
 
@@ -56,7 +56,7 @@ class Frames:
         return found
 
     def find_entries(self, at: Timeline, count: int) -> None:
-        """Keeps where the innermost frame of a state began, and where so many of its callers did, by one run back."""
+        """Keeps where the innermost frame of a state and a number of its callers began, by one run back."""
         there = self.before_end(at)
         frames = self.where(there)[:count]
         positions = self.entries_by_counting(there, frames)
@@ -121,8 +121,8 @@ class Frames:
         return None
 
     def allocation(self, function: str, address: int, at: Timeline) -> str | None:
-        """The temporary of a frame whose alloc made the bytes at an address, and how far behind its begin they are; of
-        one that was made again since also when it was made."""
+        """The temporary of a frame whose alloc made the bytes at an address, and their offset; for an alloc that was
+        made again since, also when it was made."""
         sizes = allocations_of(self.program, function)
         if at not in self.allocated:
             self.allocated[at] = self.scratch.go(at).values(*sizes) if sizes else []

@@ -1,5 +1,4 @@
-"""Commands that users of gdb type by habit: runs to a place, stops that are switched off, commands at a stop, files of
-commands."""
+"""Commands that users of gdb type by habit: runs to a place, disabled stops, commands at a stop, files of commands."""
 from __future__ import annotations
 
 import pathlib
@@ -66,7 +65,7 @@ def is_behind(shell: Shell, function: str, line: int) -> bool:
 
 
 def later_blocks(shell: Shell, function: str, line: int) -> list[tuple[str, str, int]]:
-    """The beginnings of the blocks of a function whose first instruction stands behind a line."""
+    """The beginnings of the blocks of a function whose first instruction is after a line."""
     blocks = shell.session.program.functions[function].blocks.values()
     return [(function, block.label, 0) for block in blocks if block.body[0].line > line]
 

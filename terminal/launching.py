@@ -1,4 +1,4 @@
-"""The words of a command line of qrev, and what is said of a program that it refuses."""
+"""The words of a command line of qrev, and the message for a refused program."""
 from __future__ import annotations
 
 import os
@@ -58,7 +58,7 @@ def refusal(loaded: str, file: str, source: bytes, lowered: Sequence[str] = ()) 
 
 
 def first_text(lowered: Sequence[str]) -> str:
-    """The first of the texts that a program was lowered from, which may come behind the file that it reads."""
+    """The first of the texts that a program was lowered from, perhaps after the file that it reads."""
     return next(iter(lowered[2:] if lowered[:1] == ["--input"] else lowered), "")
 
 

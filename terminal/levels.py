@@ -1,7 +1,7 @@
 """Which hits of a run are in one frame of a function that may call itself.
 
-A run comes into another call of the function at its beginning, and out of it behind a place that calls it; going back,
-the other way round. So breakpoints at both tell the level by counting, and no frames are asked for.
+A run enters another call of the function at its beginning, and leaves it to the place after a call of it; going back,
+the other way round. So breakpoints at both give the level by counting, and no frames are asked for.
 """
 from __future__ import annotations
 

@@ -1,4 +1,4 @@
-"""Commands that look at the state where the session stands, and change nothing."""
+"""Commands that show the current state of the session, and change nothing."""
 from __future__ import annotations
 
 import pathlib
@@ -31,7 +31,7 @@ def print_(shell: Shell, rest: str) -> None:
 
 
 def formatted_words(rest: str) -> tuple[str, str]:
-    """The letters behind a slash, and the rest."""
+    """The letters after a slash, and the rest."""
     if not rest.startswith("/"):
         return "", rest.strip()
     letters, _, text = rest[1:].partition(" ")
@@ -41,7 +41,7 @@ def formatted_words(rest: str) -> tuple[str, str]:
 @command("x", "x/NUF ADDRESS", "expression")
 def examine(shell: Shell, rest: str) -> None:
     """Shows memory: N units of U (b, h, w, l; g is l) in the format F (d u x o t c f a, or s for a text up to its zero
-    byte), from an address on: x/4wx $table+8, x/s %text. Without an address it goes on behind the last one."""
+    byte), from an address on: x/4wx $table+8, x/s %text. Without an address it goes on after the last one."""
     letters, text = formatted_words(rest)
     count, unit, letter = read_format(shell, letters)
     address = shell.number(text) if text else shell.examined
@@ -90,7 +90,7 @@ def unit_shown(shell: Shell, piece: bytes, unit: str, letter: str, address: int)
 
 
 def texts_at(shell: Shell, address: int, count: int) -> list[str]:
-    """Texts one behind the other, each up to its zero byte."""
+    """Texts one after the other, each up to its zero byte."""
     found = []
     for _ in range(count):
         text, there = bytearray(), address
@@ -249,15 +249,15 @@ def list_(shell: Shell, rest: str) -> None:
     beside, last = [], first + shell.list_size - 1
     if here and not place.end and not selected and first <= here <= last:
         instruction = program.functions[place.function].at(place.label, place.index)
-        beside = shell.screen.operands(place.function, instruction) + shell.screen.jump_said(place, instruction)
+        beside = shell.screen.beside(place, instruction)
     shell.say(*shell.screen.text_lines(first, last, here, beside))
     shell.line_shown = last
 
 
 @command("out", "out")
 def out(shell: Shell, rest: str) -> None:
-    """Shows all that the program has written up to here, each line behind the number of its first byte: `why out N`
-    asks about a byte."""
+    """Shows all that the program has written up to here, each line after the number of its first byte: `why out N` asks
+    about a byte."""
     written = read_output(shell.session.ask("out")[0])
     shell.say(f"{len(written)} bytes")
     begin, digits = 0, len(str(len(written)))
@@ -286,7 +286,7 @@ KNOWN = {"stops": "stops", "breakpoints": "stops", "b": "stops", "watchpoints": 
 
 
 def info_word(typed: str) -> str:
-    """The word behind `info` that was typed, or the only one that begins so."""
+    """The word typed after `info`, or the only one that begins with it."""
     words = [*KNOWN, *OTHERS]
     if typed in words:
         return typed
@@ -298,7 +298,7 @@ def info_word(typed: str) -> str:
 
 
 def info_words() -> list[str]:
-    """The words behind `info` that its help has."""
+    """The words after `info` that its help has."""
     return [each.split(" ")[0] for each in COMMANDS["info"].usage.partition(" ")[2].split("|")]
 
 
@@ -372,7 +372,7 @@ def script_line(shell: Shell, line: str) -> str:
 
 @command("help h", "help [COMMAND]", "command", is_repeated=False)
 def help_(shell: Shell, rest: str) -> None:
-    """Lists the commands, or tells what one does."""
+    """Lists the commands, or says what one does."""
     if rest:
         found = shell.command_named(rest)
         names = f"   also: {', '.join(found.names[1:])}" if len(found.names) > 1 else ""

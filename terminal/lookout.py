@@ -1,7 +1,7 @@
-"""Checks the run beside the session, so that its end can say whether something on the way was suspicious.
+"""Checks the run beside the session, so its end can report whether something on the way was suspicious.
 
-The check is a process of its own (check/main), begun with the session and over the same text. It is of the program's
-own run: where values were set by hand it says nothing.
+The check is a process of its own (check/main), started with the session and over the same text. It covers the program's
+own run: after values were set by hand it says nothing.
 """
 from __future__ import annotations
 
@@ -39,8 +39,7 @@ class Lookout:
         self.patience = PATIENCE
 
     def suspicions(self, run: Timeline) -> dict[int, list[str]]:
-        """What is told of moves of the session's run, by their positions; nothing if they aren't known, or not in
-        time."""
+        """The suspicions of the session's run, by position; nothing if they aren't known, or not in time."""
         if run.pokes or run.position > MOST:
             return {}
         if self.found is None:
@@ -64,7 +63,7 @@ class Lookout:
         return [f"{number} suspicion{'s' * (number > 1)} on the way: `suspects` tells {'them' if number > 1 else 'it'}"]
 
     def of_cause(self, at: Timeline, lines: list[str]) -> list[str]:
-        """The lines of a cause, with what is suspicious about its move behind the line of that."""
+        """The lines of a cause, with the suspicion of its move after the line of the move."""
         told = [f"    suspicious, {text}" for text in self.suspicions(at).get(at.position, [])]
         move = next((index for index, line in enumerate(lines) if line.startswith(f"  #{at.position} ")), None)
         return lines if move is None else lines[:move + 1] + told + lines[move + 1:]

@@ -1,6 +1,5 @@
 """What lower/qrev-lower says of the names of a text that it wrote: which functions aren't the program's own, which
-values are floats, and which names were made shorter. It stands in FILE.names beside the text
-(docs/REAL_COMPILERS.md)."""
+values are floats, and which names were shortened. FILE.names beside the text has it (docs/REAL_COMPILERS.md)."""
 from __future__ import annotations
 
 import pathlib
@@ -105,7 +104,7 @@ class Lowered:
         return replace(instruction, operands=(called, *told, *arguments[len(told):]), type=cls or instruction.type)
 
     def float_at(self, data: Data | None, address: int, count: int) -> str:
-        """The class of the float that so many bytes of an object are, or nothing."""
+        """The class of the float in these bytes of an object, or nothing."""
         if data is None:
             return ""
         for begin, cls, number in self.data.get(data.name, ()):
@@ -128,7 +127,7 @@ def constant(text: str, cls: str) -> str:
 
 
 def operand_of(operand: Operand, has: str, wanted: str) -> Operand:
-    """An argument, as a float if it is one or if it is a number where one is wanted."""
+    """An argument, as a float if it is one, or if it is a number where a float is required."""
     if operand.is_temporary:
         return Operand(operand.text, has) if has in FLOATS else operand
     return Operand(constant(operand.text, wanted), wanted) if wanted in FLOATS else operand

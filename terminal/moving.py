@@ -123,8 +123,8 @@ def run(shell: Shell, rest: str) -> None:
 
 @command("goto", "goto N | goto why | goto suspect N", "expression", is_repeated=False)
 def goto(shell: Shell, rest: str) -> None:
-    """Goes to the position N, back or forward; `goto why` to that of the cause that was shown last, `goto suspect N` to
-    that of the N-th suspicion. Pokes behind it are taken back, and a line says so."""
+    """Goes to the position N, back or forward; `goto why` to that of the last cause shown, `goto suspect N` to that of
+    the N-th suspicion. Pokes after it are undone, and a line says so."""
     if rest == "why":
         if not shell.chain:
             raise Refused("nothing was asked by `why` yet")
@@ -253,8 +253,8 @@ OPTIONS = {"listsize": set_list_size, "height": set_height, "pagination": set_pa
 
 @command("poke", "poke WIDTH ADDRESS EXPRESSION", "expression", is_repeated=False)
 def poke(shell: Shell, rest: str) -> None:
-    """Writes to memory, WIDTH b, h, w or l, or s or d for a float. That is a move, which `back` takes back. An ADDRESS
-    of several words stands in parentheses."""
+    """Writes to memory, WIDTH b, h, w or l, or s or d for a float. That is a move, which `back` undoes. Put an ADDRESS
+    of several words in parentheses."""
     width, _, rest = rest.partition(" ")
     address, value = split_address(rest)
     if width not in BITS or not address or not value:
@@ -263,7 +263,7 @@ def poke(shell: Shell, rest: str) -> None:
 
 
 def split_address(text: str) -> tuple[str, str]:
-    """An address, which is one word or stands in parentheses, and what is behind it."""
+    """An address, which is one word or in parentheses, and what follows it."""
     text = text.strip()
     if not text.startswith("("):
         first, _, rest = text.partition(" ")

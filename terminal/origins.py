@@ -1,8 +1,8 @@
 """Which alloc an address on the stack was made by, and whether the frame of that alloc is over.
 
-The bytes of a frame that is over are those of later frames, so that the address alone would name a slot of another
-function. The way goes back along copies, sums, phis, arguments, results and memory, by what `why` knows of each. If it
-is lost, as behind a value that was set by hand, nothing is said.
+The bytes of a frame that is over belong to later frames, so the address alone would name a slot of another function.
+The value is followed back through copies, sums, phis, arguments, results and memory, by what `why` knows of each. If
+that fails, as for a value that was set by hand, nothing is said.
 """
 from __future__ import annotations
 

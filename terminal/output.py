@@ -1,7 +1,8 @@
-"""Where a session's lines go: standard output, which at a terminal has colours and stops at each full screen.
+"""Where a session's lines go: standard output, with colours at a terminal, and a stop at each full screen.
 
 Colours are those of the terminal's own palette, by what a word of a line is: `%temporary`, `$name`, `@label`,
-`#position`, a text, a comment. So a line is the same line with and without, and nothing is told by a colour alone.
+`#position`, a text, a comment. So a line is the same with and without colours, and no colour carries information of its
+own.
 """
 from __future__ import annotations
 
@@ -31,7 +32,7 @@ CODE = re.compile(r"""(?:[^"#]|"(?:[^"\\]|\\.)*")*""", re.DOTALL)
 
 
 class Quit(Exception):
-    """What is still to be shown isn't wanted."""
+    """The user doesn't want the rest."""
 
 
 class Output(Protocol):
@@ -58,7 +59,7 @@ def words_of(text: str) -> Iterator[tuple[str, str]]:
 
 
 def pieces_of(line: str) -> Iterator[tuple[str, str]]:
-    """The same of a line; where it is one of the text, behind its number, it may have a comment."""
+    """The same for a line; a line of the text, after its number, may have a comment."""
     numbered = NUMBERED.fullmatch(line)
     if not numbered:
         yield from words_of(line)
@@ -108,7 +109,7 @@ class Standard:
         sys.stdout.flush()
 
     def take(self, line: str) -> None:
-        """A line, behind a question if the screen is full."""
+        """A line, after a question if the screen is full."""
         size = shutil.get_terminal_size()
         rows = max(1, -(-len(line) // size.columns))
         height = size.lines if self.height is None else self.height

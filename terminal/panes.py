@@ -46,7 +46,7 @@ class Panes:
         self.frame = ("", 0)
 
     def moved(self) -> None:
-        """Takes note of the values, behind each command."""
+        """Notes the values, after each command."""
         session = self.shell.session
         here, frames = session.place.position, session.frames()
         if here == self.position:
@@ -102,7 +102,7 @@ class Panes:
         if session.selected or not place.function:
             return []
         instruction = session.program.functions[place.function].at(place.label, place.index)
-        said = screen.operands(place.function, instruction) + screen.jump_said(place, instruction)
+        said = screen.beside(place, instruction)
         return [("", "    "), *pieces_of(", ".join(said))] if said else []
 
     # What stands beside it.

@@ -1,8 +1,8 @@
 """The debugger at a pipe.
 
-A command's answer ends where that of the next line begins. So behind commands goes a line that is none: it changes
-nothing and is answered by `no: unknown command`, which no command of the language answers and no other answer contains
-as a line.
+A command's answer ends where the next line's answer begins. So after commands a line is sent that is no command: it
+changes nothing, and its answer is `no: unknown command`, which no command of the language gives and no other answer
+contains as a line.
 """
 from __future__ import annotations
 
@@ -64,7 +64,7 @@ class Pipe:
                 pass
 
     def exchange(self, sent: bytes, marks: int) -> bytes:
-        """Writes all of it while it reads, until the answer to a mark came so many times."""
+        """Writes all of it while it reads, until the answer to a mark came N times."""
         source, sink = self.source.fileno(), self.sink.fileno()
         left, self.rest = memoryview(sent), bytearray()
         self.sent += len(sent)
@@ -92,7 +92,7 @@ class Pipe:
     def ask(self, *lines: str) -> list[list[str]]:
         """The lines of the answer to each command.
 
-        Most answers tell by their first line how many there are; a mark is needed behind the others, and at the end.
+        Most answers show by their first line how many there are; a mark is needed after the others, and at the end.
         """
         if not lines:
             return []
@@ -129,7 +129,7 @@ class Pipe:
         return bool(select.select([self.source.fileno()], [], [], 0)[0])
 
     def finish(self, count: int) -> list[list[str]]:
-        """The answers to so many commands that were begun, each of which tells by its first line how long it is."""
+        """The answers to a number of commands that were sent, each with its length shown by its first line."""
         told = self.told(self.exchange(b"", 1)).split("\n")
         answers, at = [], 0
         for _ in range(count):
@@ -139,7 +139,7 @@ class Pipe:
         return answers
 
     def ask_text(self, text: str) -> str:
-        """All that is answered to some lines, for answers that tell themselves where they end."""
+        """All answers to some lines, for answers that show themselves where they end."""
         return self.told(self.exchange(self.written(text) + MARK, 1)[:-len(MARKED)])
 
     def written(self, text: str) -> bytes:
@@ -152,11 +152,11 @@ class Pipe:
         return self.renaming.told(text) if self.renaming else text
 
     def has_room(self, size: int) -> bool:
-        """Whether so many bytes more may be sent."""
+        """Whether this many more bytes may be sent."""
         return self.sent + size + len(MARK) < MOST_SENT
 
     def memory(self) -> int:
-        """How many bytes of memory the process holds, or 0 where the system doesn't tell."""
+        """How many bytes of memory the process holds, or 0 if the system doesn't say."""
         try:
             with open(f"/proc/{self.process.pid}/statm", "rb") as told:
                 return int(told.read().split()[1]) * os.sysconf("SC_PAGE_SIZE")

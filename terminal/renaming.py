@@ -1,5 +1,4 @@
-"""Names that were made short in a text, so that it fits: people read and write the old ones, the debugger the new
-ones."""
+"""Names that were shortened to make a text fit: people read and write the old ones, the debugger the new ones."""
 from __future__ import annotations
 
 from .reading.accepted import LOCAL

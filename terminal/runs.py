@@ -1,7 +1,7 @@
 """Runs of a session: to its stops, over and out of calls, forward and back.
 
-Where all stops are the debugger's own the session runs itself, a slice of its limit at a time. Where something is asked
-besides (a condition, a count, a depth) the scratch process looks for the position, and the session goes there by steps.
+If all stops are the debugger's own, the session runs itself, a slice of its limit at a time. If there is more to test
+(a condition, a count, a depth), the scratch process looks for the position, and the session goes there by steps.
 """
 from __future__ import annotations
 
@@ -33,7 +33,7 @@ class Target:
         self.levels = Levels(program, function)
 
     def begin(self, session: Session, is_forward: bool, lines: list[str]) -> list[str]:
-        """The lines of a run to it, behind those that there are already."""
+        """The lines of a run to it, after the existing ones."""
         own = [stop_line(self.place)]
         counted = own + [stop_line(place) for place in self.levels.places if place != self.place]
         self.is_counted = (self.is_again and self.levels.is_counted and not session.timeline.pokes
@@ -52,7 +52,7 @@ class Target:
         return ["where"] if self.is_again and not self.is_counted else []
 
     def is_at(self, place: Place, is_forward: bool, frames: list[str] | None) -> bool:
-        """Whether a hit is there; each hit of the run is to be asked about."""
+        """Whether a hit is there; must be asked for each hit of the run."""
         here, level = (place.function, place.label, place.index), 0
         if self.is_counted:
             level = self.levels.forward(here) if is_forward else self.levels.back(here)
@@ -70,7 +70,7 @@ class Places:
         self.depth = len(session.frames())
 
     def begin(self, _session: Session, _is_forward: bool, lines: list[str]) -> list[str]:
-        """The lines of a run to them, behind those that there are already."""
+        """The lines of a run to them, after the existing ones."""
         wanted = [*self.places, *([self.behind[0]] if self.behind else [])]
         if len(lines) + len(wanted) > MOST_STOPS:
             raise Refused(f"{len(wanted)} places are too many; `tbreak PLACE` and `continue` lead to one of them")

@@ -1,7 +1,7 @@
-"""A second process of the debugger, in which questions are asked that must not move the session.
+"""A second process of the debugger, for questions that must not move the session.
 
-It goes to where the session stands, or stood, by steps and the pokes that were made, and finds places of the run by
-breakpoints and watches: many hits at a time go through the pipe, with what is asked at each of them.
+It goes to a position of the session by steps and the same pokes, and finds places of the run by breakpoints and
+watches: many hits at a time go through the pipe, with the questions at each of them.
 """
 from __future__ import annotations
 
@@ -43,7 +43,7 @@ Answer = TypeVar("Answer")
 
 @dataclass(frozen=True)
 class Launch:
-    """How a session is begun: the debugger, the copy of the program's text, and the words behind it."""
+    """How a session begins: the debugger, the copy of the program's text, and the words after it."""
     debugger: str
     file: str
     words: tuple[str, ...]
@@ -57,7 +57,7 @@ class Launch:
         return not self.history and "--history=all" not in self.words
 
     def command(self, history: int | None) -> list[str]:
-        """With a history of so many moves, whatever the words say of what is kept."""
+        """With a history of its own size, whatever the words say."""
         words = [word for word in self.words if not word.startswith(KEEPING)] if history else self.words
         bound = ["--history", str(history)] if history else []
         file = [self.file] if self.file else []
@@ -146,7 +146,7 @@ class Scratch:
         return self.asked(sum(map(len, lines)) + 3 * len(lines), lambda pipe: pipe.ask(*lines))
 
     def ask_text(self, text: str) -> str:
-        """All that is answered to lines whose answers tell where they end."""
+        """All answers to lines whose answers show where they end."""
         return self.asked(len(text), lambda pipe: pipe.ask_text(text))
 
     def asked(self, size: int, call: Callable[[Pipe], Answer]) -> Answer:
@@ -215,7 +215,8 @@ class Scratch:
 
     def set_stops(self, lines: list[str]) -> None:
         """Takes all stops away and sets others, of which it keeps the number of each."""
-        answers = self.ask(*(f"delete {number}" for number in self.numbers), *lines)[-len(lines):] if lines else []
+        deleted = [f"delete {number}" for number in self.numbers]
+        answers = self.ask(*deleted, *lines)[len(deleted):] if deleted or lines else []
         self.stops, self.numbers = lines, {}
         for index, answer in enumerate(answers):
             if answer[0].startswith("no: "):
@@ -226,8 +227,8 @@ class Scratch:
              last: int | None = None) -> Iterator[Hit]:
         """The stops of a run from here on, with the answers at each; the last one is the end, or the start.
 
-        Where `last` is given the run doesn't go on past that position, though hits behind it may still come.
-        While they are taken the process may be further on: whoever goes on asking goes to where he wants to be first.
+        With `last` the run doesn't go on past that position, though hits after it may still come. Meanwhile the process
+        may be further on: to ask more, go to the position first.
         """
         if questions:
             yield from self.asked_hits(is_forward, stops, questions, most, last)
@@ -242,7 +243,7 @@ class Scratch:
 
     def texts(self, is_forward: bool, stops: list[str], most: int = MOST_AT_ONCE,
               last: int | None = None) -> Iterator[str]:
-        """What a run tells of its stops, many at a time, as it is written."""
+        """What a run writes about its stops, many at a time."""
         self.set_stops(stops)
         command = "continue" if is_forward else "reverse"
         size = 1
@@ -285,7 +286,8 @@ class Scratch:
             size = next_size(size, most, begun)
 
     def followed(self, line: str, command: str, is_oldest: bool) -> bool:
-        """Keeps where the process is behind a run, by its last place line; False where it made no move, at an end."""
+        """Keeps the position of the process after a run, by its last place line; False if it made no move, at an
+        end."""
         if line:
             self.place = read_place(line)
             self.timeline = self.timeline.moved(self.place.position, command)

@@ -11,6 +11,7 @@ from .answers import Place
 from .frames import Frames, allocations_of
 from .lowered import Lowered
 from .origins import Origins
+from .scratch import Refused
 from .session import Session
 from .sourcemap import SourceMap
 from .text import Instruction
@@ -73,6 +74,14 @@ class Screen:
             if begin is not None and begin <= value < begin + size < 1 << 63:
                 return f"{name}+{value - begin}"
         return None
+
+    def beside(self, place: Place, instruction: Instruction) -> list[str]:
+        """What is shown beside an instruction: what it reads, and where it goes. Nothing, where a name is too long to
+        be asked for."""
+        try:
+            return self.operands(place.function, instruction) + self.jump_said(place, instruction)
+        except Refused:
+            return []
 
     def operands(self, function: str, instruction: Instruction) -> list[str]:
         """Each temporary that an instruction reads, with its value, as `%x=5`."""
@@ -172,7 +181,7 @@ class Screen:
             place = frames[0]
         instruction = self.session.program.functions[place.function].at(place.label, place.index)
         is_read = is_here and not is_elsewhere
-        beside = self.operands(place.function, instruction) + self.jump_said(place, instruction) if is_read else []
+        beside = self.beside(place, instruction) if is_read else []
         source = self.map.place(instruction.line)
         lines = [f"  source: {source}"] if source else []
         return lines + list(self.text_lines(instruction.line - AROUND, instruction.line + AROUND, instruction.line,

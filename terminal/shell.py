@@ -1,4 +1,4 @@
-"""The prompt's lines: what each does, and what it says. The commands themselves stand in modules by their kinds."""
+"""The prompt's lines: what each does, and what it prints. The commands themselves are in modules by their kinds."""
 from __future__ import annotations
 
 import shlex
@@ -32,7 +32,7 @@ MOST_NESTED = 16
 
 @dataclass(frozen=True)
 class Command:
-    """A command: its names, the first of which it is told by, how it is used, and what completes its words."""
+    """A command: its names (the first is the one shown), how it is used, and what completes its words."""
     names: tuple[str, ...]
     usage: str
     call: Callable[[Shell, str], None]
@@ -198,7 +198,7 @@ class Shell:
         try:
             shown = self.shown(text, letters)
         except (Wrong, Unset, Refused) as error:
-            shown = f"{text}: {error}"
+            shown = str(error) if str(error).startswith(f"{text}: ") else f"{text}: {error}"
         self.say(f"{number}: {shown}")
 
     def outcome(self, outcome: Outcome) -> None:

@@ -1,4 +1,4 @@
-"""The map beside a text, which lower/qrev-lower writes: which line of which source each of its lines came from
+"""The map beside a text, as lower/qrev-lower writes it: the source and the line that each of its lines came from
 (docs/REAL_COMPILERS.md)."""
 from __future__ import annotations
 
@@ -48,14 +48,13 @@ class SourceMap:
         return ": ".join(places)
 
     def origins(self, line: int) -> list[Line]:
-        """Where a line of the text comes from: of the source that its debug lines tell, and of the text that was
-        lowered."""
+        """Where a line of the text comes from: in the source of its debug lines, and in the text before lowering."""
         fields = self.fields(line)
         return [Line(ESCAPE.sub(unescaped, fields[at]), int(fields[at + 1])) for at in (2, 0)
                 if len(fields) > at + 1 and fields[at] and fields[at + 1].isdigit()]
 
     def source(self, line: int) -> Line | None:
-        """The line of the source, or None where debug lines tell none."""
+        """The line of the source, or None if debug lines have none."""
         return next(iter(self.origins(line)), None) if len(self.fields(line)) == 5 and self.fields(line)[2] else None
 
     def files(self) -> dict[str, int]:
@@ -80,13 +79,22 @@ class SourceMap:
         first = min(whole, key=lambda origin: origin.number, default=None)
         return (first, found[first]) if first else None
 
-    def read(self, file: str) -> list[str]:
-        """The lines of a source, which is looked for where its path leads and beside the text that was lowered."""
+    def path_of(self, file: str) -> pathlib.Path | None:
+        """Where a source is: where its path leads, or beside the text that was lowered."""
         texts = {pathlib.Path(ESCAPE.sub(unescaped, line.split("\t")[0])).parent for line in self.lines if "\t" in line}
         for path in [pathlib.Path(file),
                      *(folder / name for folder in texts for name in (file, os.path.basename(file)))]:
             try:
-                return path.read_text(errors="replace").splitlines()
+                if path.is_file():
+                    return path
             except OSError:
                 continue
-        return []
+        return None
+
+    def read(self, file: str) -> list[str]:
+        """The lines of a source; none where it isn't found."""
+        path = self.path_of(file)
+        try:
+            return path.read_text(errors="replace").splitlines() if path else []
+        except OSError:
+            return []

@@ -176,7 +176,7 @@ def line_before(shell: Shell) -> Line | None:
 
 
 def back_in(shell: Shell) -> Outcome:
-    """The same back: into the end of such a function from behind its call."""
+    """The same back: into the end of such a function from after its call."""
     if not is_behind_call(shell):
         return shell.runs.back_over()
     return Outcome(refusal=shell.session.move("back").refusal)
@@ -204,5 +204,5 @@ def reverse_next_line(shell: Shell, rest: str) -> None:
 @command("reverse-step-line rsl", "reverse-step-line [N]", "expression")
 def reverse_step_line(shell: Shell, rest: str) -> None:
     """Moves back to the beginning of the line of the source, and from there to that of the line before, or of N, also
-    into calls from behind."""
+    into calls from their end."""
     repeated(shell, rest, lambda: back_by_line(shell, True))

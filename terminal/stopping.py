@@ -1,4 +1,4 @@
-"""Commands about stops: breakpoints, watches, and what is asked before one of them counts."""
+"""Commands about stops: breakpoints, watches, and the conditions under which one of them counts."""
 from __future__ import annotations
 
 import re
@@ -19,7 +19,7 @@ FRAME = re.compile(r"^frame \d+ ")
 
 
 def with_condition(shell: Shell, rest: str) -> tuple[str, Node | None, str]:
-    """What stands before `if`, and the condition behind it."""
+    """What precedes `if`, and the condition after it."""
     what, has_condition, text = f" {rest} ".partition(" if ")
     if not has_condition:
         return rest.strip(), None, ""
@@ -27,7 +27,7 @@ def with_condition(shell: Shell, rest: str) -> tuple[str, Node | None, str]:
 
 
 def place_of(shell: Shell, text: str) -> tuple[str, str, int]:
-    """A place: of a line, $f, @b in this function, $f @b, with an index behind; without a word that of the run."""
+    """A place: of a line, $f, @b in this function, $f @b, with an index after it; without a word that of the run."""
     session, words = shell.session, text.split()
     frames = session.frames()
     if not words:
@@ -85,9 +85,9 @@ def add_breakpoint(shell: Shell, rest: str, is_once: bool) -> None:
 @command("break b br", "break [LINE | FILE:LINE | $f | @b | $f @b [K] | suspect [KINDS]] [if CONDITION]", "place",
          is_repeated=False)
 def break_(shell: Shell, rest: str) -> None:
-    """A breakpoint at a line of the text or of a source, a function, a label, or the K-th instruction behind a label.
+    """A breakpoint at a line of the text or of a source, a function, a label, or the K-th instruction after a label.
     With a condition it stops only where that holds: `b @loop if %i > 3`, also `if depth == 2` for one depth of frames.
-    `break suspect` stops before each move that no right compiler's output makes, forward and back."""
+    `break suspect` stops before each move that no correct compiler's output makes, forward and back."""
     first, _, kinds = rest.partition(" ")
     if first in ("suspect", "suspects"):
         add_suspicion_stop(shell, kinds.strip())
@@ -97,7 +97,7 @@ def break_(shell: Shell, rest: str) -> None:
 
 @command("tbreak tb", "tbreak PLACE [if CONDITION]", "place", is_repeated=False)
 def tbreak(shell: Shell, rest: str) -> None:
-    """A breakpoint that is taken away when it stopped once."""
+    """A breakpoint that is removed when it stops."""
     add_breakpoint(shell, rest, True)
 
 
@@ -183,7 +183,7 @@ def stop_named(shell: Shell, text: str) -> Stop:
 
 
 def stops_named(shell: Shell, rest: str) -> list[Stop]:
-    """Stops by their numbers, also behind a word of gdb; without a number all."""
+    """Stops by their numbers, also after a word of gdb; without a number all."""
     words = rest.removeprefix("breakpoints").split()
     return [stop_named(shell, word) for word in words] or list(shell.runs.stops)
 

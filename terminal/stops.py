@@ -1,4 +1,5 @@
-"""Stops of a session: breakpoints and watches of the debugger, and what is asked besides before one of them counts."""
+"""Stops of a session: breakpoints and watches of the debugger, and the further conditions under which one of them
+counts."""
 from __future__ import annotations
 
 from dataclasses import dataclass, field
@@ -77,7 +78,7 @@ class SuspicionStop(Stop):
 class FrameWatch:
     """A temporary of one frame: its depth, the place to which it returns, and the position at which it began.
 
-    Whether a run begins inside the frame, before it or behind it is looked at each time.
+    Whether a run begins inside the frame, before it or after it is checked each time.
     """
     temporary: str
     function: str
@@ -110,7 +111,7 @@ class MemoryWatch:
 
 @dataclass
 class Answered:
-    """The state at a hit: what was asked of it before, and who is asked for the rest while it stands there."""
+    """The state at a hit: the answers that came before, and the process to ask for the rest while it is there."""
     program: Program
     place: Place
     answers: dict[str, list[str]]
@@ -165,7 +166,7 @@ class FixedState:
 
 
 def questions_of(node: Node, program: Program) -> list[str] | None:
-    """What is to be asked at a hit for a condition, or None where an address in it depends on the state."""
+    """The questions at a hit for a condition, or None if an address in it depends on the state."""
     asked = [f"print {name}" for name in temporaries_of(node)]
     asked += ["where"] if any(part.text == "depth" for part in parts_of(node)) else []
     for part in parts_of(node):
@@ -203,7 +204,7 @@ class Filter:
         return [f"break {frame.back.function} {frame.back.label} {frame.back.index}"] if frame.back else []
 
     def questions(self, more: list[str]) -> tuple[list[str], bool]:
-        """What is asked at each hit besides, and whether all of it can be known before."""
+        """The further questions at each hit, and whether all of them can be known before."""
         asked, is_known = list(more), True
         for stop in self.stops:
             found = questions_of(stop.condition, self.program) if stop.condition else []

@@ -1,4 +1,4 @@
-"""What the run does that no right compiler's output does, and what values are made of: docs/CHECKING.md."""
+"""What the run does that no correct compiler's output does, and what values are made of: docs/CHECKING.md."""
 from __future__ import annotations
 
 from check.following import Follower
@@ -45,7 +45,7 @@ def gather(gathered: Gathering, waiting: Waiting) -> None:
 
 
 def followed(shell: Shell, at: Timeline, most: int, kinds: frozenset[str]) -> tuple[Follower, Gathering, int]:
-    """The shadow of the session's run after so many moves, or at its end."""
+    """The shadow of the session's run after a number of moves, or at its end."""
     program = shell.session.program
     try:
         table = table_of(program)
@@ -107,7 +107,7 @@ def add_suspicion_stop(shell: Shell, rest: str) -> None:
 
 @command("suspects suspicions", "suspects [strict | KIND,..] [N]", is_repeated=False)
 def suspects(shell: Shell, rest: str) -> None:
-    """Lists what the whole run does that no right compiler's output does: up to here, and on to its end; or in its
+    """Lists what the whole run does that no correct compiler's output does: up to here, and on to its end; or in its
     first N moves. `goto suspect N` goes to the N-th. docs/CHECKING.md says what each kind means."""
     words = rest.split()
     most = min(int(words.pop()), MOST) if words and words[-1].isdecimal() else MOST

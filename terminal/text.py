@@ -1,5 +1,5 @@
-"""A program text that the debugger has accepted, as a session shows it: where each instruction stands, what its
-operands are, and where the data lies."""
+"""An accepted program text, as a session shows it: the line of each instruction, its operands, and the places of
+data."""
 from __future__ import annotations
 
 from dataclasses import dataclass, field
@@ -222,7 +222,7 @@ class Program:
         return self.functions[function].at(label, index).line
 
     def place_at(self, line: int) -> tuple[str, str, int] | None:
-        """The first place at that line or behind it; a phi stands for its block, a function's line for its first
+        """The first place at that line or after it; a phi stands for its block, a function's line for its first
         block."""
         lines = {}
         for function in self.functions.values():
@@ -235,12 +235,12 @@ class Program:
         return lines[min(behind)] if behind and line >= 1 else None
 
     def called(self, instruction: Instruction) -> str | None:
-        """The name of what a call calls, where the text tells it."""
+        """The name of the callee, if the text has it."""
         name = instruction.operands[0].text
         return name if name in self.functions or name in self.built_in else None
 
     def reentered(self) -> set[str]:
-        """The functions of which a call may run while another one isn't over."""
+        """The functions that may be called again during a call of them."""
         taken = set(self.functions) if self.calls_by_address else set()
         callees = {name: {self.called(instruction) or "" for _, _, instruction in function.places()
                           if instruction.operation == "call"} for name, function in self.functions.items()}
@@ -259,12 +259,12 @@ class Program:
 
     @cached_property
     def calls_by_address(self) -> bool:
-        """Whether a call is by a value that only a run tells."""
+        """Whether the callee is known only in a run."""
         return any(instruction.operation == "call" and not self.called(instruction)
                    for function in self.functions.values() for _, _, instruction in function.places())
 
     def object_at(self, address: int) -> Data | None:
-        """The object of the data in which an address lies, or behind which it is padding."""
+        """The object of the data that has an address, or after which it is padding."""
         before = [data for data in self.data if data.address <= address]
         end = self.data[-1].address + self.data[-1].size if self.data else DATA
         return before[-1] if before and address < end else None

@@ -1,4 +1,4 @@
-"""Where a session stands, as what leads there: how many moves were made, and which of them were pokes.
+"""The position of a session, as what leads there: how many moves were made, and which of them were pokes.
 
 All other moves are steps of the program, so two processes with equal timelines are in equal states.
 """
@@ -21,11 +21,11 @@ class Timeline:
     pokes: tuple[Poke, ...] = ()
 
     def at(self, position: int) -> Timeline:
-        """The same moves up to another position; behind the last one the program's own steps follow."""
+        """The same moves up to another position; after the last one the program's own steps follow."""
         return Timeline(position, tuple(poke for poke in self.pokes if poke.position < position))
 
     def moved(self, position: int, line: str, depth: int = 0) -> Timeline:
-        """The timeline behind a line that led to that position."""
+        """The timeline after a line that led to that position."""
         if position == self.position + 1 and line.split()[0] in ("set", "poke"):
             return Timeline(position, (*self.pokes, Poke(self.position, line, depth)))
         return self.at(position) if position < self.position else replace(self, position=position)

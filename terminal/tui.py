@@ -1,4 +1,4 @@
-"""`tui`: a session on a full screen, by curses. Each key is a line of the prompt, and what it says stands below the
+"""`tui`: a session on a full screen, by curses. Each key is a line of the prompt, and its answer is shown below the
 panes."""
 from __future__ import annotations
 
@@ -73,7 +73,7 @@ class Screenful:
     # Drawing.
 
     def put(self, y: int, x: int, width: int, text: str, attribute: int = 0) -> None:
-        """A text in so many columns; what has no room is left out."""
+        """A text in a number of columns; what has no room is left out."""
         if width <= 0 or not 0 <= y < self.size[0]:
             return
         try:
@@ -200,7 +200,7 @@ class Screenful:
             pass
 
     def has_resized(self) -> bool:
-        """Follows the size of the terminal: the library of the prompt keeps the signal that tells of it."""
+        """Follows the size of the terminal: the library of the prompt keeps the signal for it."""
         try:
             size = os.get_terminal_size()
         except OSError:
@@ -320,7 +320,7 @@ def without_place(lines: list[str]) -> list[str]:
 
 
 def shares(height: int, wanted: list[int]) -> list[int]:
-    """How many rows each pane gets, with its title: what it wants, the first ones a third at least, and the rest for
+    """How many rows each pane gets, with its title: what it needs, the first ones at least a third, and the rest for
     values."""
     sizes = [0] * len(wanted)
     left = height

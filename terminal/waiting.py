@@ -1,4 +1,4 @@
-"""What happens while the debugger runs: Ctrl-C, and the progress of what takes over a second."""
+"""What happens while the debugger runs: Ctrl-C, and the progress of a run of over a second."""
 from __future__ import annotations
 
 import signal

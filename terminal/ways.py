@@ -1,4 +1,4 @@
-"""The way that control took through a call, and why it didn't come to a block."""
+"""The way that control took through a call, and why it didn't reach a block."""
 from __future__ import annotations
 
 from dataclasses import replace
@@ -174,7 +174,7 @@ def last_times(shell: Shell, function: Function, at: Timeline, places: list[tupl
 
 
 def came_to(shell: Shell, function: Function, at: Timeline, places: list[tuple[str, int]]) -> list[tuple[str, int]]:
-    """Those of the places of a function to which any call of it came before a state behind which there are no pokes."""
+    """The places of a function that any call of it reached before a state after which there are no pokes."""
     there = at.at(0)
     start = shell.session.scratch.go(there).where()[0]
     # Where the run begins it doesn't stop.

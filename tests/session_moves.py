@@ -1,5 +1,5 @@
-"""The moves of a session that keeps all of them, from its script and its transcript alone, one by one, and what must be
-told behind each."""
+"""The moves of a session that keeps all of them, one by one, from its script and its transcript alone, and the expected
+report after each."""
 import re
 from collections.abc import Sequence
 

@@ -1,1 +1,1 @@
-"""Tests of `./qrev --check`, of which check/test says how they are run."""
+"""Tests of `./qrev --check`; check/test runs them."""

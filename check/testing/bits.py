@@ -1,8 +1,8 @@
-"""The rules of open bits beside arithmetic that knows nothing of them: tests/reference, which was written from the
+"""The rules of open bits against arithmetic that knows nothing of them: tests/reference, which was written from the
 pages.
 
-The law: whatever the open bits of the operands are, the bits of the result that aren't open are the same. And where a
-rule is exact, each open bit does differ for some two fillings.
+The law: whatever the open bits of the operands are, the other bits of the result are the same. And if a rule is exact,
+each open bit differs between some two fillings.
 """
 from __future__ import annotations
 

@@ -10,7 +10,7 @@ from hostile_tests.programs import random_program
 
 
 def random_files(place: pathlib.Path, word: str, count: int) -> Iterator[tuple[int, pathlib.Path, bytes, list[str]]]:
-    """The number of each, its file, which is there until the next is wanted, its text, and the arguments of its
+    """The number of each, its file (which exists until the next one is asked for), its text, and the arguments of its
     entry."""
     for number in range(count):
         text, arguments = random_program(random.Random(f"{word} {number}"))
@@ -21,7 +21,7 @@ def random_files(place: pathlib.Path, word: str, count: int) -> Iterator[tuple[i
 
 
 def small_fault(number: int, file: pathlib.Path, source: bytes, tried: Callable[[bytes], str | None]) -> str:
-    """What is told of a random program that fails: the smallest that was found to fail, too, and its fault."""
+    """The report on a random program that fails: the smallest one found that also fails, and its fault."""
     def fails(text: bytes) -> str | None:
         file.write_bytes(text)
         return tried(text)

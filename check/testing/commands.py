@@ -191,7 +191,7 @@ def lowered_in(place: str, text: str) -> str:
 
 
 def halted_fault(program: str) -> str | None:
-    """A fault in the runtime of a lowered text is told at the call that led there, in the text that was lowered."""
+    """A fault in the runtime of a lowered text is reported at the call that led there, in the text before lowering."""
     text = "function $stop() {\n@start\n\tcall $abort()\n\tret\n}\nexport function w $main() {\n@start\n" \
         "\tcall $stop()\n\tret 0\n}\n"
     with tempfile.TemporaryDirectory(prefix="check-") as place:
@@ -202,14 +202,19 @@ def halted_fault(program: str) -> str | None:
     return None if all(map(wanted.fullmatch, told)) else f"{told}"
 
 
-def inside_fault(program: str) -> str | None:
-    """A suspicion in the runtime of a lowered text is told with the call that led there: here $strlen looks at a slot
-    that nothing has set."""
-    text = "export function w $main() {\n@start\n\t%slot =l alloc4 4\n\t%n =l call $strlen(l %slot)\n\tret 0\n}\n"
+def shown_of_lowered(program: str, text: str, *forms: str) -> list[str]:
+    """What a check of a text that is lowered prints, in each of these forms."""
     with tempfile.TemporaryDirectory(prefix="check-") as place:
         file = lowered_in(place, text)
-        lines = run(program, file).stdout.splitlines()
-        shown = run(program, file, "--format", "gnu").stdout
+        return [run(program, file, "--format", form).stdout for form in forms]
+
+
+def inside_fault(program: str) -> str | None:
+    """A suspicion in the runtime of a lowered text is reported with the call that led there: here $strlen reads an
+    unset slot."""
+    text = "export function w $main() {\n@start\n\t%slot =l alloc4 4\n\t%n =l call $strlen(l %slot)\n\tret 0\n}\n"
+    told, shown = shown_of_lowered(program, text, "text", "gnu")
+    lines = told.splitlines()
     wanted = r"  called at \$main @start 1  line \d+: %n =l call \$strlen\(l %slot\)  \(a\.ssa:4\)"
     well = re.fullmatch(wanted, lines[2]) and lines[1].startswith("  undef: jnz of ") and \
         re.match(r"a\.ssa:4: warning: undef: jnz of .*, in \$strlen \[#\d+ \$main @start 1\]\n", shown)
@@ -217,14 +222,12 @@ def inside_fault(program: str) -> str | None:
 
 
 def called_fault(program: str) -> str | None:
-    """Two bad calls of one function of the runtime of a lowered text are told at both, the one of a loop once."""
+    """Two bad calls of one function of the runtime of a lowered text are both reported, the one in a loop once."""
     text = ("export function w $main() {\n@start\n\t%slot =l alloc4 4\n\t%other =l alloc4 4\n\tjmp @loop\n@loop\n"
             "\t%i =w phi @start 0, @loop %j\n\t%n =l call $strlen(l %slot)\n\t%j =w add %i, 1\n\t%c =w csltw %j, 3\n"
             "\tjnz %c, @loop, @end\n@end\n\t%m =l call $strlen(l %other)\n\tret 0\n}\n")
-    with tempfile.TemporaryDirectory(prefix="check-") as place:
-        file = lowered_in(place, text)
-        told = run(program, file).stdout
-        log = json.loads(run(program, file, "--format", "json").stdout)
+    told, shown = shown_of_lowered(program, text, "text", "json")
+    log = json.loads(shown)
     called = re.findall(r"undef: jnz of .*?(  \(3 times\))?\n  called at .*\(a\.ssa:(\d+)\)", told)
     lines = [(result["locations"][0]["physicalLocation"]["region"]["startLine"], result["occurrenceCount"])
              for result in log["runs"][0]["results"]]
@@ -232,12 +235,11 @@ def called_fault(program: str) -> str | None:
 
 
 def library_fault(program: str) -> str | None:
-    """What functions of the runtime do behind an object is told, also where they land wholly in another one, and where
-    two addresses are at hand; what they do inside it isn't."""
+    """What functions of the runtime do beyond an object is reported, also if they land wholly in another one, and if
+    two addresses are involved; what they do inside it isn't."""
     for call, wanted in LIBRARY:
-        with tempfile.TemporaryDirectory(prefix="check-") as place:
-            file = lowered_in(place, OBJECTS + f"\t{call}\n\tret 0\n}}\n")
-            lines = run(program, file, "--format", "gnu").stdout.splitlines()
+        shown, = shown_of_lowered(program, OBJECTS + f"\t{call}\n\tret 0\n}}\n", "gnu")
+        lines = shown.splitlines()
         told = [(int(line.split(":")[1]), line.split(": ")[2], line.partition(" of $")[2].split(" ")[0])
                 for line in lines if ": warning: " in line]
         first = (OBJECTS + call).count("\n") + 1
@@ -247,17 +249,16 @@ def library_fault(program: str) -> str | None:
 
 
 def read_only_fault(program: str) -> str | None:
-    """A store into data of a read-only section is told of a text that was lowered too, and a load isn't."""
+    """A store into data of a read-only section is reported for a lowered text too, and a load isn't."""
     text = ('section ".rodata.str"\ndata $text = { b "%d", b 0 }\nsection ".data" data $other = { w 1 }\n'
             "export function w $main() {\n@start\n\t%x =w loadub $text\n\tstorew %x, $other\n\tstoreb %x, $text\n"
             "\tret 0\n}\n")
-    with tempfile.TemporaryDirectory(prefix="check-") as place:
-        told = run(program, lowered_in(place, text), "--format", "gnu").stdout
+    told, = shown_of_lowered(program, text, "gnu")
     return None if re.fullmatch(r"a\.ssa:8: warning: rodata: storeb into \$text .*\n", told) else f"{told!r}"
 
 
 def unnamed_fault(program: str) -> str | None:
-    """A lowered text that is refused as a whole goes by the name of the text that it was lowered from."""
+    """A lowered text that is refused as a whole is reported by the name of the text that it was lowered from."""
     with tempfile.TemporaryDirectory(prefix="check-") as place:
         file = pathlib.Path(place) / "out.ssa"
         file.write_text(TAKES)
@@ -269,17 +270,15 @@ def unnamed_fault(program: str) -> str | None:
 
 
 def lowered_fault(program: str) -> str | None:
-    """Of a text that was lowered the place in the compiler's own text is told, and its runtime is not suspected."""
+    """For a lowered text the place in the compiler's own text is reported, and its runtime isn't suspected."""
     text = ('data $small = align 4 { z 4 }\ndata $next = align 4 { z 4 }\ndata $f = { b "%d\\n", b 0 }\n'
             "export function w $main() {\n@start\n\t%q =l add $small, 4\n\tstorew 7, %q\n"
             "\t%r =w call $printf(l $f, ..., w 12)\n\tret 0\n}\n")
-    with tempfile.TemporaryDirectory(prefix="check-") as place:
-        file = lowered_in(place, text)
-        told = run(program, file)
-    lines = told.stdout.splitlines()
+    told, = shown_of_lowered(program, text, "text")
+    lines = told.splitlines()
     well = len(lines) == 3 and lines[0].endswith("  (a.ssa:7)") and \
         lines[1].startswith("  bounds: storew at the end of $small")
-    return None if well else f"{told.stdout!r} and {told.stderr!r}"
+    return None if well else f"{told!r}"
 
 
 def long_name_fault(program: str) -> str | None:

@@ -1,4 +1,4 @@
-"""The fast pass: that it tells the same as the other one, of the kinds that both tell, and goes on behind it."""
+"""The fast pass: it reports the same as the other one, for the kinds that both know, and goes on after it."""
 from __future__ import annotations
 
 import pathlib
@@ -15,7 +15,8 @@ from .texts import CHECKER, MAIN, SECONDS, TEXTS, run
 
 TOP = MAIN.parent.parent
 # Both look at so many moves.
-LIMIT = ["--limit", "20000"]
+MOST = 20_000
+LIMIT = ["--limit", str(MOST)]
 SLOW = ["--kinds", ",".join(sorted(KINDS)), "--no-heap"]
 # A store behind the end in the eleventh round: each round has six moves, one comes before, and the store is its third.
 LATE = """data $a = align 4 { z 40 }
@@ -60,7 +61,7 @@ Case = tuple[str, Callable[[], str | None]]
 
 
 def same_fault(program: str, file: pathlib.Path, *words: str) -> str | None:
-    """What the fast pass tells of a text otherwise than the other one, or None."""
+    """How the fast pass differs from the other one on a text, or None."""
     slow, fast = run(program, str(file), *words, *LIMIT, *SLOW), run(program, str(file), *words, *LIMIT, "--fast")
     same = (slow.returncode, slow.stdout, slow.stderr) == (fast.returncode, fast.stdout, fast.stderr)
     if same and slow.stdout:

@@ -1,8 +1,8 @@
-"""Nothing rests on what is open: if no use of open bits is suspected in a run, it goes the same way with any values in
-the fresh bytes of slots, and above parts of words behind calls.
+"""Nothing depends on open bits: if no use of open bits is suspected in a run, it goes the same way with any values in
+the fresh bytes of slots, and above parts of words after calls.
 
-The debugger itself is the judge: after each `alloc` the new bytes are poked, after each call and return the bits above
-a part are set, and the run must end the same, with the same output.
+The debugger itself decides: after each `alloc` the new bytes are poked, after each call and return the bits above a
+part are set, and the run must end the same, with the same output.
 """
 from __future__ import annotations
 

@@ -1,4 +1,4 @@
-"""A run of a text that the debugger takes, gathered for a follower."""
+"""The run of an accepted text, gathered for a follower."""
 from __future__ import annotations
 
 import pathlib
@@ -21,7 +21,7 @@ class Run(NamedTuple):
 
 
 def run_of(program: str, file: pathlib.Path, source: bytes, words: list[str], moves: int) -> Run | None:
-    """The run of a text, so many moves of it at most; None where the text is refused."""
+    """The run of a text, at most a number of moves of it; None if the text is refused."""
     launch = Launch(program, str(file), tuple(words), SLICE)
     first = Pipe(launch.command(1))
     first.close()

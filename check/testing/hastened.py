@@ -1,5 +1,5 @@
-"""Quick steps change nothing: a run that is followed with them has the suspicions, the shadows and the memory of one
-that is followed without, for all texts, examples and stories, and random programs.
+"""Quick steps change nothing: with them a run has the same suspicions, shadows and memory as without, for all texts,
+examples and stories, and random programs.
 """
 from __future__ import annotations
 

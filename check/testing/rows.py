@@ -1,9 +1,8 @@
-"""Texts of a few lines, each for a rule: what must be suspected, and what must not. The kinds were worked out by hand
-from docs/CHECKING.md.
+"""Texts of a few lines, each for a rule: what must be suspected, and what must not be. The kinds were worked out by
+hand from docs/CHECKING.md.
 
-A row has lines of `$main`, which ends by `ret 0` unless they end the run; `:` stands before a definition beside it.
-What is expected are the kinds in the order of the moves, each with the line of the row at which it comes (the first is
-1).
+A row has lines of `$main`, which ends by `ret 0` unless they end the run. A line with `:` in front is another
+definition. Expected are the kinds in the order of the moves, each with its line in the row (the first is 1).
 """
 from __future__ import annotations
 
@@ -68,6 +67,10 @@ ROWS: list[tuple[str, str, list[str], list[tuple[int, str]]]] = [
     # ---- calls
     ("function by its address", BYTE, ["%f =l copy $byte", "%x =w call %f()"], []),
     ("call of data", DATA, ["call $a()"], [(1, "callee")]),
+    ("call of parts of two functions", BYTE + "data $two = align 8 { l $byte, l $byte }\n",
+     ["%q =l add $two, 4", "%f =l loadl %q", "%x =w call %f()"], [(3, "callee")]),
+    ("call of an exclusive or that is a function", BYTE, ["%t =l xor $byte, $takes", "%f =l xor %t, $takes",
+                                                          "%x =w call %f()"], []),
     ("call beside a function", BYTE, ["%f =l add $byte, 16", "%x =w call %f(w 1)"], [(2, "callee")]),
     ("call of a number", BYTE, ["%x =w call 4096()"], [(1, "number")]),
     ("load from a function", BYTE, ["%x =w loadw $byte"], [(1, "bounds")]),

@@ -1,4 +1,4 @@
-"""Whole texts and rows, with the suspicions that are expected of each."""
+"""Whole texts and rows, with the expected suspicions of each."""
 from __future__ import annotations
 
 import pathlib
@@ -20,13 +20,15 @@ CHECKER: list[str] = []
 Case = tuple[str, Callable[[], str | None]]
 
 
-def run(program: str, *words: str) -> subprocess.CompletedProcess[str]:
-    return subprocess.run([sys.executable, str(MAIN), "--debugger", program, *CHECKER, "--", *words],
+def run(program: str, *words: str, full: int | None = None) -> subprocess.CompletedProcess[str]:
+    """A check; with `full` of so many moves for all kinds, whatever the fast pass says."""
+    options = [*CHECKER, *(["--full", str(full)] if full else [])]
+    return subprocess.run([sys.executable, str(MAIN), "--debugger", program, *options, "--", *words],
                           capture_output=True, text=True, timeout=SECONDS)
 
 
 def found_in(lines: list[str]) -> list[tuple[str, int, str]]:
-    """The place, the line and the kind of each suspicion that is told."""
+    """The place, the line and the kind of each reported suspicion."""
     found = []
     for first, second in zip(lines[:-1:2], lines[1:-1:2]):
         place = PLACE.match(first)
@@ -37,7 +39,7 @@ def found_in(lines: list[str]) -> list[tuple[str, int, str]]:
 
 
 def text_fault(program: str, file: pathlib.Path) -> str | None:
-    """What is told of a text otherwise than what stands beside it, or None."""
+    """How the report on a text differs from the expected one beside it, or None."""
     wanted = [" ".join(line.split()) for line in file.with_suffix(".expect").read_text().splitlines() if line]
     lines = run(program, str(file)).stdout.splitlines()
     given = [f"{place} line {line} {kind}" for place, line, kind in found_in(lines)]

@@ -1,4 +1,4 @@
-"""Messages that the adapter passes over in silence: each is mended, or the editor is told what is wrong with it."""
+"""Messages that the adapter skips silently: each is corrected, or the editor gets a message about what is wrong."""
 from __future__ import annotations
 
 import json
@@ -73,7 +73,7 @@ def parsed(body: bytes) -> Any:
 
 
 def admitted(raw: bytes, body: bytes) -> Admission:
-    """What becomes of a message, of which these are all its bytes and those of its body."""
+    """What becomes of a message, given all its bytes and those of its body."""
     try:
         message = parsed(body)
     except RecursionError:

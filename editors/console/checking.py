@@ -1,4 +1,4 @@
-"""What `./qrev --check` says of the run of a session, told in the console beside it."""
+"""Shows in the console, beside a session, what `./qrev --check` says of its run."""
 from __future__ import annotations
 
 import threading
@@ -11,7 +11,7 @@ KINDS: dict[bool | str, list[str]] = {True: [], "strict": ["--kinds", "strict"]}
 
 
 class Check:
-    """A check of a launch's run, in a process of its own, until it is told or ended."""
+    """A check of a launch's run, in a process of its own, until it is reported or ended."""
 
     def __init__(self, launch: dict[str, Any], kinds: bool | str, words: list[str],
                  tell: Callable[[list[str]], None]) -> None:

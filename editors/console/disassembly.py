@@ -29,7 +29,7 @@ PATIENCE = 2.0
 
 
 class Row(NamedTuple):
-    """An instruction of the text, with what stands before it: a label, and a function's name where one begins."""
+    """An instruction of the text, with what precedes it: a label, and a function's name where one begins."""
 
     line: int
     text: str
@@ -39,7 +39,7 @@ class Row(NamedTuple):
 
 
 class Place(NamedTuple):
-    """A place of the text: the line of a source that it came from, if a map tells one, and whether it is of the
+    """A place of the text: the line of a source that it came from, if a map has one, and whether it is in the
     runtime."""
 
     source: Line | None
@@ -85,7 +85,7 @@ class Listing:
         return Place(row.source, place.partition(" ")[0] in self.runtime) if row else None
 
     def instructions(self, reference: str, offset: int, first: int, count: int) -> list[dict[str, Any]] | None:
-        """So many rows, the first so many behind an address; rows that there aren't are told as invalid."""
+        """A number of rows from an offset after an address; missing rows are invalid."""
         if not REFERENCE.match(reference):
             return None
         line = int(reference, 16) + offset - BASE

@@ -1,4 +1,4 @@
-"""Messages of the Debug Adapter Protocol as bytes: headers, bodies, and the number behind which a message ends."""
+"""Messages of the Debug Adapter Protocol as bytes: headers, bodies, and the number at the end of a message."""
 from __future__ import annotations
 
 import json

@@ -1,8 +1,8 @@
-"""Has runs stop before suspicious moves: a run that went past one is led back to it before its stop is told.
+"""Makes runs stop before suspicious moves: a run that went past one is led back to it before its stop is reported.
 
-The adapter knows nothing of suspicions. It makes a run, and what it tells of the stop is kept back here until it is
-known whether a suspicious move lies between. If so the session goes there, by `step` and `back` as one types them in
-the console, and the editor is told of one stop, the one there.
+The adapter knows nothing of suspicions. It makes a run, and its report of the stop is held back here until it is known
+whether the run passed a suspicious move. If so the session goes there, by `step` and `back` as typed in the console,
+and the editor gets only that stop.
 """
 from __future__ import annotations
 
@@ -43,7 +43,7 @@ SIMPLE = re.compile(r"set %\S+ \d+|poke [bhwl] \S+ \d+")
 
 @dataclass
 class Run:
-    """A run that the editor asked for by the request of that number, until its stop is told."""
+    """A run that the editor requested by the request of that number, until its stop is reported."""
 
     number: int
     search: Search
@@ -77,7 +77,7 @@ class Errand:
 
 
 class Guard:
-    """The filters that are on, the run that is watched, and the stop that is told last."""
+    """The filters that are on, the watched run, and the last reported stop."""
 
     def __init__(self, words: list[str], news: threading.Condition, send: Callable[[bytes], None],
                  show: Callable[[bytes, Changes | None], None], remark: Callable[[str], None]):
@@ -113,7 +113,7 @@ class Guard:
         return bool(self.kinds) and launch.get("noDebug") is not True
 
     def ask(self, number: int, command: str, launch: dict[str, Any], changes: Changes) -> None:
-        """A run is asked for."""
+        """A run is requested."""
         self.run = None
         if command in WATCHED and self.acts(launch):
             kept = launch.get("history")
@@ -132,7 +132,7 @@ class Guard:
         self.news.notify_all()
 
     def end(self) -> None:
-        """A stop is told, or a run was refused: the run that began isn't watched any more."""
+        """A stop is reported, or a run was refused: the run is no longer watched."""
         if self.run and self.run.is_begun:
             self.run = self.errand = None
 
@@ -145,9 +145,9 @@ class Guard:
         self.searches.close()
 
     def hold(self, command: str, line: str) -> None:
-        """Has a request, or what is typed in the console, wait while the session may still be led elsewhere.
+        """Makes a request, or a console line, wait while the session may still be led elsewhere.
 
-        What begins a run waits until the session stands, and others wait for a moment, since a run may go on for long.
+        What begins a run waits until the session stands, and others wait for a moment, since a run may take long.
         """
         with self.news:
             while self.run and not self.is_urgent and (left := self.seconds_left(self.run, command)) > 0:
@@ -177,7 +177,7 @@ class Guard:
     # Stops.
 
     def keeps(self, stop: bytes) -> bool:
-        """Whether the stop of a run isn't told, since it is told elsewhere or otherwise."""
+        """Whether the stop of a run is held back, since it is reported elsewhere or differently."""
         run = self.run
         body = read(stop).get("body", {})
         found = POSITION.match(str(body.get("description", "")))
@@ -206,7 +206,7 @@ class Guard:
         return True
 
     def met(self, run: Run, here: int, reason: str) -> list[Suspicion]:
-        """The suspicious move at which a run has to stand that stopped here, by all that is told of it, or nothing."""
+        """The suspicious move at which a run that stopped here should stand, or nothing."""
         if here == run.start:
             return []
         is_forward = here > run.start
@@ -221,7 +221,7 @@ class Guard:
             return [each for each in run.search.found if each.position == place and each.kind in self.kinds]
 
     def before(self, run: Run, here: int) -> list[Suspicion]:
-        """What is suspicious about the move that led to where a run stands, by what is known."""
+        """What is known to be suspicious about the move that led to a run's position."""
         if run.is_given_up or here - 1 not in self.places(run):
             return []
         return [each for each in run.search.found if each.position == here - 1 and each.kind in self.kinds]
@@ -265,7 +265,7 @@ class Guard:
             self.remark(f"[{line}]\n")
 
     def tell(self, told: bytes, met: list[Suspicion], changes: Changes | None) -> None:
-        """Tells a stop, behind which requests go on."""
+        """Reports a stop; then waiting requests go on."""
         with self.news:
             self.told, self.unjudged = met, None
         self.show(told, changes)
@@ -294,7 +294,7 @@ class Guard:
         return number
 
     def takes(self, body: bytes) -> bool:
-        """Whether a message answers a request from here, so that nothing of it is shown."""
+        """Whether a message answers a request from here, so that the editor doesn't see it."""
         errand, run = self.errand, self.run
         if not self.asked and not (run and errand):
             return False
@@ -325,7 +325,7 @@ class Guard:
         return True
 
     def watch(self) -> None:
-        """Asks runs that go on for long how far they are, where a suspicious move lies ahead of their start."""
+        """Asks long runs for their position, if there is a suspicious move ahead of their start."""
         while True:
             with self.news:
                 self.news.wait_for(lambda: self.run is not None and self.run.is_begun)
@@ -336,7 +336,7 @@ class Guard:
                     self.request("evaluate", {"expression": "position", "context": "watch"}, run)
 
     def stand(self, run: Run, told: str) -> None:
-        """Pauses a run that has told its position, if it went past a suspicious move that can be reached from there."""
+        """Pauses a run that reported its position, if it went past a suspicious move that can be reached from there."""
         place = next((place for place in self.places(run) if place > run.passed), None)
         if run is not self.run or run.is_standing or not told.isdecimal() or place is None:
             return
@@ -344,7 +344,7 @@ class Guard:
             self.request("pause", {"threadId": 1}, run)
 
     def return_home(self, errand: Errand, here: int, run: Run) -> None:
-        """Goes back to the stop of the run, since its suspicious move can't be reached, and tells that stop."""
+        """Goes back to the stop of the run, since its suspicious move can't be reached, and reports that stop."""
         if errand.suspicions:
             self.say(f"the suspicious move at #{errand.target} can't be reached from here")
         if not errand.suspicions or here == errand.home:
@@ -356,7 +356,7 @@ class Guard:
     # What is told.
 
     def informed(self, body: bytes, position: int | None) -> bytes:
-        """The answer to `exceptionInfo`, of a suspicion where the session stands before one, or at the fault of one."""
+        """The answer to `exceptionInfo` if the session stands before a suspicion, or at the fault of one."""
         message = read(body)
         fault: dict[str, Any] = message.get("body", {}) if message.get("success") else {}
         if not self.told or position is None or self.told[0].position != position - bool(fault):
@@ -371,12 +371,12 @@ class Guard:
 
 
 def is_at(place: str, met: list[Suspicion]) -> bool:
-    """Whether a place line of the adapter may be that of a suspicious move: its names may be written otherwise."""
+    """Whether a place line of the adapter may be that of a suspicious move: its names may be written differently."""
     return place.rpartition(" ")[2] == met[0].first.partition("  ")[0].rpartition(" ")[2]
 
 
 def suspicious(stop: bytes, met: list[Suspicion]) -> bytes:
-    """A stop of the adapter, as it is told before a suspicious move, or with the fault of one."""
+    """A stop of the adapter, as reported before a suspicious move, or with the fault of one."""
     message = read(stop)
     number, at = message.pop("seq"), message.get("body", {})
     fault = f"{at.get('text')}; " if at.get("reason") == FAULT else ""

@@ -1,7 +1,7 @@
-"""How a session begins: with the text of its launch, or with what this is lowered to.
+"""Starts a session: with the text of its launch, or with what that text is lowered to.
 
-The adapter is asked first where a launch doesn't say whether its text has to be lowered, and its refusal is kept back
-until it is known whether `qrev-lower` takes the text. So a text that the adapter takes costs nothing.
+If a launch doesn't say whether to lower its text, the adapter is asked first. Its refusal is held back until it is
+known whether `qrev-lower` takes the text. So a text that the adapter takes costs nothing.
 """
 from __future__ import annotations
 
@@ -91,7 +91,7 @@ class Launcher:
     # Requests.
 
     def end(self, message: dict[str, Any], raw: bytes) -> None:
-        """Ends a session, so that it is known whether one is open when another is asked for."""
+        """Ends a session, so that it is known whether one is open when another is requested."""
         self.ways.end()
         self.ask(Beginning(message.get("seq", 0), {}, {}), raw)
 
@@ -167,7 +167,7 @@ class Launcher:
                  framed(written({**message, "arguments": arguments})))
 
     def give_up(self, beginning: Beginning, why: str, wanted: Wanted) -> None:
-        """Tells the refusal of a text that can't be lowered either, and why it can't, where it is of whole QBE."""
+        """Reports the refusal of a text that can't be lowered either, and why it can't if it is of whole QBE."""
         ends = [body for body in beginning.held if body.startswith(TERMINATED)]
         for body in beginning.held[:len(beginning.held) - len(ends)]:
             self.ways.show(body)
@@ -177,7 +177,7 @@ class Launcher:
             self.ways.show(body)
 
     def tell_refusal(self, why: str, wanted: Wanted) -> None:
-        """Has the console tell what qrev-lower says of a text that it refuses, with a link to the line."""
+        """Shows in the console what qrev-lower says of a refused text, with a link to the line."""
         body: dict[str, Any] = {"category": "stderr", "output": f"{why}\n"}
         if about := ABOUT.match(why):
             path = os.path.join(wanted.folder, about[1])
@@ -186,8 +186,7 @@ class Launcher:
         self.ways.tell({"type": "event", "event": "output", "body": body})
 
     def fail(self, message: dict[str, Any], why: str, wanted: Wanted | None = None) -> None:
-        """Fails a request, as the adapter does: the console tells of a line, and a restart that fails ends the
-        session."""
+        """Fails a request, as the adapter does: the console shows the line, and a failed restart ends the session."""
         # All is told of the requests before it then.
         self.ask_from_here(NOTHING)
         self.ways.respond(message, False, why)
@@ -202,7 +201,7 @@ class Launcher:
             self.news.wait_for(lambda: number not in self.own)
 
     def request(self, command: str) -> int:
-        """Sends a request from here, to which nobody is told the response; its number."""
+        """Sends a request from here, whose response isn't passed on; gives its number."""
         with self.news:
             self.sent += 1
             number = self.sent
@@ -230,7 +229,7 @@ class Launcher:
                 self.lowering = None
 
     def is_refused(self, launch: dict[str, Any]) -> bool:
-        """Whether the debugger refuses the text of a launch otherwise than by how it is started."""
+        """Whether the debugger refuses the text of a launch for a reason other than how it is started."""
         if self.taken is not None and self.taken == signature_of(str(launch.get("program"))):
             return False
         command = [str(TOP / "qrev"), *self.words, "--plain", *words_of(launch), "--history", "1"]
@@ -257,7 +256,7 @@ class Launcher:
             self.lowering.folder.remove()
 
     def place(self, line: str, program: str) -> tuple[str, int] | None:
-        """The line of a text that a line of an answer names, or one that qrev-lower tells."""
+        """The line of a text that a line of an answer, or of qrev-lower, names."""
         if found := LINE.search(line):
             origin = self.current.origin(int(found[1])) if self.current else None
             return (origin.file, origin.number) if origin else (program, int(found[1]))
@@ -314,7 +313,7 @@ class Launcher:
         return None
 
     def terminated(self) -> None:
-        """The adapter tells that a session is over, or a run that isn't debugged."""
+        """The adapter reports the end of a session, or of a run that isn't debugged."""
         if not self.is_open:
             self.drop()
 
@@ -324,7 +323,7 @@ class Launcher:
         self.current = None
 
     def tell_fresh(self) -> None:
-        """Has the console tell of a text that was lowered, behind the response to its request."""
+        """Shows in the console that a text was lowered, after the response to its request."""
         fresh, self.fresh = self.fresh, []
         if fresh:
             self.ways.remark(fresh)

@@ -1,5 +1,4 @@
-"""Texts of whole QBE, brought into the language that the debugger runs: what a launch says of it, and the folder with
-what comes of it."""
+"""Lowers texts of whole QBE for the debugger: what a launch says about it, and the folder with the result."""
 from __future__ import annotations
 
 import os
@@ -42,7 +41,7 @@ class BadLaunch(Exception):
 
 @dataclass(frozen=True)
 class Wanted:
-    """What a launch says of lowering; where it says nothing it is found out whether a text has to be lowered."""
+    """What a launch says about lowering; if nothing, it is found out whether the text must be lowered."""
 
     program: str
     entry: str = "main"
@@ -72,7 +71,7 @@ class Wanted:
                 *([] if self.texts is None else ["--arguments", *self.texts])]
 
     def command_line(self) -> tuple[str, str]:
-        """The words with which `qrev` lowers the same: those in place of the program, and those behind all others."""
+        """The words with which `qrev` lowers the same: those instead of the program, and those after all others."""
         files = (self.program, *(self.path(file) for file in self.files))
         words = ["--lower", *([] if self.input is None else ["--input", self.path(self.input)]), *files]
         return shlex.join(words), "" if self.texts is None else " " + shlex.join(["--", *self.texts])
@@ -147,7 +146,7 @@ class Folder:
 
 @dataclass
 class Lowered:
-    """A text that was lowered, its map of places, and what was told of it."""
+    """A lowered text, its map of places, and the messages about it."""
 
     wanted: Wanted
     folder: Folder
@@ -156,7 +155,7 @@ class Lowered:
     told: list[str] = field(default_factory=list)
 
     def launch(self, launch: dict[str, Any]) -> dict[str, Any]:
-        """The launch that is asked of the adapter."""
+        """The launch that is sent to the adapter."""
         rest = {name: value for name, value in without_own(launch).items() if name != "map"}
         return {**rest, "program": self.program}
 
@@ -165,7 +164,7 @@ class Lowered:
         return next(iter(self.map.origins(line)), None)
 
     def remarks(self) -> list[str]:
-        """What the console tells of it: that it was lowered, and what qrev-lower says without being asked."""
+        """The messages for the console: that the text was lowered, and what qrev-lower writes by itself."""
         name, files = os.path.basename(self.wanted.program), ", ".join(map(os.path.basename, self.wanted.files))
         was = "is of whole QBE: it was lowered" if self.wanted.is_asked is None else \
             f"was lowered{files and ' with '}{files}"
@@ -224,10 +223,9 @@ class Lowering:
 # The map of places.
 
 def placed(program: str, wanted: Wanted) -> SourceMap:
-    """The map of a text that was lowered, in which each path is made whole, and written so.
+    """The map of a lowered text, written with absolute paths.
 
-    A source that isn't there is left out, so that the text itself is shown; where a map stands beside that text the
-    lines are led on by it.
+    A missing source is left out, so that the text itself is shown. If a map is beside that text, it leads the lines on.
     """
     file = pathlib.Path(program + ".map")
     paths, maps = Paths(wanted.folder), maps_of(wanted)
@@ -258,7 +256,7 @@ def maps_of(wanted: Wanted) -> dict[str, SourceMap]:
 
 
 def own_map(text: str, named: str | None) -> SourceMap | None:
-    """The map that stands beside a text, or one that the launch names; as the adapter takes one."""
+    """The map beside a text, or the one that the launch names, as the adapter chooses."""
     if named == "":
         return None
     file = pathlib.Path(os.path.abspath(named or f"{text}.map"))
@@ -288,7 +286,7 @@ def is_place(line: bytes) -> bool:
 
 
 def led_on(fields: list[str], own: SourceMap | None) -> list[str]:
-    """The fields of the source that a line of a text which was lowered came from, if the map of that tells one."""
+    """The fields of the source that a line of the text before lowering came from, if that text's map has one."""
     origins = own.origins(int(fields[1])) if own and fields[1].isdigit() else []
     if not own or not origins:
         return []
@@ -313,7 +311,7 @@ class Paths:
         return self.known[path]
 
     def of_source(self, path: str) -> str:
-        """That of a source, which is looked for where it leads and beside the text; nothing if it isn't there."""
+        """That of a source, which is looked for at its path and beside the text; nothing if it is missing."""
         key = "\t" + path
         if key not in self.known:
             name = path_of(path)

@@ -1,5 +1,4 @@
-"""What a line of an editor's console asks that the prompt answers, and the prompt as a process that is led to a
-state."""
+"""The questions of an editor's console that the prompt answers, and the prompt as a process that is led to a state."""
 from __future__ import annotations
 
 import os
@@ -30,14 +29,14 @@ HELP = """In this console:
   set %x 5, poke w $d 5                         change
   why %x, why w $d, why, why N                  where a value comes from, and on from there
   readers $d, writers $d, when %x, path         what read it, wrote it, set it; the way through the function
-  suspects, made %x                             what no right compiler's output does; what a value is made of
+  suspects, made %x                             what no correct compiler's output does; what a value is made of
   disas, x/8xw $d, info locals                  the text of a function; memory; the frame
 docs/DEBUGGER.md and docs/TERMINAL.md have all of it.
 """
 
 
 def is_question(line: str) -> bool:
-    """Whether the prompt is asked for a line of the console."""
+    """Whether the prompt answers a line of the console."""
     words = line.split()
     if not words:
         return False
@@ -94,7 +93,7 @@ def words_of(launch: dict[str, Any]) -> list[str]:
 
 
 class Prompter:
-    """The prompt of qrev on a program, which stands where it was led last."""
+    """The prompt of qrev on a program, at the position where it was last led."""
 
     def __init__(self, launch: dict[str, Any], words: list[str]):
         self.process = subprocess.Popen(
@@ -104,7 +103,7 @@ class Prompter:
         self.led: list[str] | None = None
 
     def answer(self, way: list[str], frame: int, question: str) -> str:
-        """What the prompt answers to a question, behind the lines that lead to a state, in a frame counted from 0."""
+        """What the prompt answers to a question, after the lines that lead to a state, in a frame counted from 0."""
         lead = [*way, f"frame {frame}"]
         # What was changed on another way is taken back at the start.
         is_same = self.led is None or self.led[:-2] == way[:-1]
@@ -131,7 +130,7 @@ class Prompter:
         return None
 
     def close(self) -> None:
-        """Ends the prompt, so that it takes its folder away."""
+        """Ends the prompt, so that it removes its folder."""
         self.process.terminate()
         threading.Thread(target=self.see_ended, daemon=True).start()
 

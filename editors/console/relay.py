@@ -210,7 +210,7 @@ class Relay:
         self.forward(raw)
 
     def end_session(self) -> None:
-        """What is known of a session, and what is looked for beside it, isn't wanted any more."""
+        """Drops what is known of a session, and the searches beside it."""
         with self.news:
             self.changes, self.position = Changes(), None
             self.drop_helpers()
@@ -236,7 +236,7 @@ class Relay:
         return framed(written({**message, "arguments": {**given, "expression": line}}))
 
     def waits(self) -> bool:
-        """Waits until what was asked before is answered, and says whether the run stands then."""
+        """Waits until earlier requests are answered, and says whether the run stands then."""
         with self.news:
             return self.news.wait_for(lambda: not self.open and not self.is_running, PATIENCE) and \
                 self.position is not None

@@ -1,8 +1,8 @@
-"""Steps by lines that the adapter ends where nobody wants to stand: each goes on, and one stop is told.
+"""Steps by lines that the adapter ends at an unwanted place: each goes on, and only one stop is reported.
 
-*Step Into* doesn't go into functions of the runtime, as those that an operation on floats was lowered to, and no step
-ends there that began elsewhere. And *Step Back* goes to the beginning of the first line of a source, where the run came
-to it from places that are of no source.
+*Step Into* doesn't go into functions of the runtime, such as those that an operation on floats was lowered to, and no
+step that began elsewhere ends there. *Step Back* goes to the beginning of the first line of a source, if the run came
+to it from places without a source.
 """
 from __future__ import annotations
 
@@ -14,18 +14,17 @@ from typing import Any, Callable
 
 from .disassembly import Disassembly
 from .frames import framed, read, written
+from .guard import HOLD, LEAVING as ENDING, OWN_HOLD
 from .questions import POSITION
 
 # How a place line goes on behind the position.
 PLACE = re.compile(r"#\d+ (\$\S+ @\S+ \d+)$")
-# Seconds for which requests wait for such a step: behind its request, and while it goes on from here.
-HOLD, OWN_HOLD = 0.25, 10.0
 # More functions of the runtime than a line calls.
 MOST_CALLS = 10_000
 # The numbers of the requests from here, which no editor comes to, and neither do those of others that stand here.
 OWN = 1 << 42
 STEPS = frozenset(("stepIn", "next", "stepOut", "stepBack"))
-LEAVING = frozenset(("pause", "restart", "terminate", "disconnect"))
+LEAVING = ENDING | {"pause"}
 
 
 @dataclass
@@ -100,7 +99,7 @@ class Stepper:
         return None if message.get("success") else self.ended(step.held)
 
     def stopped(self, step: Step, stop: dict[str, Any], body: bytes) -> bytes | None:
-        """A stop that is told, or nothing if the step goes on from there."""
+        """The stop to report, or nothing if the step goes on from there."""
         if step.is_return:
             return self.ended(step.held)
         found = POSITION.match(str(stop.get("description", "")))

@@ -1,4 +1,4 @@
-"""The suspicious moves of a run, looked for beside the session, and the filters by which runs stop there."""
+"""Finds the suspicious moves of a run beside the session, and has the filters by which runs stop there."""
 from __future__ import annotations
 
 import os
@@ -17,7 +17,7 @@ from .questions import TOP, Changes, Prompter, words_of
 KINDS = {"suspicions": DEFAULT, "strict": STRICT - DEFAULT}
 FILTERS = [
     {"filter": "suspicions", "label": "Suspicions", "default": True,
-     "description": "Stops before a move that no right compiler's output makes"},
+     "description": "Stops before a move that no correct compiler's output makes"},
     {"filter": "strict", "label": "Strict", "default": False,
      "description": "Stops before a load, an argument or a result that nothing set, which right C programs have"},
 ]
@@ -38,7 +38,7 @@ WHOLE = 1 << 64
 
 @dataclass(frozen=True)
 class Suspicion:
-    """A suspicious move: the position before it, its kind, and the two lines that are told of it."""
+    """A suspicious move: the position before it, its kind, and the two lines about it."""
 
     position: int
     kind: str
@@ -130,7 +130,7 @@ class Search:
         return prompter
 
     def take_far(self) -> None:
-        """Keeps what the fast pass tells of the moves behind those that are known."""
+        """Keeps what the fast pass finds in the moves after the known ones."""
         told = self.far.communicate()[0] if self.far else ""
         if not (summary := SUMMARY.search(told)):
             return
@@ -140,7 +140,7 @@ class Search:
             self.news.notify_all()
 
     def goes_on(self, told: str) -> bool:
-        """Keeps what the prompt told; whether the run goes on behind it."""
+        """Keeps the prompt's answer; says whether the run goes on after it."""
         summary = SUMMARY.search(told)
         if not summary:
             # A search that is broken off knows what it has found up to there.
@@ -172,7 +172,7 @@ def begin_check(launch: dict[str, Any], words: list[str], options: list[str]) ->
 
 
 def suspicions_in(told: str) -> list[Suspicion]:
-    """The suspicions that `suspects` or --check tells, in their order."""
+    """The suspicions that `suspects` or --check lists, in their order."""
     return [Suspicion(int(position), kind, first, second) for first, position, second, kind in ENTRY.findall(told)]
 
 

@@ -1,8 +1,8 @@
 """Functions that stand between a call by an address and functions of another shape than the call has.
 
-Native code passes arguments in registers, so that a function may be called with an environment, with dots or with
-longer values than it takes. Here a call must have the shape of the function: so an adapter compares the address with
-those of the functions that have another shape, and calls these by their names.
+Native code passes arguments in registers, so a function may be called with an environment, with dots or with longer
+values than it takes. Here a call must have the shape of the function. So an adapter compares the address with those of
+the functions of other shapes, and calls these by their names.
 """
 from terminal.reading.tree import Aggregate, Block, Call, Function, Instruction, Jump, Text
 
@@ -32,7 +32,7 @@ class Adapters:
         return self.by_shape[key]
 
     def is_other(self, has: Signature, call: Signature, has_dots: bool) -> bool:
-        """Whether a function of another shape than a call has may stand behind it all the same."""
+        """Whether a call may still reach a function of another shape."""
         is_same = has.carried() == call.carried() and has.has_environment == call.has_environment and not has.has_dots
         if is_same and call.carried_result() in (None, has.carried_result()):
             return False

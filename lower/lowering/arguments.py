@@ -1,8 +1,8 @@
-"""What a program is given: its command line as texts, which native code finds in the `argc` and `argv` of its `main`,
-and its input.
+"""What a program is given: its input, and its command line as texts, which native code finds in `argc` and `argv` of
+`main`.
 
 The debugger gives the entry numbers. So the entry is written without parameters, and sets them at its beginning: the
-count, and the address of a table of texts, of which the first is the program's name and the last is followed by 0.
+count, and the address of a table of texts. The first is the program's name, and 0 follows the last.
 """
 import os
 

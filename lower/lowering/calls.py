@@ -1,5 +1,5 @@
-"""Writes calls: arguments in the shape that the called function has, results that are aggregates in memory of the
-caller, and what stands behind dots in cells of 8 bytes."""
+"""Writes calls: arguments in the shape of the called function, aggregate results in memory of the caller, and variadic
+arguments in cells of 8 bytes."""
 from terminal.reading.instructions import CARRIED, class_of
 from terminal.reading.tree import Call, Instruction, Place, Value
 
@@ -112,7 +112,8 @@ class CallWriter:
         kind = call.result_kind()
         wanted = carried_class(kind)
         if is_float(kind) != is_float(signature.returns):
-            self.note(f"the result of {name} is a {signature.returns} that is taken as a {kind}", Weight.OTHER)
+            self.note(f"the result of {name} is a {signature.returns} that is taken as a {kind}",
+                      self.weight_of_other())
         elif wanted != gives:
             self.note(f"the result of {name} is a {gives} that is taken as a {wanted}: "
                       + ("extended by zeros" if wanted == "l" else "cut"))
@@ -158,7 +159,8 @@ class CallWriter:
                 written.append(self.fitted(*call.arguments[index], kind, index + 1, target))
             else:
                 written.append(f"{CARRIED[class_of(kind)]} 0")
-                self.note(f"{name} wants {count} arguments, and the call gives {len(call.arguments)}: 0", Weight.OTHER)
+                self.note(f"{name} wants {count} arguments, and the call gives {len(call.arguments)}: the others are 0",
+                          Weight.OTHER if target.is_outside() else self.weight_of_other())
         others = call.arguments[count:]
         if signature.has_dots and not target.is_of_runtime():
             self.note_other_order(target, others)
@@ -170,14 +172,20 @@ class CallWriter:
         return written
 
     def note_other_order(self, target: Symbol, arguments: list[tuple[str, Value]]) -> None:
-        """A note where the function takes what is behind the dots in another order than that of the arguments."""
+        """A note if the function takes its variadic arguments in another order than that of the call."""
         for index, (cls, (kind, _)) in enumerate(zip(taken_by(target), arguments)):
             if is_float(cls) != is_float(kind):
                 self.note(
                     f"argument {index + 1} behind the dots of {target.name} is a {kind}, and its `vaarg` there takes a "
                     f"{cls}: native code takes floats and integers from registers of their own",
-                    Weight.APART if self.symbol in self.program.reached else Weight.OTHER)
+                    self.weight_of_other())
                 return
+
+    def weight_of_other(self) -> Weight:
+        """That of a call by which native code takes something else, where it can be reached. The runtime takes the bits
+        of a float on purpose."""
+        is_told = self.symbol in self.program.reached and not self.symbol.is_of_runtime()
+        return Weight.APART if is_told else Weight.OTHER
 
     def fitted(self, kind: str, value: Value, wanted: str, number: int, target: Symbol) -> str:
         """An argument in the class of its parameter."""
@@ -185,7 +193,7 @@ class CallWriter:
         have, want = carried_class(kind), carried_class(wanted)
         if is_float(kind) != is_float(wanted) or \
                 kind.startswith(":") != wanted.startswith(":") and not target.is_of_runtime():
-            self.note(f"argument {number} of {name} is a {kind} for a {wanted}", Weight.OTHER)
+            self.note(f"argument {number} of {name} is a {kind} for a {wanted}", self.weight_of_other())
         elif have != want:
             self.note(f"argument {number} of {name} is a {kind} for a {wanted}: "
                       + ("extended by zeros" if want == "l" else "cut"))
@@ -231,7 +239,7 @@ class CallWriter:
     # Calls by an address.
 
     def write_indirect(self, call: Call) -> None:
-        """A call by an address: by an adapter, where functions of other shapes may stand behind it."""
+        """A call by an address: by an adapter, if it may reach functions of other shapes."""
         kinds = tuple(kind for kind, _ in call.arguments)
         signature = Signature(call.kind, kinds, call.environment is not None, False)
         slot = self.slot_for(call.result_kind()) if signature.gives_aggregate() else None
@@ -253,7 +261,7 @@ class CallWriter:
 
 
 def taken_by(target: Symbol) -> list[str]:
-    """The classes that a function takes of what is behind its dots, as far as its first block tells."""
+    """The classes of a function's variadic arguments, as far as its first block shows them."""
     block = target.function().blocks[0]
     return [each.cls for each in block.instructions if isinstance(each, Instruction) and each.name == "vaarg"]
 

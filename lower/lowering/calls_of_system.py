@@ -1,4 +1,4 @@
-"""Calls of the system by their numbers, on x86-64 Linux: which the runtime answers, and how the others are called."""
+"""System calls by their numbers, on x86-64 Linux: which the runtime answers, and the names of the others."""
 
 # What lower/runtime/system.ssa answers.
 ANSWERED = frozenset((0, 1, 3, 9, 10, 11, 12, 13, 14, 16, 20, 24, 28, 39, 60, 62, 96, 102, 104, 107, 108, 110, 186, 200,

@@ -1,4 +1,4 @@
-"""What QBE refuses of a function that was read: labels, classes and phis."""
+"""What QBE refuses in a function: labels, classes and phis."""
 from typing import NoReturn
 
 from terminal.reading.instructions import WITH_RESULT, WITHOUT_RESULT, class_of

@@ -67,7 +67,7 @@ def written_item(item: Item, name_of: Callable[[str], str], address_of: Callable
 
 
 def written_data(data: Data, name: str, name_of: Callable[[str], str], address_of: Callable[[str], int]) -> str:
-    """The line of an object; its globals are told by two calls, as names and as addresses."""
+    """The line of an object; two calls give its globals, as names and as addresses."""
     fields = []
     for letter, items in fields_of(data.items):
         fields.append(f"{letter} " + " ".join(written_item(item, name_of, address_of) for item in items))

@@ -1,5 +1,5 @@
-"""What runs before the entry and behind it: the functions of the sections `.preinit_array`, `.init_array` and
-`.fini_array`, as a linker and a C library have it, and those of `atexit`."""
+"""What runs before and after the entry: the functions of the sections `.preinit_array`, `.init_array` and
+`.fini_array`, as with a linker and a C library, and those of `atexit`."""
 from __future__ import annotations
 
 from typing import TYPE_CHECKING, NamedTuple
@@ -45,7 +45,7 @@ def array_names(section: str) -> tuple[str, str]:
 
 
 def uses_finalizers(program: Program) -> bool:
-    """Whether a text has something to run behind the entry."""
+    """Whether a text has something to run after the entry."""
     for unit in program.units:
         for definition in unit.text.definitions:
             if isinstance(definition, Function):
@@ -57,7 +57,7 @@ def uses_finalizers(program: Program) -> bool:
 
 
 class Ends:
-    """The functions that run before the entry of a program and behind it."""
+    """The functions that run before the entry of a program and after it."""
 
     def __init__(self, program: Program):
         self.program = program
@@ -65,8 +65,7 @@ class Ends:
         self.finalizers: Symbol | None = None
 
     def of(self, section: str) -> list[Symbol]:
-        """The functions of a section, of the texts of which something is kept, in the order in which a linker puts
-        them."""
+        """The functions of a section, in the texts that something is kept of, in a linker's order."""
         program, found = self.program, []
         kept = {symbol.unit for symbol in program.kept}
         for unit in program.units:
@@ -78,7 +77,7 @@ class Ends:
         return [placed.symbol for placed in sorted(found, key=lambda placed: placed.number)]
 
     def keep(self) -> None:
-        """Keeps what runs before and behind, and what that needs."""
+        """Keeps what runs before and after, and what that needs."""
         program = self.program
         while True:
             before = len(program.kept)
@@ -135,14 +134,14 @@ def is_named(program: Program, symbol: Symbol) -> bool:
 
 
 def has_ends(program: Program) -> bool:
-    """Whether a text has something to run before the entry or behind it."""
+    """Whether a text has something to run before or after the entry."""
     return program.uses_finalizers or any(isinstance(definition, Data) and section_of(definition)
                                           for unit in program.units for definition in unit.text.definitions)
 
 
 def wrapped(program: Program, entry: Symbol) -> Symbol:
-    """A function in the place of an entry that may be called again, so that its arguments are set once, and that what
-    runs before and behind it does so once."""
+    """A function in the place of an entry that may be called again, so that its arguments are set only once, and that
+    the functions before and after it run only once."""
     function = entry.definition
     assert isinstance(function, Function)
     unit = Unit(Text(entry.home().text.path, [], {}, []), False)

@@ -1,9 +1,9 @@
-"""Functions that share state, as an allocator's, and that the runtime has too: all are the text's own, or all the
+"""Functions that share state, such as an allocator's, and that the runtime has too: all are the text's own, or all the
 runtime's.
 
-A definition of the text goes before the runtime's. But where one of a family comes to a function from outside, or asks
-the system for more memory at once than there is, the runtime's are taken for all of the family: a block of one heap
-that is given back to another would be a fault that the program doesn't have.
+A definition of the text has precedence over the runtime's. But if one of a family calls a function from outside, or
+asks the system for more memory at once than there is, the whole family is the runtime's: a block of one heap given back
+to another would be a fault that the program doesn't have.
 """
 from __future__ import annotations
 

@@ -1,6 +1,6 @@
 """Writes a function in the language of qrev: aggregates by address, floats as their bits, dots as cells of memory.
 
-What a line needs in front of all others, such as memory for a result, stands at the beginning of the first block.
+What a line needs before all others, such as memory for a result, goes to the beginning of the first block.
 """
 from terminal.reading.instructions import (
     CARRIED, FLOAT_COMPARISONS, FLOATS, INTEGERS, LOADS_BY_CLASS, SUBWORDS, WITH_RESULT)
@@ -68,7 +68,7 @@ class FunctionWriter(CallWriter):
         self.ends: Ends | None = None
 
     def write(self, ends: Ends | None) -> None:
-        """The lines of the function; of the entry also the calls of what runs before it and behind it."""
+        """The lines of the function; for the entry also the calls of what runs before it and after it."""
         self.ends = ends
         function = self.function
         blocks = function.kept

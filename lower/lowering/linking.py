@@ -1,6 +1,6 @@
 """Makes one program of several texts: what each name stands for, and what is kept of it.
 
-What isn't exported is known in its own text alone. A name that a text doesn't define is what another text exports, else
+What isn't exported is known only in its own text. A name that a text doesn't define is what another text exports, else
 what the runtime has, else built in, else a function from outside, which halts.
 """
 from collections.abc import Iterable
@@ -142,12 +142,12 @@ class Program:
             self.kept[symbol] = None
 
     def keep_from(self, entry: Symbol) -> None:
-        """Keeps what is reachable from the entry, and what runs before it and behind it."""
+        """Keeps what is reachable from the entry, and what runs before and after it."""
         self.keep([entry])
         self.ends.keep()
 
     def give_names(self) -> None:
-        """Names for all that is kept and has none: first those that can't be had otherwise."""
+        """Names for all that is kept and has none: first those with no other choice."""
         nameless = [symbol for symbol in self.kept if not symbol.name]
         # What the runtime calls as built in can't be hidden by a definition of the same name.
         self.names.taken.update(symbol.name for symbol in self.kept if symbol.is_built_in)

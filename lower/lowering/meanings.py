@@ -66,7 +66,7 @@ def told_data(symbol: Symbol, data: Data) -> Iterator[str]:
 
 
 def told_stores(chunk: "Chunk", function: Function, before: int) -> Iterator[str]:
-    """The stores of constants of floats, by the lines of the text, of which so many stand before the function's."""
+    """The stores of constants of floats, by the lines of the text, given how many lines precede the function's."""
     stores = {each.line: each.name[-1] for block in function.blocks for each in block.instructions
               if isinstance(each, Instruction) and each.name in ("stores", "stored")
               and isinstance(each.operands[0], int)}

@@ -1,4 +1,4 @@
-"""Lawful names for those of QBE: one for each, and the same where that can be."""
+"""Accepted names for QBE's names: one for each, unchanged if possible."""
 import re
 
 from terminal.reading.accepted import NAME
@@ -14,8 +14,8 @@ class Names:
         self.taken: set[str] = set()
 
     def give(self, raw: str) -> str:
-        """A name that no other has. Each other byte becomes a dot and two hexadecimal digits, and a number is put
-        behind a name that is taken."""
+        """A name that no other has. Each other byte becomes a dot and two hexadecimal digits, and a taken name gets a
+        number at its end."""
         name = raw if LAWFUL.fullmatch(raw) else \
             "$" + (OTHER.sub(lambda match: f".{ord(match.group()):02x}", raw[1:]) or ".")
         given, number = name, 1

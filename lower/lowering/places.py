@@ -1,4 +1,4 @@
-"""Leads places of a lowered text back to the text that was lowered, and to the source that its debug lines tell."""
+"""Maps places of a lowered text back to the text before lowering, and to the source in its debug lines."""
 import functools
 import os
 import pathlib

@@ -1,4 +1,4 @@
-"""Reads a text as QBE takes it, and refuses what QBE refuses of a function that was read."""
+"""Reads a text as QBE does, and refuses what QBE refuses in a function."""
 from terminal.reading.reader import TextReader as Reader
 from terminal.reading.tree import Function
 

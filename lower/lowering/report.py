@@ -40,7 +40,7 @@ class Report:
         return Weight.HALTS in self.notes.values()
 
     def told(self) -> list[str]:
-        """The notes that are told without being asked for: of what can be reached, and would halt or runs otherwise."""
+        """The notes that are always printed: on what can be reached, and would halt or run differently."""
         return [note + SAID[weight] for note, weight in self.notes.items() if weight in (Weight.APART, Weight.HALTS)]
 
     def lines(self) -> list[str]:

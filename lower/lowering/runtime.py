@@ -1,6 +1,6 @@
-"""The runtime: texts of the language itself in the folder runtime/, of which those are read that are needed.
+"""The runtime: texts of the language itself in the folder runtime/. Only the needed ones are read.
 
-A function whose last parameter is `%cells` takes arguments behind dots: the address of their cells, of 8 bytes each.
+A function whose last parameter is `%cells` takes variadic arguments: the address of their cells, of 8 bytes each.
 """
 import pathlib
 import re

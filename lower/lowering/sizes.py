@@ -1,4 +1,4 @@
-"""Where the bytes of a text are: by the texts that it was linked of, and its largest definitions."""
+"""Where the bytes of a text are: by the texts that it was linked from, and its largest definitions."""
 from collections import Counter
 from typing import TYPE_CHECKING, NamedTuple
 

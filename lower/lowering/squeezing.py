@@ -1,5 +1,5 @@
-"""Makes a text smaller that is larger than qrev takes: without spaces that nothing needs, and then with short names for
-temporaries and labels, the same for the same name in all functions. Lines stay lines, so that the map holds."""
+"""Shortens a text that is larger than qrev takes: it drops unnecessary spaces, and then gives temporaries and labels
+short names, the same for the same name in all functions. Lines stay lines, so the map holds."""
 import re
 from collections import Counter
 from collections.abc import Iterator

@@ -1,7 +1,7 @@
 """What no call of a run can reach, though data has its address: functions of tables that nothing calls.
 
-Linking keeps what is named. A function that is named by data alone runs only behind a call by an address, and such a
-call enters a function of its own shape or none (`fault call shape`). So where no call of that shape can be reached, the
+Linking keeps what is named. A function that only data names runs only after a call by an address, and such a call
+enters a function of its own shape or none (`fault call shape`). So if no call of that shape can be reached, the
 function is cut to one that halts, of the same shape and at the same address: a run is the same, move by move.
 """
 import re

@@ -1,9 +1,9 @@
-"""What QBE refuses of the values of a function, once it dropped the blocks to which control can't come: temporaries
-that aren't in SSA form where it doesn't bring them into it, and stack slots that are read and never stored to.
+"""What QBE refuses in the values of a function, after it dropped unreachable blocks: temporaries that aren't in SSA
+form and that it doesn't convert, and stack slots that are read and never stored to.
 
 QBE keeps a stack slot of the first block in a temporary where all its uses are loads and stores of one size. It then
 renames the temporaries that have several definitions, or one whose uses it can't see in one block; not those that a phi
-defines, and not the values of phis. What it didn't rename has to have one definition, before all uses.
+defines, and not the values of phis. What it didn't rename must have one definition, before all uses.
 """
 from typing import NamedTuple, NoReturn
 
@@ -183,8 +183,8 @@ class ValueChecker:
             self.check_renamed(name, places, uses)
 
     def check_renamed(self, name: str, places: list[tuple[int, int]], uses: list[Use]) -> None:
-        """The definitions by phis stay. The others are renamed, and with them what they reach: all, or if it is used in
-        their own blocks alone, what comes behind the first of a block."""
+        """The definitions by phis stay. The others are renamed, and with them what they reach: all, or, if it is used
+        only in their own blocks, what comes after the first of a block."""
         by_phis = [place for place in places if place[1] == AT_THE_LABEL and place[0] != 0]
         first: dict[int, int] = {}
         for place in places:
@@ -197,7 +197,7 @@ class ValueChecker:
             self.check_dominated(name, by_phis, left)
 
     def live_out(self, places: list[tuple[int, int]], uses: list[Use]) -> set[int]:
-        """The blocks behind which a temporary may be used."""
+        """The blocks after which a temporary may be used."""
         first: dict[int, int] = {}
         for block, index in places:
             first[block] = min(index, first.get(block, AT_THE_JUMP))

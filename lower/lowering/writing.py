@@ -1,4 +1,4 @@
-"""Writes a program: the text that qrev runs, and beside it the map that says where each of its lines comes from."""
+"""Writes a program: the text that qrev runs, and beside it the map that says where each line comes from."""
 import os
 from dataclasses import dataclass
 
@@ -34,7 +34,7 @@ class Chunk:
 
 
 class ProgramWriter:
-    """Writes what a program keeps; in the entry stand the calls of what runs before and behind it."""
+    """Writes what a program keeps; the entry has the calls of what runs before and after it."""
 
     def __init__(self, program: Program, report: Report, entry: Symbol | None):
         self.program, self.report, self.entry = program, report, entry
@@ -114,7 +114,7 @@ class ProgramWriter:
         return Chunk(symbol, texts, [(definition.line, None)] * len(texts), unit.text.path)
 
     def join_arrays(self) -> None:
-        """Puts the end of an array of functions right behind it."""
+        """Puts the end of an array of functions right after it."""
         symbols = {symbol.raw: symbol for symbol in self.data if symbol.is_of_runtime()}
         for start, end in map(array_names, SECTIONS):
             if start in symbols and end in symbols:
@@ -156,7 +156,7 @@ class ProgramWriter:
         self.data_bytes = self.data_end(self.data) - FIRST_DATA
 
     def overflows(self, size: int) -> list[str]:
-        """What qrev will refuse of a text of so many bytes."""
+        """What qrev will refuse in a text of this many bytes."""
         found = []
         for what, number, most in (("bytes", size, MOST_BYTES), ("bytes of data", self.data_bytes, MOST_DATA),
                                    ("functions", len(self.chunks) - len(self.data), MOST_FUNCTIONS)):
@@ -184,9 +184,8 @@ def escape(path: str) -> str:
 
 
 def map_of(chunks: list[Chunk]) -> str:
-    """A line for each line of the text: the file and the line that it comes from, and behind these the file, the line
-    and the column of the source that the debug lines tell, each behind a tabulator. A line without an origin is
-    empty."""
+    """A line for each line of the text: the file and the line that it comes from, then the file, the line and the
+    column of the source in the debug lines, separated by tabs. A line without an origin is empty."""
     lines = []
     for chunk in chunks:
         # A path as its bytes, each a character, as the text itself is.

@@ -1,1 +1,1 @@
-"""The tests of lower/: what qrev-lower makes of texts, run by the built program."""
+"""The tests of lower/: the built program runs the texts that qrev-lower makes."""

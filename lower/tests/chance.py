@@ -1,5 +1,5 @@
-"""Random programs beside native code: arithmetic of all classes, conversions, memory, joins, loops and calls, with what
-comes of it printed by the C library there and by the runtime here."""
+"""Random programs against native code: arithmetic of all classes, conversions, memory, joins, loops and calls. The C
+library prints the results there, and the runtime here."""
 import random
 
 from .native import is_there, native

@@ -152,8 +152,7 @@ def wrapper_faults(running: Running) -> Results:
 
 
 def refused_checks(wrapper: Wrapper, said: str) -> Results:
-    """A check of a text that isn't lowered says so in the form that it is asked for: the second text is the wrong
-    one."""
+    """A check of a text that isn't lowered reports that in the requested form: the second text is the wrong one."""
     words = ["--check", "--lower", "b.ssa", "wrong.ssa", "1", "--format"]
     run = wrapper.run(*words, "text")
     yield "command/--check of a refused text", differ("run", (1, "", said), (run.returncode, run.stdout, run.stderr))

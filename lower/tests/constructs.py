@@ -1,4 +1,4 @@
-"""Each construct of QBE's reference that the language of qrev lacks, with the value worked out by hand."""
+"""Each construct of QBE's reference that qrev's language lacks, with a value worked out by hand."""
 from typing import NamedTuple
 
 from .running import TOP, Results, Running, differ

@@ -40,7 +40,7 @@ def truncated(value: float) -> int:
 
 
 def whole(value: float, bits: int) -> int:
-    """The signed integer of so many bits, cut toward zero; the least where it doesn't fit."""
+    """The signed integer of a number of bits, cut toward zero; the least if it doesn't fit."""
     least = -1 << bits - 1
     if math.isnan(value) or math.isinf(value):
         return least

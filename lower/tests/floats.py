@@ -1,7 +1,7 @@
 """Floats against the processor: pairs of operands with the bits of their results, compared by a text of QBE in batches.
 
-Doubles are worked out by Python's floats, which are the processor's; singles exactly, in whole numbers, and rounded
-once. A record that is planted with a wrong result must be told, and no other may be.
+Python's floats, which are the processor's, give the doubles. Singles are computed exactly, in whole numbers, and
+rounded once. A planted record with a wrong result must be reported, and no other may be.
 """
 import itertools
 import math
@@ -291,7 +291,7 @@ def planted(record: bytes, offset: int) -> bytes:
 
 
 def batch_fault(running: Running, cls: str, records: list[bytes]) -> str | None:
-    """What is wrong in a batch: the one record that is planted, in the middle, must be told and no other."""
+    """What is wrong in a batch: only the planted record, in the middle, may and must be reported."""
     middle, first_result = place_for_plant(cls, records), {"s": 8, "d": 16}[cls]
     records = records[:middle] + [planted(records[middle], first_result)] + records[middle:]
     fault, others = running.told_of_batch(pair_program(cls, records), len(records), f"{middle} 1")

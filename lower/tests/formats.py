@@ -1,5 +1,4 @@
-"""printf against that of the C library: formats with all flags, widths, precisions and lengths, and values of all
-kinds."""
+"""printf against the C library's: formats with all flags, widths, precisions and lengths, and values of all kinds."""
 import ctypes
 import math
 import random
@@ -179,6 +178,7 @@ def results(running: Running) -> Results:
     for begin in range(0, COUNT, AT_ONCE):
         batch = forms[begin:begin + AT_ONCE]
         yield f"formats/{begin // AT_ONCE + 1} ({len(batch)} formats)", batch_fault(running, batch)
+    yield "formats/no suspicion", running.suspicion(program(forms[:40]).replace("\tret %sum40", "\tret 0"))
     for begin in range(0, 1000, 500):
         batch = [form for form in forms[begin:begin + 500] if not form.text.endswith("%%")]
         yield f"formats/to memory {begin // 500 + 1} ({len(batch)} formats)", memory_fault(running, batch, choice)

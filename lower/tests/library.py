@@ -1,19 +1,15 @@
 """The functions of the C library against the machine's own: random calls in batches, by ctypes. Each batch is a text
-that makes the calls, compares what they give with what the library gave, and tells the numbers of those that differ."""
+that makes the calls, compares their results with the library's, and prints the numbers of those that differ."""
 import ctypes
 import math
-import pathlib
 import random
 import struct
-import subprocess
-import sys
-import tempfile
 from collections.abc import Callable, Iterator
 from fractions import Fraction
 from typing import NamedTuple
 
 from .floats import string_of
-from .running import LOWER, Results, Running, Skipped, differ
+from .running import Results, Running, Skipped, differ
 
 LONG = (1 << 64) - 1
 BUFFER = 160
@@ -65,7 +61,7 @@ def integer(choice: random.Random) -> int:
 
 
 def numeral(choice: random.Random) -> bytes:
-    """What may be a number: spaces, a sign, a front, digits, and something behind."""
+    """What may be a number: spaces, a sign, a prefix, digits, and something after it."""
     front = choice.choice((b"", b"", b"0", b"0x", b"0X", b"0b"))
     length = choice.choice((0, 1, 2, 3, 5, 10, 19, 20, 24))
     letters = DIGITS[:10] if choice.random() < 0.6 else DIGITS[:choice.choice((2, 8, 16, 62))]
@@ -109,6 +105,13 @@ def decimal(choice: random.Random) -> bytes:
 def text(choice: random.Random, most: int = 24) -> bytes:
     letters = b"ab" if choice.random() < 0.7 else bytes(range(1, 256))
     return bytes(choice.choice(letters) for _ in range(choice.randrange(most)))
+
+
+def likes(choice: random.Random) -> list[Given]:
+    """Two texts that are often the same but for the case of letters."""
+    first = text(choice)
+    second = first.swapcase() if choice.random() < 0.5 else first.upper()
+    return [first, second + choice.choice((b"", b"", b"A", b"z", b"\xe9")) if choice.random() < 0.8 else text(choice)]
 
 
 def double(choice: random.Random) -> float:
@@ -168,7 +171,16 @@ def shapes() -> list[Shape]:
               texts("strstr", "p", "pp", text, lambda choice: text(choice, 4)),
               texts("strspn", "l", "pp", text, lambda choice: text(choice, 4)),
               texts("strcspn", "l", "pp", text, lambda choice: text(choice, 4)),
-              texts("strpbrk", "p", "pp", text, lambda choice: text(choice, 4))]
+              texts("strpbrk", "p", "pp", text, lambda choice: text(choice, 4)),
+              texts("strchrnul", "p", "pw", text, byte),
+              texts("strcasestr", "p", "pp", text, lambda choice: text(choice, 3)),
+              texts("stpncpy", "b", "bpl", text, text, size),
+              texts("memrchr", "p", "pwl", lambda choice: text(choice) + bytes(8), byte,
+                    lambda choice: choice.randrange(9)),
+              texts("memmem", "p", "plpl", lambda choice: text(choice) + bytes(8), lambda choice: choice.randrange(9),
+                    lambda choice: text(choice, 4) + bytes(3), lambda choice: choice.randrange(4)),
+              Shape("strcasecmp", "w", "pp", likes), Shape("strncasecmp", "w", "ppl",
+                                                           lambda choice: [*likes(choice), size(choice)])]
     found += [texts(name, "w", "w", lambda choice: choice.randrange(-128, 256)) for name in (
         "isalpha isdigit isalnum isspace isupper islower isxdigit iscntrl isprint isgraph ispunct isblank tolower "
         "toupper").split()]
@@ -229,7 +241,7 @@ def asked(shape: Shape, given: list[Given]) -> Record:
 # The text that tries them.
 
 class Pool:
-    """Texts, each with a zero behind it, in an object of data."""
+    """Texts, each with a zero after it, in an object of data."""
 
     def __init__(self) -> None:
         self.bytes = bytearray()
@@ -350,6 +362,21 @@ def batch_fault(running: Running, shape: Shape, count: int, seed: int) -> str | 
     return f"{len(told)} differ, as {records[int(told[0])]}"
 
 
+def suspicion_fault(running: Running, count: int) -> str | None:
+    """Nothing that the functions do in right calls is suspicious."""
+    pool = Pool()
+    bodies, calls = [], []
+    for shape in shapes():
+        choice = random.Random(f"{shape.name} suspicion")
+        body = checked(shape, [asked(shape, shape.make(choice)) for _ in range(count)], pool)
+        bodies.append(body.replace("export function w $main", f"function w $try.{shape.name}")
+                      .replace("$records", f"$records.{shape.name}"))
+        calls.append(f"\t%r.{shape.name} =w call $try.{shape.name}()\n")
+    return running.suspicion(
+        HEAD.format(buffer=BUFFER) + f"data $pool = {{ b {string_of(bytes(pool.bytes))} 0 }}\n" + "".join(bodies) +
+        "export function w $main() {\n@start\n" + "".join(calls) + "\tret 0\n}\n")
+
+
 # Sorting, random numbers and streams.
 
 SORTED = """
@@ -396,7 +423,7 @@ def merges(count: int, values: list[int]) -> int:
 
 
 def sorting_fault(running: Running, seed: int) -> str | None:
-    """Members whose low words are compared, and whose high words tell where they were."""
+    """Members whose low words are compared, and whose high words say where they were."""
     choice = random.Random(seed)
     count = choice.choice((1, 2, 3, 7, 40, 200))
     keys = [choice.randrange(-20, 20) for _ in range(count)]
@@ -475,14 +502,9 @@ STREAMS_OUTPUT = "[one\n][longer ][than ei][ght\n][\n][last]120 -1 1|textABtetex
 
 
 def streams_fault(running: Running) -> str | None:
-    with tempfile.TemporaryDirectory(prefix="lower-") as place:
-        folder = pathlib.Path(place)
-        (folder / "a.ssa").write_text(STREAMS)
-        (folder / "input").write_text(INPUT)
-        run = subprocess.run([sys.executable, str(LOWER), "--link", "--input", "input", "a.ssa"], cwd=folder,
-                             capture_output=True, timeout=running.seconds)
-    ended = running.run(run.stdout.decode("latin-1"))
-    return differ("errors", b"", run.stderr) or differ("output", STREAMS_OUTPUT, ended.output) or \
+    lowered = running.lower({"a.ssa": STREAMS}, "--link", "--input", "input", beside={"input": INPUT})
+    ended = running.run(lowered.text)
+    return differ("errors", "", lowered.errors) or differ("output", STREAMS_OUTPUT, ended.output) or \
         differ("end", "fault halted", ended.end)
 
 
@@ -500,6 +522,7 @@ def results(running: Running, most: int = 320) -> Results:
     yield "library/streams", streams_fault(running)
     waits = None if is_there() else Skipped("a C library that ctypes finds")
     yield "library/rand", waits or random_fault(running)
+    yield "library/no suspicion", waits or suspicion_fault(running, 4)
     for shape in shapes():
         count = most if shape.gives in "ds" else 384 if shape.name.startswith(("is", "to")) else most
         yield f"library/{shape.name} ({count} calls)", waits or batch_fault(running, shape, count, 1)

@@ -159,7 +159,7 @@ def end_fault(running: Running, texts: dict[str, str], end: str, output: str = "
 
 
 def outside_fault(running: Running) -> str | None:
-    """A function from outside halts under its own name, and the report tells the place of its first use."""
+    """A function from outside halts under its own name, and the report has the place of its first use."""
     lowered = running.lower({"a.ssa": OUTSIDE}, "--link", "--report")
     run = running.run(lowered.text, "continue\nwhere\ntemps\n")
     note = "a.ssa:4: $getpriority is defined nowhere: a function that halts (would halt)\n"
@@ -170,8 +170,7 @@ def outside_fault(running: Running) -> str | None:
 
 
 def told_fault(running: Running) -> str | None:
-    """Each function from outside that can be reached is told without a report, once, at its first use that can be
-    reached."""
+    """Each reachable function from outside is reported without `--report`, once, at its first reachable use."""
     lowered = running.lower({"a.ssa": TWICE.replace("$sprintf", "$absent"), "b.ssa": STEP})
     return differ("errors", "a.ssa:11: $missing is defined nowhere: a function that halts (would halt)\n"
                   "b.ssa:3: $absent is defined nowhere: a function that halts (would halt)\n", lowered.errors)
@@ -245,7 +244,7 @@ RETURNS = "export function w $main() {\n@start\n\tret 0\n}\n"
 
 
 def order_fault(running: Running) -> str | None:
-    """A call whose arguments behind dots stand in another order than that in which they are taken is told."""
+    """A call whose variadic arguments are taken in another order is reported."""
     lowered = running.lower({"a.ssa": ORDER}, "--link", "--report")
     told = [line for line in lowered.errors.split("\n") if "behind the dots of $f" in line]
     return differ("told",
@@ -255,6 +254,41 @@ def order_fault(running: Running) -> str | None:
         differ("status", 0, lowered.status) or differ("end", "done 7", running.run(lowered.text).end) or \
         differ("where nothing calls it", "",
                running.lower({"a.ssa": ORDER.replace("$main", "$other") + RETURNS}).errors)
+
+
+# Of the calls of $main the last two are those that native code makes too.
+SHAPES = """
+function w $two(w %a, w %b) {
+@start
+	%c =w add %a, %b
+	ret %c
+}
+function d $half(d %a) {
+@start
+	%c =d div %a, d_2
+	ret %c
+}
+export function w $main() {
+@start
+	%x =w call $two(w 1)
+	%y =d call $half(l 1)
+	%z =w call $half(d d_3)
+	%v =w call $two(l 1, w 2)
+	%w =w call $two(w 1, w 2, w 3)
+	ret %x
+}
+"""
+
+
+def shapes_fault(running: Running) -> str | None:
+    """A call by which native code takes something else is told without being asked for."""
+    wanted = ["a.ssa:14: $two wants 2 arguments, and the call gives 1: the others are 0 (native code differs)",
+              "a.ssa:15: argument 1 of $half is a l for a d (native code differs)",
+              "a.ssa:16: the result of $half is a d that is taken as a w (native code differs)"]
+    lowered = running.lower({"a.ssa": SHAPES}, "--link")
+    return differ("told", wanted, lowered.errors.split("\n")[:-1]) or \
+        differ("where nothing calls it", "",
+               running.lower({"a.ssa": SHAPES.replace("$main", "$other") + RETURNS}).errors)
 
 
 # Names that are the runtime's own: the text's are others, and one that it lacks is one from outside.
@@ -283,7 +317,7 @@ def own_fault(running: Running) -> str | None:
 
 
 def large_fault(running: Running) -> str | None:
-    """What qrev will refuse for its size is told, and the status says so."""
+    """What qrev will refuse for its size is reported, and the status says so."""
     text = "".join(f"export function $f{number}() {{\n@start\n\tret\n}}\n" for number in range(1001))
     lowered = running.lower({"a.ssa": text})
     return differ("status", 1, lowered.status) or \
@@ -308,5 +342,6 @@ def results(running: Running) -> Results:
     yield "linking/no entry", entry_fault(running)
     yield "linking/counts", counts_fault(running)
     yield "linking/order behind dots", order_fault(running)
+    yield "linking/calls of another shape", shapes_fault(running)
     yield "linking/names of the runtime's own", own_fault(running)
     yield "linking/too large", large_fault(running)

@@ -1,4 +1,4 @@
-"""Texts with a token taken out, doubled, moved or put in: each is refused with a line, or gives a text that qrev
+"""Texts with a token removed, doubled, moved or inserted: each is refused with a line, or gives a text that qrev
 accepts."""
 import random
 import re

@@ -1,6 +1,6 @@
-"""Native code of texts of QBE, by way of C: each function becomes one of C with the same temporaries and jumps, and
-data becomes what an assembler takes. gcc and the machine's C library do the rest, so that what comes of a text is seen
-without the lowering and its runtime. Not for aggregates and functions with dots of the text's own."""
+"""Native code of QBE texts, by way of C: each function becomes one in C with the same temporaries and jumps, and data
+becomes what an assembler takes. gcc and the machine's C library do the rest, so the result of a text doesn't depend on
+the lowering and its runtime. Not for aggregates, nor for variadic functions defined in the text."""
 import pathlib
 import shutil
 import subprocess
@@ -147,7 +147,7 @@ class Translator:
         return f"L{[block.name for block in self.blocks].index(name)}"
 
     def go(self, block: Block, label: str) -> str:
-        """A jump, behind what the phis of its target take."""
+        """A jump, after the moves of the phis in its target."""
         target = next(each for each in self.blocks if each.name == label)
         taken = [(phi, dict(phi.sources)[block.name]) for phi in target.phis]
         before = [f"{TYPES[phi.cls]} p{index} = {self.value(value, phi.cls)};" for index,
@@ -222,7 +222,7 @@ class Translator:
 
 
 def source_of(folder: pathlib.Path, number: int, text: str, is_by_c: bool) -> pathlib.Path:
-    """A text as what gcc takes: as qbe makes it, if that is installed and wanted, or as C."""
+    """A text in a form that gcc takes: as qbe makes it, if that is installed and requested, or as C."""
     if not is_by_c and shutil.which("qbe"):
         (folder / f"{number}.ssa").write_text(text)
         subprocess.run(["qbe", "-o", f"{number}.s", f"{number}.ssa"], cwd=folder, timeout=60, check=True)

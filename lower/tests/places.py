@@ -1,5 +1,5 @@
-"""Places lead back: each line that the map leads from is the instruction that the compiler wrote, and the source place
-is that of the debug line before it. And a place of a session leads to its line by qrev-place and by editors/at-line."""
+"""Places map back: each line in the map is the instruction that the compiler wrote, and the source place is that of the
+debug line before it. qrev-place and editors/at-line give the line of a place in a session."""
 import pathlib
 import re
 import subprocess

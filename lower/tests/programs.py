@@ -1,6 +1,6 @@
-"""Twelve programs that link an allocator, a formatter, finalizers and ends by a message, beside native code: by qbe
-where that is installed, else by way of C, and stored from there for machines without gcc. Each runs forward, back to #0
-and forward again."""
+"""Twelve programs that link an allocator, a formatter, finalizers and ends by a message, against native code: by qbe if
+that is installed, else by way of C, and stored from there for machines without gcc. Each runs forward, back to #0 and
+forward again."""
 import json
 import re
 

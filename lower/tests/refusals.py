@@ -1,4 +1,4 @@
-"""Texts that QBE, the assembler or the linker refuses: refused with file and line, and nothing is written."""
+"""Texts that QBE, the assembler or the linker refuses: each is refused with file and line, and nothing is written."""
 import pathlib
 import subprocess
 import sys
@@ -22,7 +22,9 @@ def blocks(*lines: str) -> str:
 TEXTS = [
     # Tokens.
     ("data $a = { b ! }", 1, "begins no token"),
-    ("data $a = { b 1 }\r\n", 1, "\\015"),
+    ("data $a = { b 1 }\r\n", 1, "takes a newline alone"),
+    ("\xef\xbb\xbfdata $a = { b 1 }\n", 1, "byte order mark"),
+    (in_main("%gr\xc3\xb6 =w copy 1"), 3, r"`\303` begins no token: names have letters of ASCII"),
     (in_main("%x =w copy -"), 3, "begins no token"),
     (in_main("%1 =w copy 1"), 3, "without a name"),
     (in_main("%x =w frob 1"), 3, "no word of the language"),
@@ -177,7 +179,7 @@ def command_line_fault(running: Running, words: list[str], status: int, said: st
 
 
 def linking_fault(running: Running) -> str | None:
-    """A name that two texts export is told at the second."""
+    """A name that two texts export is reported at the second."""
     one = "export function $f() {\n@s\n\tret\n}\n"
     lowered = running.lower({"a.ssa": one, "b.ssa": "\n\n" + one, "c.ssa": "export data $f = { w 1 }\n"})
     return differ("errors", "b.ssa:3: $f is exported a second time, after a.ssa:1\n", lowered.errors) or \

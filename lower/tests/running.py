@@ -67,19 +67,19 @@ class Running:
     def __init__(self, program: str, seconds: float = 60):
         self.program, self.seconds = program, seconds
 
-    def lower(self, texts: dict[str, str], *options: str) -> Lowered:
-        """Lowers texts by their names, in a folder of their own."""
+    def lower(self, texts: dict[str, str], *options: str, beside: dict[str, str] | None = None) -> Lowered:
+        """Lowers texts by their names, in a folder of their own, which has other files beside them."""
         with tempfile.TemporaryDirectory(prefix="lower-") as place:
             folder = pathlib.Path(place)
-            for name, text in texts.items():
+            for name, text in (*texts.items(), *(beside or {}).items()):
                 (folder / name).write_bytes(text.encode("latin-1"))
             with open(folder / "out.ssa", "wb") as output:
                 run = subprocess.run([sys.executable, str(LOWER), *options, *texts], stdout=output,
                                      stderr=subprocess.PIPE, cwd=folder, timeout=self.seconds)
-            beside = folder / "out.ssa.map"
+            origins = folder / "out.ssa.map"
             return Lowered(run.returncode, (folder / "out.ssa").read_bytes().decode("latin-1"),
                            run.stderr.decode("latin-1"),
-                           beside.read_bytes().decode("latin-1") if beside.exists() else "")
+                           origins.read_bytes().decode("latin-1") if origins.exists() else "")
 
     def lower_here(self, text: str, entry: str = "main", is_linked: bool = True) -> Lowering | str:
         """Lowers a text in this process; a refusal is what it says."""
@@ -89,8 +89,8 @@ class Running:
             return str(refused)
 
     def told_of_batch(self, program: str, records: int, planted: str) -> tuple[str | None, list[str]]:
-        """Runs a text that checks records and tells the wrong ones, of which one was planted: a fault of the whole, if
-        there is one, and the lines told besides the planted one's."""
+        """Runs a text that checks records and prints the wrong ones, one of which was planted: gives a fault of the
+        whole, if there is one, and the printed lines except the planted one's."""
         lowered = self.lower_here(program)
         if isinstance(lowered, str):
             return lowered, []
@@ -104,6 +104,18 @@ class Running:
             return "the planted record isn't told", []
         told.remove(planted)
         return None, told
+
+    def suspicion(self, text: str) -> str | None:
+        """The first suspicion that a check of a text has, or what else it says where it doesn't end well."""
+        lowered = self.lower_here(text)
+        if isinstance(lowered, str):
+            return lowered
+        with tempfile.NamedTemporaryFile(suffix=".ssa") as file:
+            file.write(lowered.text.encode("latin-1"))
+            file.flush()
+            run = subprocess.run([sys.executable, str(TOP / "check" / "main"), "--debugger", self.program, file.name],
+                                 capture_output=True, text=True, timeout=5 * self.seconds)
+        return " ".join((run.stdout + run.stderr).splitlines()[:2]) if run.returncode else None
 
     def run(self, text: str, script: str = "continue\nout\n", words: tuple[str, ...] = (),
             keeps_history: bool = False) -> Run:

@@ -1,6 +1,6 @@
 """Random functions and calls of all shapes: classes, aggregates, environments, dots, by names and by addresses, with
-arguments of other classes and too many of them. Each function mixes all that it is given into a number, which Python
-works out too."""
+arguments of other classes and too many of them. Each function mixes all its arguments into a number, which Python
+computes too."""
 import random
 
 from .running import Results, Running, differ
@@ -21,7 +21,7 @@ def mixed(total: int, value: int) -> int:
 
 
 class Function:
-    """A function: its parameters, the kinds that it takes behind dots, its environment and its result."""
+    """A function: its parameters, the kinds of its variadic arguments, its environment and its result."""
 
     def __init__(self, number: int, choice: random.Random):
         self.name, self.seed = f"$f{number}", choice.getrandbits(64)

@@ -1,4 +1,4 @@
-"""Texts that are too large as they are: without spaces, with short names, and what the report says of their bytes."""
+"""Texts that are too large at first: without spaces, with short names, and the report on their bytes."""
 from .running import Results, Running, differ
 
 STEPS = 120

@@ -1,5 +1,4 @@
-"""The border at the operating system: an allocator, a formatter and an abort of the text's own, over calls of the
-system."""
+"""The border at the operating system: the text's own allocator, formatter and abort, over system calls."""
 import random
 
 from .running import DATA, Results, Running, differ

@@ -43,11 +43,17 @@ export class Agreed {
 
   /** Compares once the cursor has rested for a moment. */
   rest() {
-    if (!this.app.source.isLive) return;
     clearTimeout(this.resting);
     clearTimeout(this.late);
-    this.resting = setTimeout(() => this.compare(), REST);
+    this.resting = setTimeout(() => this.rested(), REST);
+    if (!this.app.source.isLive) return;
     this.late = setTimeout(() => this.show("the session is on its way", "is-late"), LATE);
+  }
+
+  rested() {
+    const {app} = this;
+    app.marks.rest(app.cursor + app.run.base);
+    if (app.source.isLive) this.compare();
   }
 
   async compare() {

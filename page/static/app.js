@@ -5,6 +5,7 @@ import {Cells} from "./cells.js";
 import {Code} from "./code.js";
 import {Ghost} from "./ghost.js";
 import {Keys} from "./keys.js";
+import {Marks} from "./marks.js";
 import {Memory} from "./memory.js";
 import {Output} from "./output.js";
 import {Source} from "./source.js";
@@ -14,7 +15,9 @@ import {Values} from "./values.js";
 import {WIDTHS, spaced} from "./program.js";
 import {byId} from "./element.js";
 
-const MOST_PINS = 4, LEAST_WIDE = 12, SETTLE = 40, SAID = 4000, OVERVIEW = 120;
+const MOST_PINS = 4, LEAST_WIDE = 12, SETTLE = 40, SAID = 3000, A_SIGN = 50, OVERVIEW = 120;
+// When it is said that another window takes a while, and how long one looks before telling what is left, in milliseconds.
+const LATE = 400, SOON = 500, ON_THE_WAY = "on the way";
 
 class App {
   constructor() {
@@ -29,6 +32,7 @@ class App {
     // Whether the runtime of a lowered text counts as its instructions.
     this.isFolded = false;
     this.walk = new Walk(this);
+    this.marks = new Marks(byId("marks"), this);
     this.timeline = new Timeline(byId("timeline"), this);
     this.code = new Code(byId("code"), this);
     this.values = new Values(byId("values"), this);
@@ -47,6 +51,7 @@ class App {
     this.isFolded = this.program.hasOthers;
     byId("fold").hidden = !this.program.hasOthers;
     this.code.build();
+    this.marks.restore(this.program.stops ?? []);
     if (this.program.long) await this.overviewed();
     await this.load(this.long ? 0 : null);
     const there = new URLSearchParams(location.search).get("at");
@@ -69,16 +74,20 @@ class App {
   }
 
   /** Takes the run from its source, and shows it: its calls while it comes, and then all. */
-  async load(cursor = null, was = "") {
+  async load(cursor = null, was = "", isUndone = false) {
     const begun = performance.now(), before = {run: this.run, memory: this.memory, isInside: !this.isFolded};
     if (!this.long) byId("progress").hidden = false;
-    const run = await this.source.run(this.program, growing => this.growing(growing));
+    const run = await this.source.run(this.program, growing => {
+      if (!this.long) this.gathered(growing, begun);
+      this.growing(growing);
+    });
     if (!this.long) byId("progress").hidden = true;
     this.run = run;
     this.memory = new Memory(run);
     // What the run was before a value was set by hand.
-    this.ghost = was ? new Ghost(before, {run, memory: this.memory}, cursor - 1) : null;
+    this.ghost = was && !isUndone ? new Ghost(before, {run, memory: this.memory}, cursor - 1) : null;
     this.causes = new Causes(run, this.memory);
+    this.marks.take(run, this.memory, was ? cursor - (isUndone ? 0 : 1) : null);
     this.cells.build();
     this.output.build();
     this.header(was);
@@ -113,7 +122,7 @@ class App {
     button.hidden = !number;
     button.textContent = `▲ ${number} suspicion${number === 1 ? "" : "s"}`;
     button.title = found.slice(0, 8).map(each => `#${each.position} ${each.kind}: ${each.text}`).join("\n");
-    this.code.suspects();
+    this.code.marks();
   }
 
   /** To the next suspicion, or to the first behind the last. */
@@ -139,10 +148,15 @@ class App {
     if (this.run?.isComplete && this.run !== run) return;
     this.run = run;
     this.view = [0, Math.max(1, this.wholeMoves)];
-    byId("moves").textContent = `${spaced(run.moves)} moves${run.total ? ` of ${spaced(run.total)}` : ""} gathered`;
-    const bar = byId("progress");
-    if (run.total) bar.value = run.moves / run.total; else bar.removeAttribute("value");
     this.timeline.draw();
+  }
+
+  /** How far a run has come: the share, where its length is known, and how long the rest will take. */
+  gathered(run, begun) {
+    const {moves, total} = run, bar = byId("progress");
+    byId("moves").textContent = `${spaced(moves)} moves${total ? ` of ${spaced(total)}` : ""} gathered${
+      total ? left(moves, total, performance.now() - begun) : ""}`;
+    if (total) bar.value = moves / total; else bar.removeAttribute("value");
   }
 
   header(was) {
@@ -151,7 +165,9 @@ class App {
     end.textContent = end.title = told || "looking for the end";
     end.className = told.startsWith("fault") || halted ? "pill is-fault" : "pill";
     byId("was").textContent = was;
-    byId("moves").textContent = `${spaced(this.wholeMoves)} moves${long ? `, ${spaced(run.moves)} shown` : ""}`;
+    const count = long || run.moves ? this.wholeMoves : 0;
+    byId("moves").textContent = `${spaced(count)} move${count === 1 ? "" : "s"}${!long ? "" : told ? `, ${spaced(run.moves)} shown`
+      : left(long.moves, long.mostMoves, 1000 * long.seconds, "at most ")}`;
     byId("poke").hidden = !this.source.isLive || Boolean(long);
   }
 
@@ -159,14 +175,14 @@ class App {
 
   /** Takes the overview as far as it has come, and goes on until it is whole. */
   async overviewed() {
-    const told = await (await this.source.ask("api/overview")).json();
-    this.long = {...told, most: told.stacks.reduce((most, stack) => Math.max(most, stack.length), 1)};
+    const told = await (await this.source.ask("api/overview")).json(), bar = byId("progress");
+    this.long = {...told, mostMoves: told.most, most: told.stacks.reduce((most, stack) => Math.max(most, stack.length), 1)};
     if (this.run?.isComplete) {
       this.header("");
       this.timeline.draw();
     }
-    byId("progress").hidden = told.isDone;
-    byId("progress").removeAttribute("value");
+    bar.hidden = told.isDone;
+    bar.value = told.moves / told.most;
     if (!told.isDone) setTimeout(() => this.overviewed().catch(() => {}), OVERVIEW);
   }
 
@@ -175,10 +191,10 @@ class App {
     this.wished = Math.max(0, Math.min(this.long.moves, position));
     if (this.isReaching) return;
     this.isReaching = true;
-    const begun = performance.now();
+    const begun = performance.now(), late = setTimeout(() => this.onTheWay(), LATE);
     try {
       while (this.wished !== null) {
-        const there = this.wished;
+        const there = this.aim = this.wished;
         this.wished = null;
         const {base} = await (await this.source.ask("api/window", {position: there})).json();
         await this.load(there - base);
@@ -186,8 +202,18 @@ class App {
     } catch (error) {
       this.say(error.message);
     }
+    clearTimeout(late);
+    if (byId("said").textContent.startsWith(ON_THE_WAY)) this.say("");
+    byId("progress").hidden = this.long.isDone;
     this.isReaching = false;
     this.reachedIn = performance.now() - begun;
+  }
+
+  /** Another window takes a while. */
+  onTheWay() {
+    byId("progress").hidden = false;
+    byId("progress").removeAttribute("value");
+    this.say(`${ON_THE_WAY} to #${spaced(this.aim)}`);
   }
 
   /** To a position of the whole run. */
@@ -453,6 +479,20 @@ class App {
     }
   }
 
+  /** Takes the last value by hand back. */
+  async unpoke() {
+    if (!Object.keys(this.run.pokes).length) return this.say("nothing was set by hand");
+    if (!this.source.isLive) return;
+    const was = `${this.run.end} at #${this.run.moves}`;
+    try {
+      const {position} = await (await this.source.ask("api/unpoke", {position: this.cursor + this.run.base})).json();
+      await this.load(position, was, true);
+      this.say(`the value that was set by hand at #${position} is taken back`);
+    } catch (error) {
+      this.say(error.message);
+    }
+  }
+
   async script() {
     if (!this.source.isLive) return;
     this.lines = await (await this.source.ask("api/script")).text();
@@ -535,8 +575,14 @@ class App {
     const box = byId("said");
     box.textContent = text;
     clearTimeout(this.saying);
-    this.saying = setTimeout(() => { box.textContent = ""; }, SAID);
+    this.saying = setTimeout(() => { box.textContent = ""; }, SAID + text.length * A_SIGN);
   }
+}
+
+/** What is left of a length, in words, by how long it took up to here; nothing where that is soon over. */
+function left(done, whole, took, most = "") {
+  const seconds = done ? Math.round(took * (whole - done) / done / 1000) : 0;
+  return took < SOON || seconds < 2 ? "" : `, ${most}${seconds < 100 ? `${seconds} s` : `${Math.round(seconds / 60)} min`} more`;
 }
 
 const app = window.app = new App();

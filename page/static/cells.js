@@ -3,8 +3,8 @@ import {LOADED, STORED, WIDTHS, sizeOf, spaced} from "./program.js";
 import {KINDS} from "./memory.js";
 import {classes, element, signOf} from "./element.js";
 
-// An object of more pieces has them without numbers; of yet more the first ones are shown.
-const MOST_NUMBERS = 64, MOST_PIECES = 512, MOST_OBJECTS = 48, MOST_ALLOCATIONS = 12, MOST_KEYS = 6;
+// An object of more pieces has them without numbers, or without signs; of yet more the first ones are shown.
+const MOST_NUMBERS = 64, MOST_SIGNS = 256, MOST_PIECES = 512, MOST_OBJECTS = 48, MOST_ALLOCATIONS = 12, MOST_KEYS = 6;
 
 export class Cells {
   constructor(box, app) {
@@ -41,7 +41,12 @@ export class Cells {
   }
 
   widthOf(name) {
-    return this.widths.get(name) ?? (this.app.program.data.find(data => data.name === name)?.size % 4 ? 1 : 4);
+    if (this.widths.has(name)) return this.widths.get(name);
+    // What nothing accesses by itself, as a text that is only written out.
+    const data = this.app.program.data.find(each => each.name === name);
+    const width = !data || data.size % 4 || this.isText(data.address, data.size) ? 1 : 4;
+    this.widths.set(name, width);
+    return width;
   }
 
   /** In which pieces a slot is shown: as it was written last at its beginning, or read. */
@@ -112,11 +117,11 @@ export class Cells {
   }
 
   object(name, more, address, size, width) {
-    const count = Math.ceil(size / width), isSmall = count <= MOST_NUMBERS, isText = width === 1
-      && this.isText(address, size);
-    const cells = [];
+    const count = Math.ceil(size / width), isText = width === 1 && this.isText(address, size);
+    const isSmall = count <= (isText ? MOST_SIGNS : MOST_NUMBERS), cells = [];
     for (let n = 0; n < Math.min(count, MOST_PIECES); n++) {
-      cells.push(this.cell(address + n * width, Math.min(width, size - n * width), {width, isSmall, isText}));
+      const label = `${name}+${n * width}`;
+      cells.push(this.cell(address + n * width, Math.min(width, size - n * width), {width, isSmall, isText, label}));
     }
     return element("div", {class: classes("object", !isSmall && "is-wide")},
       element("span", {class: "name", title: `${name} ${more}`}, name, element("small", {}, more)),
@@ -135,7 +140,7 @@ export class Cells {
     return signs > 0;
   }
 
-  cell(address, size, {width, isSmall, isText}) {
+  cell(address, size, {width, isSmall, isText, label}) {
     const {app} = this, {run, memory, cursor} = app;
     let write = -1;
     for (let offset = 0; offset < size; offset++) write = Math.max(write, memory.writes.last(address + offset, cursor));
@@ -153,8 +158,10 @@ export class Cells {
       && "is-sign",
       touched && meets(touched.address, touched.size) && `is-${touched.kind}`, asked?.of === "memory"
         && meets(asked.address, asked.count) && "is-asked", was !== null && "is-other");
-    const hue = isStore ? `var(--w${this.hueOf(place)})` : kind === KINDS.poke ? "var(--poke)" : "transparent";
+    const hue = isStore ? `var(--w${this.hueOf(place)})` : kind === KINDS.poke ? "var(--poked)" : "transparent";
     return element("button", {class: name, data: {address, size}, tabindex: "-1",
+      // A square, or a space, has nothing that could be read out.
+      "aria-label": isSmall && sign !== " " ? null : label,
       css: {"--hue": hue, "--age": `${this.age(write)}%`}},
       isSmall && was !== null ? element("s", {class: "was"}, isText ? "" : `${was} `) : null,
       isSmall ? this.text(value, address, size, sign) : "", isSmall ? this.coming(address, size) : null);

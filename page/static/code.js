@@ -62,6 +62,7 @@ export class Code {
     const asked = hit("[data-temp]")?.dataset.temp ?? hit("[data-value]")?.dataset.value, line = hit("[data-line]");
     const {func} = app.place;
     if (asked && func.ids.has(asked)) app.ask(app.causes.temporary(asked, app.state));
+    else if (line && hit(".spot")) app.marks.breakAt(app.program.placesOf.get(Number(line.dataset.line))[0]);
     else if (line && hit(".gutter")) app.mark(Number(line.dataset.line), event.shiftKey ? -1 : 1);
   }
 
@@ -120,6 +121,8 @@ export class Code {
         title: runs ? "when this line ran, in the timeline, and to the next time (with shift to the last)" : null},
       element("i", {class: "heat"}), element("b", {class: "count"}),
         element("span", {class: "number"}, String(number))),
+      runs ? element("button", {class: "spot", tabindex: "-1", "aria-pressed": "false", "aria-label": `breakpoint at line ${number}`,
+        title: "a breakpoint here, or none (b)"}) : element("span"),
       element("span", {class: "badge"}), element("code", {}, ...tokensOf(this.lines[number - 1])),
         element("span", {class: "beside"}));
   }
@@ -139,7 +142,7 @@ export class Code {
 
   draw() {
     const {app} = this, {place} = app, {line} = place.instruction;
-    byId("place").textContent = `${place.func.name} ${place.block.label} ${place.k}`;
+    byId("place").textContent = byId("place").title = `${place.func.name} ${place.block.label} ${place.k}`;
     this.source(line);
     const index = this.indexOf[line];
     if (index < this.first || index >= this.end) {
@@ -173,7 +176,7 @@ export class Code {
     this.values(place);
     if (isHere) this.operands(place);
     this.badges();
-    this.suspects();
+    this.marks();
   }
 
   /** Brings the place into view, with the beginning of its function if that fits. */
@@ -181,7 +184,10 @@ export class Code {
     if (this.scrolledLine === line) return;
     this.scrolledLine = line;
     const top = this.indexOf[line] * TALL, {scrollTop, clientHeight} = this.box, start = this.indexOf[func.line] * TALL;
-    if (top >= scrollTop + TALL && top <= scrollTop + clientHeight - 3 * TALL) return;
+    if (top >= scrollTop + TALL && top <= scrollTop + clientHeight - 3 * TALL) {
+      if (scrollTop % TALL) this.box.scrollTop = Math.floor(scrollTop / TALL) * TALL;
+      return;
+    }
     const wanted = top - start < clientHeight - 4 * TALL ? start : top - clientHeight / 2;
     // No line is cut at the top.
     const most = Math.floor((this.box.scrollHeight - clientHeight) / TALL);
@@ -283,17 +289,20 @@ export class Code {
     }
   }
 
-  /** A sign at each line of which a move is suspected. */
-  suspects() {
-    for (const row of this.rows.values()) row.lastElementChild.classList.remove("is-suspect");
-    const kinds = new Map();
-    for (const {line, kind} of this.app.suspicions) kinds.set(line, (kinds.get(line) ?? new Set()).add(kind));
-    for (const [line, found] of kinds) {
-      const beside = this.rows.get(line)?.lastElementChild;
-      if (!beside) continue;
-      beside.classList.add("is-suspect");
-      beside.dataset.kind = [...found].join(", ");
+  /** The marks of each line: its breakpoint before it, the others beside it. */
+  marks() {
+    const {marks} = this.app;
+    for (const mark of this.box.querySelectorAll(".beside .mark")) mark.remove();
+    for (const line of marks.ofLines().keys()) {
+      const beside = this.rows.get(line)?.lastChild, found = beside ? marks.beside(line) : [];
+      // Where one was is told last, so that no value is out of view for it.
+      const isRest = mark => mark.classList.contains("is-rest");
+      beside?.prepend(...found.filter(mark => !isRest(mark)));
+      beside?.append(...found.filter(isRest));
     }
+    const set = new Set(this.box.querySelectorAll(".spot[aria-pressed=true]"));
+    for (const spot of set) spot.setAttribute("aria-pressed", "false");
+    for (const line of marks.breakpointLines) this.rows.get(line)?.children[1].setAttribute("aria-pressed", "true");
   }
 
   /** Which lines the open causes are on. */
@@ -301,7 +310,7 @@ export class Code {
     for (const badge of this.marked ?? []) badge.className = "badge";
     this.marked = [];
     for (const {move, isChosen} of this.app.walk.dots().nodes) {
-      const badge = this.rows.get(this.app.run.placeAt(move)?.instruction.line)?.children[1];
+      const badge = this.rows.get(this.app.run.placeAt(move)?.instruction.line)?.children[2];
       if (!badge) continue;
       badge.classList.add("is-cause", ...(isChosen ? ["is-chosen"] : []));
       this.marked.push(badge);

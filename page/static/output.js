@@ -47,6 +47,15 @@ export class Output {
         first + index === asked && "is-asked");
       if (byte.className !== name) byte.className = name;
     });
+    this.reveal(this.bytes[Math.max(0, Math.min(this.bytes.length, count - first) - 1)]);
+  }
+
+  /** Scrolls so that the byte that was written last is in view, where the cursor has moved. */
+  reveal(byte) {
+    if (byte === this.last) return;
+    this.last = byte;
+    const {box} = this, top = byte.offsetTop - box.offsetTop, bottom = top + byte.offsetHeight;
+    if (top < box.scrollTop || bottom > box.scrollTop + box.clientHeight) box.scrollTop = bottom - box.clientHeight / 2;
   }
 
   show(first) {

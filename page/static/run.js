@@ -1,6 +1,7 @@
 // A run, as arrays: the place of each state and each value that a move set, all of it answered by the debugger. Frames and
 // the last setter of a temporary are derived here, part by part as the arrays come.
 import {Program, isAsked} from "./program.js";
+import {workOut} from "./workedout.js";
 
 const CALL = 1, RETURN = 2, JUMP = 3, OTHER = 0;
 
@@ -177,6 +178,8 @@ export class Run {
   complete() {
     this.share();
     if (this.setPos.length !== this.low.length) throw new Error(`${this.low.length} values for ${this.setPos.length} sets`);
+    // An exported file has what is left of the values, and their sum.
+    if (this.sum !== undefined) workOut(this);
     this.out = Uint8Array.from(this.output.match(/../g) ?? [], byte => parseInt(byte, 16));
     this.inTime = grouped(Uint32Array.from(this.setPos, (_, index) => index), this.setTemp, this.program.temporaries);
     const byFrame = grouped(this.inTime.order, Uint32Array.from(this.inTime.order, set => this.frameOfSet(set)),

@@ -32,7 +32,7 @@ export class Source {
     return new Program(this.told);
   }
 
-  /** What the run does that no right compiler's output does, or null if it isn't looked at; an exported page has it with the
+  /** What the run does that no correct compiler's output does, or null if it isn't looked at; an exported page has it with the
       program. */
   async suspicions() {
     if (!this.isLive) return this.told.suspicions ?? null;

@@ -3,7 +3,7 @@ import {lowerBound, spaced} from "./program.js";
 import {Bands, SIDE} from "./bands.js";
 import {signOf} from "./element.js";
 
-const SHORT = 26, TALL = 96, AXIS = 20, MARKS = 16, GAP = 5, RIGHT = 14, MOST_ROWS = 31, ROWS_TALL = 124,
+const SHORT = 26, TALL = 96, AXIS = 20, OUTPUT = 16, MARKS = 15, GAP = 5, RIGHT = 14, MOST_ROWS = 31, ROWS_TALL = 124,
   MOST_SIGNS = 40;
 
 export class Timeline {
@@ -43,9 +43,9 @@ export class Timeline {
 
   /** The tops of the parts, and the height of all of them. */
   measure() {
-    const marks = this.overviewTall + AXIS, flames = marks + MARKS + GAP;
+    const output = this.overviewTall + AXIS, marks = output + OUTPUT, flames = marks + MARKS + GAP;
     const bands = flames + Math.min(this.deepest + 1, MOST_ROWS) * this.rowTall + GAP;
-    this.rows = {marks, flames, bands};
+    this.rows = {output, marks, flames, bands};
     this.height = bands + this.bands.measure();
   }
 
@@ -69,6 +69,12 @@ export class Timeline {
     this.pending ??= requestAnimationFrame(() => this.paint());
   }
 
+  /** Does something once all is drawn that was asked for. */
+  drawn(act) {
+    this.draw();
+    requestAnimationFrame(act);
+  }
+
   paint() {
     this.pending = null;
     const {canvas, app} = this;
@@ -89,12 +95,14 @@ export class Timeline {
     context.textBaseline = "middle";
     this.overview();
     this.axis();
-    this.marks();
+    this.output();
+    this.label("marks", this.rows.marks + MARKS / 2);
     this.flames();
     if (app.run.isComplete) {
       this.bands.paint();
       this.cursorLine();
     }
+    app.marks.draw();
   }
 
   font(size = 11, family = "sans", weight = "") {
@@ -141,10 +149,21 @@ export class Timeline {
     context.strokeStyle = this.color("edge-strong");
     context.strokeRect(left + .5, 2.5, Math.max(2, right - left - 1), tall - 1);
     if (!run.isComplete) return;
-    context.fillStyle = this.color("fault");
-    for (const {position} of app.suspicions) context.fillRect(SIDE + position / moves * this.span - 1, tall - 6, 3, 8);
+    this.ticks(moves, tall);
     context.fillStyle = this.color("now");
     context.fillRect(SIDE + app.cursor / moves * this.span - 1, 1, 2, tall + 2);
+  }
+
+  /** Where marks are in the whole run: those of stops, of values by hand, and over these the suspicions. */
+  ticks(moves, tall) {
+    const {context, app} = this, most = moves / this.span * 3;
+    for (const [kind, color] of [["stop", "heat-strong"], ["hand", "poke"], ["suspicion", "fault"]]) {
+      const list = app.marks.of(kind);
+      context.fillStyle = this.color(color);
+      for (let n = 0; n < list.length; n = lowerBound(list, list[n] + Math.max(1, most), n)) {
+        context.fillRect(SIDE + list[n] / moves * this.span - 1, tall - 6, 3, 8);
+      }
+    }
   }
 
   silhouette(run, moves) {
@@ -221,26 +240,14 @@ export class Timeline {
     context.textAlign = "left";
   }
 
-  /** Bytes of the output, pokes, and how the run ended. */
-  marks() {
-    const {context, app} = this, {run} = app, y = this.rows.marks + MARKS / 2;
+  /** Bytes of the output, and how the run ended. */
+  output() {
+    const {context, app} = this, {run} = app, y = this.rows.output + OUTPUT / 2;
     this.label("output", y);
     if (!run.isComplete) return;
     this.font(11, "mono");
     context.textAlign = "center";
     this.outputMarks(y);
-    for (const move of Object.keys(run.pokes).map(Number)) {
-      const x = this.x(move + .5);
-      if (x < SIDE || x > SIDE + this.span) continue;
-      context.fillStyle = this.color("poke");
-      context.fillText("✎", x, y);
-    }
-    for (const {position} of app.suspicions) {
-      const x = this.x(position + .5);
-      if (x < SIDE || x > SIDE + this.span) continue;
-      context.fillStyle = this.color("fault");
-      context.fillText("▲", x, y);
-    }
     if (run.isOver && app.view[1] >= run.moves) {
       const isFault = run.end.startsWith("fault"), text = `${isFault ? "✕" : "■"} ${run.end}`;
       context.textAlign = "right";
@@ -341,7 +348,7 @@ export class Timeline {
     const text = `#${spaced(app.cursor + app.run.base)}`;
     this.font(11, "sans", "600");
     const wide = context.measureText(text).width + 12,
-      left = Math.min(Math.max(SIDE, x - wide / 2), SIDE + this.span - wide + 10);
+      left = Math.min(Math.max(SIDE - 14, x - wide / 2), SIDE + this.span - wide + 10);
     context.beginPath();
     context.roundRect(left, top - 2, wide, 17, 4);
     context.fill();

@@ -3,7 +3,8 @@ import {spaced} from "./program.js";
 import {classes, element} from "./element.js";
 
 const MOST_NODES = 300;
-const DEEP = 9;
+// Causes so deep are set in by less, and those below DEEPEST by no more: some room is left for what is told.
+const DEEP = 9, DEEPEST = 29;
 
 /** The tree as it is open, and the node that is chosen. */
 export class Walk {
@@ -113,7 +114,7 @@ export class Tree {
 
   row(node, index, depth) {
     const {app} = this, {cause} = node, isChosen = node === app.walk.chosen;
-    const indent = `${Math.min(depth, DEEP) * 14 + Math.max(0, depth - DEEP) * 3}px`;
+    const indent = `${Math.min(depth, DEEP) * 14 + Math.max(0, Math.min(depth, DEEPEST) - DEEP) * 3}px`;
     const at = cause && cause.move !== null && element("span", {class: "at"}, `#${spaced(cause.move + app.run.base)}`,
       element("small", {}, `line ${cause.place.instruction.line}`));
     return element("div", {class: classes("node", isChosen && "is-chosen", cause && "is-open"), role: "treeitem",

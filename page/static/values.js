@@ -20,7 +20,14 @@ export class Values {
       ...this.rows.map(({row}) => row)), left || !shown.length
         ? element("p", {class: "hint"}, left ? `${left} temporaries more, that were set before these or not at all`
         : `${func.name} has no temporaries.`) : "");
+    this.reveal(this.box.querySelector(".frame.is-on"));
     this.sparks();
+  }
+
+  /** Of many frames the one that is looked into is in view. */
+  reveal(tab) {
+    const {parentNode: box} = tab, bottom = tab.offsetTop + tab.offsetHeight;
+    if (bottom > box.clientHeight) box.scrollTop = bottom - box.clientHeight + 2;
   }
 
   /** The temporaries that are shown: all, or of very many those that were set last in the frame. */

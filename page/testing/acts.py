@@ -1,4 +1,4 @@
-"""What is done on the page: keys, the pointer, values by hand, the script, the exported file, texts that would be
+"""What users do on the page: keys, the pointer, setting values, the script, the exported file, texts that would be
 markup."""
 from __future__ import annotations
 
@@ -44,7 +44,7 @@ def opened(program: str, *words: str, width: int = 1440, height: int = 900) -> I
 
 
 def first_fault(browser: Browser, steps: list[tuple[list[str], str, object]]) -> str | None:
-    """Presses keys, and compares what an expression gives with what is wanted, step by step."""
+    """Presses keys, and compares the value of an expression with the expected one, step by step."""
     for keys, script, wanted in steps:
         for key in keys:
             browser.key(key[2:] if key.startswith("S-") else key, shift=key.startswith("S-"))
@@ -81,6 +81,17 @@ KEYS: list[tuple[list[str], str, object]] = [
     (["p"], "document.getElementById('said').textContent", "the run is over here; go back into it first"),
     (["i"], "[app.isFolded, document.getElementById('fold').hidden]", [False, True]),
     (["Home", "x"], "[app.cursor, document.getElementById('suspects').textContent]", [44, "▲ 1 suspicion"]),
+    (["End"], "app.cursor", 88),
+    (["z"], "document.getElementById('said').textContent", "nothing was set by hand"),
+    (["Home", "b"], "app.marks.stops.map(each => each.line)", ["break $main @start 0"]),
+    (["End", "S-C"], "app.cursor", 0), (["b"], "app.marks.stops.length", 0),
+    (["End", "w", "ArrowDown", "v"], "app.marks.stops.map(each => each.line)", ["watch $main %total"]),
+    (["Home", "c"], "app.cursor", 87), (["S-C"], "app.cursor", 86),
+    (["v"], "app.marks.stops.length", 0),
+    # The first mark is the suspicion of #44, or a place before it where a slow machine had the cursor rest.
+    (["Home", "n"], "app.cursor === 44 || app.marks.rests.includes(app.cursor)", True),
+    (["S-N"], "app.cursor < 44", True),
+    (["o"], "app.marks.at < app.marks.trail.length", True), (["S-O"], "app.marks.at < app.marks.trail.length", True),
     (["End"], "app.cursor", 88),
     (["ArrowLeft", "p"], "[document.getElementById('poking').open, document.getElementById('line').value]",
      [True, "set %total "]),
@@ -124,7 +135,7 @@ def unlooked(program: str) -> str | None:
         browser.run("(app.go(45), app.make('poke w $bias 0'))")
         waited(browser, "app.run.isComplete && app.cursor", 46)
         browser.key("x")
-        lines = "document.querySelectorAll('.beside.is-suspect').length"
+        lines = "document.querySelectorAll('.mark.is-suspicion').length"
         given = [browser.run(each) for each in (said, marks, lines, "document.getElementById('suspects').hidden")]
         if given != ["the run is still being looked at", [], 0, True]:
             return f"while it is looked at: {given}"
@@ -135,7 +146,7 @@ def unlooked(program: str) -> str | None:
             return f"behind that {browser.run(said)!r}"
         # Two kinds of one line, of which one came twice.
         kinds = "['bounds', 'stray', 'bounds'].map(kind => ({position: 44, line: 18, kind, text: ''}))"
-        beside = "[...document.querySelectorAll('.beside.is-suspect')].map(each => each.dataset.kind)"
+        beside = "[...document.querySelectorAll('.beside .is-suspicion')].map(each => each.dataset.kind)"
         shown = browser.run(f"(app.suspected({kinds}, ''), {beside})")
         if shown != ["bounds, stray"]:
             return f"beside a line of two kinds stands {shown}"
@@ -191,7 +202,7 @@ def pointer(program: str) -> str | None:
 
 
 def waited(browser: Browser, script: str, wanted: object, seconds: float = 10) -> object:
-    """What an expression gives, once that is what is wanted, or the time is over."""
+    """The value of an expression, once it is the expected one, or the time is over."""
     end = time.monotonic() + seconds
     while (given := browser.run(script)) != wanted and time.monotonic() < end:
         time.sleep(.03)
@@ -236,8 +247,27 @@ def by_hand(program: str) -> str | None:
         waited(browser, "document.getElementById('scripted').open", True)
         script = browser.run("document.getElementById('lines').textContent")
         place = played(program, SQUARES, str(script))
-        return None if given == f"is-rightsession {place}" else \
-            f"the page shows {given} and its script leads to {place}"
+        if given != f"is-rightsession {place}":
+            return f"the page shows {given} and its script leads to {place}"
+        return taken_back(browser, program)
+
+
+def taken_back(browser: Browser, program: str) -> str | None:
+    """`z` takes the value back: the run is the program's own again, and the script leads there too; then there is none
+    left."""
+    browser.keys("Escape", "z")
+    waited(browser, "app.run.isComplete && app.run.moves", 88)
+    ended = [browser.run(f"document.getElementById('{name}').textContent") for name in ("end", "was")]
+    given = waited(browser, "agreed.className + agreed.textContent", "is-rightsession #45 $fill @body 5")
+    browser.run("app.go(87)")
+    waited(browser, "agreed.textContent", "session #87 $main @end 2")
+    values = browser.run("[app.ghost, Object.keys(app.run.pokes), app.run.operand('%total', 87).toString()]")
+    place = played(program, SQUARES, str(browser.run("app.source.ask('api/script').then(told => told.text())")))
+    browser.key("z")
+    said = waited(browser, "document.getElementById('said').textContent", "nothing was set by hand")
+    found = [ended, given, values, place, said]
+    return None if found == [["done 30", "done 14 at #89"], "is-rightsession #45 $fill @body 5", [None, [], "30"],
+                             "#87 $main @end 2", "nothing was set by hand"] else f"taken back: {found}"
 
 
 def other_way(program: str) -> str | None:

@@ -1,9 +1,8 @@
 """The page's causes against those of `why` at the terminal (terminal/causes.py): the same moves, the same next
 questions.
 
-The page's modules answer in node, or in a browser where there is no node. Each question is about a random state of a
-run: every temporary of the function there, the way that led there, bytes of data and of the stack, the end, bytes of
-the output.
+The page's modules answer in node, or in a browser without node. Each question is about a random state of a run: every
+temporary of the function there, the way that led there, bytes of data and of the stack, the end, bytes of the output.
 """
 from __future__ import annotations
 
@@ -36,7 +35,7 @@ from ..table import Table
 
 HERE = pathlib.Path(__file__).resolve().parent
 TOP = HERE.parent.parent
-CORE = ("program.js", "run.js", "memory.js", "causes.js")
+CORE = ("program.js", "workedout.js", "run.js", "memory.js", "causes.js")
 COMPARER = TOP / "release" / "qrev-compare-x86_64-linux"
 IN_NODE = """
 import {readFileSync, writeSync} from "node:fs";
@@ -76,7 +75,7 @@ class Terminal:
         self.causes = Causes(program, names, self.frames, self.scratch, lowered=lowered)
 
     def answer(self, asked: Asked) -> Any:
-        """What is wanted of the page, or None for a question that the terminal doesn't answer for sure."""
+        """The answer expected of the page, or None for a question that the terminal doesn't answer for sure."""
         of, position = asked[:2]
         at = self.run.at(position)
         if of == "byte":
@@ -100,7 +99,7 @@ class Terminal:
 
 
 def told_of(cause: Cause) -> dict[str, Any]:
-    """Moves and next questions of a cause, as testing/causes.js tells those of the page."""
+    """Moves and next questions of a cause, in the form in which testing/causes.js gives those of the page."""
     split = next((n for n, line in enumerate(cause.lines) if line.startswith("  but memory")), len(cause.lines))
     moves = [int(match.group(1)) for match in map(TOLD_MOVE.match, cause.lines[:split]) if match]
     changed = [int(match.group(1)) for match in map(TOLD_MOVE.match, cause.lines[split:]) if match]
@@ -109,7 +108,7 @@ def told_of(cause: Cause) -> dict[str, Any]:
 
 
 def note_of(cause: Cause) -> str | None:
-    """Where a dead address lies, if that isn't told by a frame: the page numbers none, and tells none that is over."""
+    """Where a dead address lies, if not by a frame: the page numbers no frames, and names none that is over."""
     if not cause.lines[0].startswith("fault dead address ") or re.search(r"\bframe\b", cause.lines[2]):
         return None
     return cause.lines[2].strip()
@@ -277,8 +276,7 @@ LOWERED = [*sorted((TOP / "lower" / "test-data" / "real").glob("*.ssa")),
 
 
 def of_lowered_texts(program: str) -> str | None:
-    """Texts that were lowered: a function of the runtime is one instruction, and what is read and set by it is asked
-    about."""
+    """Lowered texts: a function of the runtime is one instruction, and questions are about what it reads and sets."""
     with tempfile.TemporaryDirectory(prefix="page-") as folder:
         cases = []
         for text in LOWERED:

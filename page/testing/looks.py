@@ -4,14 +4,16 @@ from __future__ import annotations
 import json
 import pathlib
 import random
+import signal
 import tempfile
-from typing import Any
+import time
+from typing import Any, Sequence
 
 from .acts import LONG, MOVES_A_ROUND, opened, waited
 from .browser import Browser
 from .causes import TOP
-from .serving import Serving
-from .states import SHOWN, Answers, state_faults
+from .serving import Serving, alive, children_of
+from .states import REAL, SHOWN, Answers, lowered, state_faults
 
 EXAMPLES = TOP / "examples"
 WIDTHS = ((2560, 1440), (1440, 900), (1280, 800), (800, 1200), (520, 1200))
@@ -24,7 +26,7 @@ found.push(`the page is ${document.documentElement.scrollWidth} wide`);
     const {width, height} = box(section);
     if (width < 190 || height < 60) found.push(`${section.className} is ${width} by ${height}`);
   }
-  const parts = [...document.querySelectorAll("header > *, nav > *")]
+  const parts = [...document.querySelectorAll("header > *, nav > *, .acts > *")]
     .filter(each => box(each).width && each.textContent.trim() + each.id);
   for (const each of parts) {
     const {left, right} = box(each);
@@ -45,6 +47,16 @@ code = box(document.getElementById("code"));
   }
   for (const each of document.querySelectorAll(".beside")) {
     if (each.scrollWidth > each.clientWidth + 1) found.push(`${each.textContent} is cut beside its line`);
+  }
+  const tab = box(document.querySelector(".frame.is-on")), frames = box(document.querySelector(".frames"));
+  if (tab.top < frames.top || tab.bottom > frames.bottom + 1) found.push("the frame is out of view");
+  if (document.getElementById("code").scrollTop % 20) found.push("a line is cut at the top of the text");
+  for (const each of document.querySelectorAll(".text h2, .is-folded")) {
+    if (box(each).height > 30) found.push(`${name(each)} has several lines`);
+  }
+  if (innerWidth - box(document.querySelector(".acts")).right > 20) found.push("the buttons aren't at the right");
+  for (const each of document.querySelectorAll(".note")) {
+    if (each.scrollWidth > each.clientWidth + 1) found.push(`${each.textContent.slice(0, 20)} is cut at the right`);
   }
   const height = parseFloat(document.getElementById("timeline").style.height);
   if (!(height > 120 && height < innerHeight / 2)) found.push(`the timeline is ${height} tall`);
@@ -83,37 +95,72 @@ def boxes(program: str) -> str | None:
     try:
         for name in ("squares", "digits", "buffers", "checksum"):
             with Serving(program, str(EXAMPLES / f"{name}.ssa")) as serving:
-                for width, height in WIDTHS:
-                    browser.resize(width, height)
-                    browser.open(serving.address)
-                    for at in ("app.run.moves", "Math.floor(app.run.moves / 3)"):
-                        browser.run(f"app.go({at}); app.slice()")
-                        browser.settle(.02)
-                        found = browser.run(BOXES)
-                        if found:
-                            return f"{name} at {width}: {found}"
+                fault = boxes_at(browser, name, serving, WIDTHS)
+            if fault:
+                return fault
+        with tempfile.TemporaryDirectory(prefix="page-") as folder:
+            for name, text in boxed_texts().items():
+                file = pathlib.Path(folder, f"{name}.ssa")
+                file.write_text(text)
+                with Serving(program, str(file)) as serving:
+                    fault = boxes_at(browser, name, serving, WIDTHS[::2])
+                if fault:
+                    return fault
+            named = ("--lowered", str(REAL / "floaty.ssa"))
+            with Serving(program, lowered("floaty", folder), options=named) as serving:
+                return boxes_at(browser, "floaty", serving, WIDTHS[::2])
     finally:
         browser.close()
     return None
 
 
+def boxes_at(browser: Browser, name: str, serving: Serving, widths: Sequence[tuple[int, int]]) -> str | None:
+    """What is cut, or lies on something else, at some widths."""
+    browser.open(serving.address)
+    for width, height in widths:
+        browser.resize(width, height)
+        browser.settle(.1)
+        for at in ("app.run.moves", "Math.floor(app.run.moves / 3)"):
+            browser.run(f"app.go({at}); app.slice()")
+            browser.settle(.02)
+            found = browser.run(BOXES)
+            if found:
+                return f"{name} at {width}: {found}"
+    return None
+
+
+def boxed_texts() -> dict[str, str]:
+    """Texts whose frames, or names, take much room."""
+    long = "n" * 500
+    return {"deep": DEEP, "long names": f"data $d{long} = {{ w 5 }}\nexport function w $main() {{\n@b{long}\n"
+            f"\t%r =w call $f{long}(w 4, w 7)\n\tjmp @end\n@end\n\tstorew %r, $d{long}\n\tret %r\n}}\n"
+            f"function w $f{long}(w %p, w %q) {{\n@b{long}\n\t%x =w add %p, %q\n\tret %x\n}}\n"}
+
+
 def contrast(program: str) -> str | None:
     """Each text can be read on what it stands on, in the light and in the dark."""
-    with opened(program, str(EXAMPLES / "account.ssa")) as browser:
-        for theme in ("light", "dark"):
-            browser.run(f"document.documentElement.dataset.theme = '{theme}'; app.recolor(); app.slice(); app.go(38)")
-            browser.settle(.2)
-            found = browser.run(CONTRAST)
-            if found:
-                return f"{theme}: {found[:4]}"
+    # The causes of a lost update; a value by hand beside what it was; pieces of memory that were written just now.
+    for name, act in (("account", "app.slice(); app.go(38)"), ("squares", "app.go(45); app.make('poke w $bias 0')"),
+                      ("buffers", "app.go(Math.floor(app.run.moves / 2))")):
+        with opened(program, str(EXAMPLES / f"{name}.ssa")) as browser:
+            browser.run(act)
+            for theme in ("light", "dark"):
+                waited(browser, "app.run.isComplete", True)
+                browser.run(f"document.documentElement.dataset.theme = '{theme}'; app.recolor()")
+                browser.settle(.4)
+                found = browser.run(CONTRAST)
+                if found:
+                    return f"{name}, {theme}: {found[:4]}"
     return None
 
 
 def readers(program: str) -> str | None:
-    """Each part has a name for screen readers; a move is told; the causes are a tree with levels."""
+    """Each part has a name for screen readers; a move is announced; the causes are a tree with levels."""
     with opened(program, str(EXAMPLES / "squares.ssa")) as browser:
+        # An object of more pieces than have their numbers in them.
+        browser.run("app.program.data[0].size = 400; app.cells.widths.set('$squares', 1); app.draw()")
         nameless = browser.run(NAMELESS)
-        if nameless:
+        if nameless or browser.run("document.querySelectorAll('.cell.is-small').length") < 400:
             return f"without a name: {nameless[:3]}"
         browser.run("app.go(44)")
         heard = browser.run("document.getElementById('heard').textContent")
@@ -197,7 +244,7 @@ BUDGET = 100
 
 
 def million(folder: str, moves: int = 1_000_000) -> str:
-    """A text whose run has a million moves, or so many."""
+    """A text whose run has a million moves, or another number."""
     file = pathlib.Path(folder) / f"long-{moves}.ssa"
     file.write_text(LONG.replace("COUNT", str(moves // MOVES_A_ROUND + 1)))
     return str(file)
@@ -209,7 +256,7 @@ def slowed(browser: Browser) -> float:
 
 
 def over(browser: Browser, acts: dict[str, str], most: float) -> list[str]:
-    """The acts that take longer than so many milliseconds of an idle machine; they are tried again before they
+    """The acts that take longer than a number of milliseconds of an idle machine; they are repeated before they
     count."""
     slow: list[str] = []
     for _ in range(2):
@@ -233,7 +280,7 @@ def measured(browser: Browser, acts: dict[str, str]) -> dict[str, float]:
 GROWING = """(() => { app.timeline.paint(); const {canvas} = app.timeline, bar = document.getElementById("progress");
   const row = app.timeline.rows.flames + 4, pixels = canvas.getContext("2d").getImageData(90, row, 1, 1).data;
   return !app.run.isComplete && [bar.hidden, bar.value > 0 && bar.value < 1,
-    document.getElementById("moves").textContent.endsWith("gathered"), pixels[3]]; })()"""
+    / moves of [^ ]+ gathered(, \\d+ s more)?$/.test(document.getElementById("moves").textContent), pixels[3]]; })()"""
 
 
 def times(program: str) -> str | None:
@@ -252,6 +299,47 @@ def times(program: str) -> str | None:
             browser.close()
 
 
+ENDLESS = """data $n = { w 0 }
+export function w $main() {
+@start
+\tjmp @loop
+@loop
+\t%v =w loadw $n
+\t%w =w add %v, 1
+\tstorew %w, $n
+\tjmp @loop
+}
+"""
+# What is told of a run while its end is looked for.
+LOOKING = """[document.getElementById("end").textContent, app.run.moves,
+  (bar => !bar.hidden && bar.value > 0 && bar.value < 1)(document.getElementById("progress")),
+  /^[^ ]+ moves, at most \\d+ (s|min) more$/.test(document.getElementById("moves").textContent)]"""
+
+
+def endless(program: str) -> str | None:
+    """A run without an end: its first window is there at once, the page tells how long its end is looked for, and
+    Ctrl-C ends all."""
+    with tempfile.TemporaryDirectory(prefix="page-") as folder:
+        file = pathlib.Path(folder, "endless.ssa")
+        file.write_text(ENDLESS)
+        browser, wanted = Browser(), ["looking for the end", 20_000, True, True]
+        try:
+            with Serving(program, str(file)) as serving:
+                browser.open(serving.address)
+                told = waited(browser, LOOKING, wanted, 20)
+                # A jump is answered while the end is looked for.
+                there = browser.run("app.reach(1000000).then(() => app.cursor + app.run.base)")
+                pids = children_of(serving.process.pid)
+                begun = time.monotonic()
+                serving.process.send_signal(signal.SIGINT)
+                status = serving.process.wait(20)
+                taken = time.monotonic() - begun
+        finally:
+            browser.close()
+    is_right = told == wanted and there == 1_000_000 and status == 0 and not alive(pids)
+    return None if is_right else f"{told}, #{there}; Ctrl-C: status {status} after {taken:.1f} s, {alive(pids)} left"
+
+
 def slow_acts(browser: Browser) -> str | None:
     if browser.run("app.run.moves") < 1_000_000:
         return "the run is too short"
@@ -259,7 +347,7 @@ def slow_acts(browser: Browser) -> str | None:
 
 
 def slow_gathering(program: str, folder: str, seconds: float) -> str | None:
-    """Ten times the moves are gathered in some ten times the time of a tenth, which is measured behind it."""
+    """Ten times the moves are gathered in some ten times the time of a tenth, which is measured after it."""
     with Serving(program, million(folder, 100_000)) as serving:
         browser = Browser()
         try:
@@ -332,4 +420,5 @@ def enemies(program: str) -> str | None:
 
 
 CASES = {"enemy texts": enemies, "boxes": boxes, "contrast": contrast, "screen readers": readers,
-         "windows of a long run": windows, "a million moves": times}
+         "windows of a long run": windows, "a million moves": times,
+         "a run without an end": endless}

@@ -1,18 +1,18 @@
-"""What the server refuses, what it serves, and what `--page` says where there is nothing to show."""
+"""What the server refuses, what it serves, and what `--page` says if there is nothing to show."""
 from __future__ import annotations
 
 import http.client
 import json
 import pathlib
-import signal
 import subprocess
 import sys
 import tempfile
+import time
 from functools import partial
 from typing import Callable, Iterator
 
-from .causes import TOP
-from .serving import MAIN, Serving
+from .causes import COMPARER, TOP
+from .serving import MAIN, Serving, alive, children_of, heard
 
 EXAMPLES = TOP / "examples"
 SQUARES = str(EXAMPLES / "squares.ssa")
@@ -39,6 +39,10 @@ def asked(port: int, method: str, path: str, headers: list[tuple[str, str]],
     return answer.status, told
 
 
+def status_of(port: int, method: str, path: str, headers: list[tuple[str, str]], body: bytes | None = None) -> int:
+    return asked(port, method, path, headers, body)[0]
+
+
 class Asking:
     """Requests to a server, from its own page and from others."""
 
@@ -57,8 +61,8 @@ class Asking:
         given = {"Host": self.host, **JSON, **(headers or {})}
         return asked(self.port, "POST", f"/{self.token}/{path}", list(given.items()), body)
 
-    def status(self, path: str, body: bytes) -> int:
-        return self.post(path, body)[0]
+    def status(self, path: str, body: bytes, headers: dict[str, str] | None = None) -> int:
+        return self.post(path, body, headers)[0]
 
 
 def wanted_statuses(ask: Asking) -> Iterator[tuple[str, int, Callable[[], int]]]:
@@ -82,6 +86,7 @@ def wanted_statuses(ask: Asking) -> Iterator[tuple[str, int, Callable[[], int]]]
     yield "another port's origin", 403, lambda: ask.get("api/run", Origin=f"http://127.0.0.1:{ask.port + 1}")
     yield "from another site", 403, lambda: ask.get("api/run", Sec_Fetch_Site="cross-site")
     yield "from another port", 403, lambda: ask.get("api/run", Sec_Fetch_Site="same-site")
+    yield from foreign_pokes(ask)
     yield "a path out", 404, lambda: ask.get("../main")
     yield "a path out, hidden", 404, lambda: ask.get("%2e%2e/server.py")
     yield "a file that isn't served", 404, lambda: ask.get("server.py")
@@ -102,10 +107,57 @@ def wanted_statuses(ask: Asking) -> Iterator[tuple[str, int, Callable[[], int]]]
                  "poke w $nothing 0",
                  "set %nothing 1", "poke w 5 0", "save /tmp/x", "", "set %i 0x10"):
         yield f"the line {line!r}", 400, partial(ask.status, "api/poke", (POKED % line).encode())
+    for line in ("break $fill", "break $nothing @start 0", "break $fill @body 4\\ncontinue", "break $fill @body 99",
+                 "watch w 65552; quit", "watch q 65552", "watch w $nothing", "watch $fill %nothing", "delete 1",
+                 "delete all", "continue", ""):
+        yield f"the stop {line!r}", 400, partial(ask.status, "api/stop", (POKED % line).encode())
+    yield "a stop that is a number", 400, lambda: ask.post("api/stop", b'{"page": 1, "position": 4, "line": 7}')[0]
     yield "a poke at the end", 400, lambda: ask.post("api/poke",
                                                      b'{"page": 1, "position": 88, "line": "poke w $bias 0"}')[0]
     yield "another page", 400, lambda: ask.post("api/go", b'{"page": 7, "position": 1}')[0]
     yield "a move of the page", 200, lambda: ask.post("api/go", GO, {"Origin": f"http://{ask.host}"})[0]
+
+
+def foreign_pokes(ask: Asking) -> Iterator[tuple[str, int, Callable[[], int]]]:
+    """A value by hand that doesn't come from the page."""
+    poke = (POKED % "poke w $bias 0").encode()
+    for told, headers in (("another origin", {"Origin": "http://evil.example"}), ("no origin", {"Origin": "null"}),
+                          ("another host", {"Host": "evil.example"}), ("a host by name", {"Host": "localhost"}),
+                          ("another site", {"Sec-Fetch-Site": "cross-site"})):
+        yield f"a poke from {told}", 403, partial(ask.status, "api/poke", poke, headers)
+    given = [("Host", ask.host), *JSON.items()]
+    for told, path in (("no token", "/api/poke"), ("another token", f"/{'x' * len(ask.token)}/api/poke")):
+        yield f"a poke with {told}", 403, partial(status_of, ask.port, "POST", path, given, poke)
+
+
+def paired_statuses(ask: Asking) -> Iterator[tuple[str, int, Callable[[], int]]]:
+    """The same of a server of two runs, each of which has a path of its own."""
+    for path, status in (("", 200), ("pair.js", 200), ("api/pair", 200), ("good/", 200), ("bad/app.js", 200),
+                         ("good/api/run", 200), ("app.js", 404), ("api/run", 404), ("third/", 404),
+                         ("good/pair.js", 404), ("good/../bad/app.js", 404), ("good/%2e%2e/server.py", 404)):
+        yield f"{path!r}", status, partial(ask.get, path)
+    yield "no token", 403, lambda: asked(ask.port, "GET", "/good/api/run", [("Host", ask.host)])[0]
+    yield "another site", 403, lambda: ask.get("api/pair", Sec_Fetch_Site="cross-site")
+    yield "a move of neither run", 404, lambda: ask.post("api/go", GO)[0]
+    yield "a poke of neither run", 404, lambda: ask.post("third/api/poke", (POKED % "poke w $bias 0").encode())[0]
+    yield "a move of one run", 200, lambda: ask.post("good/api/go", GO)[0]
+    yield "a page that doesn't lead the other one", 400, lambda: ask.post("bad/api/go", GO)[0]
+    yield "a window of a run that is shown whole", 400, lambda: ask.post("good/api/window", GO)[0]
+
+
+def paired(program: str) -> str | None:
+    """What a server of two runs serves and refuses; only its own page may frame their pages."""
+    with Serving(program, SQUARES, SQUARES, options=("--compare", str(COMPARER))) as serving:
+        ask = Asking(serving.address)
+        for name, wanted, call in paired_statuses(ask):
+            given = call()
+            if given != wanted:
+                return f"{name}: status {given} and not {wanted}"
+        connection = http.client.HTTPConnection("127.0.0.1", ask.port)
+        connection.request("GET", f"/{ask.token}/good/", headers={"Host": ask.host})
+        policy = connection.getresponse().getheader("Content-Security-Policy") or ""
+        connection.close()
+    return None if "frame-ancestors 'self'" in policy and "frame-src 'self'" in policy else f"the policy is {policy!r}"
 
 
 def statuses(program: str) -> str | None:
@@ -141,7 +193,7 @@ def headers(program: str) -> str | None:
 
 
 def alone(program: str) -> str | None:
-    """It listens on this machine alone, behind a token of at least 128 bits, another one each time."""
+    """It listens on this machine only, with a token of at least 128 bits, another one each time."""
     tokens = []
     for _ in range(2):
         with Serving(program, SQUARES) as serving:
@@ -156,7 +208,7 @@ def alone(program: str) -> str | None:
 
 
 def taken_over(program: str) -> str | None:
-    """The page that was opened last leads the session, and the one before is told so."""
+    """The page that was opened last controls the session, and the one before is told so."""
     with Serving(program, SQUARES) as serving:
         ask = Asking(serving.address)
         pages = [json.loads(asked(ask.port, "GET", f"/{ask.token}/api/run", [("Host", ask.host)])[1])["page"]
@@ -168,24 +220,26 @@ def taken_over(program: str) -> str | None:
 
 
 def ended(program: str) -> str | None:
-    """Ctrl-C ends the server and its processes, with status 0."""
-    # What a shell starts in the background ignores Ctrl-C, and hands that on.
+    """Ctrl-C ends the server and its processes, with status 0; a second one while they end is no error."""
     process = subprocess.Popen([sys.executable, "-B", str(MAIN), "--debugger", program, "--", SQUARES],
-                               stdout=subprocess.PIPE, text=True,
-                               preexec_fn=lambda: signal.signal(signal.SIGINT, signal.SIG_DFL))
-    assert process.stdout
+                               stdout=subprocess.PIPE, stderr=subprocess.PIPE, text=True, preexec_fn=heard)
+    assert process.stdout and process.stderr
     lines = [process.stdout.readline() for _ in range(3)]
-    children = pathlib.Path(f"/proc/{process.pid}/task/{process.pid}/children").read_text().split()
-    process.send_signal(2)
+    children = children_of(process.pid)
+    for _ in range(2):
+        process.send_signal(2)
+        time.sleep(.02)
+    told = process.stderr.read()
     status = process.wait(10)
-    process.stdout.close()
-    left = [child for child in children if pathlib.Path(f"/proc/{child}/stat").exists()]
-    return None if status == 0 and not left and lines[2] == "until Ctrl-C\n" else \
-        f"status {status}, {left} left, {lines}"
+    for stream in (process.stdout, process.stderr):
+        stream.close()
+    left = alive(children)
+    return None if (status, told, left, lines[2]) == (0, "", [], "until Ctrl-C\n") else \
+        f"status {status}, {told!r}, {left} left, {lines}"
 
 
 def refused(program: str) -> str | None:
-    """A text that is refused is told with its line, and one that can't be read as such."""
+    """A refused text is reported with its line, and an unreadable one as unreadable."""
     with tempfile.TemporaryDirectory(prefix="page-") as folder:
         file = pathlib.Path(folder) / "bad.ssa"
         file.write_text("function w $main() {\n@start\n\tret %x\n}\n")
@@ -206,5 +260,5 @@ def refused(program: str) -> str | None:
     return None if is_told else f"{none}"
 
 
-CASES = {"statuses": statuses, "headers": headers, "alone": alone, "one page": taken_over, "Ctrl-C": ended,
-         "refused texts": refused}
+CASES = {"statuses": statuses, "two runs": paired, "headers": headers, "alone": alone, "one page": taken_over,
+         "Ctrl-C": ended, "refused texts": refused}

@@ -83,7 +83,7 @@ def numeral(value: int, size: int) -> str:
 
 
 def state_faults(answers: Answers, shown: dict[str, Any], position: int) -> Iterator[str]:
-    """What is shown of a state otherwise than the debugger answers."""
+    """How what is shown of a state differs from the debugger's answers."""
     told = answers.state(position)
     if shown["position"] != str(position):
         yield f"position {shown['position']}"
@@ -168,7 +168,7 @@ def shown_everywhere(program: str) -> str | None:
 
 
 def differs(program: str) -> str | None:
-    """Where a view is wrong, the page says so in red: a byte, a value and a frame that are told otherwise."""
+    """If a view is wrong, the page says so in red: for a byte, a value and a frame that differ."""
     browser = Browser()
     wrong = {"values": ("told.values['%square'] = '7'", "%square = 7, shown 4"),
              "frames": ("told.frames.push('$main @start 0')", "frames "),

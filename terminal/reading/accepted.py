@@ -1,8 +1,8 @@
 """Reads a text that the debugger has accepted, by the grammar of docs/LANGUAGE.md.
 
-It is QBE's without floats, aggregates and dots, but for what QBE refuses and runs here: other names and spacing, words
-and names with nothing between, a section twice, newlines anywhere in data, and any size of a blit. Constants and
-strings are as they are written.
+It is QBE's grammar without floats, aggregates and dots, with what QBE refuses and runs here: other names and spacing,
+words and names with nothing between, a section twice, newlines anywhere in data, and any size of a blit. Constants and
+strings are kept as written.
 """
 import re
 import string

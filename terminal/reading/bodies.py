@@ -54,7 +54,7 @@ class BodyReader:
         raise Refused(self.path, self.lines[self.at] if line is None else line, what)
 
     def shown(self) -> str:
-        """The token that comes, as an error tells it."""
+        """The next token, as an error shows it."""
         kind, value = self.kinds[self.at], self.values[self.at]
         return f"`{value}`" if kind in "%$@:" or kind == "word" else SHOWN.get(kind, f"`{kind}`")
 

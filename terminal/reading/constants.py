@@ -1,4 +1,4 @@
-"""The bits of floating constants, rounded exactly as IEEE 754 has it: to nearest, ties to even."""
+"""The bits of floating constants, rounded exactly as IEEE 754 says: to nearest, ties to even."""
 import re
 from fractions import Fraction
 from typing import NamedTuple
@@ -51,7 +51,7 @@ def rounded(numerator: int, denominator: int, target: Format) -> int:
 
 
 def shortened(digits: str, base: int) -> tuple[int, int]:
-    """Digits as a number, and how many were left out behind it: it ends in a 1 for all that follow and aren't zero."""
+    """Digits as a number, and how many were left out after it: it ends in a 1 if any of these isn't zero."""
     digits = digits.lstrip("0") or "0"
     front, rest = digits[:MOST_DIGITS], digits[MOST_DIGITS:]
     if not rest.strip("0"):

@@ -1,6 +1,7 @@
 """Reads the tokens of a text as a tree: the definitions. The bodies of functions are read by `bodies`.
 
-Newlines count where QBE counts them: they end labels, phis, instructions and jumps, and stand freely in data and types.
+Newlines count where QBE counts them: they end labels, phis, instructions and jumps, and may be anywhere in data and
+types.
 """
 from .bodies import BodyReader
 from .refusals import Refused
@@ -102,7 +103,7 @@ class TextReader(BodyReader):
         return function
 
     def check(self, function: Function) -> None:
-        """Refuses a function that was read, where a user of the reader wants to."""
+        """Refuses a function, if a user of the reader wants to."""
 
     # Types.
 
@@ -229,7 +230,7 @@ class TextReader(BodyReader):
         return items
 
     def read_more(self, items: list[Item], letter: str) -> None:
-        """The items behind the first of a letter."""
+        """The items after the first of a letter."""
         kinds, values, lines = self.kinds, self.values, self.lines
         while True:
             kind = kinds[self.at]

@@ -18,7 +18,7 @@ STRING = r'"(?:[^"\\]|\\.)*"'
 
 
 class Language(NamedTuple):
-    """The characters that a language has as spacing, and its shapes of a name behind a sigil and of a word."""
+    """The characters that a language has as spacing, and its shapes of a name after a sigil and of a word."""
 
     spacing: str
     name: str
@@ -31,7 +31,7 @@ QBE = Language(r" \t", NAME, NAME)
 
 @functools.cache
 def token_shape(language: Language) -> re.Pattern[str]:
-    """A token behind spacing."""
+    """A token after spacing."""
     spacing, name, word = language
     newline = rf"(?:(?:#[^\n]*)?\n[{spacing}]*)+(?:#[^\n]*\Z)?|#[^\n]*\Z"
     shapes = (rf"[%@:]{name}", newline, FLOAT, word, r"[,={}()+]", r"-?[0-9]+", rf"\${name}", STRING, rf"\${STRING}",
@@ -42,6 +42,8 @@ def token_shape(language: Language) -> re.Pattern[str]:
 
 IS_FLOAT = re.compile(FLOAT)
 SYMBOLS = frozenset(",={}()+")
+# The byte order mark that some editors put before a text in UTF-8, by its bytes.
+MARK = "\xef\xbb\xbf"
 LONG = (1 << 64) - 1
 DIGITS_AT_ONCE = 40
 LETTERS = {"b": "\b", "f": "\f", "n": "\n", "r": "\r", "t": "\t", "v": "\v"}
@@ -134,6 +136,13 @@ def bad_token(token: str, text: str, path: str, line: int) -> Refused:
         return Refused(path, line, f"`{first}` without a name behind it")
     if len(token) > 1 or first in "._" or first.isalpha() and first.isascii():
         return Refused(path, line, f"`{token}` is no word of the language")
+    if first == "\r":
+        return Refused(path, line, r"the line ends in `\015` and a newline, and QBE takes a newline alone")
+    if first == "\xef" and text.startswith(MARK):
+        return Refused(path, line, "the text begins with a byte order mark, which QBE doesn't take")
+    if first > "~":
+        return Refused(path, line, f"`\\{ord(first):03o}` begins no token: names have letters of ASCII, digits, `.`, "
+                       "`_` and `$`")
     shown = first if " " < first <= "~" else f"\\{ord(first):03o}"
     return Refused(path, line, f"`{shown}` begins no token")
 

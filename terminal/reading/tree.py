@@ -6,7 +6,7 @@ Value = int | str
 
 @dataclass(slots=True, frozen=True)
 class Place:
-    """The place in a source text that `dbgfile` and `dbgloc` tell; a column of 0 is none."""
+    """The place in a source text from `dbgfile` and `dbgloc`; a column of 0 is none."""
 
     file: str
     line: int

@@ -1,1 +1,1 @@
-"""What terminal/test tests the front end with."""
+"""The parts of terminal/test."""

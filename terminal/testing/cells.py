@@ -1,5 +1,4 @@
-"""A terminal as xterm is one, as far as a full screen needs it: what a program writes becomes letters in rows and
-columns."""
+"""As much of a terminal like xterm as a full screen needs: a program's output becomes letters in rows and columns."""
 from __future__ import annotations
 
 import codecs

@@ -1,5 +1,4 @@
-"""Tests of what a session at a terminal does besides its commands: Ctrl-C, completion, bad input, what breaks, and
-speed.
+"""Tests of a session at a terminal beyond its commands: Ctrl-C, completion, bad input, failures, and speed.
 
 Each gives what is wrong, or None.
 """
@@ -20,7 +19,7 @@ from typing import Any, Callable
 from terminal import tui
 from terminal.lookout import PATIENCE, Lookout
 from terminal.scratch import Launch
-from terminal.shell import Shell
+from terminal.shell import FAULT, Shell
 from terminal.timeline import Timeline
 from terminal.waiting import Interrupted, Waiting
 
@@ -309,7 +308,7 @@ def without_readline(program: str) -> str | None:
 
 
 def wrapped(program: str) -> str | None:
-    """The script at the top starts the front end at a terminal; behind --plain, and with a script, it doesn't."""
+    """The script at the top starts the front end at a terminal; after --plain, and with a script, it doesn't."""
     wrapper = str(TOP / "qrev")
     choices: tuple[list[str], ...] = ([], ["--plain"], ["--prompt"])
     for words in choices:
@@ -345,7 +344,7 @@ def memory_told(program: str) -> str | None:
 
 
 def bounded(program: str) -> str | None:
-    """With few moves kept a cause is found all the same, and what can't be gone back to is said."""
+    """With few moves kept a cause is still found, and a position out of reach is reported."""
     with tempfile.TemporaryDirectory(prefix="bounded-") as folder:
         session = Held(program, written(folder, "long.ssa", LONG.format(rounds=200_000)), "--history", "10")
         try:
@@ -360,7 +359,7 @@ def bounded(program: str) -> str | None:
 
 
 def fast(program: str) -> str | None:
-    """What `why` takes behind runs of many moves, the way of the second process to the end included."""
+    """The time of `why` after runs of many moves, including the second process's way to the end."""
     for moves, seconds in SPEEDS:
         with tempfile.TemporaryDirectory(prefix="long-") as folder:
             session = Held(program, written(folder, "long.ssa", LONG.format(rounds=moves // 8 + 1)), memory=4096)
@@ -407,7 +406,7 @@ def followed(program: str) -> str | None:
 
 
 def suspected(program: str) -> str | None:
-    """The end of a run tells of suspicions on the way, of the program's own run alone."""
+    """The end of a run reports suspicions on the way, only for the program's own run."""
     for file, lines, is_told in ((SQUARES, ["c"], True), (TOP / "examples" / "sum.ssa", ["c"], False),
                                  (SQUARES, ["step 10", "set %i 3", "c"], False)):
         session = Held(program, str(file), has_lookout=True)
@@ -421,8 +420,8 @@ def suspected(program: str) -> str | None:
 
 
 def gone_round(program: str) -> str | None:
-    """The way through a loop of many rounds is told from its end, and a block that isn't reached is found out at once.
-    @loop comes at #1 and then each second move, so that the 4,000th from #1000001 back is at #992003."""
+    """The way through a loop of many rounds is shown from its end, and an unreached block is found at once. @loop comes
+    at #1 and then each second move, so that the 4,000th from #1000001 back is at #992003."""
     with tempfile.TemporaryDirectory(prefix="round-") as folder:
         text = ENDLESS.replace("jmp @loop\n}", "jnz 1, @loop, @end\n@end\n\tret 0\n}")
         session = Held(program, written(folder, "endless.ssa", text))
@@ -440,7 +439,7 @@ def gone_round(program: str) -> str | None:
 
 
 def far(program: str) -> str | None:
-    """That a block isn't reached is found out behind a long run too in little more than what the run took."""
+    """After a long run too, an unreached block is found in little more than the time of the run."""
     with tempfile.TemporaryDirectory(prefix="far-") as folder:
         text = ENDLESS.replace("jmp @loop\n}", "jnz 1, @loop, @end\n@end\n\tret 0\n}")
         session = Held(program, written(folder, "endless.ssa", text))
@@ -549,6 +548,30 @@ def closed(program: str) -> str | None:
             if wanted and (run.returncode, run.stderr) != wanted or run.stderr.count("\n") > 1:
                 return f"{main}, {closing}: {run.returncode}, {run.stderr!r}"
     return None
+
+
+def gone(program: str) -> str | None:
+    """A check whose two outputs are one pipe that nobody reads says so by its status."""
+    reading, writing = os.pipe()
+    os.close(reading)
+    run = subprocess.run([str(TOP / "check" / "main"), "--debugger", program, "--", str(SQUARES)], stdout=writing,
+                         stderr=writing, stdin=subprocess.DEVNULL)
+    os.close(writing)
+    return None if run.returncode == 2 else f"{run.returncode}"
+
+
+def long_named(program: str) -> str | None:
+    """A temporary whose name is too long for its value to be asked for has none beside its line."""
+    name = "%" + "x" * 300
+    with tempfile.TemporaryDirectory(prefix="long-") as folder:
+        text = (f"function w $main() {{\n@start\n\t{name} =w copy 1\n\tjnz {name}, @end, @end\n"
+                f"@end\n\tret {name}\n}}\n")
+        session = Held(program, written(folder, "long.ssa", text))
+        try:
+            shown = session.do("s") + session.do("s") + session.do("c")
+        finally:
+            session.close()
+    return f"{shown!r}" if FAULT in shown else missing(shown, "#1 $main @start 1", "#2 $main @end 0", "#3 done 1")
 
 
 def patient(_program: str) -> str | None:
@@ -671,7 +694,7 @@ def lowered(program: str) -> str | None:
 
 
 def played(folder: str, words: list[str], lines: str, shown: str, place: str) -> str | None:
-    """What a session over lowered texts shows otherwise, or where its saved script leads otherwise; or None."""
+    """What a session over lowered texts shows wrong, or where its saved script leads wrong; or None."""
     scratch, script = pathlib.Path(folder) / "scratch", pathlib.Path(folder) / "saved.script"
     scratch.mkdir(exist_ok=True)
     session = Terminal([str(TOP / "qrev"), "--lower", *words], seconds=60, folder=str(TOP),
@@ -706,8 +729,8 @@ def bare(program: str) -> str | None:
 
 
 def stops_kept(program: str) -> str | None:
-    """Stops that were written to a file are set again from it, and one that is about a frame is told as left out; a
-    file that reads itself ends, and what is wrong in a file is told with its place."""
+    """Stops that were written to a file are set again from it, and one about a frame is reported as left out; a file
+    that reads itself ends, and what is wrong in a file is reported with its place."""
     with tempfile.TemporaryDirectory(prefix="stops-") as place:
         file, own, wrong = (pathlib.Path(place) / name for name in ("stops", "own", "wrong"))
         own.write_text(f"source {own}\n")
@@ -742,7 +765,7 @@ def stops_kept(program: str) -> str | None:
 HABITS = {call.__name__.replace("_", " "): call for call in (
     interrupted, interrupted_at_the_prompt, left, completed, bad_lines, refused, broken, narrow, without_readline,
     wrapped, memory_told, bounded, fast, followed, suspected, patient, looked_at, shown_at_last, drawn_at_last,
-    closed, gone_round, far, deep, saved_and_compared, stops_kept, mapped, lowered, bare)}
+    closed, gone, long_named, gone_round, far, deep, saved_and_compared, stops_kept, mapped, lowered, bare)}
 
 
 def tried(call: Callable[[str], str | None], program: str) -> str | None:

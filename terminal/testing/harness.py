@@ -141,7 +141,7 @@ class Held(Terminal):
         return answer
 
     def replayed_fault(self) -> str | None:
-        """What the session's saved script leads to otherwise than to where it stands, or None."""
+        """How the end of the session's saved script differs from the session's state, or None."""
         script = pathlib.Path(self.home.name) / "saved.script"
         self.do(f"save {script}")
         self.do("frame 0")

@@ -207,21 +207,22 @@ SINGLES_LINES: Lines = [
 ]
 
 # A function that the runtime calls.
-CALLED = """
-data $table = { w 3 1 2 }
-function w $compare(l %a, l %b) {
+COMPARE = """function w $compare(l %a, l %b) {
 @start
 	%x =w loadw %a
 	%y =w loadw %b
 	%less =w sub %x, %y
 	ret %less
 }
-export function w $main() {
+"""
+CALLED = f"""
+data $table = {{ w 3 1 2 }}
+{COMPARE}export function w $main() {{
 @start
 	call $qsort(l $table, l 3, l 4, l $compare)
 	%r =w loadw $table
 	ret %r
-}
+}}
 """
 CALLED_LINES: Lines = [
     ("b $compare", []), ("c", ["#"]),
@@ -326,7 +327,7 @@ PLACES_LINES: Lines = [
 
 
 def session_fault(program: str, text: str, lines: Lines) -> str | None:
-    """What a session over a text shows otherwise than it must, or where its saved script leads otherwise."""
+    """What a session over a text shows wrong, or where its saved script leads wrong."""
     with tempfile.TemporaryDirectory(prefix="lowered-") as folder:
         file = pathlib.Path(folder) / "a.ssa"
         file.write_text(text)

@@ -1,6 +1,6 @@
 """What the pages show of the front end: sessions as they stand at a terminal, and the table of commands.
 
-A session is a block that begins with a line `$ ./qrev ..`; what is typed stands behind the prompt.
+A session is a block that begins with a line `$ ./qrev ..`; the typed lines follow the prompt.
 """
 from __future__ import annotations
 
@@ -41,7 +41,7 @@ def lowered_session_fault(program: str, lines: list[str]) -> str | None:
 
 
 def session_fault(program: str, lines: list[str], words: tuple[str, ...], lowered: tuple[str, ...] = ()) -> str | None:
-    """What a session shows otherwise than the page says, or None."""
+    """How a session differs from the page, or None."""
     session = Held(program, *words, folder=str(TOP), columns=100, lowered=lowered, has_lookout=True)
     try:
         shown = [lines[0], *session.told.split("\n")[:-1]]

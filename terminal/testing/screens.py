@@ -65,7 +65,7 @@ class Shown(Terminal):
         return self.text()
 
     def press(self, keys: str, *wanted: str, absent: tuple[str, ...] = ()) -> str:
-        """The screen once it has what is wanted behind some keys."""
+        """The screen once it has the expected content after some keys."""
         self.type(keys)
         return self.until(lambda text: all(each in text for each in wanted)
                           and not any(each in text for each in absent))
@@ -76,7 +76,7 @@ def row_with(text: str, wanted: str) -> str:
 
 
 def full_screen(program: str) -> str | None:
-    """Text, values, frames, output and stops stand on the screen and follow each key; the prompt behind it is whole."""
+    """Text, values, frames, output and stops are on the screen and follow each key; the prompt after it is whole."""
     shown = Shown(program, str(EXAMPLES / "digits.ssa"))
     try:
         text = shown.press("tui\n", "#0 $main @start 0", ">  34 ", "values", "frames", "output", "nothing yet",

@@ -113,6 +113,9 @@ SUSPICIOUS: Lines = [
     ("set %unset 1", ["#5 $main @start 4"]), ("break suspect", ["the run as it is now has 1"]),
     ("c", ["stop: end", "#7 done 1"]), ("reverse", ["stop: suspicion s, bounds: ", "#1 $main @start 1"]),
     ("d s", ["deleted s"]), ("reverse", ["stop: start"]), ("break suspect bonds", ["bonds: no kind of suspicion"]),
+    # What was asked before, and looked for with stops of its own, doesn't stop a run.
+    ("d 1", ["deleted 1"]), ("c", ["stop: end"]), ("why w $b", ["w $b+0 = ", "#1 $main @start 1"]),
+    ("break suspect", ["break s"]), ("run", ["stop: suspicion s, bounds: ", "#1 $main @start 1"]),
 ]
 
 # On the stack of examples/digits.ssa after 101 moves: docs/LANGUAGE.md has the picture.
@@ -140,7 +143,8 @@ VALUES: Lines = [
     ("info data", ["line 4: $numbers 65536, 12 bytes"]),
     ("info functions", ["line 6: $number(w %value)", "line 32: $main()"]),
     ("display %rest", ["1: %rest = 1"]), ("display/x w[%count]", ["has no such temporary"]), ("s", ["1: %rest = 1"]),
-    ("undisplay 1", []), ("info display", []), ("out", ["5 bytes", '0  "7\\n"', '2  "42\\n"']),
+    ("undisplay 1", []), ("display %none", ["3: %none: $number has no such temporary"]), ("undisplay", []),
+    ("info display", []), ("out", ["5 bytes", '0  "7\\n"', '2  "42\\n"']),
     ("l", ["> 18 ", "%rest=1"]), ("list $main", [" 32 "]), ("list @write", [" 20  @write"]),
     ("list 1", [" 1  # Writes"]), ("list 999", ["54"]),
     ("back 3", ["#99 $number @digit 1"]), ("p depth", ["depth = 2"]), ("p position", ["position = 99"]),

@@ -1,5 +1,4 @@
-"""Random sessions: any command in any state; the saved lines must lead the plain debugger to where the session
-stands."""
+"""Random sessions: any command in any state. The saved lines must lead the plain debugger to the session's state."""
 from __future__ import annotations
 
 import os
@@ -18,7 +17,7 @@ MOST_SESSIONS = 120
 
 
 class QuietShell(Shell):
-    """What it says is made all the same, and goes nowhere."""
+    """Its output is still made, and goes nowhere."""
 
     def say(self, *lines: str) -> None:
         pass
@@ -78,7 +77,7 @@ class Typist:
 
 
 def session_fault(debugger: str, file: str, seed: int, lines: int, history: int | None = None) -> str | None:
-    """What breaks in a session of so many lines, with the fewest of them that were found to break it; or None."""
+    """What breaks in a session of a number of lines, with the fewest of them found to break it; or None."""
     with open(file, "rb") as opened:
         source = opened.read()
     launch = Launch(debugger, file, (), LIMIT, history)
@@ -99,7 +98,7 @@ def session_fault(debugger: str, file: str, seed: int, lines: int, history: int 
 
 
 def typed_fault(shell: Shell, typed: list[str]) -> str | None:
-    """What breaks in a session of these lines, or what its saved lines lead to otherwise; or None."""
+    """What breaks in a session of these lines, or where its saved lines lead wrong; or None."""
     line = ""
     try:
         for line in typed:

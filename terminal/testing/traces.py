@@ -1,7 +1,7 @@
-"""What set each temporary and each byte, worked out along a run that is stepped through move by move.
+"""What set each temporary and each byte, worked out along a run, move by move.
 
-The front end finds the same by going back to breakpoints and watches. Here nothing is searched: the frames are kept as
-the moves go, and each notes what it set.
+The front end finds the same by going back to breakpoints and watches. Here nothing is searched: the frames are kept
+along the run, and each move notes what it set.
 """
 from __future__ import annotations
 
@@ -75,7 +75,7 @@ def trace_of(debugger: str, file: str, program: Program) -> Trace:
 
 def moved(program: Program, trace: Trace, frames: list[Place], stack: list[Frame],
           values: dict[str, int | None]) -> list[Frame]:
-    """Notes what the move behind the last state has set; the frames behind it."""
+    """Notes what the move after the last state has set; gives the frames after it."""
     before, position = trace.states[-1], len(trace.states) - 1
     place = before.frames[0]
     function = program.functions[place.function]

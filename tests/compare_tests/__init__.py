@@ -1,1 +1,1 @@
-"""What tests/compare asks."""
+"""The parts of tests/compare."""

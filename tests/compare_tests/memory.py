@@ -1,4 +1,4 @@
-"""Each allocation of a comparison refused in turn, by a library that is preloaded: want of memory is an answer."""
+"""Each allocation of a comparison refused in turn, by a preloaded library: out of memory is an answer."""
 from __future__ import annotations
 
 import pathlib
@@ -35,15 +35,14 @@ SCRIPT = b"where\nback 3\nlist\n"
 
 
 class Asked(NamedTuple):
-    """The program that is asked, and how long it may take, as a run of it wants to know it."""
+    """The tested program, and how long it may take, as a run of it needs them."""
 
     program: str
     seconds: float
 
 
 def fault_of(run: Run, ample: bytes, told: bytes, status: int, kinds: set[str]) -> str | None:
-    """What a run with a refused allocation tells otherwise than it may, or None; its kind is added to those that were
-    seen."""
+    """What a run with a refused allocation wrongly reports, or None; its kind is added to those that were seen."""
     if run.errors:
         return f"standard error: {quoted(run.errors)}"
     if not run.was_refused:

@@ -1,5 +1,5 @@
-"""Pairs of texts: the stories with their mended texts, programs written anew, random ones; and what the reference
-tells."""
+"""Pairs of texts: the stories with their corrected texts, rewritten programs, random ones; and the reference's
+reports."""
 from __future__ import annotations
 
 import random
@@ -31,7 +31,7 @@ TooLong = compare.TooLong
 
 
 class Asked(NamedTuple):
-    """A pair of texts, what is asked of it, and what must be told."""
+    """A pair of texts, its options, and the expected report."""
 
     name: str
     good: bytes
@@ -44,7 +44,7 @@ class Asked(NamedTuple):
 
 
 class Options(TypedDict, total=False):
-    """What the reference is told of the words."""
+    """What the words mean for the reference."""
 
     args: list[int]
     events: list[str]
@@ -55,7 +55,7 @@ class Options(TypedDict, total=False):
 
 
 def told_by_reference(good: bytes, bad: bytes, words: Sequence[str], script: bytes) -> tuple[bytes, int]:
-    """What the reference tells, by the words behind the two files, and the status."""
+    """The reference's report, by the words after the two files, and the status."""
     given: Options = {"args": []}
     rest = iter(words)
     for word in rest:

@@ -1,4 +1,4 @@
-"""A program written anew: with other temporaries, other labels, other orders of blocks and definitions."""
+"""Rewrites a program: with other temporaries, other labels, other orders of blocks and definitions."""
 from __future__ import annotations
 
 from typing import Protocol, TypeVar

@@ -1,7 +1,7 @@
-"""Messages below requests that an editor sends: what JSON allows is read, and of all else the editor is told why it
+"""Messages that are barely requests, or none: what JSON allows is read, and for all else the editor learns why it
 isn't.
 
-What is expected stands in the protocol's and in JSON's definitions (RFC 8259).
+Expected values come from the protocol's and from JSON's definitions (RFC 8259).
 """
 from __future__ import annotations
 
@@ -72,7 +72,7 @@ def depths(console: Console) -> None:
 
 
 def sizes(console: Console) -> None:
-    """So long as the adapter reads, and no longer; what comes behind is read."""
+    """As long as the adapter reads, and no longer; what follows is read."""
     too_long = "more than 1048576 bytes"
     for at, size, failure in ((21, 1 << 20, ""), (22, (1 << 20) + 1, too_long), (23, 3 << 20, too_long)):
         body = b'{"seq":%d,%s}' % (at, ASKED.encode())

@@ -1,7 +1,7 @@
-"""The console of an editor as `qrev-dap` starts it: questions that the prompt answers, and all else as the adapter
-alone answers it.
+"""An editor's console as `qrev-dap` starts it: questions that the prompt answers, and all else as the adapter alone
+answers it.
 
-What `why` and the others say of examples/squares.ssa stands in README.md and docs/TERMINAL.md.
+README.md and docs/TERMINAL.md have what `why` and the others answer for examples/squares.ssa.
 """
 import pathlib
 import shutil
@@ -51,7 +51,7 @@ def words_of(program: str) -> list[str]:
 
 
 class Console(Adapter):
-    """An adapter behind the console."""
+    """An adapter with the console in front of it."""
 
     def __init__(self, program: str, seconds: float, folder: pathlib.Path, client: str = "test",
                  environment: Mapping[str, str] | None = None) -> None:
@@ -116,7 +116,7 @@ def another_frame(console: Console) -> None:
 
 
 def changed(console: Console) -> None:
-    """Questions behind a value that was set in Variables, and behind a change that going back took away."""
+    """Questions after a value was set in Variables, and after going back undid a change."""
     console.begin("squares.ssa")
     console.asked("goto 44")
     console.stopped()
@@ -163,7 +163,7 @@ def hovers(console: Console) -> None:
 
 
 def watches(console: Console) -> None:
-    """Questions that an editor asks as a watch, as Kate's console does with what stands behind `p`."""
+    """Questions that an editor asks as a watch, as Kate's console does with what follows `p`."""
     console.begin("squares.ssa")
     for line, wanted in [("goto 44", "#44 $fill @body 4"), ("why %place", "%place = 65552 ($bias+0) was set by\n"),
                          ("why 2", "control came to @body by\n"), ("suspects", "[1] #44 $fill @body 4  line 18"),
@@ -223,7 +223,7 @@ CASES: dict[str, tuple[Callable[[Console], None], str]] = {
 
 
 def disconnected(console: Console, does: Callable[[], None]) -> str | None:
-    """What is otherwise in what is done at a console, or at its end, which is asked for."""
+    """What is wrong in an act at a console, or at the console's end."""
     def whole() -> None:
         does()
         console.answer("disconnect")
@@ -231,7 +231,7 @@ def disconnected(console: Console, does: Callable[[], None]) -> str | None:
 
 
 def fault_in(program: str, seconds: float, does: Callable[[Console], None], client: str = "test") -> str | None:
-    """What the console of a new session does otherwise, or None."""
+    """What the console of a new session does wrong, or None."""
     with tempfile.TemporaryDirectory(prefix="dap-") as place:
         folder = pathlib.Path(place).resolve()
         shutil.copy(FOLDER / "forever.ssa", folder)
@@ -241,7 +241,7 @@ def fault_in(program: str, seconds: float, does: Callable[[Console], None], clie
 
 
 def script_for(program: str, folder: pathlib.Path) -> str:
-    """A program that is the adapter behind the console."""
+    """A program that is the adapter with the console in front of it."""
     script = folder / "behind-the-console"
     script.write_text(f"#!/bin/sh\nexec '{sys.executable}' '{RELAY}' {' '.join(words_of(program))}\n")
     script.chmod(script.stat().st_mode | stat.S_IXUSR)
@@ -249,7 +249,7 @@ def script_for(program: str, folder: pathlib.Path) -> str:
 
 
 def session_fault(program: str, seconds: float, name: str) -> str | None:
-    """A session that is played behind the console, where nothing may be otherwise but for what it can do."""
+    """A session played with the console, where only the capabilities may differ."""
     path = FOLDER / f"{name}.dap"
     # There are filters here.
     text = path.read_text().replace(', "!exceptionBreakpointFilters": 0', "")
@@ -283,7 +283,7 @@ def ended_fault(program: str, seconds: float) -> str | None:
 
 
 def killed_fault(program: str, seconds: float) -> str | None:
-    """Where what stands between is killed while a run goes on, the adapter ends too."""
+    """If editors/console is killed during a run, the adapter ends too."""
     with tempfile.TemporaryDirectory(prefix="dap-") as place:
         folder = pathlib.Path(place).resolve()
         shutil.copy(FOLDER / "forever.ssa", folder)

@@ -1,6 +1,6 @@
-"""The disassembly that an editor shows: the lines of the text, with those of the source where a map tells them.
+"""The disassembly that an editor shows: the lines of the text, with those of the source if a map has them.
 
-What is expected stands in the texts themselves and in the map.
+Expected values come from the texts themselves and from the map.
 """
 from __future__ import annotations
 

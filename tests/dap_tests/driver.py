@@ -24,7 +24,7 @@ MAY_HAVE = {"response": {"message", "body"}, "event": {"body"}}
 
 
 def adapter_of(program: Optional[str] = None) -> Optional[str]:
-    """The adapter that is asked: this one, or the released one where it fits, or the one that is built, or None."""
+    """The tested adapter: this one, or the released one if it fits, or the one that is built, or None."""
     if program:
         return str(pathlib.Path(program).resolve())
     fits = [str(TOP / "release" / "fits"), "qrev-dap"]
@@ -82,7 +82,7 @@ def form_fault(message: Any, number: int) -> Optional[str]:
 
 
 class Wrong(Exception):
-    """What came otherwise in a case."""
+    """What was wrong in a case."""
 
 
 def expect(holds: bool, otherwise: object) -> None:
@@ -171,7 +171,7 @@ class Adapter:
 
 
 def ended(adapter: Adapter, does: Callable[[], object]) -> Optional[str]:
-    """What is otherwise in what is done with an adapter, or in how that ends behind it."""
+    """What is wrong in an act with an adapter, or in the adapter's end after it."""
     try:
         does()
         status = adapter.end()
@@ -183,7 +183,7 @@ def ended(adapter: Adapter, does: Callable[[], object]) -> Optional[str]:
 
 
 class Record(NamedTuple):
-    """A record that a launch asked for, and the words behind `qrev` that replay it."""
+    """A record that a launch asked for, and the words after `qrev` that replay it."""
 
     name: str
     words: list[str]
@@ -202,7 +202,7 @@ def record_of(arguments: object) -> Optional[Record]:
 
 
 def replay_fault(qrev: str, record: Record, folder: pathlib.Path, seconds: float) -> Optional[str]:
-    """What `qrev` writes for a record otherwise than the transcript beside it, or None."""
+    """How the output of `qrev` for a record differs from the transcript beside it, or None."""
     try:
         with open(folder / record.name, "rb") as script, open(folder / f"{record.name}.transcript", "rb") as kept:
             run = subprocess.run([qrev, *record.words], stdin=script, capture_output=True, cwd=folder, timeout=seconds)
@@ -225,7 +225,7 @@ class Playing:
         self.records: dict[str, Record] = {}
 
     def fault_of(self, step: Step) -> Optional[str]:
-        """What comes otherwise than a step says, or None."""
+        """How the messages differ from what a step says, or None."""
         fault: Optional[str] = getattr(self, f"play_{step.kind}")(step)
         return fault
 
@@ -282,7 +282,7 @@ class Playing:
 
 
 def ended_fault(adapter: Adapter) -> Optional[str]:
-    """What an adapter does otherwise than end, with nothing more to tell."""
+    """What an adapter does instead of ending without another message."""
     status = adapter.end()
     if status != 0:
         return f"exit status {status} in place of 0"
@@ -326,7 +326,7 @@ def requests_of(text: str, folder: pathlib.Path) -> bytes:
 
 
 def at_once_fault(program: str, text: str, folder: pathlib.Path, seconds: float, log: list[Message]) -> Optional[str]:
-    """What an adapter answers otherwise if all requests come at once, before the first is answered; or None."""
+    """How an adapter's answers differ if all requests come at once, before the first is answered; or None."""
     try:
         run = subprocess.run([program], input=requests_of(text, folder), capture_output=True, cwd=folder,
                              timeout=seconds)

@@ -1,5 +1,5 @@
 """Sessions whose answers or records are large: pages of many variables, names without end, bytes by the ten thousand, a
-script that is full. What must come of them was worked out from docs/ADAPTER.md and the texts here."""
+script that is full. Expected values were worked out from docs/inside/REQUESTS.md and these texts."""
 from __future__ import annotations
 
 import base64
@@ -105,7 +105,7 @@ def pages(program: str, folder: pathlib.Path, seconds: float) -> None:
 
 
 def names(program: str, folder: pathlib.Path, seconds: float) -> None:
-    """Names that complete a word: no more than so many are told."""
+    """Names that complete a word: at most a fixed number is sent."""
     with Asking(program, many_names(), folder, seconds) as asking:
         targets = [one["label"] for one in asking.ask("completions", text="print $", column=8)["targets"]]
         differ("how many", (len(targets), len(set(targets))), (MOST_NAMES, MOST_NAMES))
@@ -117,7 +117,7 @@ def names(program: str, folder: pathlib.Path, seconds: float) -> None:
 
 
 def memory(program: str, folder: pathlib.Path, seconds: float) -> None:
-    """Bytes: no more than so many are read at once; each that is written is read again."""
+    """Bytes: at most a fixed number is read at once; each written one is read again."""
     given = bytes(number * 7 % 251 for number in range(BYTES - 1))
     with Asking(program, many_bytes(), folder, seconds) as asking:
         page = asking.ask("readMemory", memoryReference=str(DATA), count=BYTES)
@@ -160,7 +160,7 @@ def full_script(program: str, folder: pathlib.Path, seconds: float, qrev: str) -
 
 
 def fault_in(program: str, seconds: float, function: Callable[..., None], *words: str) -> str | None:
-    """What a case has otherwise, or None."""
+    """What is wrong in a case, or None."""
     with tempfile.TemporaryDirectory(prefix="dap-") as place:
         try:
             function(program, pathlib.Path(place).resolve(), seconds, *words)

@@ -1,6 +1,6 @@
 """Texts of whole QBE in an editor, as `qrev-dap` starts the adapter: they are lowered by themselves.
 
-What comes of them is worked out by hand, or is what native code writes (lower/test-data/programs/native.json), or what
+Expected values are worked out by hand, or are what native code writes (lower/test-data/programs/native.json), or what
 `./qrev --lower` and `./qrev --check` answer at a prompt.
 """
 from __future__ import annotations
@@ -116,7 +116,7 @@ class Lowering:
         self.console, self.program, self.folder = console, program, folder
 
     def launch(self, text: str, client: str = "test", **more: object) -> Message:
-        """The response to a launch; and what the console tells before the session is initialized is kept."""
+        """The response to a launch; what the console shows before the session is initialized is kept."""
         self.console.answer("initialize", {"adapterID": "qrev", "clientID": client})
         return self.again(text, **more)
 
@@ -124,7 +124,7 @@ class Lowering:
         return self.console.answer("launch", {"program": str(self.folder / text), **more})
 
     def begin(self, text: str, client: str = "test", **more: object) -> list[str]:
-        """A session that stands at its start, and what the console was told up to there."""
+        """A session that stands at its start, and the console's messages up to there."""
         response = self.launch(text, client, **more)
         expect(response["success"], f"{response}")
         return self.configure()
@@ -135,7 +135,7 @@ class Lowering:
         return self.outputs()
 
     def outputs(self, category: str = "console") -> list[str]:
-        """The output of the program, or what the console was told, since the last time."""
+        """The output of the program, or the console's messages, since the last time."""
         found = [event["body"]["output"] for event in self.console.events
                  if event["event"] == "output" and event["body"]["category"] == category]
         self.console.events = [event for event in self.console.events
@@ -227,7 +227,7 @@ def relative(at: Lowering) -> None:
 
 
 def library(at: Lowering) -> None:
-    """Calls of the C library, of which some are all that a text has of whole QBE."""
+    """Calls of the C library; some are the only part of whole QBE in a text."""
     expect(at.begin("length.ssa") == [LOWERED.format("length.ssa")], "it isn't told that it was lowered")
     at.goes("continue", "done 4")
     at.console.answer("terminate")
@@ -292,7 +292,7 @@ def reads(at: Lowering) -> None:
 
 
 def words(at: Lowering) -> None:
-    """The texts of a main with argc and argv, behind the name of the program, as behind `--` at the prompt."""
+    """The texts of a main with argc and argv, after the name of the program, as after `--` at the prompt."""
     at.begin("echoes.ssa", argv=["a", "", "b c", "--", "\u00e9"])
     at.goes("continue", "done 6")
     expect("".join(at.outputs("stdout")) == "echoes|a||b c|--|\u00e9|", "it writes otherwise")
@@ -312,7 +312,8 @@ def own_name(at: Lowering) -> None:
 
 
 def plain(at: Lowering) -> None:
-    """A text that the debugger takes isn't lowered, unless it is asked for; and one that has to be isn't, if not."""
+    """A text that the debugger takes isn't lowered unless the launch asks for it; `"lower": false` prevents
+    lowering."""
     expect(at.begin("squares.ssa") == [] and not at.left, f"it was lowered: {at.left}")
     at.console.answer("terminate")
     at.next_event("terminated")
@@ -373,7 +374,8 @@ def alone_fault(at: Lowering, text: str, command: str) -> str:
 
 
 def refused(at: Lowering) -> None:
-    """What neither takes is refused as ever, and another launch may follow; what lowering says is told as well."""
+    """What neither takes is refused as usual, and another launch may follow; the message of the lowering is shown
+    too."""
     alone = alone_fault(at, "undefined.ssa", "launch")
     expect(alone == "refused: P2 line 3", f"the adapter alone says {alone}")
     at.fails(at.launch("undefined.ssa"), alone)
@@ -455,7 +457,7 @@ def looked_at(at: Lowering) -> None:
 
 
 def outside(at: Lowering) -> None:
-    """What the prompt tells on standard error before a session is told in the console."""
+    """What the prompt writes on standard error before a session is shown in the console."""
     (at.folder / "opens.ssa").write_text(LENGTH.replace("strlen", "fopen"))
     at.launch("opens.ssa", client="vscode")
     said = at.prompt("--lower", "opens.ssa").stderr
@@ -498,7 +500,7 @@ def sources(at: Lowering) -> None:
 
 
 def recorded(at: Lowering) -> None:
-    """The line that the console tells replays the record, byte for byte."""
+    """The line that the console shows replays the record, byte for byte."""
     (at.folder / "given").write_bytes(b"ab\xff")
     launches: list[tuple[str, Message]] = [
         ("floaty.ssa", {}), ("reads.ssa", {"input": "given", "limit": 100_000}),
@@ -528,7 +530,7 @@ def recorded(at: Lowering) -> None:
 
 
 def checked(at: Lowering) -> None:
-    """The console tells what --check does, for the run that is launched."""
+    """The console shows what --check does, for the launched run."""
     cases: list[tuple[str, Message, list[str], list[str]]] = [
         ("squares.ssa", {}, [], []), ("squares.ssa", {"limit": 40}, [], ["--limit", "40"]),
         ("behind.ssa", {}, ["--lower"], []), ("unset-on-one-path.ssa", {}, [], []),
@@ -682,7 +684,7 @@ KILLED = ("a signal", "killed", "hung up", "crashed")
 
 
 def fault_of(program: str, seconds: float, name: str) -> Fault:
-    """What is otherwise in a case, or None."""
+    """What is wrong in a case, or None."""
     with tempfile.TemporaryDirectory(prefix="dap-") as place:
         folder = pathlib.Path(place).resolve()
         for file in [*EXAMPLES.glob("*.ssa"), *FOLDER.glob("*.ssa"), *(DATA / "real").glob("*.ssa"),
@@ -714,7 +716,7 @@ def console_in(folder: pathlib.Path, program: str, seconds: float) -> Console:
 
 
 def killed_fault(at: Lowering, does: Callable[[Lowering], Fault]) -> Fault:
-    """What is otherwise in a case behind which nothing runs any more."""
+    """What is wrong in a case after which nothing may still run."""
     try:
         return does(at)
     except Wrong as wrong:

@@ -1,4 +1,4 @@
-"""Each allocation of the adapter refused in turn, by a library that is preloaded (../harness/refusing.c)."""
+"""Each allocation of the adapter refused in turn, by a preloaded library (../harness/refusing.c)."""
 from __future__ import annotations
 
 import json

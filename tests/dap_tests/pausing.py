@@ -1,7 +1,7 @@
-"""Runs without an end: an editor pauses them, asks while they go on, changes breakpoints, and ends the session.
+"""Runs without an end: an editor pauses them, asks questions during them, changes breakpoints, and ends the session.
 
-The adapter is told where a copy of its input grows, as `release/with-input-copy` tells it: by that it sees that a
-message has come.
+The adapter gets the name of a growing copy of its input, as from `release/with-input-copy`: so it sees that a message
+has come.
 """
 import pathlib
 import shutil
@@ -20,7 +20,7 @@ LITTLE = 128 << 20
 
 
 class Copied(Adapter):
-    """An adapter that is told where a copy of its input grows."""
+    """An adapter that gets the name of a growing copy of its input."""
 
     def __init__(self, program: str, seconds: float, folder: pathlib.Path) -> None:
         self.copy = folder / "input-copy"
@@ -108,7 +108,7 @@ def paused_with_little(adapter: Copied, folder: pathlib.Path) -> None:
 
 
 def stands_already(adapter: Copied, folder: pathlib.Path) -> None:
-    """A run that stands is told nothing."""
+    """A pause without a run sends nothing."""
     begin(adapter)
     adapter.answer("pause", {"threadId": 1})
     adapter.answer("threads")
@@ -116,7 +116,7 @@ def stands_already(adapter: Copied, folder: pathlib.Path) -> None:
 
 
 def asked_while_it_runs(adapter: Copied, folder: pathlib.Path) -> None:
-    """What only looks is answered, and the run goes on behind it."""
+    """Requests that only look are answered, and the run goes on after them."""
     begin(adapter)
     runs_on(adapter)
     adapter.answer("threads")
@@ -269,7 +269,7 @@ def restarted_while_it_runs(adapter: Copied, folder: pathlib.Path) -> None:
 
 
 def progress(adapter: Copied, folder: pathlib.Path) -> None:
-    """Where the editor shows it, it is told how far a long run is."""
+    """An editor that shows progress gets that of a long run."""
     begin(adapter, None, {"supportsProgressReporting": True})
     adapter.answer("continue", {"threadId": 1})
     start = adapter.event("progressStart")
@@ -312,7 +312,7 @@ CASES: dict[str, Callable[[Copied, pathlib.Path], None]] = {
 
 
 def fault_of(program: str, seconds: float, name: str) -> str | None:
-    """What the adapter does otherwise in a case, or None."""
+    """What the adapter does wrong in a case, or None."""
     with tempfile.TemporaryDirectory(prefix="dap-") as place:
         folder = pathlib.Path(place).resolve()
         shutil.copy(FOLDER / "forever.ssa", folder)

@@ -1,5 +1,5 @@
-"""Whether the sessions see wrong behaviour: each kind is planted in a copy of the adapter of tests/reference, which
-must then fail the session that is named with it, and passes it without."""
+"""Whether the sessions see wrong behaviour: each kind is planted in a copy of the adapter of tests/reference. The copy
+must then fail the named session, and pass it without."""
 from __future__ import annotations
 
 import pathlib
@@ -130,7 +130,7 @@ PLANTS = {
 
 
 def fault_with(folder: pathlib.Path, session: str) -> str | None:
-    """What an adapter in a folder does otherwise than a session says, or None."""
+    """How an adapter in a folder differs from what a session says, or None."""
     run = pathlib.Path(folder) / "run"
     run.mkdir()
     for program in [*FOLDER.glob("*.ssa"), *(TOP / "examples").glob("*.ssa")]:
@@ -162,7 +162,7 @@ def plant_fault(program: str, seconds: float, plant: Plant) -> str | None:
 
 
 def sound_fault(program: str, seconds: float, session: str) -> str | None:
-    """What the adapter does otherwise than a session says with nothing planted, or None."""
+    """How the adapter differs from what a session says with nothing planted, or None."""
     with tempfile.TemporaryDirectory(prefix="dap-") as place:
         folder = pathlib.Path(place).resolve()
         copy_into(folder)

@@ -1,5 +1,5 @@
-"""Random sessions of requests on random programs. What must come of each is what the adapter of tests/reference
-answers; its `Free` parts may be anything. The record is played again by `qrev`."""
+"""Random sessions of requests on random programs. The adapter of tests/reference gives the expected answers; their
+`Free` parts may be anything. `qrev` plays the record again."""
 from __future__ import annotations
 
 import json
@@ -359,7 +359,7 @@ class Session:
 
 
 def difference(want: Any, got: Any, place: str = "") -> Optional[str]:
-    """Where a message is otherwise than it must be, or None."""
+    """Where a message differs from the expected one, or None."""
     if isinstance(want, Free):
         return None
     if isinstance(want, dict) and isinstance(got, dict):
@@ -391,7 +391,7 @@ def with_order(message: Message) -> Message:
 
 
 def answered_fault(session: Session, got: list[Message]) -> Optional[str]:
-    """The first message that is otherwise than the reference's, with the request that it comes of."""
+    """The first message that differs from the reference's, with its request."""
     asked = None
     for at in range(max(len(session.wanted), len(got))):
         if at < len(session.wanted) and session.wanted[at]["type"] == "response":
@@ -408,7 +408,7 @@ def answered_fault(session: Session, got: list[Message]) -> Optional[str]:
 
 
 def fault_of(program: str, qrev: str, folder: str, seed: int, requests: int, seconds: float) -> Optional[str]:
-    """What an adapter does otherwise than the reference in the session of a seed, or None."""
+    """How an adapter differs from the reference in the session of a seed, or None."""
     session = Session(seed, pathlib.Path(folder))
     session.run(requests)
     sent = b"".join(map(frame, session.messages))
@@ -425,7 +425,7 @@ def fault_of(program: str, qrev: str, folder: str, seed: int, requests: int, sec
 
 
 def replayed_fault(qrev: str, name: str, given: Message, folder: pathlib.Path, seconds: float) -> Optional[str]:
-    """What `qrev` does otherwise with the record of a session of these arguments, or None."""
+    """How `qrev` differs on the record of a session with these arguments, or None."""
     words = [given["program"], *map(str, given["args"]), "--limit", str(given["limit"])]
     words += [word for name in ("memory", "history") if name in given for word in (f"--{name}", str(given[name]))]
     return replay_fault(qrev, Record(name, words), folder, seconds)

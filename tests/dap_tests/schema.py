@@ -1,4 +1,4 @@
-"""Whether messages are those of the protocol's own definitions, which the TypeScript compiler reads."""
+"""Whether messages fit the protocol's own definitions, by the TypeScript compiler."""
 from __future__ import annotations
 
 import json
@@ -74,7 +74,7 @@ def refused_lines(messages: Sequence[Message], path: pathlib.Path, known: Collec
 
 
 def faults(logs: Mapping[str, Sequence[Message]], seconds: float) -> Iterator[tuple[str, Fault]]:
-    """For each session what its messages have otherwise than the definitions, or None."""
+    """For each session how its messages differ from the definitions, or None."""
     path = definitions()
     has_compiler = shutil.which("tsc") is not None
     if path is None or not has_compiler:

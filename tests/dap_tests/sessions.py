@@ -7,10 +7,9 @@
     = FILE                  the file has exactly the lines that follow, each behind `| `
     + FILE                  from here on there is a file with these lines in the folder of the run
 
-@DIR is the folder of the run, which has the programs of this folder and of examples/. An object of JSON has the parts
-of another if each member of that is there and has its parts, and no member is there whose name is told with `!` before
-it; a list if it has as many items, and each has its parts; everything has "*". All events are told: one that isn't is a
-fault.
+@DIR is the folder of the run, with the programs of this folder and of examples/. A JSON object has the parts of another
+if it has each member of that, with its parts, and no member that is named with `!` before it; a list, if it has as many
+items, and each has its parts; everything has "*". All events are listed: an unlisted one is a fault.
 """
 from __future__ import annotations
 

@@ -8,27 +8,22 @@ import pathlib
 import tempfile
 from collections.abc import Callable, Iterator
 
+from terminal.testing.lowering import COMPARE
+
 from .consoles import Console, disconnected
 from .driver import expect
 from .lowering import FLOATS
 from .sessions import Case, Message
 
 # The runtime calls a function of the program: 2 numbers are sorted, by one comparison at least.
-SORTS = """data $n = { w 2, w 1 }
-export function w $main() {
+SORTS = f"""data $n = {{ w 2, w 1 }}
+export function w $main() {{
 @start
-	call $qsort(l $n, l 2, l 4, l $order)
+	call $qsort(l $n, l 2, l 4, l $compare)
 	%x =w loadw $n
 	ret %x
-}
-function w $order(l %a, l %b) {
-@start
-	%v =w loadw %a
-	%w =w loadw %b
-	%r =w sub %v, %w
-	ret %r
-}
-"""
+}}
+{COMPARE}"""
 # One line of a source has a product and a call: 3 * 1.5 is 4.5, and its half 2.25.
 ON_ONE_LINE = """export function w $main() {
 @start
@@ -119,7 +114,7 @@ def into_by_instruction(at: Stepping) -> None:
 
 
 def into_on_one_line(at: Stepping) -> None:
-    """Behind an operation that is passed the call on the same line is gone into, and what is behind that isn't."""
+    """After an operation that is passed, the step enters the call on the same line, and nothing after it."""
     at.begin("one.ssa")
     at.goes("stepIn", "one.hll:7")
     at.goes("stepIn", "one.hll:8")
@@ -139,7 +134,7 @@ def met_inside(at: Stepping) -> None:
 def out_of(at: Stepping) -> None:
     """A step out of a function that the runtime calls doesn't end in the runtime."""
     at.begin("sorts.ssa")
-    at.console.answer("setFunctionBreakpoints", {"breakpoints": [{"name": "order"}]})
+    at.console.answer("setFunctionBreakpoints", {"breakpoints": [{"name": "compare"}]})
     at.goes("continue", "sorts.ssa:10", "function breakpoint")
     at.goes("stepOut", "sorts.ssa:5")
     at.goes("reverseContinue", "sorts.ssa:10", "function breakpoint")
@@ -193,7 +188,7 @@ def back_over_a_call(at: Stepping) -> None:
 
 
 def at_once(at: Stepping) -> None:
-    """Requests that come behind a step at once are answered where it ends."""
+    """Requests that come right after a step are answered where it ends."""
     at.begin("floats.ssa")
     commands = ["stepIn", "stackTrace", "stepIn", "stackTrace", "stepBack", "stackTrace"]
     for command in commands:
@@ -233,7 +228,7 @@ CASES: dict[str, Callable[[Stepping], None]] = {
 
 
 def fault_of(program: str, seconds: float, name: str) -> str | None:
-    """What is otherwise in a case, or None."""
+    """What is wrong in a case, or None."""
     with tempfile.TemporaryDirectory(prefix="dap-") as place:
         folder = pathlib.Path(place).resolve()
         for file, lines in FILES.items():

@@ -1,6 +1,6 @@
 """The filters of an editor by which runs stop before suspicious moves, as `qrev-dap` starts the adapter.
 
-What is suspicious in a text is what `./qrev --check` says of it; of examples/squares.ssa it stands in README.md.
+`./qrev --check` says what is suspicious in a text; for examples/squares.ssa README.md has it.
 """
 import pathlib
 import random
@@ -49,7 +49,7 @@ WHILE = 1.0
 
 
 def checked(program: str, folder: pathlib.Path, text: str, kinds: str = "default") -> list[tuple[str, str]]:
-    """The two lines of each suspicion that the command tells of a text, and of words behind it."""
+    """The two lines of each suspicion that the command reports for a text, and for words after it."""
     words = [str(TOP / "qrev"), *(["--built"] if BUILT in program else []), "--check", *text.split(), "--kinds", kinds]
     lines = subprocess.run(words, cwd=folder, capture_output=True, text=True, check=False).stdout.splitlines()
     return list(zip(lines[:-1:2], lines[1:-1:2]))
@@ -85,7 +85,7 @@ class Stopping:
         return stop
 
     def is_suspicious(self, stop: Message, wanted: tuple[str, str]) -> None:
-        """A stop before a suspicious move, by the two lines that are told of it."""
+        """A stop before a suspicious move, by the two lines about it."""
         first, second = wanted
         place, kind = first.partition("  ")[0], second.split()[0].rstrip(":")
         told: Message = {"reason": "exception", "description": place, "text": f"suspicious: {second.strip()}"}
@@ -100,7 +100,7 @@ class Stopping:
         return self.console.stopped()
 
     def outputs(self) -> list[str]:
-        """The output of the program, and what the console was told, since the last time."""
+        """The output of the program, and the console's messages, since the last time."""
         found = [event["body"]["output"] for event in self.console.events if event["event"] == "output"]
         self.console.events.clear()
         return found
@@ -113,7 +113,7 @@ def capabilities(at: Stopping) -> None:
 
 
 def forward_and_back(at: Stopping) -> None:
-    """Both suspicions of a text in turn, to the end, and back; the output is told once."""
+    """Both suspicions of a text in turn, to the end, and back; the output is sent once."""
     first, second = checked(at.program, at.folder, "digits.ssa")
     at.begin("digits.ssa")
     at.is_suspicious(at.stops("continue"), first)
@@ -130,7 +130,7 @@ def forward_and_back(at: Stopping) -> None:
 
 
 def steps(at: Stopping) -> None:
-    """Steps over a call and out of it stop inside; one that ends there tells it; one away from there goes on."""
+    """Steps over a call and out of it stop inside; one that ends there reports it; one away from there goes on."""
     [only] = checked(at.program, at.folder, "squares.ssa")
     at.begin("squares.ssa")
     at.is_suspicious(at.stops("next"), only)
@@ -191,7 +191,7 @@ def strict(at: Stopping) -> None:
 
 
 def breakpoints(at: Stopping) -> None:
-    """What comes first is told: a breakpoint before it, or at it, or the suspicion before a breakpoint."""
+    """What comes first is reported: a breakpoint before it, or at it, or the suspicion before a breakpoint."""
     [only] = checked(at.program, at.folder, "squares.ssa")
     at.begin("squares.ssa")
     at.typed("goto 40")
@@ -229,7 +229,7 @@ def at_the_start(at: Stopping) -> None:
 
 
 def faulting(at: Stopping) -> None:
-    """A suspicious move that faults is told with its fault, in one stop, in whatever way the run came there."""
+    """A suspicious move that faults is reported with its fault, in one stop, however the run got there."""
     [(first, second)] = checked(at.program, at.folder, "faults.ssa")
     # By hand: $d is at 65536, so that 69632 is read, in the second move.
     expect(first.startswith("#1 ") and "bounds" in second, f"{first} {second}")
@@ -252,7 +252,7 @@ def faulting(at: Stopping) -> None:
 
 
 def faulting_alone(at: Stopping) -> None:
-    """A fault of a move that isn't suspicious is told as it is."""
+    """A fault of a move that isn't suspicious is reported unchanged."""
     expect(checked(at.program, at.folder, "divides.ssa") == [], "the division is suspicious")
     at.begin("divides.ssa")
     stop = at.leads("continue", "#2 fault division by zero", "exception")
@@ -392,7 +392,7 @@ def gone(at: Stopping) -> None:
 
 
 def not_kept(at: Stopping) -> None:
-    """Where the suspicious move is before the oldest state that is kept the stop is told as it is."""
+    """If the suspicious move is before the oldest kept state, the stop is reported unchanged."""
     at.begin("squares.ssa", history=10)
     at.leads("continue", "#88 done 30", "end")
     said = at.outputs()
@@ -414,7 +414,7 @@ def limited(at: Stopping) -> None:
 
 
 def paused(at: Stopping) -> None:
-    """A run without an end is answered while it goes on; where its suspicion is out of reach the pause is told."""
+    """Requests are answered during a run without an end; if its suspicion is out of reach the pause is reported."""
     at.begin("endless.ssa", history=1_000_000)
     at.console.answer("continue", {"threadId": 1})
     time.sleep(WHILE)
@@ -465,8 +465,7 @@ def recorded(at: Stopping) -> None:
 
 
 def soon(at: Stopping) -> None:
-    """A stop that isn't far is told before as much is looked at as there is; one before which something is suspicious
-    is led back to that."""
+    """A near stop is reported before the whole run is checked; one after a suspicious move is led back to that."""
     [(first, second)] = checked(at.program, at.folder, "near.ssa --limit 200000")
     expect(first.startswith("#90002 "), first)
     launch = {"program": str(at.folder / "near.ssa")}
@@ -505,7 +504,7 @@ ENDED = ("the editor leaves", "the editor goes away", "recorded")
 
 
 def fault_of(program: str, seconds: float, name: str) -> str | None:
-    """What is otherwise in a case, or None."""
+    """What is wrong in a case, or None."""
     with tempfile.TemporaryDirectory(prefix="dap-") as place:
         folder = pathlib.Path(place).resolve()
         for file in [*EXAMPLES.glob("*.ssa"), *TEXTS.glob("*.ssa"), *FOLDER.glob("*.ssa")]:

@@ -34,13 +34,13 @@ LONG_LINE = b"X-Filler: "
 
 
 def filled(length: int) -> bytes:
-    """A header of so many bytes in all for the request, with a line that says nothing."""
+    """A header of a number of bytes in all for the request, with a line without meaning."""
     last = b"Content-Length: %d\r\n\r\n" % len(THREADS)
     return LONG_LINE + b"x" * (length - len(last) - len(LONG_LINE) - 2) + b"\r\n" + last + THREADS
 
 
 def padded(length: int) -> bytes:
-    """The request with spaces behind it, so many bytes in all."""
+    """The request with spaces after it, a number of bytes in all."""
     return headed(THREADS + b" " * (length - len(THREADS)))
 
 
@@ -228,7 +228,7 @@ def bad_input(program: str, seconds: float) -> Optional[str]:
 
 
 def first_fault(process: subprocess.Popen[bytes]) -> Optional[str]:
-    """What a process answers otherwise to the request, or None."""
+    """How a process's answer to the request is wrong, or None."""
     assert process.stdout is not None
     got = read_message(process.stdout)
     return None if got == answers(7)[0] else f"the first message is {got}"
@@ -268,7 +268,7 @@ def input_reset(program: str, seconds: float) -> Optional[str]:
 
 
 def long_output(program: str, seconds: float) -> Optional[str]:
-    """A run that writes nearly as much as it may, which is told in one event, with its control characters."""
+    """A run that writes nearly as much as it may, sent in one event, with its control characters."""
     line = "\t" + "x" * 65_000 + "\\033"
     text = (f'data $s = {{ b "{line}", b 0 }}\nfunction $main() {{\n@start\n'
             + "\t%r =w call $puts(l $s)\n" * 15 + "\tret\n}\n")

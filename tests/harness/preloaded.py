@@ -1,5 +1,4 @@
-"""Libraries that are preloaded to a run; and a run with the one that refuses an allocation and counts them
-(refusing.c)."""
+"""Libraries that are preloaded to a run; and a run with the one that refuses and counts allocations (refusing.c)."""
 import os
 import pathlib
 import shutil
@@ -16,7 +15,7 @@ HERE = pathlib.Path(__file__).resolve().parent
 
 
 class Asked(Protocol):
-    """Which program is asked, and how long it may take."""
+    """Which program is tested, and how long it may take."""
 
     @property
     def program(self) -> str: ...

@@ -1,4 +1,4 @@
-"""Which program is asked, a run of it, what it did otherwise than it must, and the count of what passed."""
+"""Which program is tested, a run of it, how its output differs from the expected one, and the count of what passed."""
 from __future__ import annotations
 
 import argparse
@@ -32,7 +32,7 @@ def add_program_option(options: argparse.ArgumentParser) -> None:
 
 
 def program_of(given: argparse.Namespace) -> str:
-    """The program that is asked, by the options of a test."""
+    """The tested program, by the options of a test."""
     if given.program:
         return str(pathlib.Path(given.program).resolve())
     if subprocess.run([str(TOP / "release" / "fits")], stdout=subprocess.DEVNULL).returncode == 0:
@@ -110,7 +110,7 @@ class Running(NamedTuple):
         return used.ru_maxrss, transcript
 
     def fault(self, text: bytes, script: bytes, words: Sequence[str], transcript: bytes, status: int) -> str | None:
-        """What the program does otherwise than it must, or None. Nothing may come on standard error."""
+        """What the program does wrong, or None. Nothing may come on standard error."""
         run = self.run(text, script, words)
         if run is None:
             return f"no end after {self.seconds} seconds"

@@ -1,7 +1,7 @@
-"""Makes what fails small: a text, or the lines of a script, of which parts are left out while it still fails.
+"""Makes a failure small: leaves out parts of a text, or lines of a script, as long as it still fails.
 
-The test itself is the judge, and any of its faults will do. Definitions go first, then blocks, then lines, two at a
-time too, so that a jump goes with the label behind it; a jump becomes a simpler one. That is tried until nothing goes.
+The test itself decides, and any of its faults will do. Definitions go first, then blocks, then lines, also two at a
+time, so that a jump goes with the label after it; a jump becomes a simpler one. This is repeated until nothing can go.
 """
 from __future__ import annotations
 

@@ -1,5 +1,4 @@
-"""How many allocations moves and commands take, and how many bytes, counted by a library that is preloaded
-(refusing.c)."""
+"""How many allocations moves and commands take, and how many bytes, counted by a preloaded library (refusing.c)."""
 from __future__ import annotations
 
 import tempfile
@@ -199,7 +198,7 @@ class Counting:
         return run
 
     def more(self, script: bytes, behind: bytes) -> int:
-        """How many allocations the lines behind a script take."""
+        """How many allocations the lines after a script take."""
         more: int = self.run(script + behind).allocations - self.run(script).allocations
         return more
 
@@ -265,7 +264,7 @@ def growths(running: Running) -> str | None:
 
 
 def long_run(running: Running, history: int | None, most: int) -> str | None:
-    """3,000 moves take so many allocations at most, and a way back over them none."""
+    """3,000 moves take at most a fixed number of allocations, and the way back over them none."""
     with library() as made:
         counting = Counting(running, made, LOOP, history)
         taken, back = counting.more(b"", b"step 3000\n"), counting.more(b"step 3000\n", b"back 3000\n")

@@ -1,4 +1,4 @@
-"""Standard input and output that are slow, closed or fail, and files that are no plain text."""
+"""Standard input and output that are slow, closed or failing, and files that are no plain text."""
 from __future__ import annotations
 
 import fcntl
@@ -38,9 +38,9 @@ def started(running: Running, program: Union[str, Path], words: Sequence[str] = 
 def ended(running: Running, process: subprocess.Popen[bytes], transcript: bytes, status: int,
           script: Optional[bytes] = None, written: Union[bytes, Callable[[], bytes], None] = None,
           may_lack: bool = False) -> Optional[str]:
-    """Gives the rest of a script, if there is one, and tells what is wrong with what was written and the end, or None.
+    """Sends the rest of a script, if there is one, and gives what is wrong with the output and the end, or None.
 
-    `written` is what was read elsewhere; with `may_lack` any front of the transcript will do."""
+    `written` is output that was already read; with `may_lack` any prefix of the transcript will do."""
     try:
         out, _ = process.communicate(script, running.seconds)
     except subprocess.TimeoutExpired:
@@ -135,7 +135,7 @@ def held_by_hand(running: Running) -> Optional[str]:
 
 
 def ended_by_hand(running: Running) -> Union[str, Skipped, None]:
-    """The end of input is told at a terminal behind an unfinished line, once; what comes behind it isn't waited for."""
+    """At a terminal the end of input comes after an unfinished line, once; nothing after it is waited for."""
     try:
         ours, theirs = os.openpty()
     except OSError:
@@ -171,7 +171,7 @@ def bad_input(running: Running, kind: str) -> Optional[str]:
 
 
 def failing_input(running: Running, script: bytes, transcript: bytes, status: int) -> Optional[str]:
-    """An input of which these bytes can be read, and whose next read fails."""
+    """An input with these bytes, whose next read fails."""
     ours, theirs = socket.socketpair()
     # Bytes that were sent to an end and not read there when it is closed are a fault at the other end.
     theirs.send(b"unread")
@@ -183,7 +183,7 @@ def failing_input(running: Running, script: bytes, transcript: bytes, status: in
 
 
 def cut_input(running: Running, length: int) -> Optional[str]:
-    """An input that fails behind so many bytes: what was written answers the lines that were read as a whole."""
+    """An input that fails after N bytes: the output answers the lines that were read whole."""
     script = SUM_SCRIPT[:length]
     answers = SUM_ANSWERS.splitlines(True)[:script.count(b"\n")]
     return failing_input(running, script, LOADED + b"".join(answers), 2)
@@ -191,7 +191,7 @@ def cut_input(running: Running, length: int) -> Optional[str]:
 
 def read_of(running: Running, text: bytes, words: Sequence[str], script: bytes, written: bytes,
             status: int) -> tuple[int, Optional[str]]:
-    """How many bytes of a script in a file are read, and what the program does otherwise than it must, or None."""
+    """How many bytes of a script in a file are read, and what the program does wrong, or None."""
     with tempfile.NamedTemporaryFile(prefix="hostile-", suffix=".ssa") as program, tempfile.TemporaryFile() as source:
         program.write(text)
         program.flush()
@@ -243,7 +243,7 @@ def help_unwritten(running: Running) -> Optional[str]:
 
 def output_of_size(running: Running, program: Union[str, Path], script: bytes, transcript: bytes,
                    size: int) -> Optional[str]:
-    """A file that takes so many bytes and no more: it has the front of the transcript of that length."""
+    """A file that takes only N bytes: it has the prefix of the transcript of that length."""
     def bounded() -> None:
         resource.setrlimit(resource.RLIMIT_FSIZE, (size, size))
 
@@ -269,7 +269,7 @@ def no_bytes_taken(running: Running) -> Optional[str]:
 
 
 def reader_goes(running: Running, count: int, signals: bool) -> Optional[str]:
-    """The reader goes away after so many bytes of the load lines, and then there is something to write."""
+    """The reader goes away after N bytes of the load lines, and then there is something to write."""
     process = started(running, SUM, stdin=subprocess.PIPE, stdout=subprocess.PIPE, restore_signals=signals)
     assert process.stdout is not None
     got = taken(process.stdout.fileno(), count, running.seconds)

@@ -1,4 +1,4 @@
-"""Loads and stores at the edges of live memory, the data and the part of the stack that was made; calls of
+"""Loads and stores at the edges of live memory, which is the data and the allocated part of the stack; calls of
 addresses."""
 from __future__ import annotations
 
@@ -27,7 +27,7 @@ LIVE = [(1, 65_536, 1), (1, 65_559, 24), (1, 16_777_239, 24), (2, 65_536, 0x0201
 
 
 def dead_addresses(width: int) -> list[int]:
-    """Addresses of which an access of so many bytes has some outside both intervals."""
+    """Addresses at which an access of N bytes has some outside both intervals."""
     return [0, 1, 65_535, DATA_END - width + 1, DATA_END, 16_777_215, TOP - width + 1, TOP, 17_825_792,
             2**64 - 1 - width, 2**64 - 1]
 

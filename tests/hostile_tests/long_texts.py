@@ -1,6 +1,6 @@
-"""Texts at each limit and one past it, and texts that are long in two ways at once, with what they give.
+"""Texts at each limit and one past it, and texts that are long in two ways at once, with the expected answers.
 
-The limits that have a folder of their own beside this one are left out.
+Limits that are tested elsewhere by a folder of their own are left out.
 """
 from __future__ import annotations
 
@@ -20,7 +20,7 @@ def main_of(lines: Iterable[str], head: str = "function $main() {@s\n", end: str
 
 
 def padded(text: bytes, length: int) -> bytes:
-    """The text with a comment behind it, of so many bytes in all."""
+    """The text with a comment after it, of a number of bytes in all."""
     return text + b"#" * (length - len(text))
 
 
@@ -38,7 +38,7 @@ def functions(count: int) -> bytes:
 
 
 def labels(count: int, head: str = "function $main() {@s\n") -> bytes:
-    """A function with so many labels."""
+    """A function with a number of labels."""
     return main_of((f"@{n}\n" for n in range(count - 1)), head)
 
 

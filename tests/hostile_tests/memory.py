@@ -1,4 +1,4 @@
-"""Each allocation of the program refused in turn, by a library that is preloaded (refusing.c)."""
+"""Each allocation of the program refused in turn, by a preloaded library (refusing.c)."""
 from __future__ import annotations
 
 import subprocess

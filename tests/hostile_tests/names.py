@@ -1,9 +1,8 @@
-"""Names that are made to collide take no longer than names at random, in one run.
+"""Names that are made to collide take no longer than random names, in one run.
 
-The file colliding-names has names of seven letters that agree in the place and in the tag which a table gives them
-under a fixed seed, as a text's author could search for them. The tables hash with keys that are drawn when the program
-starts, so that here they are names like any other; under the fixed seed the time of such a text grew with the square of
-its names.
+The file colliding-names has names of seven letters that get the same place and the same tag in a table under a fixed
+seed, as a text's author could find them. The tables hash with keys that are drawn when the program starts, so here they
+are ordinary names. Under the fixed seed the time of such a text grew with the square of its names.
 """
 from __future__ import annotations
 

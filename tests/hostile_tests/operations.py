@@ -1,4 +1,5 @@
-"""Each operation at edge values, with every kind of operand: what is wanted is worked out here, in whole numbers."""
+"""Each operation at edge values, with every kind of operand. The expected values are computed here, in whole
+numbers."""
 from __future__ import annotations
 
 import itertools
@@ -118,7 +119,7 @@ class Text:
 
     def fault(self, running: Running, loaded: str = "1 functions 0 data bytes", script: str = "",
               answers: str = "") -> str | None:
-        """What is wrong with the temporaries behind the whole text, and with the answers to a script, or None."""
+        """What is wrong with the temporaries after the whole text, and with the answers to a script, or None."""
         text = f"{self.front}function $main({','.join(self.params)}) {{\n@s\n{''.join(self.lines)}ret\n}}\n"
         temps = "".join(f"%{name} = {value}\n" for name, value in self.temps + self.results)
         wanted = f"loaded {loaded} ssa yes\n#0 $main @s 0\n#{self.moves} $main @s {len(self.lines)}\n{temps}{answers}"
@@ -127,7 +128,7 @@ class Text:
 
 
 def operands(class_: str, values: list[int]) -> list[tuple[int, str]]:
-    """Each way to write a value where one of a class is wanted: as a number, and as a temporary that may stand
+    """Each way to write a value where one of a class is required: as a number, and as a temporary that may stand
     there."""
     kinds = ("w", "l") if class_ == "w" else ("l",)
     return [(value, written) for number, value in enumerate(values)

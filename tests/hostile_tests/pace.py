@@ -1,4 +1,4 @@
-"""How long it takes to go back: what a step back undoes, and never the whole run once more."""
+"""How long it takes to go back: as long as a step back undoes, and never the whole run again."""
 from __future__ import annotations
 
 from collections.abc import Iterator, Sequence

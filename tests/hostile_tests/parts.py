@@ -1,7 +1,6 @@
-"""Long runs over copies of states, at the edges of the parts between the copies of states, which are made every 2^14
-moves and kept at 2^21 far away: forward, back, over copies behind the present state, pokes and watches there. Places
-and values are worked out from the position alone; what stops say is asked of a session without the option besides,
-whose transcript it must be."""
+"""Long runs over copies of states, at the edges between the copies, which are made every 2^14 moves and kept at 2^21
+far away: forward, back, over copies after the present state, pokes and watches there. Places and values are worked out
+from the position alone. Stops must be those of a session without the option."""
 from __future__ import annotations
 
 from collections.abc import Callable, Iterator
@@ -54,7 +53,7 @@ class Stand:
         self.position, self.block, self.index, self.count = position, block, index, count
 
     def after(self, moves: int) -> Stand:
-        """The state so many moves on."""
+        """The state a number of moves later."""
         position, block, index, count = self.position + moves, self.block, self.index, self.count
         if block == "start":
             if moves < 2 - index:
@@ -84,7 +83,7 @@ def at(position: int) -> Stand:
 
 
 class Asked:
-    """A script with what each of its lines is to be answered."""
+    """A script with the expected answer to each of its lines."""
 
     def __init__(self) -> None:
         self.lines: list[str] = []

@@ -1,7 +1,7 @@
 """Random programs of the whole language: data, functions, loops, phis, memory, calls.
 
-Most keep all rules; most temporaries are set before they are used, and most addresses are live. What is left over makes
-refusals and faults, which are wanted too.
+Most keep all rules; most temporaries are set before they are used, and most addresses are live. The rest makes refusals
+and faults, which should occur too.
 """
 from __future__ import annotations
 

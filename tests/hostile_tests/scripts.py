@@ -25,7 +25,7 @@ KINDS = {"step": 14, "step N": 12, "back": 8, "back N": 10, "continue": 10, "rev
 
 
 def random_script(random: Random, text: bytes, lines: int) -> bytes:
-    """A script of so many lines for a text, which may be one that is refused."""
+    """A script of a number of lines for a text, which may be a refused one."""
     program: Program | None = None
     try:
         program = parse(cut(text))

@@ -1,7 +1,7 @@
-"""Lines of a script, one session each: the shapes of words, their number, the order of refusals, and what separates
+"""Single lines of a script, a session each: the shapes of words, their number, the order of refusals, separators of
 words.
 
-Lines that a folder of rows/ has already are left out."""
+Lines that are already in a folder of rows/ are left out."""
 from __future__ import annotations
 
 from collections.abc import Iterator

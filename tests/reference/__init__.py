@@ -14,7 +14,7 @@ Where two compilations part, written from docs/COMPARE.md alone:
 
     compare.py   the events of two runs, and the first that differs
 
-And the debug adapter, written from docs/ADAPTER.md alone:
+And the debug adapter, written from docs/ADAPTER.md and docs/inside/REQUESTS.md alone:
 
     messages.py   messages in their frames
     launching.py  what the arguments of a launch say

@@ -1,7 +1,7 @@
-"""The debug adapter once more: requests of the Debug Adapter Protocol as lines of commands, and what is answered.
+"""The debug adapter once more: requests of the Debug Adapter Protocol as lines of commands, and the answers.
 
-A session moves by lines alone, each of which is kept with its answer. What the protocol leaves to an adapter, and no
-page says, is wrapped in `Free` where it is answered: another adapter may answer otherwise there.
+A session moves only by lines, and each is kept with its answer. What the protocol leaves to an adapter, and no page
+says, is wrapped in `Free`: another adapter may answer differently there.
 """
 from __future__ import annotations
 
@@ -70,7 +70,7 @@ class Rule:
         return not (self.condition or self.hits or self.message)
 
     def meets(self, position: int) -> bool:
-        """Notes that the run came to it, and tells whether that is often enough."""
+        """Notes that the run came to it, and says whether that is often enough."""
         before = [at for at in self.met if at < position]
         if position not in self.met:
             self.met = before + [position]

@@ -23,7 +23,7 @@ Event = tuple[Union[tuple[object, ...], str], str]
 
 
 class TooLong(Exception):
-    """More moves than are to be made."""
+    """More moves than allowed."""
 
 
 def quoted(byte: int) -> str:
@@ -165,7 +165,7 @@ class Side:
         return [(("return", func.name, value), f"return ${func.name} {value}")]
 
     def told(self, name: str, line: str) -> str:
-        """What is told of a side."""
+        """The report on a side."""
         session = self.session
         block = session.list_() if session.now.frames else "no: no frame\n"
         way = f"step {session.position}\n" if session.position else ""

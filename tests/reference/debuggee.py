@@ -1,4 +1,4 @@
-"""A session that an editor drives: it moves by lines of commands alone, and each line is kept with its answer."""
+"""A session that an editor drives: it moves only by lines of commands, and each line is kept with its answer."""
 from __future__ import annotations
 
 import collections

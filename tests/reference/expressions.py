@@ -1,6 +1,5 @@
-"""Expressions of numbers, temporaries, names and memory once more, as the terminal and the debug adapter have them:
-read by recursive descent, and worked out on the way. A part is a function of a scene, which gives a value or raises
-`Missing`."""
+"""Expressions of numbers, temporaries, names and memory once more, as at the terminal and in the debug adapter: read by
+recursive descent, and evaluated on the way. A part is a function of a scene that gives a value or raises `Missing`."""
 from __future__ import annotations
 
 import math
@@ -92,7 +91,7 @@ def quotient(a: float, b: float) -> float:
 
 
 def of_floats(symbol: str, a: Value, b: Value) -> Value:
-    """An operation of which an operand is a float."""
+    """An operation with a float operand."""
     one, other = (single(x.number) if y.size == "s" and x.size not in ("s", "d") else float(x.number) for x,
                   y in ((a, b), (b, a)))
     compare = {"==": one == other, "!=": one != other, "<": one < other, "<=": one <= other, ">": one > other,

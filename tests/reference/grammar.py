@@ -1,7 +1,7 @@
 """The program that tokens spell, or the fault of tokens that spell none.
 
-The grammar can be read from the left with one token ahead, and whatever was read so far can be ended to a program. So
-the first token that can't be read is the one that is refused.
+The grammar can be read from the left with one token of lookahead, and whatever was read so far can be completed to a
+program. So the first token that can't be read is the one that is refused.
 """
 from __future__ import annotations
 
@@ -188,7 +188,7 @@ class Reader:
         return self.inst(Inst(line, op, target, type_))
 
     def inst(self, inst: Inst) -> Inst:
-        """An instruction, behind its word."""
+        """An instruction, after its word."""
         inst.operands.append(self.value())
         if inst.op == "call":
             self.take("symbol", "(")

@@ -21,7 +21,7 @@ ESCAPED = {"\\t": "\t", "\\n": "\n", "\\\\": "\\"}
 
 
 def origin_of(line: bytes) -> Optional[Origin]:
-    """What a line of a map tells, or None where it is empty; ValueError where it has another form."""
+    """What a line of a map says, or None if it is empty; ValueError if it has another form."""
     if line == b"":
         return None
     fields = line.decode().split("\t")
@@ -51,7 +51,7 @@ class SourceMap:
                 raise BadMap(f"map: no path and line in line {number}") from None
 
     def shown(self, path: str) -> str:
-        """A path of the map as it is told."""
+        """A path of the map as it is shown."""
         path = re.sub(r"\\[\\tn]", lambda match: ESCAPED[match.group()], path)
         whole = path if path.startswith("/") else posixpath.dirname(self.file) + "/" + path
         if not path.startswith("/") and "/" not in self.file:

@@ -1,4 +1,4 @@
-"""The lines of a text and the places of its program: where a place stands, and which place a line means."""
+"""The lines of a text and the places of its program: the line of a place, and the place that a line means."""
 from __future__ import annotations
 
 from collections.abc import Iterator

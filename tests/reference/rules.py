@@ -1,4 +1,4 @@
-"""The rules of a program, whether it is in SSA form, and where its names lie."""
+"""The rules of a program, whether it is in SSA form, and the addresses of its names."""
 from __future__ import annotations
 
 from collections.abc import Callable, Iterable, Iterator, Sequence

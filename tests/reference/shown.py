@@ -1,4 +1,4 @@
-"""What an editor is shown of the state that is now: frames, scopes, variables, values, and what can be watched."""
+"""What an editor is shown of the current state: frames, scopes, variables, values, and what can be watched."""
 from __future__ import annotations
 
 from collections.abc import Iterator
