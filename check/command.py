@@ -20,7 +20,8 @@ from . import fast
 from .ends import fault_error, lowering_error, refusal_error
 from .following import Excepted, Follower
 from .heap import WrongHeap, roles_of
-from .kinds import ALL, WrongKind, chosen
+from .kinds import ALL, DEFAULT, WrongKind, chosen
+from .objects import READ_ONLY
 from .states import TooLong, table_of
 from .telling import Error, Suspicion, as_gnu, as_sarif, at_own_places, summary
 
@@ -188,7 +189,8 @@ class Programs:
     debugger: str
     checker: str | None = None
     is_built: bool = False
-    full: int = LIMIT  # how many moves are looked at for all kinds, if nothing else is said
+    # How many moves are looked at for all kinds, also those of a run that the fast pass could find clear.
+    full: int | None = None
 
     def fast(self, may_build: bool) -> str | None:
         return self.checker or fast.program(self.is_built, may_build)
@@ -222,13 +224,19 @@ def checked(programs: Programs, asked: Asked, place: pathlib.Path, out: TextIO) 
 
 
 def found_fully(programs: Programs, launch: Launch, table: Table, asked: Asked) -> Outcome:
-    """All kinds in the first moves; and after them, if the run goes on, what the fast pass finds."""
-    limit, checker = asked.limit or programs.full, None
-    if limit > programs.full and asked.may_go_on:
-        checker = programs.fast(False)
-        limit = programs.full if checker else limit
-    gathered = run_of(launch, table, limit)
+    """All kinds in the first moves; and after them, if the run goes on, what the fast pass finds. A run that the fast
+    pass finds clear isn't followed."""
     heap, lowered = roles_of(table.program, asked.heap, asked.has_no_heap), lowered_of(asked.file)
+    if programs.full is None and knows_all(asked, table, heap):
+        clear = clear_outcome(programs, launch, table, asked)
+        if clear:
+            return clear
+    full, checker = programs.full or LIMIT, None
+    limit = asked.limit or full
+    if limit > full and asked.may_go_on:
+        checker = programs.fast(False)
+        limit = full if checker else limit
+    gathered = run_of(launch, table, limit)
     follower = Told(table, part_of(gathered, b"D"), asked.kinds, heap, asked.excepted,
                     others=lowered.runtime | lowered.outside)
     follower.moves = len(gathered.places) - 1
@@ -242,6 +250,28 @@ def found_fully(programs: Programs, launch: Launch, table: Table, asked: Asked) 
         return outcome
     checker = checker or programs.fast(False)
     return gone_on(outcome, checker, launch, table, asked) if checker else outcome
+
+
+def knows_all(asked: Asked, table: Table, heap: dict[str, str]) -> bool:
+    """Whether the fast pass can find a run clear of all kinds that are asked for: without a heap and read-only data,
+    of which it knows nothing, and where no number is called."""
+    return not heap and asked.kinds <= DEFAULT and \
+        not any(data.section.startswith(READ_ONLY) for data in table.program.data) and \
+        not any(place[3].operation == "call" and place[3].operands[0].text[0] not in "$%" for place in table.places)
+
+
+def clear_outcome(programs: Programs, launch: Launch, table: Table, asked: Asked) -> Outcome | None:
+    """The outcome of a run without a suspicion, if the fast pass finds it clear."""
+    checker, launch = programs.fast(False), replace(launch, limit=asked.limit or fast.LIMIT)
+    if not checker or not fast.is_clear(checker, launch):
+        return None
+    end = fast.end_of(launch)
+    return Outcome([], end.moves, end.told, end.is_over, place_number(end, table))
+
+
+def place_number(end: fast.End, table: Table) -> int | None:
+    """The number of the place of the last move."""
+    return table.ids[f"{end.last.function} {end.last.label} {end.last.index}"] if end.last else None
 
 
 def gone_on(outcome: Outcome, checker: str, launch: Launch, table: Table, asked: Asked) -> Outcome:
@@ -273,8 +303,8 @@ def fast_outcome(checker: str, launch: Launch, table: Table, asked: Asked) -> Ou
     found = [each for each in fast.suspicions(checker, launch, table)
              if each.kind in asked.kinds and not asked.excepted.holds_of(each.kind, fast.meant_by(each), each.function)]
     end = fast.end_of(launch)
-    last = table.ids[f"{end.last.function} {end.last.label} {end.last.index}"] if end.last else None
-    return Outcome(sorted(found, key=lambda each: (each.position, each.kind)), end.moves, end.told, end.is_over, last)
+    found.sort(key=lambda each: (each.position, each.kind))
+    return Outcome(found, end.moves, end.told, end.is_over, place_number(end, table))
 
 
 def run_of(launch: Launch, table: Table, limit: int) -> Gathering:

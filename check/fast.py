@@ -23,6 +23,8 @@ KINDS = frozenset(("bounds", "stale", "cut", "stray"))
 # How many moves are looked at if nothing is said: some seconds.
 LIMIT = 100_000_000
 TOLD = re.compile(r"#(\d+) (\S+) (\S+) (\d+)  (\w+): (.*?)(?:  \((\d+) times\))?")
+# The last line of a run with nothing that another pass should look at.
+CLEAR = re.compile(r"0 suspicions in \d+ moves?, no other kinds")
 # The object that was meant: behind the distance to it, and before its size or what it is.
 MEANT = re.compile(r"(?:\bof|\bbefore|\bin) (\$\S+?)(?: %\S+)? \(|(?:\bof|\bbefore|\bin) (\$\S+), a function")
 
@@ -41,15 +43,26 @@ def program(is_built: bool, may_build: bool) -> str | None:
     return None if found.returncode else found.stdout.strip()
 
 
-def suspicions(checker: str, launch: Launch, table: Table) -> list[Suspicion]:
-    """Those of a run up to the limit of its launch, in the order in which the first of each came."""
+def lines_of(checker: str, launch: Launch) -> list[str]:
+    """What the program writes of a run up to the limit of its launch."""
     words = [checker, launch.file, *launch.words, "--limit", str(launch.limit)]
     ran = subprocess.run(words, stdin=subprocess.DEVNULL, capture_output=True, text=True, check=False)
     lines = ran.stdout.splitlines()
     if ran.returncode not in (0, 3, 4, 5) or not lines:
         memory = ran.returncode == 2
         raise Failed("the fast pass has run out of memory" if memory else ran.stderr.strip() or "the fast pass failed")
-    return list(read(lines[:-1], table))
+    return lines
+
+
+def suspicions(checker: str, launch: Launch, table: Table) -> list[Suspicion]:
+    """Those of a run, in the order in which the first of each came."""
+    return list(read(lines_of(checker, launch)[:-1], table))
+
+
+def is_clear(checker: str, launch: Launch) -> bool:
+    """Whether a run has no suspicion of any kind that is on by default, except those of the heap and of sections, of
+    which the program knows nothing. It may say no of a run that has none."""
+    return CLEAR.fullmatch(lines_of(checker, launch)[-1]) is not None
 
 
 def read(lines: list[str], table: Table) -> Iterator[Suspicion]:

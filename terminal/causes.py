@@ -380,7 +380,7 @@ class Causes:
         if callee:
             return self.executed(there, f"{question.text} was set by")
         cause = self.executed(at, f"{question.text} was given back by")
-        # A wrong argument is as likely as a wrong body.
+        # A wrong argument is as likely as a mutant.
         entry = self.frames.entry(at)
         called = entry.at(entry.position - 1)
         cause.lines += ["  to the call", self.line_told(called, *self.innermost(called))]

@@ -1,4 +1,4 @@
-"""The rules of open bits against arithmetic that knows nothing of them: tests/reference, which was written from the
+"""The rules of open bits against arithmetic that knows nothing of them: tests/oracle, which was written from the
 pages.
 
 The law: whatever the open bits of the operands are, the other bits of the result are the same. And if a rule is exact,
@@ -10,7 +10,7 @@ import random
 from functools import partial
 from typing import Callable, Iterator
 
-from reference.machine import Fault, result_of
+from oracle.machine import Fault, result_of
 
 from check.shadow import BITS, MASK, open_by, open_of_difference, open_of_extension
 

@@ -6,7 +6,7 @@ import random
 from typing import Callable, Iterator
 
 from harness.shrinking import smaller_text
-from hostile_tests.programs import random_program
+from robustness_tests.programs import random_program
 
 
 def random_files(place: pathlib.Path, word: str, count: int) -> Iterator[tuple[int, pathlib.Path, bytes, list[str]]]:

@@ -8,8 +8,11 @@ import tempfile
 from functools import partial
 from typing import Callable, Iterator
 
-from check.fast import KINDS
+from check.fast import KINDS, is_clear
+from check.fast import program as fast_program
+from terminal.scratch import Launch
 
+from .chance import random_files, small_fault
 from .rows import ROWS, text_of
 from .texts import CHECKER, MAIN, SECONDS, TEXTS, run
 
@@ -17,6 +20,8 @@ TOP = MAIN.parent.parent
 # Both look at so many moves.
 MOST = 20_000
 LIMIT = ["--limit", str(MOST)]
+# How many random programs are checked.
+RANDOM = 60
 SLOW = ["--kinds", ",".join(sorted(KINDS)), "--no-heap"]
 # A store behind the end in the eleventh round: each round has six moves, one comes before, and the store is its third.
 LATE = """data $a = align 4 { z 40 }
@@ -69,11 +74,41 @@ def same_fault(program: str, file: pathlib.Path, *words: str) -> str | None:
     return f"{fast.returncode}, {fast.stdout!r} {fast.stderr!r} in place of {slow.returncode}, {slow.stdout!r}"
 
 
-def row_fault(program: str, beside: str, lines: list[str]) -> str | None:
+def clear_fault(program: str, file: pathlib.Path, *words: str) -> str | None:
+    """What is told of a text otherwise where the fast pass may find it clear, or None."""
+    quick = run(program, str(file), *words, *LIMIT)
+    full = run(program, str(file), *words, *LIMIT, full=MOST)
+    same = (quick.returncode, quick.stdout, quick.stderr) == (full.returncode, full.stdout, full.stderr)
+    return None if same and full.stdout else f"{quick.stdout!r} {quick.stderr!r} in place of {full.stdout!r}"
+
+
+def row_fault(program: str, fault: Callable[[str, pathlib.Path], str | None], beside: str,
+              lines: list[str]) -> str | None:
     with tempfile.TemporaryDirectory(prefix="check-") as place:
         file = pathlib.Path(place) / "row.ssa"
         file.write_text(text_of(beside, lines))
-        return same_fault(program, file)
+        return fault(program, file)
+
+
+def cleared_fault(program: str) -> str | None:
+    """The right texts that the fast pass finds clear are most of those without a heap. If it found none clear, each
+    check would take as long as before, and nothing would be told otherwise."""
+    checker = CHECKER[1] if CHECKER else fast_program(False, False)
+    if not checker:
+        return "there is no fast pass"
+    right = [file for file in sorted(TEXTS.glob("*.ssa")) if file.with_suffix(".expect").read_text().startswith("end ")
+             and "malloc" not in file.read_text()]
+    clear = [file.stem for file in right if is_clear(checker, Launch(program, str(file), (), MOST))]
+    return None if 3 * len(clear) > 2 * len(right) > 0 else f"{len(clear)} of {len(right)}: {clear}"
+
+
+def random_clear_fault(program: str) -> str | None:
+    """The same of random programs."""
+    with tempfile.TemporaryDirectory(prefix="check-") as place:
+        for number, file, source, words in random_files(pathlib.Path(place), "clear", RANDOM):
+            if clear_fault(program, file, *words):
+                return small_fault(number, file, source, lambda text: clear_fault(program, file, *words))
+    return None
 
 
 def going_on_fault(program: str, before: list[str], behind: list[str], rounds: int, told: str,
@@ -89,7 +124,11 @@ def going_on_fault(program: str, before: list[str], behind: list[str], rounds: i
 def cases(program: str) -> Iterator[Case]:
     for file in [*sorted(TEXTS.glob("*.ssa")), *sorted((TOP / "examples").glob("*.ssa"))]:
         yield f"fast {file.stem}", partial(same_fault, program, file)
+        yield f"clear {file.stem}", partial(clear_fault, program, file)
     for name, *row in ROWS:
-        yield f"fast row {name}", partial(row_fault, program, *row[:2])
+        yield f"fast row {name}", partial(row_fault, program, same_fault, *row[:2])
+        yield f"clear row {name}", partial(row_fault, program, clear_fault, *row[:2])
+    yield "clear right texts", partial(cleared_fault, program)
+    yield "clear random programs", partial(random_clear_fault, program)
     for name, *case in GOING_ON:
         yield f"fast {name}", partial(going_on_fault, program, *case)

@@ -180,7 +180,7 @@ export class Causes {
     return this.made(null, "nothing set it in this call", [this.control(at)], {note, isAlarm: true});
   }
 
-  /** The ret that gave a value back, and the call: a wrong argument is as likely as a wrong body. */
+  /** The ret that gave a value back, and the call: a wrong argument is as likely as a mutant. */
   ofResult(move) {
     const inOwn = this.ofCallee(move, () => "set by");
     if (inOwn) return inOwn;

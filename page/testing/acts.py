@@ -353,7 +353,7 @@ def size(program: str) -> str | None:
     return None if moves >= 100_000 and size < 1_000_000 else f"{moves} moves are {size} bytes"
 
 
-HOSTILE = """# </script><script>window.hacked = 1</script> <img src=x onerror="window.hacked = 2">
+ROBUSTNESS = """# </script><script>window.hacked = 1</script> <img src=x onerror="window.hacked = 2">
 data $text = { b "<script>window.hacked = 3</script><img src=x onerror='window.hacked = 4'>\\000" }
 export function w $main() {
 @script.alert.1
@@ -372,7 +372,7 @@ def hostile(program: str) -> str | None:
     """Names, comments, output and a file's name that would be markup are text, on the page and in the exported file."""
     with tempfile.TemporaryDirectory(prefix="page-") as folder:
         file = pathlib.Path(folder) / "<img src=x onerror=alert(1)>.ssa"
-        file.write_text(HOSTILE)
+        file.write_text(ROBUSTNESS)
         export_file = f"{folder}/hostile.html"
         subprocess.run([sys.executable, "-B", str(MAIN), "--debugger", program, "--export", export_file, "--",
                         str(file)], check=True, capture_output=True)
@@ -395,7 +395,7 @@ def hostile_fault(browser: Browser, name: str) -> str | None:
         file: document.getElementById('file').textContent, output: document.getElementById('output').textContent,
         values: [...document.querySelectorAll('.temp .name')].map(each => each.textContent),
         first: document.querySelector('.line code').textContent})""")
-    wanted = {"hacked": None, "images": 0, "file": name, "first": HOSTILE.split("\n")[0],
+    wanted = {"hacked": None, "images": 0, "file": name, "first": ROBUSTNESS.split("\n")[0],
               "values": ["%__proto__", "%constructor", "%hasOwnProperty", "%toString"]}
     wrong = [f"{key} {given[key]!r}" for key, value in wanted.items() if given[key] != value]
     if "<script>window.hacked = 3</script><img" not in given["output"]:

@@ -201,7 +201,7 @@ def case_of(program_path: str, name: str, file: str, words: Sequence[str], state
 def random_cases(program_path: str, count: int, folder: str) -> Iterator[Case]:
     """Random programs of the whole language that run, a few states of each."""
     sys.path.insert(0, str(TOP / "tests"))
-    from hostile_tests.programs import random_program
+    from robustness_tests.programs import random_program
     seed = 0
     while count:
         seed += 1

@@ -119,7 +119,7 @@ def all_streams(program: str, folder: str) -> Iterator[dict[str, object] | None]
         yield streams(program, str(TOP / "examples" / f"{name}.ssa"), pokes=pokes)
     yield streams(program, mixing(folder, 4000))
     sys.path.insert(0, str(TOP / "tests"))
-    from hostile_tests.programs import random_program
+    from robustness_tests.programs import random_program
     for seed in range(RANDOM):
         text, arguments = random_program(random.Random(seed))
         file = pathlib.Path(folder) / f"{seed}.ssa"

@@ -9,11 +9,11 @@ from typing import NamedTuple, Optional, TypedDict
 
 from compare_tests.rewriting import rewritten
 from harness.running import EXAMPLES
-from hostile_tests.programs import changed, random_program
-from reference import Refused, compare
-from reference.grammar import parse
-from reference.rules import check
-from reference.tokens import cut
+from robustness_tests.programs import changed, random_program
+from oracle import Refused, compare
+from oracle.grammar import parse
+from oracle.rules import check
+from oracle.tokens import cut
 
 # Each story's change, as docs/STORIES.md has it: what stands in the text, and what is to stand there.
 MENDED = {

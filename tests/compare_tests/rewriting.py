@@ -3,9 +3,9 @@ from __future__ import annotations
 
 from typing import Protocol, TypeVar
 
-from reference.grammar import parse
-from reference.tokens import cut
-from reference.tree import Data, Func, Inst, Items, Jump, Operand, Phi, Program
+from oracle.grammar import parse
+from oracle.tokens import cut
+from oracle.tree import Data, Func, Inst, Items, Jump, Operand, Phi, Program
 
 Part = TypeVar("Part", Phi, Inst, Jump)
 T = TypeVar("T")

@@ -9,8 +9,8 @@
     lowered.py          a text that lower/qrev-lower wrote, with its map
     lowering.py         texts of whole QBE, which are lowered by what stands before the adapter
     memory.py           sessions with each allocation of the adapter refused
-    random_sessions.py  random requests, against the adapter of tests/reference
+    random_sessions.py  random requests, against the adapter of tests/oracle
     planted.py          whether the sessions see wrong behaviour
     schema.py           whether messages are those of the protocol's own definitions
-    reference_adapter   the adapter of tests/reference as a program, to try the driver on
+    oracle_adapter   the adapter of tests/oracle as a program, to try the driver on
 """

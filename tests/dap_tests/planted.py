@@ -1,4 +1,4 @@
-"""Whether the sessions see wrong behaviour: each kind is planted in a copy of the adapter of tests/reference. The copy
+"""Whether the sessions see wrong behaviour: each kind is planted in a copy of the adapter of tests/oracle. The copy
 must then fail the named session, and pass it without."""
 from __future__ import annotations
 
@@ -13,8 +13,8 @@ from harness.running import TOP
 from .driver import play
 from .sessions import FOLDER, Case
 
-REFERENCE = TOP / "tests" / "reference"
-PROGRAM = TOP / "tests" / "dap_tests" / "reference_adapter"
+ORACLE = TOP / "tests" / "oracle"
+PROGRAM = TOP / "tests" / "dap_tests" / "oracle_adapter"
 # An adapter that keeps a message back is waited for no longer.
 SECONDS = 5
 
@@ -141,7 +141,7 @@ def fault_with(folder: pathlib.Path, session: str) -> str | None:
 
 def copy_into(folder: pathlib.Path) -> None:
     """A copy of the adapter in a folder."""
-    shutil.copytree(REFERENCE, folder / "reference")
+    shutil.copytree(ORACLE, folder / "oracle")
     (folder / "dap_tests").mkdir()
     shutil.copy(PROGRAM, folder / "dap_tests")
 
@@ -152,7 +152,7 @@ def plant_fault(program: str, seconds: float, plant: Plant) -> str | None:
     with tempfile.TemporaryDirectory(prefix="dap-") as place:
         folder = pathlib.Path(place).resolve()
         copy_into(folder)
-        path = folder / "reference" / plant.file
+        path = folder / "oracle" / plant.file
         text = path.read_text()
         if text.count(plant.old) != 1:
             return f"{plant.file} has {plant.old!r} {text.count(plant.old)} times"

@@ -1,4 +1,4 @@
-"""Random sessions of requests on random programs. The adapter of tests/reference gives the expected answers; their
+"""Random sessions of requests on random programs. The adapter of tests/oracle gives the expected answers; their
 `Free` parts may be anything. `qrev` plays the record again."""
 from __future__ import annotations
 
@@ -10,10 +10,10 @@ from random import Random
 from typing import Any, Optional, TypeVar
 
 from harness.running import EXAMPLES
-from hostile_tests.programs import NUMBERS, random_program
-from hostile_tests.scripts import Lines
-from reference.adapter import Adapter
-from reference.shown import DATA, MACHINE, OBJECTS, POINTED, Free
+from robustness_tests.programs import NUMBERS, random_program
+from robustness_tests.scripts import Lines
+from oracle.adapter import Adapter
+from oracle.shown import DATA, MACHINE, OBJECTS, POINTED, Free
 
 from .driver import Record, frame, messages_in, replay_fault, request_message
 from .sessions import FOLDER, Message

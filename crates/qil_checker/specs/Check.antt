@@ -3,11 +3,11 @@ use Rattle.std.specs.Prelude.{◌≡◌, ℕ, List, Result, Ok, Err}
 use Rattle.qil_rules.specs.declared.rule.Rule.{Rule}
 use Rattle.qil_checker.specs.declared.checker.CheckError.{CheckError}
 use Rattle.qil_checker.specs.declared.checker.CheckError.TheVariants.{Refused, OutOfMemory}
-use Rattle.qil_rules.specs.declared.mention.Mention.{Mention}
+use Rattle.qil_rules.specs.declared.occurrence.Occurrence.{Occurrence}
 use Rattle.qil_rules.specs.Rules.{AreBroken}
 
 -- a refusal tells what is broken first
-abbrev pub IsReported : List (List Mention) → CheckError → Type 0
+abbrev pub IsReported : List (List Occurrence) → CheckError → Type 0
 IsReported all (Refused rule line) = AreBroken all rule line
 IsReported all OutOfMemory = Unit {0}
 

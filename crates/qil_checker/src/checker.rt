@@ -2,7 +2,7 @@
 
 ghost use Rattle.std.specs.Prelude.{◌≡◌, ℕ, IfOk, IfErr};
 ghost use Rattle.qil_tree.specs.Trees.{HasBlocks};
-ghost use Rattle.qil_rules.specs.Mentions.{texts};
+ghost use Rattle.qil_rules.specs.Occurrences.{texts};
 ghost use Rattle.qil_rules.specs.Rules.{WellFormed, Broken};
 ghost use Rattle.qil_checker.specs.Check.{IsReported, IsRefusedBy};
 ghost use Rattle.qil_rules.specs.Forms.{HasForm};

@@ -5,7 +5,7 @@ ghost use Rattle.std.specs.Option.{option_or};
 ghost use Rattle.std.specs.Str.{bytes_eq};
 ghost use Rattle.std.specs.List.{IsDistinct};
 ghost use Rattle.indexmap.specs.IndexMap.{keys};
-ghost use Rattle.qil_names.specs.Tables.{for_name};
+ghost use Rattle.qil_symbols.specs.Tables.{for_name};
 ghost use Rattle.qil_checker.specs.Tables.{place_in};
 
 use indexmap::IndexMap;

@@ -1,19 +1,19 @@
 //! The tables of a text: where its names of each kind stand first, and the predecessors of its blocks.
 
 ghost use Rattle.std.specs.Prelude.{◌≡◌, List, ℕ, IfOk, option_copied};
-ghost use Rattle.qil_names.specs.Tables.{values_at};
+ghost use Rattle.qil_symbols.specs.Tables.{values_at};
 ghost use Rattle.qil_checker.specs.Tables.{place_in, first, named, is_named, predecessors_of};
 ghost use Rattle.qil_checker.specs.declared.lookup.TableKind.TheVariants.{Defined, Named, Labels};
 
 use crate::first_places::FirstPlaces;
 use crate::predecessors::all_predecessors;
-use qil_names::Groups;
-use qil_rules::{Mention, MentionKind};
+use qil_rules::{Occurrence, OccurrenceKind};
+use qil_symbols::Groups;
 use qil_tree::Name;
 use std::alloc::{AllocError, Allocator};
 use std::hash::RandomState;
 
-/// Which mentions of a name a table lists.
+/// Which occurrences of a name a table lists.
 #[derive(Clone, Copy)]
 pub enum TableKind {
     /// Where a temporary is defined.
@@ -34,15 +34,15 @@ pub fn place_of<'a, A: Allocator + Copy>(
     places.get(name.bytes())
 }
 
-/// The name that a mention brings to a table of a kind.
-fn named<'m, 'a>(mention: &'m Mention<'_, 'a>, kind: TableKind) -> Option<&'m Name<'a>>
-    ensures { option_copied result ≡ named mention.now.what kind }
+/// The name that an occurrence brings to a table of a kind.
+fn named<'m, 'a>(occurrence: &'m Occurrence<'_, 'a>, kind: TableKind) -> Option<&'m Name<'a>>
+    ensures { option_copied result ≡ named occurrence.now.what kind }
 {
-    match (&mention.what, kind) {
-        (MentionKind::Defines(name, _), TableKind::Defined) => Some(name),
-        (MentionKind::Defines(name, _), TableKind::Named) => Some(name),
-        (MentionKind::Uses(name, _), TableKind::Named) => Some(name),
-        (MentionKind::Label(name), TableKind::Labels) => Some(name),
+    match (&occurrence.what, kind) {
+        (OccurrenceKind::Defines(name, _), TableKind::Defined) => Some(name),
+        (OccurrenceKind::Defines(name, _), TableKind::Named) => Some(name),
+        (OccurrenceKind::Uses(name, _), TableKind::Named) => Some(name),
+        (OccurrenceKind::Label(name), TableKind::Labels) => Some(name),
         _ => None,
     }
 }
@@ -51,14 +51,14 @@ fn named<'m, 'a>(mention: &'m Mention<'_, 'a>, kind: TableKind) -> Option<&'m Na
 fn first_places<'a, A: Allocator + Copy>(
     alloc: A,
     keys: RandomState,
-    mentions: &[Mention<'_, 'a>],
+    occurrences: &[Occurrence<'_, 'a>],
     kind: TableKind,
 ) -> Result<FirstPlaces<'a, A>, AllocError>
-    ensures { IfOk result (λ t. (x : List ℕ) → place_in t.places x ≡ first (is_named kind x) 0 mentions.now) }
+    ensures { IfOk result (λ t. (x : List ℕ) → place_in t.places x ≡ first (is_named kind x) 0 occurrences.now) }
 {
     let mut table = FirstPlaces::new(alloc, keys);
-    for (place, mention) in mentions.iter().enumerate() {
-        match named(mention, kind) {
+    for (place, occurrence) in occurrences.iter().enumerate() {
+        match named(occurrence, kind) {
             Some(name) => table.note(name.bytes(), place)?,
             None => {}
         }
@@ -91,16 +91,16 @@ struct Places<'a, A: Allocator> {
 fn all_places<'a, A: Allocator + Copy>(
     alloc: A,
     keys: RandomState,
-    mentions: &[Mention<'_, 'a>],
+    occurrences: &[Occurrence<'_, 'a>],
 ) -> Result<Places<'a, A>, AllocError>
-    ensures defined { IfOk result (λ t. (x : List ℕ) → place_in t.defined.places x ≡ first (is_named Defined x) 0 mentions.now) }
-    ensures named { IfOk result (λ t. (x : List ℕ) → place_in t.named.places x ≡ first (is_named Named x) 0 mentions.now) }
-    ensures labels { IfOk result (λ t. (x : List ℕ) → place_in t.labels.places x ≡ first (is_named Labels x) 0 mentions.now) }
+    ensures defined { IfOk result (λ t. (x : List ℕ) → place_in t.defined.places x ≡ first (is_named Defined x) 0 occurrences.now) }
+    ensures named { IfOk result (λ t. (x : List ℕ) → place_in t.named.places x ≡ first (is_named Named x) 0 occurrences.now) }
+    ensures labels { IfOk result (λ t. (x : List ℕ) → place_in t.labels.places x ≡ first (is_named Labels x) 0 occurrences.now) }
 {
     Ok(Places {
-        defined: first_places(alloc, keys, mentions, TableKind::Defined)?,
-        named: first_places(alloc, keys, mentions, TableKind::Named)?,
-        labels: first_places(alloc, keys, mentions, TableKind::Labels)?,
+        defined: first_places(alloc, keys, occurrences, TableKind::Defined)?,
+        named: first_places(alloc, keys, occurrences, TableKind::Named)?,
+        labels: first_places(alloc, keys, occurrences, TableKind::Labels)?,
     })
 }
 
@@ -108,15 +108,15 @@ impl<'a, A: Allocator + Copy> Tables<'a, A> {
     pub fn new(
         alloc: A,
         keys: RandomState,
-        mentions: &[Mention<'_, 'a>],
+        occurrences: &[Occurrence<'_, 'a>],
     ) -> Result<Tables<'a, A>, AllocError>
-        ensures defined { IfOk result (λ t. (x : List ℕ) → place_in t.defined.places x ≡ first (is_named Defined x) 0 mentions.now) }
-        ensures named { IfOk result (λ t. (x : List ℕ) → place_in t.named.places x ≡ first (is_named Named x) 0 mentions.now) }
-        ensures labels { IfOk result (λ t. (x : List ℕ) → place_in t.labels.places x ≡ first (is_named Labels x) 0 mentions.now) }
-        ensures predecessors { IfOk result (λ t. (x : List ℕ) → values_at t.predecessors.lists x ≡ predecessors_of x mentions.now) }
+        ensures defined { IfOk result (λ t. (x : List ℕ) → place_in t.defined.places x ≡ first (is_named Defined x) 0 occurrences.now) }
+        ensures named { IfOk result (λ t. (x : List ℕ) → place_in t.named.places x ≡ first (is_named Named x) 0 occurrences.now) }
+        ensures labels { IfOk result (λ t. (x : List ℕ) → place_in t.labels.places x ≡ first (is_named Labels x) 0 occurrences.now) }
+        ensures predecessors { IfOk result (λ t. (x : List ℕ) → values_at t.predecessors.lists x ≡ predecessors_of x occurrences.now) }
     {
-        let places = all_places(alloc, keys, mentions)?;
-        let predecessors = all_predecessors(alloc, keys, mentions)?;
+        let places = all_places(alloc, keys, occurrences)?;
+        let predecessors = all_predecessors(alloc, keys, occurrences)?;
         Ok(Tables {
             defined: places.defined,
             named: places.named,

@@ -2,12 +2,12 @@
 
 ghost use Rattle.std.specs.Prelude.{◌≡◌, List, ℕ, IfOk, IsTrue, ◌↔◌};
 ghost use Rattle.qil_rules.specs.Text.{ArePredecessors, labels_of};
-ghost use Rattle.qil_names.specs.Tables.{values_at, kept};
+ghost use Rattle.qil_symbols.specs.Tables.{values_at, kept};
 ghost use Rattle.qil_checker.specs.Tables.{predecessors_of};
 
 use crate::phi_labels::{labels_of, same_once};
-use qil_names::Groups;
-use qil_rules::{Mention, MentionKind, PhiSources};
+use qil_rules::{Occurrence, OccurrenceKind, PhiSources};
+use qil_symbols::Groups;
 use qil_tree::Name;
 use std::alloc::{AllocError, Allocator};
 use std::hash::RandomState;
@@ -16,13 +16,13 @@ use std::hash::RandomState;
 pub fn are_predecessors<'a, A: Allocator + Copy>(
     alloc: A,
     keys: RandomState,
-    mentions: &[Mention<'_, 'a>],
+    occurrences: &[Occurrence<'_, 'a>],
     block: &Name<'a>,
     predecessors: Option<&Vec<Name<'a>, A>>,
     sources: &PhiSources<'_, 'a>,
 ) -> Result<bool, AllocError>
-    requires { kept predecessors ≡ predecessors_of block.now mentions.now }
-    ensures { IfOk result (λ b. IsTrue b ↔ ArePredecessors mentions.now block.now (labels_of sources.now)) }
+    requires { kept predecessors ≡ predecessors_of block.now occurrences.now }
+    ensures { IfOk result (λ b. IsTrue b ↔ ArePredecessors occurrences.now block.now (labels_of sources.now)) }
 {
     let labels = labels_of(alloc, sources.as_slice())?;
     match predecessors {
@@ -38,14 +38,18 @@ pub fn are_predecessors<'a, A: Allocator + Copy>(
 pub fn all_predecessors<'a, A: Allocator + Copy>(
     alloc: A,
     keys: RandomState,
-    mentions: &[Mention<'_, 'a>],
+    occurrences: &[Occurrence<'_, 'a>],
 ) -> Result<Groups<'a, Name<'a>, A>, AllocError>
-    ensures { IfOk result (λ t. (x : List ℕ) → values_at t.lists x ≡ predecessors_of x mentions.now) }
+    ensures { IfOk result (λ t. (x : List ℕ) → values_at t.lists x ≡ predecessors_of x occurrences.now) }
 {
     let mut table = Groups::new(alloc, keys);
-    for (place, mention) in mentions.iter().enumerate() {
-        match &mention.what {
-            MentionKind::Edge(from, to) => table.note(alloc, to.bytes(), Name::new(from.bytes()))?,
+    for (place, occurrence) in occurrences.iter().enumerate() {
+        match &occurrence.what {
+            OccurrenceKind::Edge(from, to) => table.note(
+                alloc,
+                to.bytes(),
+                Name::new(from.bytes()),
+            )?,
             _ => {}
         }
     }

@@ -2,12 +2,12 @@
 
 ghost use Rattle.std.specs.Prelude.{◌≡◌, ◌++◌, ◌∷◌, map, List, ℕ, ◌≤◌, Some, take, IfOk, OnOk, IsTrue, ◌↔◌, MatchOption, slice_get};
 ghost use Rattle.std.specs.List.{count_by};
-ghost use Rattle.qil_rules.specs.Mentions.{texts, texts_in, data_mentions, func_mentions};
-ghost use Rattle.qil_names.specs.Tables.{kept};
+ghost use Rattle.qil_rules.specs.Occurrences.{texts, texts_in, data_occurrences, func_occurrences};
+ghost use Rattle.qil_symbols.specs.Tables.{kept};
 ghost use Rattle.qil_checker.specs.Tables.{place_in, first, has_name, AreAtHandFor};
 ghost use Rattle.qil_rules.specs.Rules.{AreWellFormed, AreBroken, IsKept, IsBrokenFirst, Breaks, IsNamedBefore, IsSecondName, IsUnknown, IsLostGlobal, IsTooMuch, is_built_in, is_function};
 ghost use Rattle.qil_checker.specs.Scan.{Keeps, Breach};
-ghost use Rattle.qil_checker.specs.Whole.{mentions_of};
+ghost use Rattle.qil_checker.specs.Whole.{occurrences_of};
 ghost use Rattle.qil_rules.specs.Forms.{HaveForm};
 ghost use Rattle.qil_tree.specs.declared.tree.Definition.{Definition};
 
@@ -15,7 +15,7 @@ use crate::definition::IndexedDefinition;
 use crate::first_places::FirstPlaces;
 use crate::lookup::place_of;
 use crate::walk;
-use qil_rules::{Form, Mention, MentionKind, Rule};
+use qil_rules::{Form, Occurrence, OccurrenceKind, Rule};
 use qil_tree::{Data, Definition, Func, Name, Program};
 use std::alloc::{AllocError, Allocator};
 use std::hash::RandomState;
@@ -46,7 +46,7 @@ impl<'p, 'a, A: Allocator + Copy> Left<'p, 'a, A> {
         out: &mut Vec<IndexedDefinition<'p, 'a, A>, A>,
         definition: Definition,
     ) -> Result<(), AllocError>
-        ensures { OnOk result ((order : List Definition) → mentions_of out.new.items ++ texts_in order self.new.datas.now self.new.funcs.now ≡ mentions_of out.old.items ++ texts_in (definition ∷ order) self.old.datas.now self.old.funcs.now) }
+        ensures { OnOk result ((order : List Definition) → occurrences_of out.new.items ++ texts_in order self.new.datas.now self.new.funcs.now ≡ occurrences_of out.old.items ++ texts_in (definition ∷ order) self.old.datas.now self.old.funcs.now) }
     {
         match definition {
             Definition::Data => {
@@ -71,10 +71,10 @@ fn data_text<'p, 'a, A: Allocator + Copy>(
     keys: RandomState,
     object: &'p Data<'a, A>,
 ) -> Result<IndexedDefinition<'p, 'a, A>, AllocError>
-    ensures { IfOk result (λ t. t.mentions.items ≡ data_mentions object.now) }
+    ensures { IfOk result (λ t. t.occurrences.items ≡ data_occurrences object.now) }
 {
-    let mentions = walk::data_mentions(alloc, object)?;
-    IndexedDefinition::new(alloc, keys, Name::new(object.name.bytes()), mentions)
+    let occurrences = walk::data_occurrences(alloc, object)?;
+    IndexedDefinition::new(alloc, keys, Name::new(object.name.bytes()), occurrences)
 }
 
 fn func_text<'p, 'a, A: Allocator + Copy>(
@@ -82,10 +82,10 @@ fn func_text<'p, 'a, A: Allocator + Copy>(
     keys: RandomState,
     func: &'p Func<'a, A>,
 ) -> Result<IndexedDefinition<'p, 'a, A>, AllocError>
-    ensures { IfOk result (λ t. t.mentions.items ≡ func_mentions func.now) }
+    ensures { IfOk result (λ t. t.occurrences.items ≡ func_occurrences func.now) }
 {
-    let mentions = walk::func_mentions(alloc, func)?;
-    IndexedDefinition::new(alloc, keys, Name::new(func.name.bytes()), mentions)
+    let occurrences = walk::func_occurrences(alloc, func)?;
+    IndexedDefinition::new(alloc, keys, Name::new(func.name.bytes()), occurrences)
 }
 
 fn push_datas<'p, 'a, A: Allocator + Copy>(
@@ -94,7 +94,7 @@ fn push_datas<'p, 'a, A: Allocator + Copy>(
     out: &mut Vec<IndexedDefinition<'p, 'a, A>, A>,
     datas: &'p [Data<'a, A>],
 ) -> Result<(), AllocError>
-    ensures { OnOk result (mentions_of out.new.items ≡ mentions_of out.old.items ++ map data_mentions datas.now) }
+    ensures { OnOk result (occurrences_of out.new.items ≡ occurrences_of out.old.items ++ map data_occurrences datas.now) }
 {
     for object in datas {
         out.push(data_text(alloc, keys, object)?)?;
@@ -108,7 +108,7 @@ fn push_funcs<'p, 'a, A: Allocator + Copy>(
     out: &mut Vec<IndexedDefinition<'p, 'a, A>, A>,
     funcs: &'p [Func<'a, A>],
 ) -> Result<(), AllocError>
-    ensures { OnOk result (mentions_of out.new.items ≡ mentions_of out.old.items ++ map func_mentions funcs.now) }
+    ensures { OnOk result (occurrences_of out.new.items ≡ occurrences_of out.old.items ++ map func_occurrences funcs.now) }
 {
     for func in funcs {
         out.push(func_text(alloc, keys, func)?)?;
@@ -122,7 +122,7 @@ fn texts_of<'p, 'a, A: Allocator + Copy>(
     keys: RandomState,
     program: &'p Program<'a, A>,
 ) -> Result<Vec<IndexedDefinition<'p, 'a, A>, A>, AllocError>
-    ensures { IfOk result (λ v. mentions_of v.items ≡ texts program.now) }
+    ensures { IfOk result (λ v. occurrences_of v.items ≡ texts program.now) }
 {
     let mut out = Vec::new(alloc);
     let mut left = Left {
@@ -143,7 +143,7 @@ fn first_names<'a, A: Allocator + Copy>(
     keys: RandomState,
     texts: &[IndexedDefinition<'_, 'a, A>],
 ) -> Result<FirstPlaces<'a, A>, AllocError>
-    ensures { IfOk result (λ t. (x : List ℕ) → place_in t.places x ≡ first (has_name x) 0 (mentions_of texts.now)) }
+    ensures { IfOk result (λ t. (x : List ℕ) → place_in t.places x ≡ first (has_name x) 0 (occurrences_of texts.now)) }
 {
     let mut table = FirstPlaces::new(alloc, keys);
     for (number, text) in texts.iter().enumerate() {
@@ -174,7 +174,7 @@ struct Visit<'t, 'p, 'a, A: Allocator> {
 pub struct ProgramIndex<'p, 'a, A: Allocator> {
     texts: Vec<IndexedDefinition<'p, 'a, A>, A>,
     names: FirstPlaces<'a, A>,
-    ghost first_names: { (x : List ℕ) → place_in names.places x ≡ first (has_name x) 0 (mentions_of texts.items) },
+    ghost first_names: { (x : List ℕ) → place_in names.places x ≡ first (has_name x) 0 (occurrences_of texts.items) },
 }
 
 impl<'p, 'a, A: Allocator + Copy> ProgramIndex<'p, 'a, A> {
@@ -183,7 +183,7 @@ impl<'p, 'a, A: Allocator + Copy> ProgramIndex<'p, 'a, A> {
         keys: RandomState,
         program: &'p Program<'a, A>,
     ) -> Result<ProgramIndex<'p, 'a, A>, AllocError>
-        ensures { IfOk result (λ w. mentions_of w.texts.items ≡ texts program.now) }
+        ensures { IfOk result (λ w. occurrences_of w.texts.items ≡ texts program.now) }
     {
         let texts = texts_of(alloc, keys, program)?;
         let names = first_names(alloc, keys, texts.as_slice())?;
@@ -193,7 +193,7 @@ impl<'p, 'a, A: Allocator + Copy> ProgramIndex<'p, 'a, A> {
     // ---- the rules that look at other texts
 
     fn is_named_before(&self, name: &Name<'a>, number: usize) -> bool
-        ensures { IsTrue result ↔ IsNamedBefore (mentions_of self.now.texts.items) number name.now }
+        ensures { IsTrue result ↔ IsNamedBefore (occurrences_of self.now.texts.items) number name.now }
     {
         match place_of(&self.names, name) {
             Some(first) => first < number,
@@ -206,20 +206,20 @@ impl<'p, 'a, A: Allocator + Copy> ProgramIndex<'p, 'a, A> {
         &self,
         visit: &Visit<'_, 'p, 'a, A>,
         place: usize,
-        mention: &Mention<'p, 'a>,
+        occurrence: &Occurrence<'p, 'a>,
     ) -> bool
-        requires { slice_get visit.now.text.now.mentions.items place ≡ Some mention.now }
-        ensures { IsTrue result ↔ IsSecondName (mentions_of self.now.texts.items) visit.now.text.now.mentions.items visit.now.number place }
+        requires { slice_get visit.now.text.now.occurrences.items place ≡ Some occurrence.now }
+        ensures { IsTrue result ↔ IsSecondName (occurrences_of self.now.texts.items) visit.now.text.now.occurrences.items visit.now.number place }
     {
-        match &mention.what {
-            MentionKind::DataName(name) => self.is_named_before(name, visit.number),
-            MentionKind::FunctionName(name) => self.is_named_before(name, visit.number),
+        match &occurrence.what {
+            OccurrenceKind::DataName(name) => self.is_named_before(name, visit.number),
+            OccurrenceKind::FunctionName(name) => self.is_named_before(name, visit.number),
             _ => false,
         }
     }
 
     fn is_unknown(&self, name: &Name<'a>) -> bool
-        ensures { IsTrue result ↔ IsUnknown (mentions_of self.now.texts.items) name.now }
+        ensures { IsTrue result ↔ IsUnknown (occurrences_of self.now.texts.items) name.now }
     {
         match place_of(&self.names, name) {
             Some(_) => false,
@@ -232,13 +232,13 @@ impl<'p, 'a, A: Allocator + Copy> ProgramIndex<'p, 'a, A> {
         &self,
         visit: &Visit<'_, 'p, 'a, A>,
         place: usize,
-        mention: &Mention<'p, 'a>,
+        occurrence: &Occurrence<'p, 'a>,
     ) -> bool
-        requires { slice_get visit.now.text.now.mentions.items place ≡ Some mention.now }
-        ensures { IsTrue result ↔ IsLostGlobal (mentions_of self.now.texts.items) visit.now.text.now.mentions.items place }
+        requires { slice_get visit.now.text.now.occurrences.items place ≡ Some occurrence.now }
+        ensures { IsTrue result ↔ IsLostGlobal (occurrences_of self.now.texts.items) visit.now.text.now.occurrences.items place }
     {
-        match &mention.what {
-            MentionKind::Global(name) => self.is_unknown(name),
+        match &occurrence.what {
+            OccurrenceKind::Global(name) => self.is_unknown(name),
             _ => false,
         }
     }
@@ -248,14 +248,14 @@ impl<'p, 'a, A: Allocator + Copy> ProgramIndex<'p, 'a, A> {
         &self,
         visit: &Visit<'_, 'p, 'a, A>,
         place: usize,
-        mention: &Mention<'p, 'a>,
+        occurrence: &Occurrence<'p, 'a>,
     ) -> bool
-        requires there { slice_get visit.now.text.now.mentions.items place ≡ Some mention.now }
-        requires counted { visit.now.functions ≡ count_by is_function (take visit.now.number (mentions_of self.now.texts.items)) }
-        ensures { IsTrue result ↔ IsTooMuch (mentions_of self.now.texts.items) visit.now.text.now.mentions.items visit.now.number place }
+        requires there { slice_get visit.now.text.now.occurrences.items place ≡ Some occurrence.now }
+        requires counted { visit.now.functions ≡ count_by is_function (take visit.now.number (occurrences_of self.now.texts.items)) }
+        ensures { IsTrue result ↔ IsTooMuch (occurrences_of self.now.texts.items) visit.now.text.now.occurrences.items visit.now.number place }
     {
-        match &mention.what {
-            MentionKind::FunctionName(_) => {
+        match &occurrence.what {
+            OccurrenceKind::FunctionName(_) => {
                 visit.text.has_many_temporaries()
                     || visit.text.has_many_blocks()
                     || visit.functions == MAX_FUNCTIONS
@@ -266,7 +266,7 @@ impl<'p, 'a, A: Allocator + Copy> ProgramIndex<'p, 'a, A> {
 
     // ---- all rules
 
-    /// Whether the mention at a place of a text breaks a rule; `predecessors` are those of its block, where the rule asks
+    /// Whether the occurrence at a place of a text breaks a rule; `predecessors` are those of its block, where the rule asks
     /// for them.
     fn breaks(
         &self,
@@ -274,57 +274,57 @@ impl<'p, 'a, A: Allocator + Copy> ProgramIndex<'p, 'a, A> {
         rule: Rule,
         visit: &Visit<'_, 'p, 'a, A>,
         place: usize,
-        mention: &Mention<'p, 'a>,
+        occurrence: &Occurrence<'p, 'a>,
         predecessors: Option<&Vec<Name<'a>, A>>,
     ) -> Result<bool, AllocError>
-        requires there { slice_get visit.now.text.now.mentions.items place ≡ Some mention.now }
-        requires at_hand { AreAtHandFor rule visit.now.text.now.mentions.items place (kept predecessors) }
-        requires counted { visit.now.functions ≡ count_by is_function (take visit.now.number (mentions_of self.now.texts.items)) }
-        ensures { IfOk result (λ b. IsTrue b ↔ Breaks rule (mentions_of self.now.texts.items) visit.now.text.now.mentions.items visit.now.number place) }
+        requires there { slice_get visit.now.text.now.occurrences.items place ≡ Some occurrence.now }
+        requires at_hand { AreAtHandFor rule visit.now.text.now.occurrences.items place (kept predecessors) }
+        requires counted { visit.now.functions ≡ count_by is_function (take visit.now.number (occurrences_of self.now.texts.items)) }
+        ensures { IfOk result (λ b. IsTrue b ↔ Breaks rule (occurrences_of self.now.texts.items) visit.now.text.now.occurrences.items visit.now.number place) }
     {
         let text = visit.text;
         match rule {
-            Rule::C1 => Ok(self.is_second_name(visit, place, mention)),
-            Rule::C2 => Ok(text.is_second_label(place, mention)),
-            Rule::C3 => Ok(text.is_lost_label(place, mention)),
-            Rule::C4 => Ok(text.is_jump_to_first(place, mention)),
-            Rule::C5 => Ok(text.is_other_class(place, mention)),
-            Rule::C6 => Ok(text.is_undefined_use(place, mention)),
-            Rule::C7 => Ok(text.is_narrow_use(place, mention)),
-            Rule::C8 => text.is_wrong_phi(alloc, place, mention, predecessors),
-            Rule::C9 => Ok(self.is_lost_global(visit, place, mention)),
-            Rule::C10 => Ok(text.is_untyped_return(place, mention)),
-            Rule::C11 => Ok(text.is_narrow_result(place, mention)),
-            Rule::C12 => Ok(self.is_too_much(visit, place, mention)),
+            Rule::C1 => Ok(self.is_second_name(visit, place, occurrence)),
+            Rule::C2 => Ok(text.is_second_label(place, occurrence)),
+            Rule::C3 => Ok(text.is_lost_label(place, occurrence)),
+            Rule::C4 => Ok(text.is_jump_to_first(place, occurrence)),
+            Rule::C5 => Ok(text.is_other_class(place, occurrence)),
+            Rule::C6 => Ok(text.is_undefined_use(place, occurrence)),
+            Rule::C7 => Ok(text.is_narrow_use(place, occurrence)),
+            Rule::C8 => text.is_wrong_phi(alloc, place, occurrence, predecessors),
+            Rule::C9 => Ok(self.is_lost_global(visit, place, occurrence)),
+            Rule::C10 => Ok(text.is_untyped_return(place, occurrence)),
+            Rule::C11 => Ok(text.is_narrow_result(place, occurrence)),
+            Rule::C12 => Ok(self.is_too_much(visit, place, occurrence)),
         }
     }
 
-    /// The line of the first mention of a text that breaks a rule.
+    /// The line of the first occurrence of a text that breaks a rule.
     fn first_breach(
         &self,
         alloc: A,
         rule: Rule,
         visit: &Visit<'_, 'p, 'a, A>,
     ) -> Result<Option<u32>, AllocError>
-        requires { visit.now.functions ≡ count_by is_function (take visit.now.number (mentions_of self.now.texts.items)) }
-        ensures { IfOk result (λ o. MatchOption o (Keeps rule (mentions_of self.now.texts.items) visit.now.text.now.mentions.items visit.now.number) (Breach rule (mentions_of self.now.texts.items) visit.now.text.now.mentions.items visit.now.number)) }
+        requires { visit.now.functions ≡ count_by is_function (take visit.now.number (occurrences_of self.now.texts.items)) }
+        ensures { IfOk result (λ o. MatchOption o (Keeps rule (occurrences_of self.now.texts.items) visit.now.text.now.occurrences.items visit.now.number) (Breach rule (occurrences_of self.now.texts.items) visit.now.text.now.occurrences.items visit.now.number)) }
     {
         // Looked up once for a block, since a block's phis don't spell its label.
         let mut predecessors = None;
-        for (place, mention) in visit.text.mentions.iter().enumerate() {
-            if self.breaks(alloc, rule, visit, place, mention, predecessors)? {
-                return Ok(Some(mention.line));
+        for (place, occurrence) in visit.text.occurrences.iter().enumerate() {
+            if self.breaks(alloc, rule, visit, place, occurrence, predecessors)? {
+                return Ok(Some(occurrence.line));
             }
             predecessors = visit
                 .text
-                .predecessors_for(rule, place, mention, predecessors);
+                .predecessors_for(rule, place, occurrence, predecessors);
         }
         Ok(None)
     }
 
     /// The line of the first place in the program that breaks a rule.
     fn line_of(&self, alloc: A, rule: Rule) -> Result<Option<u32>, AllocError>
-        ensures { IfOk result (λ o. MatchOption o (IsKept rule (mentions_of self.now.texts.items)) (IsBrokenFirst rule (mentions_of self.now.texts.items))) }
+        ensures { IfOk result (λ o. MatchOption o (IsKept rule (occurrences_of self.now.texts.items)) (IsBrokenFirst rule (occurrences_of self.now.texts.items))) }
     {
         let mut functions = 0;
         for (number, text) in self.texts.iter().enumerate() {
@@ -343,7 +343,7 @@ impl<'p, 'a, A: Allocator + Copy> ProgramIndex<'p, 'a, A> {
 
     /// The lowest rule that is broken anywhere, with the line of its first place.
     pub fn lowest(&self, alloc: A) -> Result<Option<BrokenRule>, AllocError>
-        ensures { IfOk result (λ o. MatchOption o (AreWellFormed (mentions_of self.now.texts.items)) (λ r. AreBroken (mentions_of self.now.texts.items) r.rule r.line)) }
+        ensures { IfOk result (λ o. MatchOption o (AreWellFormed (occurrences_of self.now.texts.items)) (λ r. AreBroken (occurrences_of self.now.texts.items) r.rule r.line)) }
     {
         let mut rule = Rule::C1;
         'rules: loop {
@@ -359,7 +359,7 @@ impl<'p, 'a, A: Allocator + Copy> ProgramIndex<'p, 'a, A> {
 
     /// Whether each temporary has one definition.
     pub fn form(&self) -> Form<'a>
-        ensures { HaveForm (mentions_of self.now.texts.items) result }
+        ensures { HaveForm (occurrences_of self.now.texts.items) result }
     {
         for text in self.texts.as_slice() {
             if let Some(temp) = text.second_definition() {

@@ -1,12 +1,12 @@
-//! The mentions of a definition, from its tree.
+//! The occurrences of a definition, from its tree.
 
 ghost use Rattle.std.specs.Prelude.{◌≡◌, ◌++◌, ◌∷◌, [], OnOk, IfOk, Option, map};
 ghost use Rattle.std.specs.List.{flat_map};
 ghost use Rattle.qil_rules.specs.Operands.{right_class, stored_class, expr_reads, inst_reads, inst_target, inst_long_class, call_target, argument_read, long_class};
-ghost use Rattle.qil_rules.specs.declared.mention.MentionKind.TheVariants.{Edge};
-ghost use Rattle.qil_rules.specs.Mentions.{on, read_mentions, operand_mentions, target_mentions, long_mentions, source_mentions, phi_mentions, kind_mentions, inst_mentions, returned_class, jump_mentions, block_mentions, param_mention, func_mentions, item_mentions, field_mentions, data_mentions};
+ghost use Rattle.qil_rules.specs.declared.occurrence.OccurrenceKind.TheVariants.{Edge};
+ghost use Rattle.qil_rules.specs.Occurrences.{on, read_occurrences, operand_occurrences, target_occurrences, long_occurrences, source_occurrences, phi_occurrences, kind_occurrences, inst_occurrences, returned_class, jump_occurrences, block_occurrences, param_occurrence, func_occurrences, item_occurrences, field_occurrences, data_occurrences};
 
-use qil_rules::{Mention, MentionKind, PhiSources};
+use qil_rules::{Occurrence, OccurrenceKind, PhiSources};
 use qil_tree::{
     AbiType, Argument, BinaryOp, Block, CallResult, Class, Data, Expr, Extension, Field, Func,
     Inst, InstKind, Item, JumpKind, LoadOp, Name, Operand, Param, Phi, PhiSource, Target, Width,
@@ -104,54 +104,54 @@ fn inst_target<'a, A: Allocator>(kind: &InstKind<'a, A>) -> Option<Target<'a>>
     }
 }
 
-fn push_mention<'p, 'a, A: Allocator + Copy>(
-    out: &mut Vec<Mention<'p, 'a>, A>,
+fn push_occurrence<'p, 'a, A: Allocator + Copy>(
+    out: &mut Vec<Occurrence<'p, 'a>, A>,
     line: u32,
-    what: MentionKind<'p, 'a>,
+    what: OccurrenceKind<'p, 'a>,
 ) -> Result<(), AllocError>
     ensures { OnOk result (out.new.items ≡ out.old.items ++ on line what.entry ∷ []) }
 {
-    out.push(Mention { what, line })?;
+    out.push(Occurrence { what, line })?;
     Ok(())
 }
 
 fn push_operand<'p, 'a, A: Allocator + Copy>(
-    out: &mut Vec<Mention<'p, 'a>, A>,
+    out: &mut Vec<Occurrence<'p, 'a>, A>,
     line: u32,
     class: Class,
     operand: &Operand<'a>,
 ) -> Result<(), AllocError>
-    ensures { OnOk result (out.new.items ≡ out.old.items ++ operand_mentions line class operand.now) }
+    ensures { OnOk result (out.new.items ≡ out.old.items ++ operand_occurrences line class operand.now) }
 {
     match operand {
         Operand::Number(_) => Ok(()),
-        Operand::Global(name) => push_mention(out, line, MentionKind::Global(same(name))),
-        Operand::Temp(name) => push_mention(out, line, MentionKind::Uses(same(name), class)),
+        Operand::Global(name) => push_occurrence(out, line, OccurrenceKind::Global(same(name))),
+        Operand::Temp(name) => push_occurrence(out, line, OccurrenceKind::Uses(same(name), class)),
     }
 }
 
 /// Two operands, from the left.
 fn push_two<'p, 'a, A: Allocator + Copy>(
-    out: &mut Vec<Mention<'p, 'a>, A>,
+    out: &mut Vec<Occurrence<'p, 'a>, A>,
     line: u32,
     left_class: Class,
     left: &Operand<'a>,
     right_class: Class,
     right: &Operand<'a>,
 ) -> Result<(), AllocError>
-    ensures { OnOk result (out.new.items ≡ out.old.items ++ (operand_mentions line left_class left.now ++ operand_mentions line right_class right.now)) }
+    ensures { OnOk result (out.new.items ≡ out.old.items ++ (operand_occurrences line left_class left.now ++ operand_occurrences line right_class right.now)) }
 {
     push_operand(out, line, left_class, left)?;
     push_operand(out, line, right_class, right)
 }
 
 fn push_expr<'p, 'a, A: Allocator + Copy>(
-    out: &mut Vec<Mention<'p, 'a>, A>,
+    out: &mut Vec<Occurrence<'p, 'a>, A>,
     line: u32,
     class: Class,
     expr: &Expr<'a>,
 ) -> Result<(), AllocError>
-    ensures { OnOk result (out.new.items ≡ out.old.items ++ flat_map (read_mentions line) (expr_reads class expr.now)) }
+    ensures { OnOk result (out.new.items ≡ out.old.items ++ flat_map (read_occurrences line) (expr_reads class expr.now)) }
 {
     match expr {
         Expr::Unary(_, value) => push_operand(out, line, class, value),
@@ -168,11 +168,11 @@ fn push_expr<'p, 'a, A: Allocator + Copy>(
 }
 
 fn push_arguments<'p, 'a, A: Allocator + Copy>(
-    out: &mut Vec<Mention<'p, 'a>, A>,
+    out: &mut Vec<Occurrence<'p, 'a>, A>,
     line: u32,
     arguments: &[Argument<'a>],
 ) -> Result<(), AllocError>
-    ensures { OnOk result (out.new.items ≡ out.old.items ++ flat_map (read_mentions line) (map argument_read arguments.now)) }
+    ensures { OnOk result (out.new.items ≡ out.old.items ++ flat_map (read_occurrences line) (map argument_read arguments.now)) }
 {
     for argument in arguments {
         push_operand(out, line, argument.abi_type.class(), &argument.value)?;
@@ -182,11 +182,11 @@ fn push_arguments<'p, 'a, A: Allocator + Copy>(
 
 /// The operands of an instruction.
 fn push_reads<'p, 'a, A: Allocator + Copy>(
-    out: &mut Vec<Mention<'p, 'a>, A>,
+    out: &mut Vec<Occurrence<'p, 'a>, A>,
     line: u32,
     kind: &InstKind<'a, A>,
 ) -> Result<(), AllocError>
-    ensures { OnOk result (out.new.items ≡ out.old.items ++ flat_map (read_mentions line) (inst_reads kind.now)) }
+    ensures { OnOk result (out.new.items ≡ out.old.items ++ flat_map (read_occurrences line) (inst_reads kind.now)) }
 {
     match kind {
         InstKind::Assign(target, expr) => push_expr(out, line, target.class, expr),
@@ -206,39 +206,39 @@ fn push_reads<'p, 'a, A: Allocator + Copy>(
 }
 
 fn push_target<'p, 'a, A: Allocator + Copy>(
-    out: &mut Vec<Mention<'p, 'a>, A>,
+    out: &mut Vec<Occurrence<'p, 'a>, A>,
     line: u32,
     target: Option<Target<'a>>,
 ) -> Result<(), AllocError>
-    ensures { OnOk result (out.new.items ≡ out.old.items ++ target_mentions line target.entry) }
+    ensures { OnOk result (out.new.items ≡ out.old.items ++ target_occurrences line target.entry) }
 {
     match target {
         Some(Target { name, class }) => {
-            push_mention(out, line, MentionKind::Defines(name, class))
+            push_occurrence(out, line, OccurrenceKind::Defines(name, class))
         }
         None => Ok(()),
     }
 }
 
 fn push_long<'p, 'a, A: Allocator + Copy>(
-    out: &mut Vec<Mention<'p, 'a>, A>,
+    out: &mut Vec<Occurrence<'p, 'a>, A>,
     line: u32,
     class: Option<Class>,
 ) -> Result<(), AllocError>
-    ensures { OnOk result (out.new.items ≡ out.old.items ++ long_mentions line class) }
+    ensures { OnOk result (out.new.items ≡ out.old.items ++ long_occurrences line class) }
 {
     match class {
-        Some(class) => push_mention(out, line, MentionKind::Long(class)),
+        Some(class) => push_occurrence(out, line, OccurrenceKind::Long(class)),
         None => Ok(()),
     }
 }
 
 fn push_kind<'p, 'a, A: Allocator + Copy>(
-    out: &mut Vec<Mention<'p, 'a>, A>,
+    out: &mut Vec<Occurrence<'p, 'a>, A>,
     line: u32,
     kind: &InstKind<'a, A>,
 ) -> Result<(), AllocError>
-    ensures { OnOk result (out.new.items ≡ out.old.items ++ kind_mentions line kind.now) }
+    ensures { OnOk result (out.new.items ≡ out.old.items ++ kind_occurrences line kind.now) }
 {
     push_reads(out, line, kind)?;
     push_long(out, line, inst_long_class(kind))?;
@@ -246,10 +246,10 @@ fn push_kind<'p, 'a, A: Allocator + Copy>(
 }
 
 fn push_insts<'p, 'a, A: Allocator + Copy>(
-    out: &mut Vec<Mention<'p, 'a>, A>,
+    out: &mut Vec<Occurrence<'p, 'a>, A>,
     insts: &[Inst<'a, A>],
 ) -> Result<(), AllocError>
-    ensures { OnOk result (out.new.items ≡ out.old.items ++ flat_map inst_mentions insts.now) }
+    ensures { OnOk result (out.new.items ≡ out.old.items ++ flat_map inst_occurrences insts.now) }
 {
     for inst in insts {
         push_kind(out, inst.line, &inst.kind)?;
@@ -258,24 +258,24 @@ fn push_insts<'p, 'a, A: Allocator + Copy>(
 }
 
 fn push_source<'p, 'a, A: Allocator + Copy>(
-    out: &mut Vec<Mention<'p, 'a>, A>,
+    out: &mut Vec<Occurrence<'p, 'a>, A>,
     line: u32,
     class: Class,
     source: &PhiSource<'a>,
 ) -> Result<(), AllocError>
-    ensures { OnOk result (out.new.items ≡ out.old.items ++ source_mentions line class source.now) }
+    ensures { OnOk result (out.new.items ≡ out.old.items ++ source_occurrences line class source.now) }
 {
-    push_mention(out, line, MentionKind::PhiLabel(same(&source.label)))?;
+    push_occurrence(out, line, OccurrenceKind::PhiLabel(same(&source.label)))?;
     push_operand(out, line, class, &source.value)
 }
 
 fn push_sources<'p, 'a, A: Allocator + Copy>(
-    out: &mut Vec<Mention<'p, 'a>, A>,
+    out: &mut Vec<Occurrence<'p, 'a>, A>,
     line: u32,
     class: Class,
     sources: &[PhiSource<'a>],
 ) -> Result<(), AllocError>
-    ensures { OnOk result (out.new.items ≡ out.old.items ++ flat_map (λ s. source_mentions line class s) sources.now) }
+    ensures { OnOk result (out.new.items ≡ out.old.items ++ flat_map (λ s. source_occurrences line class s) sources.now) }
 {
     for source in sources {
         push_source(out, line, class, source)?;
@@ -284,26 +284,26 @@ fn push_sources<'p, 'a, A: Allocator + Copy>(
 }
 
 fn push_phi<'p, 'a, A: Allocator + Copy>(
-    out: &mut Vec<Mention<'p, 'a>, A>,
+    out: &mut Vec<Occurrence<'p, 'a>, A>,
     block: &Name<'a>,
     phi: &'p Phi<'a, A>,
 ) -> Result<(), AllocError>
-    ensures { OnOk result (out.new.items ≡ out.old.items ++ phi_mentions block.now phi.now) }
+    ensures { OnOk result (out.new.items ≡ out.old.items ++ phi_occurrences block.now phi.now) }
 {
     let line = phi.line;
     push_sources(out, line, phi.target.class, phi.sources.as_slice())?;
-    let what = MentionKind::PhiOf(same(block), PhiSources::new(phi.sources.as_slice()));
-    push_mention(out, line, what)?;
-    let what = MentionKind::Defines(same(&phi.target.name), phi.target.class);
-    push_mention(out, line, what)
+    let what = OccurrenceKind::PhiOf(same(block), PhiSources::new(phi.sources.as_slice()));
+    push_occurrence(out, line, what)?;
+    let what = OccurrenceKind::Defines(same(&phi.target.name), phi.target.class);
+    push_occurrence(out, line, what)
 }
 
 fn push_phis<'p, 'a, A: Allocator + Copy>(
-    out: &mut Vec<Mention<'p, 'a>, A>,
+    out: &mut Vec<Occurrence<'p, 'a>, A>,
     block: &Name<'a>,
     phis: &'p [Phi<'a, A>],
 ) -> Result<(), AllocError>
-    ensures { OnOk result (out.new.items ≡ out.old.items ++ flat_map (phi_mentions block.now) phis.now) }
+    ensures { OnOk result (out.new.items ≡ out.old.items ++ flat_map (phi_occurrences block.now) phis.now) }
 {
     for phi in phis {
         push_phi(out, block, phi)?;
@@ -313,24 +313,24 @@ fn push_phis<'p, 'a, A: Allocator + Copy>(
 
 /// That control may go from one block to another.
 fn push_edge<'p, 'a, A: Allocator + Copy>(
-    out: &mut Vec<Mention<'p, 'a>, A>,
+    out: &mut Vec<Occurrence<'p, 'a>, A>,
     line: u32,
     block: &Name<'a>,
     label: &Name<'a>,
 ) -> Result<(), AllocError>
     ensures { OnOk result (out.new.items ≡ out.old.items ++ on line (Edge block.now label.now) ∷ []) }
 {
-    push_mention(out, line, MentionKind::Edge(same(block), same(label)))
+    push_occurrence(out, line, OccurrenceKind::Edge(same(block), same(label)))
 }
 
 fn push_jump<'p, 'a, A: Allocator + Copy>(
-    out: &mut Vec<Mention<'p, 'a>, A>,
+    out: &mut Vec<Occurrence<'p, 'a>, A>,
     returns: Option<AbiType>,
     block: &Name<'a>,
     line: u32,
     kind: &JumpKind<'a>,
 ) -> Result<(), AllocError>
-    ensures { OnOk result (out.new.items ≡ out.old.items ++ jump_mentions returns block.now line kind.now) }
+    ensures { OnOk result (out.new.items ≡ out.old.items ++ jump_occurrences returns block.now line kind.now) }
 {
     match kind {
         JumpKind::Jmp(label) => push_edge(out, line, block, label),
@@ -342,20 +342,20 @@ fn push_jump<'p, 'a, A: Allocator + Copy>(
         JumpKind::Ret(None) => Ok(()),
         JumpKind::Ret(Some(operand)) => {
             push_operand(out, line, returned_class(returns), operand)?;
-            push_mention(out, line, MentionKind::Returns(returns))
+            push_occurrence(out, line, OccurrenceKind::Returns(returns))
         }
         JumpKind::Hlt => Ok(()),
     }
 }
 
 fn push_block<'p, 'a, A: Allocator + Copy>(
-    out: &mut Vec<Mention<'p, 'a>, A>,
+    out: &mut Vec<Occurrence<'p, 'a>, A>,
     returns: Option<AbiType>,
     block: &'p Block<'a, A>,
 ) -> Result<(), AllocError>
-    ensures { OnOk result (out.new.items ≡ out.old.items ++ block_mentions returns block.now) }
+    ensures { OnOk result (out.new.items ≡ out.old.items ++ block_occurrences returns block.now) }
 {
-    push_mention(out, block.line, MentionKind::Label(same(&block.label)))?;
+    push_occurrence(out, block.line, OccurrenceKind::Label(same(&block.label)))?;
     push_phis(out, &block.label, block.phis.as_slice())?;
     push_insts(out, block.insts.as_slice())?;
     push_jump(
@@ -368,11 +368,11 @@ fn push_block<'p, 'a, A: Allocator + Copy>(
 }
 
 fn push_blocks<'p, 'a, A: Allocator + Copy>(
-    out: &mut Vec<Mention<'p, 'a>, A>,
+    out: &mut Vec<Occurrence<'p, 'a>, A>,
     returns: Option<AbiType>,
     blocks: &'p [Block<'a, A>],
 ) -> Result<(), AllocError>
-    ensures { OnOk result (out.new.items ≡ out.old.items ++ flat_map (block_mentions returns) blocks.now) }
+    ensures { OnOk result (out.new.items ≡ out.old.items ++ flat_map (block_occurrences returns) blocks.now) }
 {
     for block in blocks {
         push_block(out, returns, block)?;
@@ -381,53 +381,53 @@ fn push_blocks<'p, 'a, A: Allocator + Copy>(
 }
 
 fn push_params<'p, 'a, A: Allocator + Copy>(
-    out: &mut Vec<Mention<'p, 'a>, A>,
+    out: &mut Vec<Occurrence<'p, 'a>, A>,
     line: u32,
     params: &[Param<'a>],
 ) -> Result<(), AllocError>
-    ensures { OnOk result (out.new.items ≡ out.old.items ++ map (param_mention line) params.now) }
+    ensures { OnOk result (out.new.items ≡ out.old.items ++ map (param_occurrence line) params.now) }
 {
     for param in params {
-        let what = MentionKind::Defines(same(&param.name), param.abi_type.class());
-        push_mention(out, line, what)?;
+        let what = OccurrenceKind::Defines(same(&param.name), param.abi_type.class());
+        push_occurrence(out, line, what)?;
     }
     Ok(())
 }
 
-/// The mentions of a function, in the order of its text.
-pub fn func_mentions<'p, 'a, A: Allocator + Copy>(
+/// The occurrences of a function, in the order of its text.
+pub fn func_occurrences<'p, 'a, A: Allocator + Copy>(
     alloc: A,
     func: &'p Func<'a, A>,
-) -> Result<Vec<Mention<'p, 'a>, A>, AllocError>
-    ensures { IfOk result (λ v. v.items ≡ func_mentions func.now) }
+) -> Result<Vec<Occurrence<'p, 'a>, A>, AllocError>
+    ensures { IfOk result (λ v. v.items ≡ func_occurrences func.now) }
 {
     let mut out = Vec::new(alloc);
-    let what = MentionKind::FunctionName(same(&func.name));
-    push_mention(&mut out, func.line, what)?;
+    let what = OccurrenceKind::FunctionName(same(&func.name));
+    push_occurrence(&mut out, func.line, what)?;
     push_params(&mut out, func.line, func.params.as_slice())?;
     push_blocks(&mut out, func.returns, func.blocks.as_slice())?;
     Ok(out)
 }
 
 fn push_item<'p, 'a, A: Allocator + Copy>(
-    out: &mut Vec<Mention<'p, 'a>, A>,
+    out: &mut Vec<Occurrence<'p, 'a>, A>,
     line: u32,
     item: &Item<'a, A>,
 ) -> Result<(), AllocError>
-    ensures { OnOk result (out.new.items ≡ out.old.items ++ item_mentions line item.now) }
+    ensures { OnOk result (out.new.items ≡ out.old.items ++ item_occurrences line item.now) }
 {
     match item {
-        Item::Address(name, _) => push_mention(out, line, MentionKind::Global(same(name))),
+        Item::Address(name, _) => push_occurrence(out, line, OccurrenceKind::Global(same(name))),
         _ => Ok(()),
     }
 }
 
 fn push_items<'p, 'a, A: Allocator + Copy>(
-    out: &mut Vec<Mention<'p, 'a>, A>,
+    out: &mut Vec<Occurrence<'p, 'a>, A>,
     line: u32,
     items: &[Item<'a, A>],
 ) -> Result<(), AllocError>
-    ensures { OnOk result (out.new.items ≡ out.old.items ++ flat_map (item_mentions line) items.now) }
+    ensures { OnOk result (out.new.items ≡ out.old.items ++ flat_map (item_occurrences line) items.now) }
 {
     for item in items {
         push_item(out, line, item)?;
@@ -436,11 +436,11 @@ fn push_items<'p, 'a, A: Allocator + Copy>(
 }
 
 fn push_field<'p, 'a, A: Allocator + Copy>(
-    out: &mut Vec<Mention<'p, 'a>, A>,
+    out: &mut Vec<Occurrence<'p, 'a>, A>,
     line: u32,
     field: &Field<'a, A>,
 ) -> Result<(), AllocError>
-    ensures { OnOk result (out.new.items ≡ out.old.items ++ field_mentions line field.now) }
+    ensures { OnOk result (out.new.items ≡ out.old.items ++ field_occurrences line field.now) }
 {
     match field {
         Field::Values(_, items) => push_items(out, line, items.as_slice()),
@@ -449,11 +449,11 @@ fn push_field<'p, 'a, A: Allocator + Copy>(
 }
 
 fn push_fields<'p, 'a, A: Allocator + Copy>(
-    out: &mut Vec<Mention<'p, 'a>, A>,
+    out: &mut Vec<Occurrence<'p, 'a>, A>,
     line: u32,
     fields: &[Field<'a, A>],
 ) -> Result<(), AllocError>
-    ensures { OnOk result (out.new.items ≡ out.old.items ++ flat_map (field_mentions line) fields.now) }
+    ensures { OnOk result (out.new.items ≡ out.old.items ++ flat_map (field_occurrences line) fields.now) }
 {
     for field in fields {
         push_field(out, line, field)?;
@@ -461,16 +461,16 @@ fn push_fields<'p, 'a, A: Allocator + Copy>(
     Ok(())
 }
 
-/// The mentions of a data object: its name, and the globals that it holds the addresses of.
-pub fn data_mentions<'p, 'a, A: Allocator + Copy>(
+/// The occurrences of a data object: its name, and the globals that it holds the addresses of.
+pub fn data_occurrences<'p, 'a, A: Allocator + Copy>(
     alloc: A,
     object: &'p Data<'a, A>,
-) -> Result<Vec<Mention<'p, 'a>, A>, AllocError>
-    ensures { IfOk result (λ v. v.items ≡ data_mentions object.now) }
+) -> Result<Vec<Occurrence<'p, 'a>, A>, AllocError>
+    ensures { IfOk result (λ v. v.items ≡ data_occurrences object.now) }
 {
     let mut out = Vec::new(alloc);
-    let what = MentionKind::DataName(same(&object.name));
-    push_mention(&mut out, object.line, what)?;
+    let what = OccurrenceKind::DataName(same(&object.name));
+    push_occurrence(&mut out, object.line, what)?;
     push_fields(&mut out, object.line, object.fields.as_slice())?;
     Ok(out)
 }

@@ -2,9 +2,9 @@
 use Rattle.std.proofs.Common.{◌≡◌, refl, sym, ap, ◌∙◌, subst, ℕ, zero, suc, ◌+◌, ◌<◌, ◌≤◌, true, false, List, ◌∷◌, length, get_or, drop, Option, Some, None, Ok, ◌⊎◌, inl, inr, arith}
 use Rattle.std.proofs.lemmas.Bool.{cases_lt, false≢true}
 use Rattle.qil_tree.specs.declared.tree.Program.{Program}
-use Rattle.qil_meaning.specs.State.{State, is_final}
-use Rattle.qil_meaning.specs.Step.{step_of}
-use Rattle.qil_meaning.specs.Targets.{after}
+use Rattle.qil_semantics.specs.State.{State, is_final}
+use Rattle.qil_semantics.specs.Step.{step_of}
+use Rattle.qil_semantics.specs.Targets.{after}
 use Rattle.qil_checkpoints.specs.declared.poked.KeptPoke.{KeptPoke}
 use Rattle.qil_checkpoints.specs.declared.poked.Poked.{Poked}
 use Rattle.qil_checkpoints.proofs.Parts.{poked-le, rest-next, rest-part, part-none, part-here, part-next}

@@ -4,12 +4,12 @@ use Rattle.std.specs.Prelude.{◌==◌, not, nat_lt}
 use Rattle.std.specs.Option.{option_map, option_or}
 use Rattle.std.proofs.lemmas.Bool.Decides.{nat_tests, Decides-eqb}
 use Rattle.qil_tree.specs.declared.tree.Program.{Program}
-use Rattle.qil_meaning.specs.State.{State}
-use Rattle.qil_meaning.specs.Timeline.{Timeline, forward, at_end, moved, gone, oldest}
-use Rattle.qil_meaning.specs.Stops.{Numbered, first_watch, first_break, stopped}
-use Rattle.qil_meaning.specs.Runs.{if_holds, within, bottom, stop_back, stopping, RunsBack}
-use Rattle.qil_meaning.specs.declared.reason.Reason.{Reason}
-use Rattle.qil_meaning.specs.declared.reason.Reason.TheVariants.{End, Watch, Break, Start, Oldest, Limit, Memory}
+use Rattle.qil_semantics.specs.State.{State}
+use Rattle.qil_semantics.specs.Timeline.{Timeline, forward, at_end, moved, gone, oldest}
+use Rattle.qil_semantics.specs.Stops.{Numbered, first_watch, first_break, stopped}
+use Rattle.qil_semantics.specs.Runs.{if_holds, within, bottom, stop_back, stopping, RunsBack}
+use Rattle.qil_semantics.specs.declared.reason.Reason.{Reason}
+use Rattle.qil_semantics.specs.declared.reason.Reason.TheVariants.{End, Watch, Break, Start, Oldest, Limit, Memory}
 use Rattle.qil_state.specs.State.{Whole, state_of}
 use Rattle.qil_stops.specs.declared.stop.NumberedStop.{NumberedStop}
 use Rattle.qil_stops.specs.Named.{named_stops}

@@ -7,12 +7,12 @@ use Rattle.std.specs.Option.{option_map, option_or}
 use Rattle.std.specs.Str.{bytes_eq}
 use Rattle.std.proofs.lemmas.Slice.Eq.{bytes_eq-Decides}
 use Rattle.qil_tree.specs.declared.tree.Program.{Program}
-use Rattle.qil_meaning.specs.State.{State}
-use Rattle.qil_meaning.specs.Timeline.{Timeline, gone}
-use Rattle.qil_meaning.specs.Stops.{Reading, dead, unset, bytes_read, value_read, same_reading, reading, Stop, break_at, watch, Numbered, differs, first_watch, stopped}
-use Rattle.qil_meaning.specs.Runs.{if_holds, bottom, stop_back, stopping, RunsBack}
-use Rattle.qil_meaning.specs.declared.reason.Reason.{Reason}
-use Rattle.qil_meaning.specs.declared.reason.Reason.TheVariants.{Start, Limit}
+use Rattle.qil_semantics.specs.State.{State}
+use Rattle.qil_semantics.specs.Timeline.{Timeline, gone}
+use Rattle.qil_semantics.specs.Stops.{Reading, dead, unset, bytes_read, value_read, same_reading, reading, Stop, break_at, watch, Numbered, differs, first_watch, stopped}
+use Rattle.qil_semantics.specs.Runs.{if_holds, bottom, stop_back, stopping, RunsBack}
+use Rattle.qil_semantics.specs.declared.reason.Reason.{Reason}
+use Rattle.qil_semantics.specs.declared.reason.Reason.TheVariants.{Start, Limit}
 use Rattle.qil_stops.specs.declared.stop.NumberedStop.{NumberedStop}
 use Rattle.qil_stops.specs.Named.{named_stops}
 use Rattle.qil_stops.proofs.OnWay.{Passes, least_at, least_limit, stopped-plain, none-stopped}

@@ -3,11 +3,11 @@ use Rattle.std.proofs.Common.{◌≡◌, refl, sym, ap, ◌∙◌, subst, ℕ, z
 use Rattle.std.proofs.lemmas.Bool.{cases_lt}
 use Rattle.std.specs.Option.{option_or}
 use Rattle.qil_tree.specs.declared.tree.Program.{Program}
-use Rattle.qil_meaning.specs.Timeline.{Timeline, forward, at_end, moved}
-use Rattle.qil_meaning.specs.Moves.{forward_by}
-use Rattle.qil_meaning.specs.Runs.{if_holds, stop_on, stopping, RunsOn}
-use Rattle.qil_meaning.specs.declared.reason.Reason.{Reason}
-use Rattle.qil_meaning.specs.declared.reason.Reason.TheVariants.{End, Limit, Memory}
+use Rattle.qil_semantics.specs.Timeline.{Timeline, forward, at_end, moved}
+use Rattle.qil_semantics.specs.Moves.{forward_by}
+use Rattle.qil_semantics.specs.Runs.{if_holds, stop_on, stopping, RunsOn}
+use Rattle.qil_semantics.specs.declared.reason.Reason.{Reason}
+use Rattle.qil_semantics.specs.declared.reason.Reason.TheVariants.{End, Limit, Memory}
 use Rattle.qil_stops.proofs.OnWay.{IsOnWay, none-stopped, on-last, on-end, or_none}
 use Rattle.qil_stops.proofs.Walks.{IsWalked, walked-all}
 

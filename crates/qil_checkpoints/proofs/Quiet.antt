@@ -5,13 +5,13 @@ use Rattle.std.specs.Option.{option_eq, option_map, option_or}
 use Rattle.std.proofs.lemmas.Bool.{false≢true}
 use Rattle.std.proofs.lemmas.Bool.Decides.{Decides-eqb}
 use Rattle.qil_tree.specs.declared.tree.Program.{Program}
-use Rattle.qil_meaning.specs.State.{State, is_final}
-use Rattle.qil_meaning.specs.Targets.{after}
-use Rattle.qil_meaning.specs.Timeline.{Timeline, forward, at_end, moved}
-use Rattle.qil_meaning.specs.Stops.{Numbered, differs, first_watch, first_break, stopped}
-use Rattle.qil_meaning.specs.declared.reason.Reason.{Reason}
-use Rattle.qil_meaning.specs.declared.reason.Reason.TheVariants.{Watch, Break}
-use Rattle.qil_meaning.proofs.OnLemmas.{now-after}
+use Rattle.qil_semantics.specs.State.{State, is_final}
+use Rattle.qil_semantics.specs.Targets.{after}
+use Rattle.qil_semantics.specs.Timeline.{Timeline, forward, at_end, moved}
+use Rattle.qil_semantics.specs.Stops.{Numbered, differs, first_watch, first_break, stopped}
+use Rattle.qil_semantics.specs.declared.reason.Reason.{Reason}
+use Rattle.qil_semantics.specs.declared.reason.Reason.TheVariants.{Watch, Break}
+use Rattle.qil_semantics.proofs.OnLemmas.{now-after}
 use Rattle.qil_state.specs.State.{Whole, state_of}
 use Rattle.qil_stops.specs.declared.stop.NumberedStop.{NumberedStop}
 use Rattle.qil_stops.specs.declared.stop.StopKind.TheVariants as kinds

@@ -1,8 +1,8 @@
 -- Why a poke is refused: as the machine says it, and as it is explained.
 use Rattle.std.proofs.Common.{◌≡◌, refl, sym, ap, ◌∙◌, subst, ℕ, Result, Ok, Err}
 use Rattle.std.specs.Prelude.{IfErr, OnOk}
-use Rattle.qil_meaning.specs.State.{Name, State}
-use Rattle.qil_meaning.specs.Poke.{PokeFault, poke_temp, poke_memory, no_frame, unknown_temporary, dead_bytes}
+use Rattle.qil_semantics.specs.State.{Name, State}
+use Rattle.qil_semantics.specs.Poke.{PokeFault, poke_temp, poke_memory, no_frame, unknown_temporary, dead_bytes}
 use Rattle.qil_code.specs.declared.numbered.Slot.{Slot}
 use Rattle.qil_state.specs.State.{Whole, state_of}
 use Rattle.qil_machine.specs.declared.error.PokeError.{PokeError}

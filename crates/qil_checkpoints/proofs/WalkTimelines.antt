@@ -2,10 +2,10 @@
 use Rattle.std.proofs.Common.{◌≡◌, refl, sym, ap, ◌∙◌, subst, ℕ, zero, suc, ◌+◌, ◌-◌, ◌<◌, ◌≤◌, false, List, [], ◌∷◌, ◌++◌, length, drop, get_or, Option, None, Ok, inl, inr, arith}
 use Rattle.std.proofs.lemmas.Bool.{cases_lt}
 use Rattle.qil_tree.specs.declared.tree.Program.{Program}
-use Rattle.qil_meaning.specs.State.{State, is_final}
-use Rattle.qil_meaning.specs.Step.{step_of}
-use Rattle.qil_meaning.specs.Targets.{after}
-use Rattle.qil_meaning.specs.Timeline.{Timeline, position, forward, to, moved, gone}
+use Rattle.qil_semantics.specs.State.{State, is_final}
+use Rattle.qil_semantics.specs.Step.{step_of}
+use Rattle.qil_semantics.specs.Targets.{after}
+use Rattle.qil_semantics.specs.Timeline.{Timeline, position, forward, to, moved, gone}
 use Rattle.qil_checkpoints.specs.declared.poked.KeptPoke.{KeptPoke}
 use Rattle.qil_checkpoints.specs.declared.poked.Poked.{Poked}
 use Rattle.qil_checkpoints.specs.Walk.{after_poke, poke_at, ArePoked, next_by, or_stays, walk, walked, timeline_at, IsMove, AreMoves, LeadsBack, IsWalk}

@@ -1,11 +1,11 @@
 -- Where going back along a walk comes to a depth of calls, and one step forward.
 use Rattle.std.specs.Prelude.{◌≡◌, ℕ, ◌<◌, ◌≤◌, Bool, true, false, not, nat_lt, List, length, Option, Some, None}
 use Rattle.qil_tree.specs.declared.tree.Program.{Program}
-use Rattle.qil_meaning.specs.State.{State}
-use Rattle.qil_meaning.specs.Timeline.{Timeline, forward, at_end, gone}
-use Rattle.qil_meaning.specs.Runs.{if_holds}
-use Rattle.qil_meaning.specs.declared.reason.Reason.{Reason}
-use Rattle.qil_meaning.specs.declared.reason.Reason.TheVariants.{Limit}
+use Rattle.qil_semantics.specs.State.{State}
+use Rattle.qil_semantics.specs.Timeline.{Timeline, forward, at_end, gone}
+use Rattle.qil_semantics.specs.Runs.{if_holds}
+use Rattle.qil_semantics.specs.declared.reason.Reason.{Reason}
+use Rattle.qil_semantics.specs.declared.reason.Reason.TheVariants.{Limit}
 use Rattle.qil_stops.specs.Depths.{depth}
 use Rattle.qil_stops.specs.declared.depth_end.DepthEnd.{DepthEnd}
 use Rattle.qil_stops.specs.declared.depth_end.DepthEnd.TheVariants.{Depth, Stopped}

@@ -1,10 +1,10 @@
 -- Where going back along a walk stops.
 use Rattle.std.specs.Prelude.{◌≡◌, ℕ, suc, ◌+◌, ◌<◌, ◌≤◌, ◌==◌, cond, List, Option, Some, None}
 use Rattle.qil_tree.specs.declared.tree.Program.{Program}
-use Rattle.qil_meaning.specs.State.{State}
-use Rattle.qil_meaning.specs.Stops.{Numbered, first_break, stopped}
-use Rattle.qil_meaning.specs.declared.reason.Reason.{Reason}
-use Rattle.qil_meaning.specs.declared.reason.Reason.TheVariants.{Start, Limit}
+use Rattle.qil_semantics.specs.State.{State}
+use Rattle.qil_semantics.specs.Stops.{Numbered, first_break, stopped}
+use Rattle.qil_semantics.specs.declared.reason.Reason.{Reason}
+use Rattle.qil_semantics.specs.declared.reason.Reason.TheVariants.{Start, Limit}
 use Rattle.qil_stops.specs.declared.stop.NumberedStop.{NumberedStop}
 use Rattle.qil_stops.specs.Named.{named_stops}
 use Rattle.qil_stops.specs.Readings.{AllTell}

@@ -4,10 +4,10 @@ use Rattle.std.specs.List.{prefix_len}
 use Rattle.std.specs.List.Sorted.{IsNonDecreasingBy}
 use Rattle.qil_tree.specs.declared.tree.Program.{Program}
 use Rattle.qil_memory.specs.Calls.{IsWidth}
-use Rattle.qil_meaning.specs.State.{State, is_final}
-use Rattle.qil_meaning.specs.Step.{step_of}
-use Rattle.qil_meaning.specs.Poke.{PokeFault, poke_memory}
-use Rattle.qil_meaning.specs.Timeline.{Timeline}
+use Rattle.qil_semantics.specs.State.{State, is_final}
+use Rattle.qil_semantics.specs.Step.{step_of}
+use Rattle.qil_semantics.specs.Poke.{PokeFault, poke_memory}
+use Rattle.qil_semantics.specs.Timeline.{Timeline}
 use Rattle.qil_machine.specs.Pokes.{poke_slot}
 use Rattle.qil_checkpoints.specs.declared.poked.KeptPoke.{KeptPoke}
 use Rattle.qil_checkpoints.specs.declared.poked.KeptPoke.TheVariants as pokes

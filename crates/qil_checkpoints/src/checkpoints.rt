@@ -1,11 +1,11 @@
 //! A machine with copies of some of its states, and the pokes that were made.
 
 ghost use Rattle.std.specs.Prelude.{◌≡◌, ◌≤◌, ◌<◌, ◌+◌, ◌^◌, ◌⊎◌, ℕ, true, false, cond, length, None, Ok, IfOk, OnOk, OnErr, IfErr};
-ghost use Rattle.qil_meaning.specs.State.{State};
-ghost use Rattle.qil_meaning.specs.Poke.{poke_temp};
-ghost use Rattle.qil_meaning.specs.Stops.{stopped};
-ghost use Rattle.qil_meaning.specs.Timeline.{begun, position, moved, gone, at_end, poked};
-ghost use Rattle.qil_meaning.specs.Runs.{RunsBack};
+ghost use Rattle.qil_semantics.specs.State.{State};
+ghost use Rattle.qil_semantics.specs.Poke.{poke_temp};
+ghost use Rattle.qil_semantics.specs.Stops.{stopped};
+ghost use Rattle.qil_semantics.specs.Timeline.{begun, position, moved, gone, at_end, poked};
+ghost use Rattle.qil_semantics.specs.Runs.{RunsBack};
 ghost use Rattle.qil_state.specs.State.{state_of};
 ghost use Rattle.qil_machine.specs.Pokes.{poke_slot};
 ghost use Rattle.qil_history.specs.Pokes.{Explains};
@@ -27,7 +27,7 @@ use arrayvec::ArrayVec;
 use qil_code::Slot;
 use qil_history::HasProgram;
 use qil_machine::PokeError;
-use qil_meaning::Reason;
+use qil_semantics::Reason;
 use qil_stops::looking::{is_over, readings, stopped};
 use qil_stops::{DepthEnd, HasCopies, NumberedStop, Restorable};
 use std::alloc::{AllocError, Allocator};

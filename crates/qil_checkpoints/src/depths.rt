@@ -2,7 +2,7 @@
 //! asked for.
 
 ghost use Rattle.std.specs.Prelude.{◌≡◌, ◌+◌, ◌<◌, ◌≤◌, ◌^◌, length};
-ghost use Rattle.qil_meaning.specs.Runs.{RunsBack};
+ghost use Rattle.qil_semantics.specs.Runs.{RunsBack};
 ghost use Rattle.qil_stops.specs.Listed.{AreReadable};
 ghost use Rattle.qil_stops.specs.Named.{named_stops};
 ghost use Rattle.qil_stops.specs.Depths.{depth, RunsToDepth, RunsBackToDepth};
@@ -10,10 +10,10 @@ ghost use Rattle.qil_checkpoints.specs.Held.{held_timeline};
 ghost use Rattle.qil_checkpoints.specs.CallDepths.{Advances, IsFirstShallow, depth_or};
 
 use crate::checkpoints::Checkpoints;
-use qil_deltas::DepthRuns;
 use qil_history::HasProgram;
-use qil_meaning::Reason;
+use qil_semantics::Reason;
 use qil_stops::{DepthEnd, HasCopies, NumberedStop, Restorable, Stops};
+use qil_undo_log::DepthRuns;
 use std::alloc::Allocator;
 
 /// Why a run back ends whose limit is where no more calls are open than were asked for.

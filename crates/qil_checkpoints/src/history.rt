@@ -1,20 +1,20 @@
 //! A history over checkpoints is one that a session runs along.
 
 ghost use Rattle.std.specs.Prelude.{◌≡◌, ◌≢◌, ◌+◌, ◌<◌, ◌≤◌, ◌^◌, ◌↔◌, false, length, Ok, MatchResult};
-ghost use Rattle.qil_meaning.specs.Timeline.{position, at_end};
-ghost use Rattle.qil_meaning.specs.Moves.{forward_by};
-ghost use Rattle.qil_meaning.specs.Runs.{RunsOn};
+ghost use Rattle.qil_semantics.specs.Timeline.{position, at_end};
+ghost use Rattle.qil_semantics.specs.Moves.{forward_by};
+ghost use Rattle.qil_semantics.specs.Runs.{RunsOn};
 ghost use Rattle.qil_stops.specs.Listed.{AreReadable};
 ghost use Rattle.qil_stops.specs.Named.{named_stops};
 ghost use Rattle.qil_checkpoints.specs.Held.{held_timeline};
 
 use crate::checkpoints::Checkpoints;
 use crate::poked::KeptPoke;
-use qil_deltas::Runs;
 use qil_history::HasProgram;
 use qil_machine::PokeError;
-use qil_meaning::Reason;
+use qil_semantics::Reason;
 use qil_stops::{NumberedStop, Restorable};
+use qil_undo_log::Runs;
 use std::alloc::Allocator;
 
 impl<A: Allocator + Copy, C: HasProgram<A>, M: Restorable<A, C>> Runs<A, C> for Checkpoints<A, M> {

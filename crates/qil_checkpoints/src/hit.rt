@@ -1,6 +1,6 @@
 //! A position at which going back stops.
 
-use qil_meaning::Reason;
+use qil_semantics::Reason;
 
 /// A position, and why going back stops there.
 #[derive(Clone, Copy)]

@@ -142,13 +142,13 @@ fn sift<A: Allocator + Copy, C: HasProgram<A>, M: Restorable<A, C>>(
     while index > 1 {
         index -= 1;
         if !rule.keeps(positions[index]) {
-            let_go(machine, positions, index);
+            recycle(machine, positions, index);
         }
     }
 }
 
 /// Lets a copy go that isn't the first.
-fn let_go<A: Allocator + Copy, C: HasProgram<A>, M: Restorable<A, C>>(
+fn recycle<A: Allocator + Copy, C: HasProgram<A>, M: Restorable<A, C>>(
     machine: &mut M,
     positions: &mut Vec<u64, A>,
     index: usize,

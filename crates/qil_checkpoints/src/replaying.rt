@@ -1,8 +1,8 @@
 //! Brings a machine to a position of a walk: from the last copy before it, by the same steps and pokes again.
 
 ghost use Rattle.std.specs.Prelude.{◌≡◌, ◌≢◌, ◌≤◌, ◌<◌, ◌+◌, ◌^◌, ◌⊎◌, ℕ, List, Some, None, Ok, Err, OnOk, OnErr, IfErr, IfSome, length, take, slice_get};
-ghost use Rattle.qil_meaning.specs.State.{State};
-ghost use Rattle.qil_meaning.specs.Timeline.{gone};
+ghost use Rattle.qil_semantics.specs.State.{State};
+ghost use Rattle.qil_semantics.specs.Timeline.{gone};
 ghost use Rattle.qil_state.specs.State.{state_of};
 ghost use Rattle.qil_history.specs.Pokes.{Explains};
 ghost use Rattle.qil_checkpoints.specs.declared.poked.Poked.{Poked};

@@ -1,15 +1,15 @@
 //! Runs forward, part by part, with copies kept between the parts; or with a look at stops after each move.
 
 ghost use Rattle.std.specs.Prelude.{◌≡◌, ◌≢◌, ◌≤◌, ◌<◌, ◌+◌, ◌^◌, ◌⊎◌, ℕ, true, false, [], length};
-ghost use Rattle.qil_meaning.specs.Timeline.{moved, at_end};
-ghost use Rattle.qil_meaning.specs.Runs.{RunsOn};
+ghost use Rattle.qil_semantics.specs.Timeline.{moved, at_end};
+ghost use Rattle.qil_semantics.specs.Runs.{RunsOn};
 ghost use Rattle.qil_stops.specs.Listed.{AreReadable};
 ghost use Rattle.qil_stops.specs.Named.{named_stops};
 ghost use Rattle.qil_checkpoints.specs.Held.{held_timeline};
 
 use crate::checkpoints::Checkpoints;
 use qil_history::HasProgram;
-use qil_meaning::Reason;
+use qil_semantics::Reason;
 use qil_stops::{HasCopies, NumberedStop, Restorable};
 use std::alloc::Allocator;
 
@@ -39,7 +39,7 @@ impl<A: Allocator + Copy, M: HasCopies<A>> Checkpoints<A, M> {
         made
     }
 
-    /// Keeps a copy where one is to be kept.
+    /// Keeps a copy at a position that is due for one.
     pub(crate) fn keep_between<C: HasProgram<A>>(&mut self)
     where
         M: Restorable<A, C>,

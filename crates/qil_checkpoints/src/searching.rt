@@ -2,7 +2,7 @@
 //! is run through forward once.
 
 ghost use Rattle.std.specs.Prelude.{◌≡◌, ◌≤◌, ◌<◌, ◌+◌, ◌-◌, ℕ, List, None, length, option_map};
-ghost use Rattle.qil_meaning.specs.State.{State};
+ghost use Rattle.qil_semantics.specs.State.{State};
 ghost use Rattle.qil_state.specs.State.{state_of};
 ghost use Rattle.qil_stops.specs.Listed.{AreReadable};
 ghost use Rattle.qil_stops.specs.Named.{named_stops};
@@ -16,7 +16,7 @@ use crate::hit::Hit;
 use crate::poked::{KeptPoke, Poked};
 use crate::replaying::{jump, latest_copy, part_of, poke_again};
 use qil_history::HasProgram;
-use qil_meaning::Reason;
+use qil_semantics::Reason;
 use qil_stops::looking::{first_break, read_again, readings};
 use qil_stops::{NumberedStop, Restorable};
 use std::alloc::Allocator;

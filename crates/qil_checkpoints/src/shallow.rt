@@ -2,8 +2,8 @@
 //! the newest on, each of which is gone through forward once, move by move.
 
 ghost use Rattle.std.specs.Prelude.{◌≡◌, ◌-◌, ◌≤◌, ◌<◌, ℕ, List, None, length, not, nat_lt, option_map};
-ghost use Rattle.qil_meaning.specs.State.{State};
-ghost use Rattle.qil_meaning.specs.Runs.{if_holds};
+ghost use Rattle.qil_semantics.specs.State.{State};
+ghost use Rattle.qil_semantics.specs.Runs.{if_holds};
 ghost use Rattle.qil_state.specs.State.{state_of};
 ghost use Rattle.qil_checkpoints.specs.Walk.{ArePoked, walk, AreMoves};
 ghost use Rattle.qil_checkpoints.specs.Held.{first_of, Reaches};
@@ -15,7 +15,7 @@ use crate::poked::Poked;
 use crate::replaying::{jump, run_through};
 use crate::searching::part_start;
 use qil_history::HasProgram;
-use qil_meaning::Reason;
+use qil_semantics::Reason;
 use qil_stops::Restorable;
 use std::alloc::Allocator;
 

@@ -149,7 +149,7 @@ impl Spacing {
         }
     }
 
-    /// Makes them narrower again where that many copies take little.
+    /// Narrows the spacing again if that many copies take little memory.
     pub(crate) fn narrow(&mut self, count: usize, bytes: usize) {
         if count > MOST / 8 || bytes > self.budget / 8 {
             return;

@@ -4,9 +4,9 @@ use Rattle.std.specs.Prelude.{option_map, unwrap_or, slice_get}
 use Rattle.std.specs.Str.{bytes_eq}
 use Rattle.qil_tree.specs.declared.tree.Block.{Block}
 use Rattle.qil_tree.specs.declared.tree.Program.{Program}
-use Rattle.qil_names.specs.Numbers.{place_of}
-use Rattle.qil_meaning.specs.State.{Name}
-use Rattle.qil_meaning.specs.Step.{block_labelled}
+use Rattle.qil_symbols.specs.Numbers.{place_of}
+use Rattle.qil_semantics.specs.State.{Name}
+use Rattle.qil_semantics.specs.Step.{block_labelled}
 use Rattle.qil_code.specs.declared.numbered.PhiMove.{PhiMove}
 use Rattle.qil_code.specs.declared.numbered.Edge.{Edge}
 use Rattle.qil_code.specs.Gather.{labels_in}

@@ -12,10 +12,10 @@ use Rattle.qil_tree.specs.declared.tree.Block.{Block}
 use Rattle.qil_tree.specs.declared.tree.Func.{Func}
 use Rattle.qil_tree.specs.declared.tree.Program.{Program}
 use Rattle.qil_rules.specs.Text.{IsAmong}
-use Rattle.qil_names.specs.Numbers.{place_of, recorded}
-use Rattle.qil_meaning.specs.State.{Name}
-use Rattle.qil_meaning.specs.Names.{temps_named}
-use Rattle.qil_meaning.specs.Step.{phi_moves, block_labelled}
+use Rattle.qil_symbols.specs.Numbers.{place_of, recorded}
+use Rattle.qil_semantics.specs.State.{Name}
+use Rattle.qil_semantics.specs.Names.{temps_named}
+use Rattle.qil_semantics.specs.Step.{phi_moves, block_labelled}
 use Rattle.qil_code.specs.declared.numbered.PhiMove.{PhiMove}
 use Rattle.qil_code.specs.declared.numbered.Edge.{Edge}
 use Rattle.qil_code.specs.declared.numbered.NumberedJump.{NumberedJump}

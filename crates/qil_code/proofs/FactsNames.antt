@@ -8,11 +8,11 @@ use Rattle.qil_tree.specs.declared.tree.Definition.{Definition}
 use Rattle.qil_tree.specs.declared.tree.Definition.TheVariants as definitions
 use Rattle.qil_tree.specs.declared.tree.Program.{Program}
 use Rattle.qil_rules.specs.declared.rule.Rule.TheVariants.{C1}
-use Rattle.qil_rules.specs.declared.mention.MentionKind.TheVariants.{FunctionName}
-use Rattle.qil_rules.specs.Mentions.{data_mentions, func_mentions, texts_in}
+use Rattle.qil_rules.specs.declared.occurrence.OccurrenceKind.TheVariants.{FunctionName}
+use Rattle.qil_rules.specs.Occurrences.{data_occurrences, func_occurrences, texts_in}
 use Rattle.qil_rules.specs.Rules.{WellFormed}
-use Rattle.qil_names.specs.Numbers.{place_of}
-use Rattle.qil_meaning.specs.State.{Name}
+use Rattle.qil_symbols.specs.Numbers.{place_of}
+use Rattle.qil_semantics.specs.State.{Name}
 use Rattle.qil_code.proofs.Spots.{One, Two, one_more, two_more, one_behind}
 use Rattle.qil_code.proofs.Apart.{AreApart}
 
@@ -29,31 +29,31 @@ made_of v (x ∷ xs) (suc k) y e = made_of v xs k y e
 
 -- ---- the texts of functions
 
-pub func_text : {A : Type 0} (order : List Definition) (ds : List (Data A)) (fs : List (Func A)) (k : ℕ) (f : Func A) → slice_get fs k ≡ Some f → One (texts_in order ds fs) (func_mentions f)
-func_text [] ds fs k f h = one_behind (map data_mentions ds) (map func_mentions fs) (func_mentions f) (k, mapped_at func_mentions fs k f h)
+pub func_text : {A : Type 0} (order : List Definition) (ds : List (Data A)) (fs : List (Func A)) (k : ℕ) (f : Func A) → slice_get fs k ≡ Some f → One (texts_in order ds fs) (func_occurrences f)
+func_text [] ds fs k f h = one_behind (map data_occurrences ds) (map func_occurrences fs) (func_occurrences f) (k, mapped_at func_occurrences fs k f h)
 func_text (definitions.Data ∷ order) [] fs k f h = func_text order [] fs k f h
-func_text (definitions.Data ∷ order) (d ∷ ds) fs k f h = one_more (data_mentions d) (texts_in order ds fs) (func_mentions f) (func_text order ds fs k f h)
+func_text (definitions.Data ∷ order) (d ∷ ds) fs k f h = one_more (data_occurrences d) (texts_in order ds fs) (func_occurrences f) (func_text order ds fs k f h)
 func_text (definitions.Func ∷ order) ds [] k f h = absurd cc
-func_text (definitions.Func ∷ order) ds (g ∷ fs) zero f h = (0, ap (option_map func_mentions) h)
-func_text (definitions.Func ∷ order) ds (g ∷ fs) (suc k) f h = one_more (func_mentions g) (texts_in order ds fs) (func_mentions f) (func_text order ds fs k f h)
+func_text (definitions.Func ∷ order) ds (g ∷ fs) zero f h = (0, ap (option_map func_occurrences) h)
+func_text (definitions.Func ∷ order) ds (g ∷ fs) (suc k) f h = one_more (func_occurrences g) (texts_in order ds fs) (func_occurrences f) (func_text order ds fs k f h)
 
 two_behind_data : {A : Type 0} (ds : List (Data A)) (fs : List (Func A)) (j k : ℕ) (f g : Func A) → j < k → slice_get fs j ≡ Some f → slice_get fs k ≡ Some g
-    → Two (map data_mentions ds ++ map func_mentions fs) (func_mentions f) (func_mentions g)
-two_behind_data [] fs j k f g l h i = record { m = j; n = k; before = l; first = mapped_at func_mentions fs j f h; second = mapped_at func_mentions fs k g i }
-two_behind_data (d ∷ ds) fs j k f g l h i = two_more (data_mentions d) (map data_mentions ds ++ map func_mentions fs) (func_mentions f) (func_mentions g) (two_behind_data ds fs j k f g l h i)
+    → Two (map data_occurrences ds ++ map func_occurrences fs) (func_occurrences f) (func_occurrences g)
+two_behind_data [] fs j k f g l h i = record { m = j; n = k; before = l; first = mapped_at func_occurrences fs j f h; second = mapped_at func_occurrences fs k g i }
+two_behind_data (d ∷ ds) fs j k f g l h i = two_more (data_occurrences d) (map data_occurrences ds ++ map func_occurrences fs) (func_occurrences f) (func_occurrences g) (two_behind_data ds fs j k f g l h i)
 
-two_texts : {A : Type 0} (order : List Definition) (ds : List (Data A)) (fs : List (Func A)) (j k : ℕ) (f g : Func A) → j < k → slice_get fs j ≡ Some f → slice_get fs k ≡ Some g → Two (texts_in order ds fs) (func_mentions f) (func_mentions g)
+two_texts : {A : Type 0} (order : List Definition) (ds : List (Data A)) (fs : List (Func A)) (j k : ℕ) (f g : Func A) → j < k → slice_get fs j ≡ Some f → slice_get fs k ≡ Some g → Two (texts_in order ds fs) (func_occurrences f) (func_occurrences g)
 two_texts [] ds fs j k f g l h i = two_behind_data ds fs j k f g l h i
 two_texts (definitions.Data ∷ order) [] fs j k f g l h i = two_texts order [] fs j k f g l h i
 two_texts (definitions.Data ∷ order) (d ∷ ds) fs j k f g l h i =
-    two_more (data_mentions d) (texts_in order ds fs) (func_mentions f) (func_mentions g) (two_texts order ds fs j k f g l h i)
+    two_more (data_occurrences d) (texts_in order ds fs) (func_occurrences f) (func_occurrences g) (two_texts order ds fs j k f g l h i)
 two_texts (definitions.Func ∷ order) ds [] j k f g l h i = absurd cc
 two_texts (definitions.Func ∷ order) ds (e ∷ fs) j zero f g l h i = absurd (omega (arith, l))
 two_texts (definitions.Func ∷ order) ds (e ∷ fs) zero (suc k) f g l h i =
     let o = func_text order ds fs k g i in
-    record { m = 0; n = suc o.0; before = omega arith; first = ap (option_map func_mentions) h; second = o.1 }
+    record { m = 0; n = suc o.0; before = omega arith; first = ap (option_map func_occurrences) h; second = o.1 }
 two_texts (definitions.Func ∷ order) ds (e ∷ fs) (suc j) (suc k) f g l h i =
-    two_more (func_mentions e) (texts_in order ds fs) (func_mentions f) (func_mentions g) (two_texts order ds fs j k f g (omega (arith, l)) h i)
+    two_more (func_occurrences e) (texts_in order ds fs) (func_occurrences f) (func_occurrences g) (two_texts order ds fs j k f g (omega (arith, l)) h i)
 
 -- by rule C1
 pub names_apart : {A : Type 0} (p : Program A) → WellFormed p → AreApart (map (λ f. f.name) p.funcs)
@@ -61,7 +61,7 @@ names_apart p kept i j x l a b =
     let f = made_of (λ f. f.name) p.funcs i x a in
     let g = made_of (λ f. f.name) p.funcs j x b in
     let w = two_texts p.order p.datas p.funcs i j f.0 g.0 l f.1 g.1 in
-    kept C1 (record { text = w.n; mention = 0 }) (func_mentions g.0, w.second, (x, inr (ap (λ y. Some (FunctionName y)) g.2), (w.m, w.before, (func_mentions f.0, w.first, inr (ap (λ y. Some (FunctionName y)) f.2)))))
+    kept C1 (record { text = w.n; occurrence = 0 }) (func_occurrences g.0, w.second, (x, inr (ap (λ y. Some (FunctionName y)) g.2), (w.m, w.before, (func_occurrences f.0, w.first, inr (ap (λ y. Some (FunctionName y)) f.2)))))
 
 -- ---- what names find
 

@@ -5,9 +5,9 @@ use Rattle.std.specs.List.{flat_map}
 use Rattle.std.specs.Str.{bytes_eq}
 use Rattle.std.proofs.lemmas.Slice.Eq.{bytes_eq-Decides}
 use Rattle.qil_rules.specs.Text.{IsAmong}
-use Rattle.qil_names.specs.Numbers.{place_of}
-use Rattle.qil_meaning.specs.State.{Name}
-use Rattle.qil_meaning.specs.Names.{once}
+use Rattle.qil_symbols.specs.Numbers.{place_of}
+use Rattle.qil_semantics.specs.State.{Name}
+use Rattle.qil_semantics.specs.Names.{once}
 use Rattle.qil_code.specs.Slots.{name_at, number_in}
 
 abbrev pub Has : List Name → Name → Type 0

@@ -8,8 +8,8 @@ use Rattle.qil_tree.specs.declared.tree.Inst.{Inst}
 use Rattle.qil_tree.specs.declared.tree.Block.{Block}
 use Rattle.qil_tree.specs.declared.tree.Func.{Func}
 use Rattle.qil_tree.specs.declared.tree.Program.{Program}
-use Rattle.qil_meaning.specs.State.{Name}
-use Rattle.qil_meaning.specs.Names.{phi_names, inst_names, jump_names, block_names, temps_named}
+use Rattle.qil_semantics.specs.State.{Name}
+use Rattle.qil_semantics.specs.Names.{phi_names, inst_names, jump_names, block_names, temps_named}
 use Rattle.qil_code.specs.Facts.{jump_labels, KnowsLabels}
 use Rattle.qil_code.specs.Gather.{labels_in}
 use Rattle.qil_code.specs.Numbered.{inst_of, block_of, func_at, block_in, block_at, inst_in, inst_at, names_in, names_of}

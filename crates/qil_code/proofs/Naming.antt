@@ -17,9 +17,9 @@ use Rattle.qil_tree.specs.declared.tree.JumpKind.TheVariants as jumps
 use Rattle.qil_tree.specs.declared.tree.Block.{Block}
 use Rattle.qil_tree.specs.declared.tree.Program.{Program}
 use Rattle.qil_rules.specs.Operands.{Read, expr_reads, inst_reads, inst_target, call_target}
-use Rattle.qil_meaning.specs.State.{Name}
-use Rattle.qil_meaning.specs.Names.{operand_names, target_names, jump_names}
-use Rattle.qil_meaning.specs.Step as step
+use Rattle.qil_semantics.specs.State.{Name}
+use Rattle.qil_semantics.specs.Names.{operand_names, target_names, jump_names}
+use Rattle.qil_semantics.specs.Step as step
 use Rattle.qil_code.specs.Facts.{jump_labels}
 use Rattle.qil_code.specs.Gather.{labels_in, arguments_names}
 use Rattle.qil_code.specs.Numbered.{slot_in, operand_of, expr_of, receiver_of, argument_of, kind_of, move_of, jump_of}

@@ -5,10 +5,10 @@ use Rattle.std.specs.List.{list_any}
 use Rattle.std.specs.Str.{bytes_eq}
 use Rattle.std.proofs.lemmas.List.{append-nil}
 use Rattle.std.proofs.lemmas.Slice.Eq.{bytes_eq-Decides}
-use Rattle.qil_names.specs.Numbers.{recorded}
-use Rattle.qil_names.proofs.NumberLemmas.{recorded_append}
-use Rattle.qil_meaning.specs.State.{Name}
-use Rattle.qil_meaning.specs.Names.{once}
+use Rattle.qil_symbols.specs.Numbers.{recorded}
+use Rattle.qil_symbols.proofs.NumberLemmas.{recorded_append}
+use Rattle.qil_semantics.specs.State.{Name}
+use Rattle.qil_semantics.specs.Names.{once}
 
 -- the names that aren't among these
 abbrev new : List Name → Name → Bool

@@ -9,10 +9,10 @@ use Rattle.qil_tree.specs.declared.tree.PhiSource.{PhiSource}
 use Rattle.qil_tree.specs.declared.tree.Phi.{Phi}
 use Rattle.qil_tree.specs.declared.tree.Block.{Block}
 use Rattle.qil_tree.specs.declared.tree.Program.{Program}
-use Rattle.qil_meaning.specs.State.{Name}
-use Rattle.qil_meaning.specs.Names.{operand_names, phi_names, inst_names, jump_names, block_names}
-use Rattle.qil_meaning.specs.Step.{phi_moves}
-use Rattle.qil_meaning.specs.Step as step
+use Rattle.qil_semantics.specs.State.{Name}
+use Rattle.qil_semantics.specs.Names.{operand_names, phi_names, inst_names, jump_names, block_names}
+use Rattle.qil_semantics.specs.Step.{phi_moves}
+use Rattle.qil_semantics.specs.Step as step
 use Rattle.qil_code.specs.Gather.{sources_names}
 use Rattle.qil_code.specs.Moves.{given}
 use Rattle.qil_code.specs.Numbered.{move_of, one_phi_moves}

@@ -20,10 +20,10 @@ use Rattle.qil_tree.specs.declared.tree.JumpKind.TheVariants as jumps
 use Rattle.qil_tree.specs.declared.tree.Block.{Block}
 use Rattle.qil_tree.specs.declared.tree.Program.{Program}
 use Rattle.qil_rules.specs.Operands.{expr_reads, call_target}
-use Rattle.qil_meaning.specs.State.{Name}
-use Rattle.qil_meaning.specs.Names.{operand_names, target_names, phi_names, inst_names, jump_names, block_names}
-use Rattle.qil_meaning.specs.Step.{block_labelled}
-use Rattle.qil_meaning.specs.Step as step
+use Rattle.qil_semantics.specs.State.{Name}
+use Rattle.qil_semantics.specs.Names.{operand_names, target_names, phi_names, inst_names, jump_names, block_names}
+use Rattle.qil_semantics.specs.Step.{block_labelled}
+use Rattle.qil_semantics.specs.Step as step
 use Rattle.qil_code.specs.declared.numbered.NumberedArgument.{NumberedArgument}
 use Rattle.qil_code.specs.Facts.{jump_labels}
 use Rattle.qil_code.specs.Gather.{labels_in, arguments_names, param_names}

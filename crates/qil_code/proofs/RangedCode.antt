@@ -10,8 +10,8 @@ use Rattle.qil_tree.specs.declared.tree.Block.{Block}
 use Rattle.qil_tree.specs.declared.tree.Func.{Func}
 use Rattle.qil_tree.specs.declared.tree.Program.{Program}
 use Rattle.qil_tree.specs.Trees.{HasBlock, HasBlocks}
-use Rattle.qil_meaning.specs.State.{Name}
-use Rattle.qil_meaning.specs.Names.{block_names, temps_named}
+use Rattle.qil_semantics.specs.State.{Name}
+use Rattle.qil_semantics.specs.Names.{block_names, temps_named}
 use Rattle.qil_code.specs.declared.numbered.NumberedBlock.{NumberedBlock}
 use Rattle.qil_code.specs.declared.numbered.FuncCode.{FuncCode}
 use Rattle.qil_code.specs.Facts.{jump_labels, KnowsLabels}

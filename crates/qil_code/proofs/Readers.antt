@@ -7,9 +7,9 @@ use Rattle.std.proofs.lemmas.List.{length-map}
 use Rattle.std.proofs.lemmas.Option.{slice_get-map, slice_get_within, get_or_from_slice_get}
 use Rattle.qil_tree.specs.declared.tree.Func.{Func}
 use Rattle.qil_tree.specs.declared.tree.Program.{Program}
-use Rattle.qil_names.specs.Numbers.{place_of}
-use Rattle.qil_meaning.specs.State.{Name}
-use Rattle.qil_meaning.specs.Names.{temps_named}
+use Rattle.qil_symbols.specs.Numbers.{place_of}
+use Rattle.qil_semantics.specs.State.{Name}
+use Rattle.qil_semantics.specs.Names.{temps_named}
 use Rattle.qil_code.specs.declared.numbered.FuncCode.{FuncCode}
 use Rattle.qil_code.specs.Facts.{IsNumerable, AreNumerable}
 use Rattle.qil_code.specs.Gather.{labels_in}

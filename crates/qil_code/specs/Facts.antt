@@ -6,13 +6,13 @@ use Rattle.qil_tree.specs.declared.tree.JumpKind.{JumpKind}
 use Rattle.qil_tree.specs.declared.tree.JumpKind.TheVariants as jumps
 use Rattle.qil_tree.specs.declared.tree.Block.{Block}
 use Rattle.qil_tree.specs.declared.tree.Program.{Program}
-use Rattle.qil_rules.specs.Mentions.{func_mentions}
+use Rattle.qil_rules.specs.Occurrences.{func_occurrences}
 use Rattle.qil_rules.specs.Text.{IsAmong}
-use Rattle.qil_names.specs.Numbers.{recorded, place_of}
-use Rattle.qil_meaning.specs.State.{Name}
-use Rattle.qil_meaning.specs.Names.{temps_named}
-use Rattle.qil_meaning.specs.Poke.{class_in}
-use Rattle.qil_meaning.specs.Step.{func_named, block_labelled}
+use Rattle.qil_symbols.specs.Numbers.{recorded, place_of}
+use Rattle.qil_semantics.specs.State.{Name}
+use Rattle.qil_semantics.specs.Names.{temps_named}
+use Rattle.qil_semantics.specs.Poke.{class_in}
+use Rattle.qil_semantics.specs.Step.{func_named, block_labelled}
 use Rattle.qil_code.specs.Gather.{labels_in}
 use Rattle.qil_code.specs.Slots.{number_in}
 use Rattle.qil_code.specs.Numbered.{class_of_temp}
@@ -51,4 +51,4 @@ pub record KnowsLabels {A : Type 0} (p : Program A) : Type 0 where
 
 -- each temporary that a function names has a definition in its text, and so a class
 pub record KnowsTemps {A : Type 0} (p : Program A) : Type 0 where
-  pub known : (i : ℕ) (f : Func A) (s : ℕ) (x : Name) → slice_get p.funcs i ≡ Some f → slice_get (temps_named f) s ≡ Some x → class_in (func_mentions f) x ≡ Some (class_of_temp f x)
+  pub known : (i : ℕ) (f : Func A) (s : ℕ) (x : Name) → slice_get p.funcs i ≡ Some f → slice_get (temps_named f) s ≡ Some x → class_in (func_occurrences f) x ≡ Some (class_of_temp f x)

@@ -9,8 +9,8 @@ use Rattle.qil_tree.specs.declared.tree.Param.{Param}
 use Rattle.qil_tree.specs.declared.tree.Block.{Block}
 use Rattle.std.specs.Prelude.{◌++◌}
 use Rattle.qil_rules.specs.Operands.{argument_read}
-use Rattle.qil_meaning.specs.State.{Name}
-use Rattle.qil_meaning.specs.Names.{operand_names}
+use Rattle.qil_semantics.specs.State.{Name}
+use Rattle.qil_semantics.specs.Names.{operand_names}
 
 abbrev pub expr_names : Expr → List Name
 expr_names (exprs.Unary op a) = operand_names a

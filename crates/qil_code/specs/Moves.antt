@@ -4,8 +4,8 @@ use Rattle.std.specs.Str.{bytes_eq}
 use Rattle.qil_tree.specs.declared.tree.Target.{Target}
 use Rattle.qil_tree.specs.declared.tree.PhiSource.{PhiSource}
 use Rattle.qil_tree.specs.declared.tree.Program.{Program}
-use Rattle.qil_meaning.specs.State.{Name}
-use Rattle.qil_meaning.specs.Step as step
+use Rattle.qil_semantics.specs.State.{Name}
+use Rattle.qil_semantics.specs.Step as step
 use Rattle.qil_code.specs.declared.numbered.PhiMove.{PhiMove}
 use Rattle.qil_code.specs.Numbered.{move_of}
 

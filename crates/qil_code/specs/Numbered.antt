@@ -20,13 +20,13 @@ use Rattle.qil_tree.specs.declared.tree.Phi.{Phi}
 use Rattle.qil_tree.specs.declared.tree.Block.{Block}
 use Rattle.qil_tree.specs.declared.tree.Func.{Func}
 use Rattle.qil_tree.specs.declared.tree.Program.{Program}
-use Rattle.qil_rules.specs.Mentions.{func_mentions}
-use Rattle.qil_meaning.specs.qil_layout.Layout.{address_of}
-use Rattle.qil_meaning.specs.State.{Name}
-use Rattle.qil_meaning.specs.Names.{temps_named}
-use Rattle.qil_meaning.specs.Poke.{class_in}
-use Rattle.qil_meaning.specs.Step.{phi_moves, block_labelled}
-use Rattle.qil_meaning.specs.Step as step
+use Rattle.qil_rules.specs.Occurrences.{func_occurrences}
+use Rattle.qil_semantics.specs.qil_layout.Layout.{address_of}
+use Rattle.qil_semantics.specs.State.{Name}
+use Rattle.qil_semantics.specs.Names.{temps_named}
+use Rattle.qil_semantics.specs.Poke.{class_in}
+use Rattle.qil_semantics.specs.Step.{phi_moves, block_labelled}
+use Rattle.qil_semantics.specs.Step as step
 use Rattle.qil_code.specs.declared.numbered.Slot.{Slot}
 use Rattle.qil_code.specs.declared.numbered.NumberedOperand.{NumberedOperand}
 use Rattle.qil_code.specs.declared.numbered.NumberedOperand.TheVariants as numbered_operands
@@ -120,7 +120,7 @@ block_of p blocks ns b = record { insts = map (inst_of p ns) b.insts; jump = jum
 
 -- the class of a temporary: that of its first definition
 abbrev pub class_of_temp : {A : Type 0} → Func A → Name → Class
-class_of_temp func x = unwrap_or (class_in (func_mentions func) x) classes.W
+class_of_temp func x = unwrap_or (class_in (func_occurrences func) x) classes.W
 
 abbrev pub param_of : List Name → Param → Slot × AbiType
 param_of ns q = (slot_in ns q.name, q.abi_type)

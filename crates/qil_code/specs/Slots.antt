@@ -1,7 +1,7 @@
 -- The number of a name, and the name of a number.
 use Rattle.std.specs.Prelude.{ℕ, List, [], unwrap_or, slice_get}
-use Rattle.qil_names.specs.Numbers.{place_of}
-use Rattle.qil_meaning.specs.State.{Name}
+use Rattle.qil_symbols.specs.Numbers.{place_of}
+use Rattle.qil_semantics.specs.State.{Name}
 
 abbrev pub number_in : List Name → Name → ℕ
 number_in ns x = unwrap_or (place_of ns x) 0

@@ -5,10 +5,10 @@ ghost use Rattle.std.specs.Option.{option_copied};
 ghost use Rattle.std.specs.List.{flat_map};
 ghost use Rattle.qil_tree.specs.declared.tree.Inst.{Inst};
 ghost use Rattle.qil_tree.specs.declared.tree.Block.{Block};
-ghost use Rattle.qil_names.specs.Numbers.{place_of};
+ghost use Rattle.qil_symbols.specs.Numbers.{place_of};
 ghost use Rattle.qil_rules.specs.Text.{IsAmong};
-ghost use Rattle.qil_meaning.specs.Poke.{temp_class};
-ghost use Rattle.qil_meaning.specs.Step.{phi_moves};
+ghost use Rattle.qil_semantics.specs.Poke.{temp_class};
+ghost use Rattle.qil_semantics.specs.Step.{phi_moves};
 ghost use Rattle.qil_code.specs.Facts.{Finds, KnowsLabels, NumbersBlocks, jump_labels};
 ghost use Rattle.qil_code.specs.Ranges.{BlockInRange, FuncInRange};
 ghost use Rattle.qil_code.specs.Numbered.{func_at, block_at, inst_at, names_of};
@@ -18,8 +18,8 @@ ghost use Rattle.qil_code.specs.Reading.{IsCodeOf, func_names, func_code_at, par
 use crate::numbered::{
     BlockId, FuncCode, NumberedBlock, NumberedInst, NumberedJump, PhiMove, Slot,
 };
-use qil_meaning::{FuncId, Image};
-use qil_names::Numbers;
+use qil_semantics::{FuncId, Image};
+use qil_symbols::Numbers;
 use qil_tree::{AbiType, Block, Class, Name, Program};
 use std::alloc::Allocator;
 use std::marker::Model;

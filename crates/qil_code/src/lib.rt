@@ -6,10 +6,12 @@
 
 mod code;
 mod numbered;
+mod widths;
 
 pub use code::Code;
 pub use numbered::{
     BlockId, Edge, FuncCode, NumberedArgument, NumberedBlock, NumberedExpr, NumberedFunc,
     NumberedInst, NumberedJump, NumberedOperand, PhiMove, Receiver, Slot,
 };
-pub use qil_meaning::FuncId;
+pub use qil_semantics::FuncId;
+pub use widths::{alignment, byte_count, class_returned, class_stored};

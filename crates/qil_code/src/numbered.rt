@@ -2,7 +2,7 @@
 //!
 //! An instruction has at most 48 bytes over the global allocator, and an operand 16.
 
-use qil_names::Numbers;
+use qil_symbols::Numbers;
 use qil_tree::{
     AbiType, AllocOp, BinaryOp, Class, CompareOp, Extension, Items, LoadOp, UnaryOp, Width,
 };

@@ -9,11 +9,11 @@ use Rattle.qil_tree.specs.declared.ops.AbiType.{AbiType}
 use Rattle.qil_tree.specs.declared.tree.Param.{Param}
 use Rattle.qil_tree.specs.declared.tree.Func.{Func}
 use Rattle.qil_tree.specs.declared.tree.Program.{Program}
-use Rattle.qil_names.specs.Numbers.{place_of}
-use Rattle.qil_meaning.specs.State.{Name, Temps}
-use Rattle.qil_meaning.specs.Names.{block_names, temps_named}
-use Rattle.qil_meaning.specs.Slots.{temps_of}
-use Rattle.qil_meaning.specs.Step.{func_named}
+use Rattle.qil_symbols.specs.Numbers.{place_of}
+use Rattle.qil_semantics.specs.State.{Name, Temps}
+use Rattle.qil_semantics.specs.Names.{block_names, temps_named}
+use Rattle.qil_semantics.specs.Slots.{temps_of}
+use Rattle.qil_semantics.specs.Step.{func_named}
 use Rattle.qil_code.specs.declared.numbered.Slot.{Slot}
 use Rattle.qil_code.specs.Facts.{Finds}
 use Rattle.qil_code.specs.Numbered.{func_at, names_of, slot_in, param_of}

@@ -14,9 +14,9 @@ use Rattle.qil_tree.specs.declared.tree.Item.TheVariants as items
 use Rattle.qil_tree.specs.declared.tree.Field.TheVariants as fields
 use Rattle.qil_tree.specs.declared.tree.Inst.{Inst}
 use Rattle.qil_tree.specs.declared.tree.Program.{Program}
-use Rattle.qil_meaning.specs.State.{halted}
-use Rattle.qil_meaning.specs.Start.{start_of}
-use Rattle.qil_meaning.proofs.Programs.{A0, n, %, $, w, l, inst, arg, call, result, block, param, func, data_, prog, of_start, runs}
+use Rattle.qil_semantics.specs.State.{halted}
+use Rattle.qil_semantics.specs.Start.{start_of}
+use Rattle.qil_semantics.proofs.Programs.{A0, n, %, $, w, l, inst, arg, call, result, block, param, func, data_, prog, of_start, runs}
 use Rattle.qil_compare.specs.declared.event.Kinds.{Kinds}
 use Rattle.qil_compare.specs.Seen.{number, stack, in_data, function, data_place}
 use Rattle.qil_compare.specs.Events.{Event, byte_out, written, called, returned, ended, done_with, exited_with, faulted_by, plain, unset, dead, bytes_from, events_of, events_by}

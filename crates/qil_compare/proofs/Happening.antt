@@ -9,9 +9,9 @@ use Rattle.std.proofs.Math.Seq.{drop-length}
 use Rattle.qil_tree.specs.declared.tree.Func.{Func}
 use Rattle.qil_tree.specs.declared.tree.Program.{Program}
 use Rattle.qil_layout.specs.declared.callee.FuncId.{FuncId}
-use Rattle.qil_names.specs.Numbers.{place_of}
-use Rattle.qil_meaning.specs.State.{Name, State, is_final}
-use Rattle.qil_meaning.specs.Step.{func_named}
+use Rattle.qil_symbols.specs.Numbers.{place_of}
+use Rattle.qil_semantics.specs.State.{Name, State, is_final}
+use Rattle.qil_semantics.specs.Step.{func_named}
 use Rattle.qil_code.specs.Reading.{func_names}
 use Rattle.qil_code.specs.Numbered.{func_at}
 use Rattle.qil_frames.specs.Frames.{SlotFrame}

@@ -4,9 +4,9 @@ use Rattle.std.specs.Prelude.{slice_get}
 use Rattle.std.proofs.lemmas.Bool.{cases_lt, true≢false}
 use Rattle.std.proofs.lemmas.List.{length-append, append-nil}
 use Rattle.qil_tree.specs.declared.tree.Program.{Program}
-use Rattle.qil_meaning.specs.State.{State, is_final}
-use Rattle.qil_meaning.specs.Targets.{after}
-use Rattle.qil_meaning.specs.Timeline.{Timeline, moved}
+use Rattle.qil_semantics.specs.State.{State, is_final}
+use Rattle.qil_semantics.specs.Targets.{after}
+use Rattle.qil_semantics.specs.Timeline.{Timeline, moved}
 use Rattle.qil_state.proofs.Place.{some_same}
 use Rattle.qil_compare.specs.declared.event.Kinds.{Kinds}
 use Rattle.qil_compare.specs.declared.event.Found.{Found}

@@ -9,7 +9,7 @@ use Rattle.qil_memory.specs.Buffers.{Buffers}
 use Rattle.qil_tree.specs.declared.ops.AbiType.{AbiType}
 use Rattle.qil_tree.specs.declared.tree.Program.{Program}
 use Rattle.qil_memory.specs.Live.{Live, live}
-use Rattle.qil_meaning.specs.State.{Name, State}
+use Rattle.qil_semantics.specs.State.{Name, State}
 use Rattle.qil_state.specs.declared.status.Fault.{Fault}
 use Rattle.qil_state.specs.declared.status.Status.{Status}
 use Rattle.qil_state.specs.declared.status.Status.TheVariants.{Faulted}

@@ -1,9 +1,9 @@
 -- What code keeps of a machine over a step, next to what the state is about to do.
 use Rattle.std.specs.Prelude.{◌≡◌, ℕ, true, false, length, Option, Some, None, Ok, Err}
 use Rattle.qil_tree.specs.declared.tree.Program.{Program}
-use Rattle.qil_meaning.specs.State.{State, is_final}
+use Rattle.qil_semantics.specs.State.{State, is_final}
 use Rattle.qil_layout.specs.declared.callee.FuncId.{FuncId}
-use Rattle.qil_meaning.specs.Values.{Outcome}
+use Rattle.qil_semantics.specs.Values.{Outcome}
 use Rattle.qil_code.specs.declared.numbered.NumberedJump.{NumberedJump}
 use Rattle.qil_code.specs.declared.numbered.NumberedJump.TheVariants as jumps
 use Rattle.qil_code.specs.Ranges.{ReturnedInRange}

@@ -1,9 +1,9 @@
 -- What is answered of two runs: how many events are the same from the start on, and what comes next on each side.
 use Rattle.std.specs.Prelude.{◌≡◌, ◌⊎◌, ℕ, ◌+◌, ◌^◌, ◌<◌, ◌≤◌, true, false, List, ◌∷◌, ◌++◌, length, Option, Some, None}
 use Rattle.qil_tree.specs.declared.tree.Program.{Program}
-use Rattle.qil_meaning.specs.State.{State, is_final}
-use Rattle.qil_meaning.specs.Targets.{after}
-use Rattle.qil_meaning.specs.Timeline.{Timeline, moved, position}
+use Rattle.qil_semantics.specs.State.{State, is_final}
+use Rattle.qil_semantics.specs.Targets.{after}
+use Rattle.qil_semantics.specs.Timeline.{Timeline, moved, position}
 use Rattle.qil_compare.specs.declared.event.Kinds.{Kinds}
 use Rattle.qil_compare.specs.declared.event.Found.{Found}
 use Rattle.qil_compare.specs.declared.event.Found.TheVariants as founds

@@ -1,7 +1,7 @@
 -- What values and places in code are.
 use Rattle.std.specs.Prelude.{◌≡◌, ℕ, ◌<◌, List, Option, Some, None, option_map, unwrap_or, slice_get}
 use Rattle.qil_tree.specs.declared.tree.Program.{Program}
-use Rattle.qil_meaning.specs.State.{Name}
+use Rattle.qil_semantics.specs.State.{Name}
 use Rattle.qil_code.specs.Numbered.{func_at}
 use Rattle.qil_code.specs.declared.numbered.Slot.{Slot}
 use Rattle.qil_compare.specs.declared.seen.DataPlace.{DataPlace}

@@ -12,13 +12,13 @@ use Rattle.qil_tree.specs.declared.tree.JumpKind.TheVariants as jumps
 use Rattle.qil_tree.specs.declared.tree.Block.{Block}
 use Rattle.qil_tree.specs.declared.tree.Func.{Func}
 use Rattle.qil_tree.specs.declared.tree.Program.{Program}
-use Rattle.qil_rules.specs.Mentions.{returned_class}
+use Rattle.qil_rules.specs.Occurrences.{returned_class}
 use Rattle.qil_layout.specs.Layout.{width_bytes, data_base, address_of}
 use Rattle.qil_memory.specs.Live.{Live}
-use Rattle.qil_meaning.specs.State.{Name, Temps, Frame, Fault, dead_address, no_function, unset_temporary, Status, running, done, exited, faulted, State, is_final}
-use Rattle.qil_meaning.specs.Values.{Outcome, fit, val}
-use Rattle.qil_meaning.specs.Step.{func_named, block_labelled, step_of}
-use Rattle.qil_meaning.specs.Targets.{after}
+use Rattle.qil_semantics.specs.State.{Name, Temps, Frame, Fault, dead_address, no_function, unset_temporary, Status, running, done, exited, faulted, State, is_final}
+use Rattle.qil_semantics.specs.Values.{Outcome, fit, val}
+use Rattle.qil_semantics.specs.Step.{func_named, block_labelled, step_of}
+use Rattle.qil_semantics.specs.Targets.{after}
 use Rattle.qil_compare.specs.declared.event.Kinds.{Kinds}
 use Rattle.qil_compare.specs.Seen.{Offset, Value, address_seen, data_place, seen}
 

@@ -1,6 +1,6 @@
 -- What an answer says of all events of two runs, however far they are run.
 use Rattle.std.specs.Prelude.{◌≡◌, ℕ, ◌<◌, ◌≤◌, true, false, List, ◌++◌, length}
-use Rattle.qil_meaning.specs.State.{is_final}
+use Rattle.qil_semantics.specs.State.{is_final}
 use Rattle.qil_compare.specs.Events.{Event}
 use Rattle.qil_compare.specs.Answer.{Run, state_after, first_events}
 

@@ -3,9 +3,9 @@ use Rattle.std.specs.Prelude.{◌≡◌, ℕ, ◌+◌, ◌<◌, ◌≤◌, true,
 use Rattle.qil_tree.specs.declared.ops.AbiType.{AbiType}
 use Rattle.qil_tree.specs.declared.tree.Program.{Program}
 use Rattle.qil_layout.specs.declared.callee.FuncId.{FuncId}
-use Rattle.qil_meaning.specs.State.{State, is_final}
-use Rattle.qil_meaning.specs.Targets.{after}
-use Rattle.qil_meaning.specs.Timeline.{Timeline, moved}
+use Rattle.qil_semantics.specs.State.{State, is_final}
+use Rattle.qil_semantics.specs.Targets.{after}
+use Rattle.qil_semantics.specs.Timeline.{Timeline, moved}
 use Rattle.qil_code.specs.Numbered.{func_at}
 use Rattle.qil_code.specs.Reading.{returns_at}
 use Rattle.qil_state.specs.State.{func_name}

@@ -9,7 +9,7 @@ use Rattle.qil_layout.specs.declared.callee.Callee.TheVariants.{Defined, PutChar
 use Rattle.qil_layout.specs.Layout.{data_base, address_of, bytes_of}
 use Rattle.qil_layout.specs.Callee.{callee_at}
 use Rattle.qil_memory.specs.Buffers.{stack_base, stack_end}
-use Rattle.qil_meaning.specs.State.{Name}
+use Rattle.qil_semantics.specs.State.{Name}
 use Rattle.qil_state.specs.State.{func_name}
 
 -- how far an address lies after the start of a data object

@@ -5,12 +5,10 @@ ghost use Rattle.std.specs.Option.{option_copied};
 ghost use Rattle.qil_tree.specs.declared.ops.Class.TheVariants as classes;
 ghost use Rattle.qil_tree.specs.declared.tree.JumpKind.TheVariants as jumps;
 ghost use Rattle.qil_tree.specs.declared.tree.Program.{Program};
-ghost use Rattle.qil_rules.specs.Mentions.{returned_class};
 ghost use Rattle.qil_layout.specs.declared.callee.FuncId.{FuncId};
-ghost use Rattle.qil_layout.specs.Layout.{width_bytes};
-ghost use Rattle.qil_meaning.specs.State.{Name, is_final};
-ghost use Rattle.qil_meaning.specs.Slots.{temps_of};
-ghost use Rattle.qil_meaning.specs.Values.{val};
+ghost use Rattle.qil_semantics.specs.State.{Name, is_final};
+ghost use Rattle.qil_semantics.specs.Slots.{temps_of};
+ghost use Rattle.qil_semantics.specs.Values.{val};
 ghost use Rattle.qil_code.specs.Facts.{Finds};
 ghost use Rattle.qil_code.specs.Named.{named_operand, named_inst, named_jump};
 ghost use Rattle.qil_code.specs.Ranges.{InRange, InstInRange, ReturnedInRange};
@@ -22,12 +20,12 @@ ghost use Rattle.qil_compare.specs.Events.{range_from, writes_at, jump_returns, 
 ghost use Rattle.qil_compare.specs.Ahead.{writes_ahead, value_ahead, JumpReads, ok_value, IsDue, IsKept};
 
 use crate::event::Kinds;
-use qil_code::{Code, NumberedInst, NumberedJump, NumberedOperand};
+use qil_code::{Code, NumberedInst, NumberedJump, NumberedOperand, byte_count, class_returned};
 use qil_frames::Frame;
 use qil_layout::{FuncId, Image};
 use qil_machine::Machine;
 use qil_state::{fitted, value};
-use qil_tree::{AbiType, Class, Width};
+use qil_tree::{AbiType, Class};
 use std::alloc::Allocator;
 
 /// What the step to come may do that shows in no count.
@@ -68,18 +66,6 @@ fn value_in<A: Allocator + Copy>(
     }
 }
 
-/// How many bytes a store writes.
-fn byte_count(width: Width) -> u64
-    ensures { result ≡ width_bytes width }
-{
-    match width {
-        Width::B => 1,
-        Width::H => 2,
-        Width::W => 4,
-        Width::L => 8,
-    }
-}
-
 /// So many bytes from the address that an operand holds.
 fn range_ahead<A: Allocator + Copy>(frame: &Frame<A>, address: NumberedOperand, count: u64) -> Ahead
     requires { InRange (length frame.now.slots) address }
@@ -109,16 +95,6 @@ fn write_ahead<A: Allocator + Copy>(frame: &Frame<A>, inst: &NumberedInst<A>) ->
         NumberedInst::Assign(_, _, _)
         | NumberedInst::Alloc(_, _, _, _)
         | NumberedInst::Call(_, _, _) => Ahead::Other,
-    }
-}
-
-/// The class in which a returned value is read.
-fn class_returned(returns: Option<AbiType>) -> Class
-    ensures { result ≡ returned_class returns }
-{
-    match returns {
-        Some(abi_type) => abi_type.class(),
-        None => Class::W,
     }
 }
 

@@ -4,7 +4,7 @@
 //! than a move. So the numbers at which both have the same names are counted before the runs: names are asked for past them.
 
 ghost use Rattle.std.specs.Prelude.{◌≡◌, ◌↔◌, ◌<◌, IsTrue, Some, option_map, slice_get};
-ghost use Rattle.qil_meaning.specs.State.{Name};
+ghost use Rattle.qil_semantics.specs.State.{Name};
 ghost use Rattle.qil_code.specs.Numbered.{func_at};
 ghost use Rattle.qil_state.specs.State.{func_name, state_of};
 ghost use Rattle.qil_compare.specs.Coded.{name_at, AreNamedAlike};

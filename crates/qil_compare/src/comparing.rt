@@ -1,7 +1,7 @@
 //! Two runs, event by event, to the first in which they differ.
 
 ghost use Rattle.std.specs.Prelude.{◌≡◌, ◌↔◌, ◌⊎◌, ◌<◌, ◌≤◌, ◌^◌, IsTrue, true, false};
-ghost use Rattle.qil_meaning.specs.Timeline.{position};
+ghost use Rattle.qil_semantics.specs.Timeline.{position};
 ghost use Rattle.qil_state.specs.State.{state_of};
 ghost use Rattle.qil_compare.specs.declared.event.Found.TheVariants as founds;
 ghost use Rattle.qil_compare.specs.Coded.{AreNamedAlike};
@@ -63,7 +63,7 @@ fn is_out_of_memory(found: Found) -> bool
     }
 }
 
-/// Whether two runs agree in what comes next: in an event, or in that there is none.
+/// Whether two runs agree in what comes next: in an event, or in having none.
 #[inline(always)]
 fn agree<'c, A: Allocator + Copy>(
     left: &Machine<'c, A>,
@@ -166,7 +166,7 @@ fn is_far<
     good.position() > MOST_MOVES || bad.position() > MOST_MOVES
 }
 
-/// What is told of two runs after so many events that are the same.
+/// The answer for two runs behind so many events that are the same.
 fn told_of(common: u64, verdict: Verdict, one: Found, other: Found) -> Answer
     ensures { result ≡ record { events = common; verdict = verdict; good = one; bad = other } }
 {
@@ -235,7 +235,7 @@ fn code_in<'c, A: Allocator + Copy + 'c, H: History<A, Machine<'c, A>>>(
 }
 
 /// Runs two programs side by side to the first event of these kinds in which they differ, to the end of both, or to a limit: of
-/// the moves from one event to the next, or of all moves of a side. Each is left behind the event that is told of it.
+/// the moves from one event to the next, or of all moves of a side. Each is left behind its last event.
 pub fn compare<
     's,
     'c,

@@ -30,7 +30,7 @@ pub enum Event {
     End(FuncId),
 }
 
-/// An event, and how many bytes of output are told with it.
+/// An event, and how many bytes of output have become events by then.
 #[derive(Clone, Copy)]
 pub struct Told {
     pub event: Event,

@@ -2,7 +2,7 @@
 //! one doesn't have is no event. Nothing here takes memory.
 
 ghost use Rattle.std.specs.Prelude.{◌≡◌, [], ◌∷◌, drop, option_map};
-ghost use Rattle.qil_meaning.specs.State.{is_final};
+ghost use Rattle.qil_semantics.specs.State.{is_final};
 ghost use Rattle.qil_state.specs.State.{state_of};
 ghost use Rattle.qil_compare.specs.Events.{Due, has_data, bytes_out, write_in, write_by, call_by, return_by, one_if, ended, end_of};
 ghost use Rattle.qil_compare.specs.Seen.{data_place};
@@ -36,7 +36,7 @@ pub fn is_over<A: Allocator + Copy>(machine: &Machine<'_, A>) -> bool
     machine.is_final()
 }
 
-/// An event with which no output is left to tell.
+/// An event behind which no output is left to report.
 fn told<A: Allocator + Copy>(machine: &Machine<'_, A>, event: Event) -> Option<Told>
     ensures { (kinds : Kinds) → AreTold machine.now.program kinds (state_of machine.now) (event_at machine.now.program (state_of machine.now) event ∷ []) result }
 {

@@ -1,7 +1,7 @@
 //! A run to its next event.
 
 ghost use Rattle.std.specs.Prelude.{◌≡◌, ◌+◌, ◌≤◌, ◌^◌, cond, false, length};
-ghost use Rattle.qil_meaning.specs.Timeline.{position, at_end};
+ghost use Rattle.qil_semantics.specs.Timeline.{position, at_end};
 ghost use Rattle.qil_compare.specs.declared.event.Found.TheVariants as founds;
 ghost use Rattle.qil_state.specs.State.{state_of};
 ghost use Rattle.qil_compare.specs.Ahead.{HasHappened, IsKept};
@@ -70,8 +70,8 @@ fn happened_now<'c, A: Allocator + Copy + 'c, H: History<A, Machine<'c, A>>>(
     happened(machine, other, kinds, before, alike)
 }
 
-/// Moves forward to the next event, and gives it: after the least number of moves with one, or after `limit` moves; at the
-/// end of the run, or where there is no memory for a move. Gives also how many bytes of output are told then.
+/// Moves forward to the next event, and gives it: behind the least number of moves with one, or behind `limit` moves; at the end
+/// of the run, or if there is no memory for a move. Also gives how many bytes of output have become events by then.
 #[inline(never)]
 fn run_to_event<'c, A: Allocator + Copy + 'c, H: History<A, Machine<'c, A>>>(
     other: &Code<'c, A>,
@@ -102,7 +102,7 @@ fn run_to_event<'c, A: Allocator + Copy + 'c, H: History<A, Machine<'c, A>>>(
     (over_or_limit(history), written(history))
 }
 
-/// The next event of a run, of which so many bytes of output are told: a byte that isn't told yet, without a move; or what
+/// The next event of a run, of which so many bytes of output were events: a byte that wasn't one yet, without a move; or what
 /// comes of moves, `limit` at most.
 pub fn next_event<'c, A: Allocator + Copy + 'c, H: History<A, Machine<'c, A>>>(
     other: &Code<'c, A>,

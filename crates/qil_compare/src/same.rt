@@ -3,7 +3,7 @@
 ghost use Rattle.std.specs.Prelude.{◌≡◌, ◌≢◌, ◌↔◌, ◌+◌, List, IsTrue, option_map};
 ghost use Rattle.qil_tree.specs.declared.ops.AbiType.TheVariants as types;
 ghost use Rattle.qil_memory.specs.Live.{live};
-ghost use Rattle.qil_meaning.specs.State.{Name};
+ghost use Rattle.qil_semantics.specs.State.{Name};
 ghost use Rattle.qil_state.specs.Faults.{fault_of};
 ghost use Rattle.qil_state.specs.State.{state_of};
 ghost use Rattle.qil_compare.specs.declared.event.Event.TheVariants as coded;
@@ -200,7 +200,7 @@ fn same_returns<'c, A: Allocator + Copy>(
         && same_returned(left, right, func, second, value, returned)
 }
 
-/// Whether two addresses that faults tell count as the same.
+/// Whether the addresses of two faults count as the same.
 fn same_addresses<'c, A: Allocator + Copy>(
     left: &Machine<'c, A>,
     right: &Machine<'c, A>,
@@ -215,7 +215,7 @@ fn same_addresses<'c, A: Allocator + Copy>(
     )
 }
 
-/// Whether two faults are the same: of one kind, and where they tell an address, of the same one.
+/// Whether two faults are the same: of one kind, and of the same address if they have one.
 fn same_faults<'c, A: Allocator + Copy>(
     left: &Machine<'c, A>,
     right: &Machine<'c, A>,

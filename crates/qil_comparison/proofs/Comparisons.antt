@@ -8,8 +8,8 @@ use Rattle.qil_rules.specs.Verdict as accepted
 use Rattle.qil_streams.specs.Device.{IsPrefixOf}
 use Rattle.qil_streams.specs.Script.{lines_of, whole_lines_of}
 use Rattle.qil_streams.proofs.DeviceLemmas.{Appends-nil, Appends-append, Consumes-nil}
-use Rattle.qil_meaning.specs.State.{State}
-use Rattle.qil_meaning.specs.Timeline.{Timeline}
+use Rattle.qil_semantics.specs.State.{State}
+use Rattle.qil_semantics.specs.Timeline.{Timeline}
 use Rattle.qil_replies.specs.SessionState.{SessionState, session_at}
 use Rattle.qil_session.specs.Kept.{Kept, session_state}
 use Rattle.qil_replies.specs.Answers as sessions

@@ -8,9 +8,9 @@ use Rattle.qil_rules.specs.Verdict as accepted
 use Rattle.qil_streams.specs.Device.{IsPrefixOf}
 use Rattle.qil_layout.specs.Layout.{fault_of}
 use Rattle.qil_layout.specs.declared.error.LayoutCode.{LayoutCode}
-use Rattle.qil_meaning.specs.State.{State}
-use Rattle.qil_meaning.specs.Start.{start_of}
-use Rattle.qil_meaning.specs.declared.start.StartFault.{StartFault}
+use Rattle.qil_semantics.specs.State.{State}
+use Rattle.qil_semantics.specs.Start.{start_of}
+use Rattle.qil_semantics.specs.declared.start.StartFault.{StartFault}
 use Rattle.qil_loading.specs.Load.{Accepts, Checks, Refuses, RefusesCheck, IsCheckFault}
 use Rattle.qil_loading.specs.declared.load.LoadError.{LoadError}
 use Rattle.qil_loading.specs.declared.load.LoadError.TheVariants as errors

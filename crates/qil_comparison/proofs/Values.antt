@@ -3,15 +3,15 @@ use Rattle.std.proofs.Common.{◌≡◌, ◌↔◌, IsTrue, Bool, false, refl, s
 use Rattle.std.specs.Prelude.{slice_get}
 use Rattle.std.proofs.lemmas.Bool.{true≢false}
 use Rattle.qil_tree.specs.declared.tree.Program.{Program}
-use Rattle.qil_meaning.specs.Timeline.{Timeline}
+use Rattle.qil_semantics.specs.Timeline.{Timeline}
 use Rattle.qil_compare.specs.declared.comparing.Verdict.{Verdict}
 use Rattle.qil_compare.specs.declared.comparing.Verdict.TheVariants as verdicts
 use Rattle.qil_compare.specs.declared.comparing.Answer.{Answer}
 use Rattle.std.specs.List.{flat_map}
 use Rattle.qil_memory.specs.Live.{Live}
 use Rattle.qil_streams.specs.Text.{line}
-use Rattle.qil_answers.specs.Texts.{byte_text}
-use Rattle.qil_answers.specs.Shown.{spaced_byte, bytes_text}
+use Rattle.qil_render.specs.Texts.{byte_text}
+use Rattle.qil_render.specs.Shown.{spaced_byte, bytes_text}
 use Rattle.qil_compare.specs.Seen.{Value}
 use Rattle.qil_compare.specs.Events.{bytes_from}
 use Rattle.qil_comparison.specs.Told.{value_text, further_value, values_text, verdict_line, sides_text, answer_text}

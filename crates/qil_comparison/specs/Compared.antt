@@ -1,4 +1,4 @@
--- What is written of two texts: the refusal of one of them; or what is told of where their runs part, and what a script is
+-- What is written of two texts: the refusal of one of them; or the report of where their runs part, and what a script is
 -- answered there.
 use Rattle.std.specs.Prelude.{◌≡◌, ℕ, ◌+◌, ◌^◌, ◌⊎◌, true, false, List, [], ◌∷◌, ◌++◌, take, codes, Option, Some, None, IfSome}
 use Rattle.std.specs.Io.KnownBytes.{Appends, Consumes}
@@ -6,9 +6,9 @@ use Rattle.qil_tree.specs.declared.tree.Program.{Program}
 use Rattle.qil_rules.specs.Verdict as accepted
 use Rattle.qil_streams.specs.Device.{IsPrefixOf}
 use Rattle.qil_streams.specs.Script.{lines_of, whole_lines_of}
-use Rattle.qil_pieces.specs.Texts.{text_of}
-use Rattle.qil_meaning.specs.State.{State}
-use Rattle.qil_meaning.specs.Timeline.{Timeline, begun}
+use Rattle.qil_fragments.specs.Texts.{text_of}
+use Rattle.qil_semantics.specs.State.{State}
+use Rattle.qil_semantics.specs.Timeline.{Timeline, begun}
 use Rattle.qil_loading.specs.Load.{Refuses}
 use Rattle.qil_loading.specs.Lines.{refused_line}
 use Rattle.qil_loading.specs.declared.refusal.Refusal.{Refusal}
@@ -132,17 +132,17 @@ pub record IsRefusal (A : Type 0) (s : Setup) (written : List ℕ) : Type 0 wher
 
 -- ---- what is written
 
--- all that is to be written, where the script has these lines
+-- all that should be written, if the script has these lines
 abbrev pub IsWhole : Type 0 → Setup → List (List ℕ) → List ℕ → Type 0
 IsWhole A s lines written = IsRefusal A s written ⊎ ((verdict : Verdict) × IsComparison A s verdict lines written)
 
 -- What was written, by what `compare_texts` answers. `left` is what the source has left of the script.
 abbrev pub Leaves : Type 0 → Outcome → Setup → List ℕ → Option (List ℕ) → List ℕ → Type 0
--- what is told, and all answers
+-- the report, and all answers
 Leaves A (outcomes.Told verdict) s script left written =
     IsComparison A s verdict (lines_of script) written × IfSome s.request.session (λ side. ¬ IsTooLong script)
 Leaves A outcomes.Refused s script left written = IsRefusal A s written
--- what is told, and no answer
+-- the report, and no answer
 Leaves A outcomes.Unserved s script left written = (verdict : Verdict) × IsComparison A s verdict [] written
 -- the answers to the lines that end among the first 2^24 bytes
 Leaves A outcomes.TooLong s script left written = (verdict : Verdict) × IsComparison A s verdict (whole_lines_of (take (2 ^ 24) script)) written × IsTooLong script

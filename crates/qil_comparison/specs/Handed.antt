@@ -3,8 +3,8 @@ use Rattle.std.specs.Prelude.{◌≡◌, ℕ, ◌^◌, false, List, [], take, Op
 use Rattle.std.specs.Io.KnownBytes.{Appends, Consumes}
 use Rattle.qil_streams.specs.Device.{IsPrefixOf}
 use Rattle.qil_streams.specs.Script.{lines_of, whole_lines_of}
-use Rattle.qil_meaning.specs.State.{State}
-use Rattle.qil_meaning.specs.declared.start.StartFault.{StartFault}
+use Rattle.qil_semantics.specs.State.{State}
+use Rattle.qil_semantics.specs.declared.start.StartFault.{StartFault}
 use Rattle.qil_loading.specs.Load.{Refuses}
 use Rattle.qil_loading.specs.declared.load.LoadError.{LoadError}
 use Rattle.qil_loading.specs.declared.load.LoadError.TheVariants as errors

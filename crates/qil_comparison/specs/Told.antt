@@ -1,14 +1,14 @@
--- The text of what is told of two runs.
+-- The text of the report of two runs.
 use Rattle.std.specs.Prelude.{ℕ, zero, suc, ◌==◌, if◌then◌else◌, List, [], ◌∷◌, ◌++◌, codes, decimal, Option, Some, None}
 use Rattle.std.specs.List.{flat_map}
 use Rattle.qil_tree.specs.declared.tree.Program.{Program}
 use Rattle.qil_streams.specs.Text.{line}
-use Rattle.qil_pieces.specs.Texts.{text_of}
-use Rattle.qil_meaning.specs.State.{State}
-use Rattle.qil_meaning.specs.Timeline.{Timeline, position}
-use Rattle.qil_answers.specs.Texts.{place_line, byte_text, quoted_byte}
-use Rattle.qil_answers.specs.Shown.{frames_shown, bytes_text}
-use Rattle.qil_answers.specs.Listing.{block_shown}
+use Rattle.qil_fragments.specs.Texts.{text_of}
+use Rattle.qil_semantics.specs.State.{State}
+use Rattle.qil_semantics.specs.Timeline.{Timeline, position}
+use Rattle.qil_render.specs.Texts.{place_line, byte_text, quoted_byte}
+use Rattle.qil_render.specs.Shown.{frames_shown, bytes_text}
+use Rattle.qil_render.specs.Listing.{block_shown}
 use Rattle.qil_compare.specs.declared.event.Found.{Found}
 use Rattle.qil_compare.specs.declared.event.Found.TheVariants as founds
 use Rattle.qil_compare.specs.declared.comparing.Verdict.{Verdict}

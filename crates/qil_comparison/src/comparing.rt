@@ -2,7 +2,7 @@
 
 ghost use Rattle.std.specs.Prelude.{◌≡◌, ◌≢◌, ◌-◌, ◌^◌, ◌<◌, ◌≤◌, ◌↔◌, None, IfSome};
 ghost use Rattle.qil_rules.specs.Verdict as accepted;
-ghost use Rattle.qil_meaning.specs.State.{State};
+ghost use Rattle.qil_semantics.specs.State.{State};
 ghost use Rattle.qil_loading.specs.declared.refusal.Refusal.{Refusal};
 ghost use Rattle.qil_session.specs.Serve.{TakesFew};
 ghost use Rattle.qil_comparison.specs.declared.request.Request.{Request};
@@ -50,7 +50,7 @@ pub fn compare_texts<'t, A: Allocator + Copy, S: Source, W: Sink>(
     requires limit { request.now.limit ≤ 4294967295 }
     requires bound { IfSome request.now.bound (λ n. n ≤ 1000000) }
 
-    // Where the source tells its bytes, what was written is a refusal; or what is told of where both runs came to, and the
+    // If all bytes of the source are known, what was written is a refusal; or the report of where both runs came to, and the
     // answers to the script there, up to what stopped it.
     ensures written { Written A result (setup_of good.now bad.now request.now) (S.remaining source.old) (S.remaining source.new) (W.contents sink.old) (W.contents sink.new) }
 
@@ -58,7 +58,7 @@ pub fn compare_texts<'t, A: Allocator + Copy, S: Source, W: Sink>(
     ensures only_begun { (p q : accepted.Verdict A) (s t : State) → Begin (setup_of good.now bad.now request.now) p q s t → result ≢ Outcome.Refused }
     ensures only_refused { (side : SideName) (refusal : Refusal) → IsRefusedOn A (setup_of good.now bad.now request.now) side refusal → IsUncompared result }
 
-    // Where no script is asked for or none is answered the source is as it was; else at most 2^24 + 1 bytes are taken of it.
+    // If no script is asked for, or none is answered, the source is unchanged; else at most 2^24 + 1 bytes are taken from it.
     ensures untouched { IsUntouched result source.old source.new }
     ensures unasked { request.now.session ≡ None → source.new ≡ source.old }
     ensures few { IfSome (S.remaining source.old) (λ script. TakesFew script (S.remaining source.new)) }

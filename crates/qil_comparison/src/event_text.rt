@@ -5,8 +5,7 @@ ghost use Rattle.qil_memory.specs.Live.{live};
 ghost use Rattle.qil_streams.specs.Text.{line};
 ghost use Rattle.qil_streams.specs.Device.{HasPut};
 ghost use Rattle.qil_state.specs.State.{state_of};
-ghost use Rattle.qil_answers.specs.Texts.{hex_digit, byte_text, quoted_byte};
-ghost use Rattle.qil_answers.specs.Shown.{spaced_byte, bytes_text};
+ghost use Rattle.qil_render.specs.Shown.{bytes_text};
 ghost use Rattle.qil_compare.specs.declared.event.Event.TheVariants as events;
 ghost use Rattle.qil_compare.specs.Coded.{offset_of, value_of};
 ghost use Rattle.qil_compare.specs.Seen.{seen};
@@ -18,30 +17,12 @@ use qil_compare::{
     DataPlace, Event, Found, Seen, byte_behind, call_name, func_name_in, param_count, param_seen,
     place_or_nowhere, returns_in, seen_in,
 };
+use qil_fragments::{Fragment, put_fragments};
 use qil_layout::FuncId;
 use qil_machine::Machine;
-use qil_pieces::{Fragment, put_fragments};
+use qil_render::{put_byte, put_next_byte, put_quoted};
 use qil_streams::{Put, PutError};
 use std::alloc::Allocator;
-
-/// Puts a byte as it stands in quotes.
-fn put_quoted<P: Put>(out: &mut P, byte: u8) -> Result<(), PutError>
-    requires { P.stops out.old < 2 ^ 64 - 1 }
-    ensures { HasPut P.written P.stops P.device result out.old out.new (quoted_byte byte) }
-{
-    if byte == b'"' || byte == b'\\' {
-        return out.put(&[b'\\', byte]);
-    }
-    if byte > 31 && byte < 127 {
-        return out.put(&[byte]);
-    }
-    out.put(&[
-        b'\\',
-        b'0' + byte / 64,
-        b'0' + byte / 8 % 8,
-        b'0' + byte % 8,
-    ])
-}
 
 /// Puts the event of a byte of output.
 fn put_output<P: Put>(out: &mut P, byte: u8) -> Result<(), PutError>
@@ -92,38 +73,6 @@ fn put_next_seen<P: Put>(out: &mut P, value: Seen<'_>) -> Result<(), PutError>
 {
     out.put(b", ")?;
     put_seen(out, value)
-}
-
-/// A hexadecimal digit.
-fn hex_digit(digit: u8) -> u8
-    requires { digit < 16 }
-    ensures { result ≡ hex_digit digit }
-{
-    if digit < 10 {
-        b'0' + digit
-    } else {
-        b'a' - 10 + digit
-    }
-}
-
-/// Puts a byte of memory: two digits, or `--` where it is dead.
-fn put_byte<P: Put>(out: &mut P, byte: Option<u8>) -> Result<(), PutError>
-    requires { P.stops out.old < 2 ^ 64 - 1 }
-    ensures { HasPut P.written P.stops P.device result out.old out.new (byte_text byte) }
-{
-    match byte {
-        None => out.put(b"--"),
-        Some(byte) => out.put(&[hex_digit(byte / 16), hex_digit(byte % 16)]),
-    }
-}
-
-/// Puts a space and a byte of memory.
-fn put_next_byte<P: Put>(out: &mut P, byte: Option<u8>) -> Result<(), PutError>
-    requires { P.stops out.old < 2 ^ 64 - 1 }
-    ensures { HasPut P.written P.stops P.device result out.old out.new (spaced_byte byte) }
-{
-    out.put(b" ")?;
-    put_byte(out, byte)
 }
 
 /// Puts so many bytes of memory from an address on in a line.

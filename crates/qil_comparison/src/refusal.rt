@@ -6,8 +6,8 @@ ghost use Rattle.qil_comparison.specs.Compared.{CountsFaults, refusal_text};
 ghost use Rattle.qil_comparison.specs.Handed.{IsRefused};
 
 use crate::outcome::Outcome;
+use qil_fragments::{Fragment, put_fragments};
 use qil_loading::{LoadError, Refusal, put_refusal_line};
-use qil_pieces::{Fragment, put_fragments};
 use qil_streams::{Outlet, Put, PutError, Sink};
 
 /// Puts the line of a refusal, after the name of its file.

@@ -1,8 +1,8 @@
-//! A script is served on the side that it is asked of.
+//! Serves a script on the side that it is for.
 
 ghost use Rattle.std.specs.Prelude.{◌≡◌, ◌≢◌, [], ℕ, ◌-◌, ◌^◌, ◌<◌, ◌≤◌, true, List, IfSome};
 ghost use Rattle.std.specs.Io.KnownBytes.{Appends};
-ghost use Rattle.qil_meaning.specs.Timeline.{position};
+ghost use Rattle.qil_semantics.specs.Timeline.{position};
 ghost use Rattle.qil_replies.specs.SessionState.{session_at};
 ghost use Rattle.qil_session.specs.Serve.{TakesFew};
 ghost use Rattle.qil_comparison.specs.Compared.{CountsFaults, IsUntouched};

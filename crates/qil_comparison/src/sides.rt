@@ -1,9 +1,9 @@
-//! Two machines at their starts are run side by side, what comes of it is told, and a script is served on one of them.
+//! Runs two machines side by side from their starts, writes the report, and serves a script on one of them.
 
 ghost use Rattle.std.specs.Prelude.{◌≡◌, ◌≢◌, ◌-◌, ◌^◌, ◌<◌, ◌≤◌, None, Some, IfSome};
 ghost use Rattle.qil_rules.specs.Verdict as accepted;
-ghost use Rattle.qil_meaning.specs.State.{State};
-ghost use Rattle.qil_meaning.specs.Timeline.{position};
+ghost use Rattle.qil_semantics.specs.State.{State};
+ghost use Rattle.qil_semantics.specs.Timeline.{position};
 ghost use Rattle.qil_state.specs.State.{state_of};
 ghost use Rattle.qil_streams.specs.Device.{Counts, Puts};
 ghost use Rattle.qil_session.specs.Serve.{TakesFew};
@@ -16,14 +16,14 @@ use crate::request::{Request, SideName};
 use crate::serving::serve_at;
 use crate::telling::put_answer;
 use qil_compare::{Answer, compare};
-use qil_deltas::{Deltas, Ring};
 use qil_history::History;
 use qil_machine::Machine;
 use qil_session::Stepwise;
 use qil_streams::{Outlet, PutError, Sink, Source};
+use qil_undo_log::{BoundedUndoLog, UndoLog};
 use std::alloc::Allocator;
 
-/// Writes what is told of a comparison.
+/// Writes the report of a comparison.
 fn write_answer<
     's,
     'c,
@@ -42,7 +42,7 @@ fn write_answer<
     put
 }
 
-/// Runs both histories side by side, writes what is told, and serves the script where it is asked for.
+/// Runs both histories side by side, writes the report, and serves the script if one is asked for.
 fn run_histories<
     'c,
     A: Allocator + Copy + 'c,
@@ -122,12 +122,12 @@ fn run_beside<
     ensures counted { CountsFaults result (S.failures source.old) (S.failures source.new) (W.failures sink.old) (W.failures sink.new) }
 {
     match kept(request, SideName::Bad) {
-        Some(bound) => match Ring::new(alloc, bad, bound) {
+        Some(bound) => match BoundedUndoLog::new(alloc, bad, bound) {
             Ok(bad) => run_histories(alloc, good, bad, request, source, sink),
             Err(_) => Outcome::Memory,
         },
         None => {
-            let bad = Deltas::new(alloc, bad);
+            let bad = UndoLog::new(alloc, bad);
             run_histories(alloc, good, bad, request, source, sink)
         }
     }
@@ -157,12 +157,12 @@ pub fn run_machines<'c, A: Allocator + Copy + 'c, S: Source, W: Sink>(
     ensures counted { CountsFaults result (S.failures source.old) (S.failures source.new) (W.failures sink.old) (W.failures sink.new) }
 {
     match kept(request, SideName::Good) {
-        Some(bound) => match Ring::new(alloc, good, bound) {
+        Some(bound) => match BoundedUndoLog::new(alloc, good, bound) {
             Ok(good) => run_beside(alloc, good, bad, request, source, sink),
             Err(_) => Outcome::Memory,
         },
         None => {
-            let good = Deltas::new(alloc, good);
+            let good = UndoLog::new(alloc, good);
             run_beside(alloc, good, bad, request, source, sink)
         }
     }

@@ -1,21 +1,21 @@
-//! What is told of a comparison: how many events are the same, and for each side what comes next and where it stands.
+//! The report of a comparison: how many events are the same, and for each side what comes next and where it stands.
 
 ghost use Rattle.std.specs.Prelude.{◌≡◌, ◌↔◌, ◌-◌, ◌^◌, ◌<◌, ◌++◌, IsTrue};
 ghost use Rattle.qil_streams.specs.Device.{HasPut};
 ghost use Rattle.qil_state.specs.State.{state_of};
-ghost use Rattle.qil_answers.specs.Texts.{state_line};
-ghost use Rattle.qil_answers.specs.Shown.{frames_shown};
-ghost use Rattle.qil_answers.specs.Listing.{block_shown};
+ghost use Rattle.qil_render.specs.Texts.{state_line};
+ghost use Rattle.qil_render.specs.Shown.{frames_shown};
+ghost use Rattle.qil_render.specs.Listing.{block_shown};
 ghost use Rattle.qil_compare.specs.declared.comparing.Verdict.TheVariants as verdicts;
 ghost use Rattle.qil_comparison.specs.Told.{way_line, side_text, sides_text, verdict_line, told_text};
 
 use crate::event_text::put_found;
-use qil_answers::{Readers, put_block, put_frames, put_place};
 use qil_code::Code;
 use qil_compare::{Answer, Found, Verdict};
+use qil_fragments::{Fragment, put_fragments};
 use qil_history::{History, machine_of};
 use qil_machine::Machine;
-use qil_pieces::{Fragment, put_fragments};
+use qil_render::{Readers, put_block, put_frames, put_place};
 use qil_streams::{Put, PutError};
 use std::alloc::Allocator;
 
@@ -78,7 +78,7 @@ fn put_stand<'s, 'c, A: Allocator + Copy + 'c, M: Readers<A, Code<'c, A>>, P: Pu
     put_way(out, position)
 }
 
-/// Puts what is told of one side.
+/// Puts the report of one side.
 fn put_side<'s, 'c, A: Allocator + Copy + 'c, H: History<A, Machine<'c, A>>, P: Put>(
     out: &'s mut P,
     name: &'s [u8],
@@ -94,7 +94,7 @@ fn put_side<'s, 'c, A: Allocator + Copy + 'c, H: History<A, Machine<'c, A>>, P: 
     put_stand(out, history.position(), machine)
 }
 
-/// Puts what is told of both sides.
+/// Puts the report of both sides.
 fn put_sides<
     's,
     'c,
@@ -120,7 +120,7 @@ fn is_same(verdict: Verdict) -> bool
     }
 }
 
-/// Puts what is told of a comparison.
+/// Puts the report of a comparison.
 pub fn put_answer<
     's,
     'c,

@@ -1,18 +1,18 @@
--- A delta fits as the move that its kind is.
+-- An undo record fits as the move that its kind is.
 use Rattle.std.proofs.Common.{◌≡◌, ◌∙◌, ap, subst, Bool}
 use Rattle.std.specs.Prelude.{◌↔◌, IsTrue}
 use Rattle.std.specs.declared.vec.Vec.{Vec}
 use Rattle.arrayvec.specs.ArrayVec.{ArrayVec}
 use Rattle.qil_state.specs.State.{Whole}
-use Rattle.qil_machine.specs.declared.delta.DeltaKind.{DeltaKind}
-use Rattle.qil_machine.specs.declared.delta.Grown.{Grown}
-use Rattle.qil_machine.specs.declared.delta.Copied.{Copied}
+use Rattle.qil_machine.specs.declared.undo_record.UndoKind.{UndoKind}
+use Rattle.qil_machine.specs.declared.undo_record.Grown.{Grown}
+use Rattle.qil_machine.specs.declared.undo_record.Copied.{Copied}
 use Rattle.qil_machine.specs.Moves.{Move, Fits}
 use Rattle.qil_machine.specs.Kinds.{grown_move, copied_move}
-use Rattle.qil_machine.specs.Deltas.{move_of}
+use Rattle.qil_machine.specs.UndoRecords.{move_of}
 use Rattle.qil_machine.proofs.KindsFit.{same_move}
 
-pub kind_fits : {A : Type 0} (k v : DeltaKind A) (d e : Move) (m : Whole A) (b : Bool) → move_of k ≡ d → k ≡ v → e ≡ move_of v → (IsTrue b ↔ Fits e m) → (IsTrue b ↔ Fits d m)
+pub kind_fits : {A : Type 0} (k v : UndoKind A) (d e : Move) (m : Whole A) (b : Bool) → move_of k ≡ d → k ≡ v → e ≡ move_of v → (IsTrue b ↔ Fits e m) → (IsTrue b ↔ Fits d m)
 kind_fits k v d e m b view is made h = subst (λ x. IsTrue b ↔ Fits x m) (same_move k v d e view is made) h
 
 -- ---- what a box lends

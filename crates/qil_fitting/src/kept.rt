@@ -7,72 +7,75 @@ ghost use Rattle.qil_code.specs.Numbered.{block_at};
 ghost use Rattle.qil_frames.specs.Enter.{AreSlots};
 ghost use Rattle.qil_frames.specs.Frames.{HasSlot};
 ghost use Rattle.qil_state.specs.State.{PlaceFits, FrameFits, ReceiverFits, IsMachine};
-ghost use Rattle.qil_machine.specs.Deltas.{move_of};
+ghost use Rattle.qil_machine.specs.UndoRecords.{move_of};
 ghost use Rattle.qil_machine.specs.Moves.{at, end_of, without, Fits};
 ghost use Rattle.qil_machine.specs.Kinds.{slots_move, one, bytes_move, called_move, returned_move, grown_move, copied_move, wrote_move, ended_move, poked_slot_move, poked_bytes_move};
 ghost use Rattle.qil_fitting.specs.Fitting.{HasIndex, HasBlock, HasSlots, HasFloor, FloorFits, MayReturn};
 
 use qil_code::{BlockId, Code, Receiver, Slot};
 use qil_frames::{Frame, Frames, SavedSlot};
-use qil_machine::{Delta, DeltaKind, Grown, Machine, value_of};
+use qil_machine::{Grown, Machine, UndoKind, UndoRecord, value_of};
 use qil_memory::{CAPACITY, Memory, STACK_BASE, Saved};
 use std::alloc::Allocator;
 
 /// Whether `Machine::undo` may put this back into the machine: all places that it names are there, and the machine
 /// would be one that the type allows. What a move of a machine gives fits that machine.
-pub fn fits<'s, 'c, A: Allocator + Copy>(delta: &'s Delta<A>, machine: &'s Machine<'c, A>) -> bool
-    ensures { IsTrue result ↔ Fits delta.now machine.now }
+pub fn fits<'s, 'c, A: Allocator + Copy>(
+    undo_record: &'s UndoRecord<A>,
+    machine: &'s Machine<'c, A>,
+) -> bool
+    ensures { IsTrue result ↔ Fits undo_record.now machine.now }
 {
-    fits_kind(machine, delta.kind())
+    fits_kind(machine, undo_record.kind())
 }
 
 // The machine comes before the kind, as it comes first in what this calls, so that its lifetimes have the same places in all
 // of their signatures. With the kind first, each call had to take the whole type of a machine at other places: the check took
 // five times as long.
-fn fits_kind<A: Allocator + Copy>(machine: &Machine<'_, A>, kind: &DeltaKind<A>) -> bool
+fn fits_kind<A: Allocator + Copy>(machine: &Machine<'_, A>, kind: &UndoKind<A>) -> bool
     ensures { IsTrue result ↔ Fits (move_of kind.now) machine.now }
 {
     match kind {
-        DeltaKind::Assigned { slot, index, old } => fits_assigned(machine, *slot, *old, *index),
-        DeltaKind::Stored {
+        UndoKind::Assigned { slot, index, old } => fits_assigned(machine, *slot, *old, *index),
+        UndoKind::Stored {
             count,
             index,
             address,
             number,
         } => { fits_stored(machine, *count, *index, *address, *number) }
-        DeltaKind::Left { block } => fits_left(machine, *block, &[]),
-        DeltaKind::LeftOne { block, slot, old } => fits_left_one(machine, *block, *slot, *old),
-        DeltaKind::LeftTwo {
+        UndoKind::Left { block } => fits_left(machine, *block, &[]),
+        UndoKind::LeftOne { block, slot, old } => fits_left_one(machine, *block, *slot, *old),
+        UndoKind::LeftTwo {
             block,
             first,
             second,
             first_old,
             second_old,
         } => fits_left_two(machine, *block, *first, *second, *first_old, *second_old),
-        DeltaKind::LeftShort { block, kept } => fits_left(machine, *block, kept.as_slice()),
-        DeltaKind::LeftMany { block, kept } => fits_left(machine, *block, kept.as_slice()),
-        DeltaKind::Called { index } => fits_called(machine, *index),
-        DeltaKind::Returned {
+        UndoKind::LeftShort { block, kept } => fits_left(machine, *block, kept.as_slice()),
+        UndoKind::LeftMany { block, kept } => fits_left(machine, *block, kept.as_slice()),
+        UndoKind::Called { index } => fits_called(machine, *index),
+        UndoKind::Returned {
             was_set,
             top,
             old,
             frame,
         } => { fits_returned(machine, frame, *top, value_of(*was_set, *old)) }
-        DeltaKind::Grew(grown) => fits_grew(machine, grown),
-        DeltaKind::Copied(copied) => fits_copied(machine, copied.index, &copied.saved),
-        DeltaKind::Wrote { index, count } => fits_wrote(machine, *index, *count),
-        DeltaKind::WroteTo {
+        UndoKind::Grew(grown) => fits_grew(machine, grown),
+        UndoKind::Copied(copied) => fits_copied(machine, copied.index, &copied.saved),
+        UndoKind::Wrote { index, count } => fits_wrote(machine, *index, *count),
+        UndoKind::WroteTo {
             was_set,
             slot,
             index,
             count,
             old,
         } => { fits_wrote_to(machine, *slot, value_of(*was_set, *old), *index, *count) }
-        DeltaKind::Ended => fits_ended(machine),
-        DeltaKind::PokedSlot { was_set, slot, old } => {
+        UndoKind::Ended => fits_ended(machine),
+        UndoKind::PokedSlot { was_set, slot, old } => {
             fits_poked_slot(machine, *slot, value_of(*was_set, *old))
         }
-        DeltaKind::PokedBytes {
+        UndoKind::PokedBytes {
             count,
             address,
             number,
@@ -193,6 +196,7 @@ fn fits_copied<A: Allocator + Copy>(machine: &Machine<'_, A>, index: u32, saved:
     let is_memory = saved.fits(machine.memory());
     let is_floor = has_floor(machine.calls(), saved.top());
     let is_index = has_index(machine.code(), machine.calls(), index);
+    // Reading the top makes known what the memory keeps.
     let _ = machine.memory().top();
     is_memory && is_floor && is_index
 }

@@ -1,4 +1,4 @@
-//! Whether a delta may be put back into a machine: the test of the condition of `Machine::undo`, for any delta and any machine.
+//! Whether an undo record may be put back into a machine: the test of the condition of `Machine::undo`, for any undo record and any machine.
 #![tactic(auto)]
 
 mod kept;

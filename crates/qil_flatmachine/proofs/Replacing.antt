@@ -11,8 +11,8 @@ use Rattle.qil_memory.specs.Buffers.{Buffers, stack_base}
 use Rattle.qil_memory.specs.Places.{HasPlaces}
 use Rattle.qil_memory.specs.Undo.{with_bytes}
 use Rattle.qil_memory.proofs.Spans.{length-over, over-nil}
-use Rattle.qil_meaning.specs.State.{Name, State}
-use Rattle.qil_meaning.specs.Poke.{poke_temp}
+use Rattle.qil_semantics.specs.State.{Name, State}
+use Rattle.qil_semantics.specs.Poke.{poke_temp}
 use Rattle.qil_code.specs.declared.numbered.Slot.{Slot}
 use Rattle.qil_flat.specs.declared.inst.FlatPlace.{FlatPlace}
 use Rattle.qil_flat.specs.Flat.{Flat}

@@ -5,7 +5,7 @@ use Rattle.qil_layout.specs.Layout.{bytes_of}
 use Rattle.qil_memory.specs.Buffers.{Buffers}
 use Rattle.qil_flat.specs.Flat.{Flat}
 use Rattle.qil_flat.specs.StackCalls.{ActiveCall}
-use Rattle.qil_meaning.specs.State.{State}
+use Rattle.qil_semantics.specs.State.{State}
 use Rattle.qil_state.specs.declared.status.Status.{Status}
 use Rattle.qil_state.specs.State.{Whole, whole, IsMachine, state_of}
 use Rattle.qil_flatmachine.specs.Seen.{Base, FlatWhole, frames_of, InTable}

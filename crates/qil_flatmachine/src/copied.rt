@@ -2,10 +2,10 @@
 
 ghost use Rattle.std.specs.Prelude.{◌≡◌, ◌+◌, ◌<◌, ◌≤◌, ◌⊎◌, ◌∷◌, ◌++◌, ℕ, [], true, false, length, take, drop, slice_get, Some, Ok, Err, IfOk, IfErr, OnOk, OnErr, None};
 ghost use Rattle.qil_memory.specs.Calls.{IsWidth};
-ghost use Rattle.qil_meaning.specs.State.{is_final};
-ghost use Rattle.qil_meaning.specs.Poke.{poke_memory, dead_bytes};
-ghost use Rattle.qil_meaning.specs.Stops.{first_break};
-ghost use Rattle.qil_meaning.specs.Targets.{after};
+ghost use Rattle.qil_semantics.specs.State.{is_final};
+ghost use Rattle.qil_semantics.specs.Poke.{poke_memory, dead_bytes};
+ghost use Rattle.qil_semantics.specs.Stops.{first_break};
+ghost use Rattle.qil_semantics.specs.Targets.{after};
 ghost use Rattle.qil_state.specs.State.{IsMachine, state_of};
 ghost use Rattle.qil_machine.specs.Pokes.{poke_slot, RefusesSlot};
 ghost use Rattle.qil_stops.specs.Listed.{AreReadable};

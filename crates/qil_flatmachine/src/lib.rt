@@ -17,7 +17,6 @@ mod restorable;
 mod start;
 mod step;
 mod stopping;
-mod widths;
 
 pub use copied::{CopiedMachine, Replaying};
 pub use kept::KeptState;

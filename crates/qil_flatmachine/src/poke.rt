@@ -3,7 +3,7 @@
 
 ghost use Rattle.std.specs.Prelude.{◌≡◌, ℕ, [], Some, Ok, Err, IfOk, IfErr, OnOk, OnErr, option_map, slice_get};
 ghost use Rattle.qil_memory.specs.Calls.{IsWidth};
-ghost use Rattle.qil_meaning.specs.Poke.{poke_memory, poke_temp, dead_bytes};
+ghost use Rattle.qil_semantics.specs.Poke.{poke_memory, poke_temp, dead_bytes};
 ghost use Rattle.qil_state.specs.State.{state_of};
 ghost use Rattle.qil_machine.specs.Pokes.{IsOfClass, Refuses, RefusesName, RefusesSlot, poke_slot};
 

@@ -7,7 +7,7 @@ ghost use Rattle.qil_layout.specs.Layout.{low_bytes};
 ghost use Rattle.qil_memory.specs.Bytes.{number};
 ghost use Rattle.qil_memory.specs.Calls.{IsWidth};
 ghost use Rattle.qil_memory.specs.Live.{live, read};
-ghost use Rattle.qil_meaning.specs.Stops.{is_at, reading, temp_in, value_reading};
+ghost use Rattle.qil_semantics.specs.Stops.{is_at, reading, temp_in, value_reading};
 ghost use Rattle.qil_code.specs.Numbered.{func_at, block_at, names_of};
 ghost use Rattle.qil_frames.specs.Frames.{SlotFrame, HasSlot, held};
 ghost use Rattle.qil_flat.specs.Shown.{active_call, slot_frame};
@@ -126,6 +126,7 @@ impl<'c, A: Allocator + Copy> FlatMachine<'c, A> {
         requires { 0 < length self.now.whole.frames }
         ensures { (f : SlotFrame) → slice_get self.now.whole.frames 0 ≡ Some f → result ≡ stands_at func.index block.index index f }
     {
+        // Reading a field makes known what its type keeps.
         let _ = self.code.code();
         match self.code.place(self.calls.ip()) {
             Some(place) => is_place(place, func, block, index),

@@ -91,7 +91,7 @@ impl<A: Allocator + Copy> Frames<A> {
 
     /// Takes the frame of a call that is over, which nothing goes back to: a call to come begins in its memory.
     #[inline(always)]
-    pub fn let_go(&mut self, frame: Frame<A>)
+    pub fn recycle(&mut self, frame: Frame<A>)
         ensures { self.new ≡ self.old }
     {
         if self.spare.len() < MOST_SPARE && frame.slots().len() <= MOST_SPARE_SLOTS {

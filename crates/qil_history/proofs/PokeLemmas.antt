@@ -6,9 +6,9 @@ use Rattle.qil_tree.specs.declared.tree.Program.{Program}
 use Rattle.qil_memory.specs.declared.fault.Dead.{Dead}
 use Rattle.qil_memory.specs.Live.{Live}
 use Rattle.qil_memory.specs.Calls.{stored}
-use Rattle.qil_meaning.specs.Step.{func_named}
-use Rattle.qil_meaning.specs.State.{Name, Frame, State}
-use Rattle.qil_meaning.specs.Poke.{PokeFault, poke_in, temp_class, poke_frames, poke_temp, poke_memory, remembered, no_frame, dead_bytes, unknown_temporary}
+use Rattle.qil_semantics.specs.Step.{func_named}
+use Rattle.qil_semantics.specs.State.{Name, Frame, State}
+use Rattle.qil_semantics.specs.Poke.{PokeFault, poke_in, temp_class, poke_frames, poke_temp, poke_memory, remembered, no_frame, dead_bytes, unknown_temporary}
 use Rattle.qil_machine.specs.qil_code.declared.numbered.Slot.{Slot}
 use Rattle.qil_machine.specs.declared.error.PokeError.{PokeError}
 use Rattle.qil_machine.specs.declared.error.PokeError.TheVariants as errors

@@ -2,9 +2,9 @@
 use Rattle.std.specs.Prelude.{◌≡◌, ℕ, Result, Err, IsOk}
 use Rattle.qil_tree.specs.declared.tree.Program.{Program}
 use Rattle.qil_memory.specs.Calls.{IsWidth}
-use Rattle.qil_meaning.specs.Cost.{temp_poke_cost, bytes_poke_cost}
-use Rattle.qil_meaning.specs.State.{State}
-use Rattle.qil_meaning.specs.Poke.{PokeFault, poke_temp, poke_memory, no_frame, unknown_temporary, dead_bytes}
+use Rattle.qil_semantics.specs.Cost.{temp_poke_cost, bytes_poke_cost}
+use Rattle.qil_semantics.specs.State.{State}
+use Rattle.qil_semantics.specs.Poke.{PokeFault, poke_temp, poke_memory, no_frame, unknown_temporary, dead_bytes}
 use Rattle.qil_machine.specs.declared.error.PokeError.{PokeError}
 use Rattle.qil_machine.specs.declared.error.PokeError.TheVariants as errors
 use Rattle.qil_machine.specs.Pokes.{poke_slot}
@@ -29,7 +29,7 @@ Explains r errors.UnknownTemporary = r ≡ Err unknown_temporary
 Explains r errors.DeadAddress = r ≡ Err dead_bytes
 Explains r errors.OutOfMemory = IsOk r
 
--- what a poke adds at most to the weight of a history's deltas
+-- what a poke adds at most to the weight of a history's undo records
 abbrev pub poke_cost : Poke → ℕ
 poke_cost (pokes.Slot slot v) = temp_poke_cost
 poke_cost (pokes.Named x v) = temp_poke_cost

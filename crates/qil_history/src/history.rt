@@ -3,8 +3,8 @@
 ghost use Rattle.std.specs.Prelude.{◌≡◌, ◌≢◌, ◌<◌, ◌^◌, ◌↔◌, true, [], ℕ, Some, Ok, Err, OnOk, OnErr};
 ghost use Rattle.qil_tree.specs.declared.tree.Program.{Program};
 ghost use Rattle.qil_memory.specs.Calls.{IsWidth};
-ghost use Rattle.qil_meaning.specs.Poke.{poke_temp, poke_memory, no_frame, unknown_temporary, dead_bytes};
-ghost use Rattle.qil_meaning.specs.Timeline.{Timeline, position, oldest, at_end, forward, poked, back};
+ghost use Rattle.qil_semantics.specs.Poke.{poke_temp, poke_memory, no_frame, unknown_temporary, dead_bytes};
+ghost use Rattle.qil_semantics.specs.Timeline.{Timeline, position, oldest, at_end, forward, poked, back};
 ghost use Rattle.qil_machine.specs.qil_state.State.{Whole, state_of};
 ghost use Rattle.qil_machine.specs.Pokes.{poke_slot};
 

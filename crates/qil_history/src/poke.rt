@@ -6,10 +6,10 @@ ghost use Rattle.qil_machine.specs.Moves.{weight};
 ghost use Rattle.qil_machine.specs.Places.{Made};
 ghost use Rattle.qil_history.specs.Pokes.{HasWidth, poke_of, poke_cost, Explains};
 
-use qil_machine::{Delta, Machine, PokeError, Slot};
+use qil_machine::{Machine, PokeError, Slot, UndoRecord};
 use std::alloc::Allocator;
 
-/// A poke that is asked for.
+/// A poke to apply.
 #[derive(Drop)]
 pub enum Poke<'n> {
     /// A slot of the innermost frame, and the value.
@@ -24,7 +24,7 @@ pub enum Poke<'n> {
 pub fn apply_poke<'c, A: Allocator + Copy>(
     machine: &mut Machine<'c, A>,
     poke: Poke<'_>,
-) -> Result<Delta<A>, PokeError>
+) -> Result<UndoRecord<A>, PokeError>
     requires { HasWidth poke }
     ensures poke { OnOk result (poke_of machine.old.program (state_of machine.old) poke.entry ≡ Ok (state_of machine.new)) }
     ensures made { IfOk result (λ d. Made d machine.old machine.new) }
@@ -50,8 +50,8 @@ pub fn poke_refusal<'c, A: Allocator + Copy>(
     ensures machine { machine.new ≡ machine.old }
 {
     match apply_poke(machine, poke) {
-        Ok(delta) => {
-            machine.undo(delta);
+        Ok(undo_record) => {
+            machine.undo(undo_record);
             PokeError::OutOfMemory
         }
         Err(error) => error,

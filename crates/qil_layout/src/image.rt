@@ -2,12 +2,12 @@
 
 ghost use Rattle.std.specs.Prelude.{◌≡◌, ◌<◌, ◌≤◌, ◌^◌, ℕ, List, None, IfSome, length, option_map, slice_get};
 ghost use Rattle.qil_layout.specs.Layout.{address_of, bytes_of, fault_of};
-ghost use Rattle.qil_names.specs.Tables.{value_at};
+ghost use Rattle.qil_symbols.specs.Tables.{value_at};
 ghost use Rattle.qil_layout.specs.Callee.{lies, func_at, callee_at};
 
 use crate::callee::{Callee, FuncId};
 use crate::place::{EXIT, FUNC_BASE, FUNC_STRIDE, PUTCHAR, PUTS};
-use qil_names::Firsts;
+use qil_symbols::Firsts;
 use qil_tree::{Name, Program};
 use std::alloc::Allocator;
 use std::marker::Model;
@@ -24,7 +24,7 @@ impl<'c, A: Allocator> Model for Image<'c, A> {
     ghost use Rattle.std.specs.Prelude.{◌≡◌, ◌≤◌, ℕ, List, None, length};
     ghost use Rattle.qil_tree.specs.declared.tree.Program.{Program};
     ghost use Rattle.qil_layout.specs.Layout.{address_of, bytes_of, fault_of};
-    ghost use Rattle.qil_names.specs.Tables.{value_at};
+    ghost use Rattle.qil_symbols.specs.Tables.{value_at};
 
     ghost Value = { Program A };
 

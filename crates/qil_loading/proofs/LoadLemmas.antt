@@ -20,7 +20,7 @@ use Rattle.qil_parser.specs.Outcome.{IsFault, IsProgram}
 use Rattle.qil_rules.specs.declared.rule.Rule.{Rule}
 use Rattle.qil_checker.specs.declared.checker.CheckError.{CheckError}
 use Rattle.qil_checker.specs.declared.checker.CheckError.TheVariants as check
-use Rattle.qil_rules.specs.Mentions.{texts}
+use Rattle.qil_rules.specs.Occurrences.{texts}
 use Rattle.qil_rules.specs.Rules.{WellFormed, Broken}
 use Rattle.qil_rules.specs.Verdict.{Verdict}
 use Rattle.qil_checker.specs.Check.{IsReported}

@@ -8,8 +8,8 @@ use Rattle.qil_rules.specs.declared.form.Form.{Form}
 use Rattle.qil_rules.specs.declared.form.Form.TheVariants.{Single, Multiple}
 use Rattle.qil_layout.specs.Codes.{layout_code}
 use Rattle.qil_layout.specs.Layout.{bytes_of}
-use Rattle.qil_meaning.specs.StartCode.{start_code}
-use Rattle.qil_pieces.specs.Texts.{text_of}
+use Rattle.qil_semantics.specs.StartCode.{start_code}
+use Rattle.qil_fragments.specs.Texts.{text_of}
 use Rattle.qil_loading.specs.declared.refusal.Refusal.{Refusal}
 use Rattle.qil_loading.specs.declared.refusal.Refusal.TheVariants as refusals
 use Rattle.qil_loading.specs.declared.loaded.Loaded.{Loaded}

@@ -10,7 +10,7 @@ use Rattle.qil_rules.specs.Rules.{WellFormed, Broken}
 use Rattle.qil_rules.specs.Forms.{HasForm}
 use Rattle.qil_rules.specs.Verdict.{Verdict}
 use Rattle.qil_layout.specs.Layout.{fault_of}
-use Rattle.qil_meaning.specs.Start.{start_of}
+use Rattle.qil_semantics.specs.Start.{start_of}
 use Rattle.qil_loading.specs.declared.refusal.Refusal.{Refusal}
 use Rattle.qil_loading.specs.declared.refusal.Refusal.TheVariants as refusals
 use Rattle.qil_loading.specs.declared.load.LoadError.{LoadError}

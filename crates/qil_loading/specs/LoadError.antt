@@ -5,8 +5,8 @@ use Rattle.qil_parser.specs.declared.error.ParseError.{ParseError}
 use Rattle.qil_parser.specs.declared.error.ParseError.TheVariants as parse
 use Rattle.qil_checker.specs.declared.checker.CheckError.{CheckError}
 use Rattle.qil_checker.specs.declared.checker.CheckError.TheVariants as check
-use Rattle.qil_laying.specs.declared.error.LayoutError.{LayoutError}
-use Rattle.qil_laying.specs.declared.error.LayoutError.TheVariants as layout
+use Rattle.qil_layout_builder.specs.declared.error.LayoutError.{LayoutError}
+use Rattle.qil_layout_builder.specs.declared.error.LayoutError.TheVariants as layout
 use Rattle.qil_loading.specs.declared.refusal.Refusal.TheVariants as refusals
 use Rattle.qil_loading.specs.declared.load.LoadError.{LoadError}
 use Rattle.qil_loading.specs.declared.load.LoadError.TheVariants.{Refused, OutOfMemory}

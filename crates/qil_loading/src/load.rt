@@ -8,7 +8,7 @@ ghost use Rattle.qil_loading.specs.declared.refusal.Refusal.{Refusal};
 
 use crate::refusal::Refusal;
 use qil_checker::{CheckError, check};
-use qil_laying::LayoutError;
+use qil_layout_builder::LayoutError;
 use qil_lexer::{LexError, tokens};
 use qil_parser::{ParseError, parse};
 use qil_rules::Checked;

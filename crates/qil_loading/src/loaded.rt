@@ -4,8 +4,8 @@ ghost use Rattle.std.specs.Prelude.{◌≡◌, ◌-◌, ◌^◌, ◌<◌};
 ghost use Rattle.qil_streams.specs.Device.{HasPut};
 ghost use Rattle.qil_loading.specs.Lines.{IsLoaded, loaded_line};
 
+use qil_fragments::{Fragment, put_fragments};
 use qil_layout::Image;
-use qil_pieces::{Fragment, put_fragments};
 use qil_rules::{Checked, Form};
 use qil_streams::{Put, PutError};
 use std::alloc::Allocator;

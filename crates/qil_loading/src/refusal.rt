@@ -4,12 +4,12 @@ ghost use Rattle.std.specs.Prelude.{◌-◌, ◌^◌, ◌<◌};
 ghost use Rattle.qil_streams.specs.Device.{HasPut};
 ghost use Rattle.qil_loading.specs.Lines.{refused_at, refused_line};
 
+use qil_fragments::{Fragment, put_fragments};
 use qil_layout::LayoutCode;
 use qil_lexer::LexCode;
-use qil_meaning::StartFault;
 use qil_parser::ParseCode;
-use qil_pieces::{Fragment, put_fragments};
 use qil_rules::Rule;
+use qil_semantics::StartFault;
 use qil_streams::{Put, PutError};
 
 /// Why a program is refused, in the order in which the reasons are looked for.

@@ -4,7 +4,7 @@ use Rattle.std.specs.Prelude.{slice_get}
 use Rattle.std.specs.List.{All}
 use Rattle.std.proofs.lemmas.List.Elements.{recursion_from_All, All-from_recursion}
 use Rattle.qil_tree.specs.declared.tree.Program.{Program}
-use Rattle.qil_meaning.specs.Step.{step_of}
+use Rattle.qil_semantics.specs.Step.{step_of}
 use Rattle.qil_code.specs.declared.numbered.NumberedInst.{NumberedInst}
 use Rattle.qil_code.specs.declared.numbered.NumberedBlock.{NumberedBlock}
 use Rattle.qil_code.specs.Ranges.{InstInRange}

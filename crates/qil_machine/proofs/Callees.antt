@@ -15,11 +15,11 @@ use Rattle.qil_layout.specs.declared.callee.FuncId.{FuncId}
 use Rattle.qil_layout.specs.Callee as layout
 use Rattle.qil_layout.specs.Callee.{callee_at, defined_at, lies}
 use Rattle.qil_memory.specs.Buffers.{Buffers}
-use Rattle.qil_meaning.specs.State as meaning
-use Rattle.qil_meaning.specs.State.{Name, Temps, State, no_function}
-use Rattle.qil_meaning.specs.Slots.{temps_of}
-use Rattle.qil_meaning.specs.Values.{Outcome, ◌>>=◌, val, vals}
-use Rattle.qil_meaning.specs.Step.{act}
+use Rattle.qil_semantics.specs.State as meaning
+use Rattle.qil_semantics.specs.State.{Name, Temps, State, no_function}
+use Rattle.qil_semantics.specs.Slots.{temps_of}
+use Rattle.qil_semantics.specs.Values.{Outcome, ◌>>=◌, val, vals}
+use Rattle.qil_semantics.specs.Step.{act}
 use Rattle.qil_code.specs.declared.numbered.Receiver.{Receiver}
 use Rattle.qil_code.specs.declared.numbered.NumberedOperand.{NumberedOperand}
 use Rattle.qil_code.specs.declared.numbered.NumberedArgument.{NumberedArgument}

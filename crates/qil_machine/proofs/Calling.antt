@@ -14,12 +14,12 @@ use Rattle.qil_layout.specs.declared.callee.Callee.TheVariants.{Defined, PutChar
 use Rattle.qil_layout.specs.declared.callee.Callee.{Callee}
 use Rattle.qil_layout.specs.declared.callee.FuncId.{FuncId}
 use Rattle.qil_memory.specs.Buffers.{Buffers}
-use Rattle.qil_meaning.specs.State as meaning
-use Rattle.qil_meaning.specs.State.{Name, Temps, State, calls_too_deep, call_shape}
-use Rattle.qil_meaning.specs.Temps.{named}
-use Rattle.qil_meaning.specs.Slots.{temps_of}
-use Rattle.qil_meaning.specs.Values.{Outcome, ◌>>=◌, fit_all, first}
-use Rattle.qil_meaning.specs.Calls.{next, first_label, begun, shape_of, agree, agree_all, gives, is_in_shape, in_shape, enters, call_defined, call_at, shape_of_putchar, shape_of_puts, shape_of_exit, putchar, puts}
+use Rattle.qil_semantics.specs.State as meaning
+use Rattle.qil_semantics.specs.State.{Name, Temps, State, calls_too_deep, call_shape}
+use Rattle.qil_semantics.specs.Temps.{named}
+use Rattle.qil_semantics.specs.Slots.{temps_of}
+use Rattle.qil_semantics.specs.Values.{Outcome, ◌>>=◌, fit_all, first}
+use Rattle.qil_semantics.specs.Calls.{next, first_label, begun, shape_of, agree, agree_all, gives, is_in_shape, in_shape, enters, call_defined, call_at, shape_of_putchar, shape_of_puts, shape_of_exit, putchar, puts}
 use Rattle.qil_code.specs.declared.numbered.Slot.{Slot}
 use Rattle.qil_code.specs.declared.numbered.Receiver.{Receiver}
 use Rattle.qil_code.specs.declared.numbered.NumberedArgument.{NumberedArgument}

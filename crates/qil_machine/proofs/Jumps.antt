@@ -10,14 +10,14 @@ use Rattle.qil_tree.specs.declared.ops.Class.TheVariants as classes
 use Rattle.qil_tree.specs.declared.ops.AbiType.TheVariants as types
 use Rattle.qil_tree.specs.declared.tree.Block.{Block}
 use Rattle.qil_tree.specs.declared.tree.Program.{Program}
-use Rattle.qil_rules.specs.Mentions.{returned_class}
+use Rattle.qil_rules.specs.Occurrences.{returned_class}
 use Rattle.qil_memory.specs.Buffers.{Buffers}
 use Rattle.qil_memory.specs.Live.{live, below}
-use Rattle.qil_meaning.specs.State as meaning
-use Rattle.qil_meaning.specs.State.{Name, State}
-use Rattle.qil_meaning.specs.Values.{fit}
-use Rattle.qil_meaning.specs.Calls.{taken}
-use Rattle.qil_meaning.specs.Step as step
+use Rattle.qil_semantics.specs.State as meaning
+use Rattle.qil_semantics.specs.State.{Name, State}
+use Rattle.qil_semantics.specs.Values.{fit}
+use Rattle.qil_semantics.specs.Calls.{taken}
+use Rattle.qil_semantics.specs.Step as step
 use Rattle.qil_code.specs.declared.numbered.Slot.{Slot}
 use Rattle.qil_code.specs.declared.numbered.Receiver.{Receiver}
 use Rattle.qil_code.specs.declared.numbered.NumberedOperand.{NumberedOperand}
@@ -26,7 +26,7 @@ use Rattle.qil_code.specs.declared.numbered.NumberedBlock.{NumberedBlock}
 use Rattle.qil_code.specs.declared.numbered.NumberedJump.{NumberedJump}
 use Rattle.qil_code.specs.declared.numbered.NumberedJump.TheVariants as jumps
 use Rattle.qil_code.specs.Numbered.{block_at, names_of, inst_of}
-use Rattle.qil_meaning.specs.Names.{temps_named}
+use Rattle.qil_semantics.specs.Names.{temps_named}
 use Rattle.qil_code.specs.Ranges.{IsShort, InRange, MoveInRange, EdgeInRange, JumpInRange}
 use Rattle.qil_code.specs.Reading.{labels_at, returns_at}
 use Rattle.qil_code.proofs.EdgesNamed.{IsEdgeOf, EdgeNamed, edge-named}

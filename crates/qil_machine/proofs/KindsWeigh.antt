@@ -1,4 +1,4 @@
--- What the delta of each kind of move weighs.
+-- What the undo record of each kind of move weighs.
 use Rattle.std.proofs.Common.{◌≡◌, refl, sym, ap, ◌∙◌, ℕ, ◌+◌, ◌*◌, List, ◌∷◌, length, Option, Some, None, arith}
 use Rattle.qil_layout.specs.Layout.{low_bytes}
 use Rattle.qil_layout.proofs.BytesLemmas.{length-low_bytes}

@@ -4,8 +4,8 @@ use Rattle.std.specs.Prelude.{slice_get}
 use Rattle.qil_tree.specs.declared.tree.Block.{Block}
 use Rattle.qil_tree.specs.declared.tree.Func.{Func}
 use Rattle.qil_tree.specs.declared.tree.Program.{Program}
-use Rattle.qil_meaning.specs.State as meaning
-use Rattle.qil_meaning.specs.Step.{func_named, block_labelled}
+use Rattle.qil_semantics.specs.State as meaning
+use Rattle.qil_semantics.specs.Step.{func_named, block_labelled}
 use Rattle.qil_code.specs.Facts.{Finds, KnowsLabels, jump_labels}
 use Rattle.qil_code.specs.Numbered.{func_at, block_in, block_at}
 use Rattle.qil_code.proofs.Has.{has-among}

@@ -6,7 +6,7 @@ use Rattle.qil_memory.specs.Calls.{stored}
 use Rattle.qil_memory.specs.Undo.{with_bytes}
 use Rattle.qil_memory.specs.Places.{HasPlaces}
 use Rattle.qil_memory.specs.declared.fault.Dead.{Dead}
-use Rattle.qil_meaning.specs.Poke.{poke_memory, remembered, dead_bytes}
+use Rattle.qil_semantics.specs.Poke.{poke_memory, remembered, dead_bytes}
 use Rattle.qil_state.specs.State.{Whole, whole, state_of, IsMachine}
 use Rattle.qil_machine.specs.Moves.{Move}
 use Rattle.qil_machine.specs.Kinds.{poked_bytes_move}

@@ -8,9 +8,9 @@ use Rattle.qil_tree.specs.declared.tree.Block.{Block}
 use Rattle.qil_tree.specs.declared.tree.Func.{Func}
 use Rattle.qil_tree.specs.declared.tree.Program.{Program}
 use Rattle.qil_memory.specs.Buffers.{Buffers}
-use Rattle.qil_meaning.specs.State as meaning
-use Rattle.qil_meaning.specs.State.{Name, is_final}
-use Rattle.qil_meaning.specs.Stops.{Place, is_at, innermost_at}
+use Rattle.qil_semantics.specs.State as meaning
+use Rattle.qil_semantics.specs.State.{Name, is_final}
+use Rattle.qil_semantics.specs.Stops.{Place, is_at, innermost_at}
 use Rattle.qil_code.specs.Facts.{Finds, NumbersBlocks}
 use Rattle.qil_code.specs.Gather.{labels_in}
 use Rattle.qil_code.specs.Numbered.{func_at, block_in, block_at}

@@ -11,21 +11,21 @@ use Rattle.qil_tree.specs.declared.tree.Func.{Func}
 use Rattle.qil_tree.specs.declared.tree.Program.{Program}
 use Rattle.qil_layout.specs.Layout.{bytes_of}
 use Rattle.qil_memory.specs.Buffers.{Buffers, capacity, stack_base, fresh, IsMemory}
-use Rattle.qil_names.specs.Numbers.{place_of}
-use Rattle.qil_meaning.specs.State as meaning
-use Rattle.qil_meaning.specs.State.{Name, State}
-use Rattle.qil_meaning.specs.Values.{fit}
-use Rattle.qil_meaning.specs.Calls.{first_label}
-use Rattle.qil_meaning.specs.Step.{func_named}
-use Rattle.qil_meaning.specs.Start.{start_of, started, started_with}
-use Rattle.qil_meaning.specs.declared.start.StartFault.TheVariants as faults
-use Rattle.qil_meaning.proofs.StartLemmas.{live-fresh}
+use Rattle.qil_symbols.specs.Numbers.{place_of}
+use Rattle.qil_semantics.specs.State as meaning
+use Rattle.qil_semantics.specs.State.{Name, State}
+use Rattle.qil_semantics.specs.Values.{fit}
+use Rattle.qil_semantics.specs.Calls.{first_label}
+use Rattle.qil_semantics.specs.Step.{func_named}
+use Rattle.qil_semantics.specs.Start.{start_of, started, started_with}
+use Rattle.qil_semantics.specs.declared.start.StartFault.TheVariants as faults
+use Rattle.qil_semantics.proofs.StartLemmas.{live-fresh}
 use Rattle.qil_code.specs.declared.numbered.Slot.{Slot}
 use Rattle.qil_code.specs.declared.numbered.FuncCode.{FuncCode}
 use Rattle.qil_code.specs.Ranges.{FuncInRange}
 use Rattle.qil_code.specs.Facts.{Finds}
 use Rattle.qil_code.specs.Numbered.{func_at, block_at, block_in, block_of, func_of, func_code, param_of}
-use Rattle.qil_meaning.specs.Names.{temps_named}
+use Rattle.qil_semantics.specs.Names.{temps_named}
 use Rattle.qil_code.specs.declared.numbered.Receiver.{Receiver}
 use Rattle.qil_layout.specs.declared.callee.FuncId.{FuncId}
 use Rattle.qil_code.specs.Reading.{func_names, func_code_at}

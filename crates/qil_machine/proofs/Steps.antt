@@ -12,12 +12,12 @@ use Rattle.qil_ops.specs.Values.{width, low_bits}
 use Rattle.qil_memory.specs.Buffers.{Buffers, stack_end}
 use Rattle.qil_memory.specs.Live.{live, laid}
 use Rattle.qil_memory.specs.Calls.{stored, blitted}
-use Rattle.qil_meaning.specs.State as meaning
-use Rattle.qil_meaning.specs.State.{Name, State}
-use Rattle.qil_meaning.specs.Calls.{next}
-use Rattle.qil_meaning.specs.Slots.{temps_of}
-use Rattle.qil_meaning.specs.Values.{Outcome, ◌>>=◌, val}
-use Rattle.qil_meaning.specs.Step.{alignment, copied}
+use Rattle.qil_semantics.specs.State as meaning
+use Rattle.qil_semantics.specs.State.{Name, State}
+use Rattle.qil_semantics.specs.Calls.{next}
+use Rattle.qil_semantics.specs.Slots.{temps_of}
+use Rattle.qil_semantics.specs.Values.{Outcome, ◌>>=◌, val}
+use Rattle.qil_semantics.specs.Step.{alignment, copied}
 use Rattle.qil_code.specs.declared.numbered.Slot.{Slot}
 use Rattle.qil_code.specs.declared.numbered.NumberedOperand.{NumberedOperand}
 use Rattle.qil_code.specs.declared.numbered.NumberedExpr.{NumberedExpr}

@@ -4,10 +4,10 @@ use Rattle.std.specs.Prelude.{unwrap_or}
 use Rattle.std.proofs.lemmas.List.{append-nil, length-append}
 use Rattle.qil_memory.specs.Live.{Live}
 use Rattle.qil_memory.specs.Buffers.{stack_end}
-use Rattle.qil_meaning.specs.State.{dead_address}
-use Rattle.qil_meaning.specs.Calls.{text_at}
-use Rattle.qil_meaning.specs.Laws.{IsText, IsCutAfter}
-use Rattle.qil_meaning.proofs.TextLemmas.{text-at, cut-at}
+use Rattle.qil_semantics.specs.State.{dead_address}
+use Rattle.qil_semantics.specs.Calls.{text_at}
+use Rattle.qil_semantics.specs.Laws.{IsText, IsCutAfter}
+use Rattle.qil_semantics.proofs.TextLemmas.{text-at, cut-at}
 use Rattle.qil_machine.specs.Calls.{bytes_from, AreLive}
 use borrow.Author.Count.{below_more}
 

@@ -16,6 +16,6 @@ slot_there place s v (f ∷ fs) h = (recursion_from_All (λ (k : SavedSlot). k.s
 pub slot_here : {A : Type 0} (m now : Whole A) (place : Place) (s : Slot) (v : Option ℕ) → m ≡ now → FitsFrame place (one s v) now.frames → HasSlot m.frames s
 slot_here m now place s v same h = slot_there place s v m.frames (subst (λ (w : Whole _). FitsFrame place (one s v) w.frames) (sym same) h)
 
--- what a delta fits, by its kind
+-- what an undo record fits, by its kind
 pub poked_fits : {A : Type 0} (d : Move) (w : Whole A) (s : Slot) (v u : Option ℕ) → d ≡ poked_slot_move s v → u ≡ v → Fits d w → Fits (poked_slot_move s u) w
 poked_fits d w s v u same e h = subst (λ (m : Move). Fits m w) (same ∙ ap (poked_slot_move s) (sym e)) h

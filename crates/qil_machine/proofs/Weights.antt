@@ -10,12 +10,12 @@ use Rattle.qil_tree.specs.declared.tree.Block.{Block}
 use Rattle.qil_tree.specs.declared.tree.Func.{Func}
 use Rattle.qil_tree.specs.declared.tree.Program.{Program}
 use Rattle.qil_memory.specs.Buffers.{Buffers}
-use Rattle.qil_meaning.specs.State as meaning
-use Rattle.qil_meaning.specs.State.{Name, State, Fault}
-use Rattle.qil_meaning.specs.Values.{Outcome}
-use Rattle.qil_meaning.specs.Names.{temps_named}
-use Rattle.qil_meaning.specs.Step.{func_named, block_labelled, phi_moves, in_func}
-use Rattle.qil_meaning.specs.Cost.{result_count, inst_cost, phis_cost, outcome_cost, cost_in, cost_of}
+use Rattle.qil_semantics.specs.State as meaning
+use Rattle.qil_semantics.specs.State.{Name, State, Fault}
+use Rattle.qil_semantics.specs.Values.{Outcome}
+use Rattle.qil_semantics.specs.Names.{temps_named}
+use Rattle.qil_semantics.specs.Step.{func_named, block_labelled, phi_moves, in_func}
+use Rattle.qil_semantics.specs.Cost.{result_count, inst_cost, phis_cost, outcome_cost, cost_in, cost_of}
 use Rattle.qil_code.specs.declared.numbered.Receiver.{Receiver}
 use Rattle.qil_code.specs.declared.numbered.Edge.{Edge}
 use Rattle.qil_code.specs.declared.numbered.NumberedBlock.{NumberedBlock}

@@ -10,10 +10,10 @@ use Rattle.qil_layout.specs.declared.callee.Callee.TheVariants.{PutChar, Puts}
 use Rattle.qil_ops.specs.Values.{low_bits}
 use Rattle.qil_memory.specs.Buffers.{Buffers}
 use Rattle.qil_memory.specs.Live.{Live, live}
-use Rattle.qil_meaning.specs.State as meaning
-use Rattle.qil_meaning.specs.State.{Name, State, output_full}
-use Rattle.qil_meaning.specs.Values.{Outcome, ◌>>=◌, first}
-use Rattle.qil_meaning.specs.Calls.{next, taken, writes, output_limit, putchar, puts, text_at}
+use Rattle.qil_semantics.specs.State as meaning
+use Rattle.qil_semantics.specs.State.{Name, State, output_full}
+use Rattle.qil_semantics.specs.Values.{Outcome, ◌>>=◌, first}
+use Rattle.qil_semantics.specs.Calls.{next, taken, writes, output_limit, putchar, puts, text_at}
 use Rattle.qil_code.specs.declared.numbered.Receiver.{Receiver}
 use Rattle.qil_code.specs.declared.numbered.NumberedArgument.{NumberedArgument}
 use Rattle.qil_code.specs.Named.{named_receiver}

@@ -8,10 +8,10 @@ use Rattle.qil_tree.specs.declared.tree.Program.{Program}
 use Rattle.qil_layout.specs.declared.callee.Callee.{Callee}
 use Rattle.qil_layout.specs.declared.callee.Callee.TheVariants.{Defined, PutChar, Puts, Exit}
 use Rattle.qil_memory.specs.Live.{Live, live}
-use Rattle.qil_meaning.specs.State as meaning
-use Rattle.qil_meaning.specs.State.{Name, State}
-use Rattle.qil_meaning.specs.Values.{Outcome}
-use Rattle.qil_meaning.specs.Calls.{in_shape, call_at, text_at}
+use Rattle.qil_semantics.specs.State as meaning
+use Rattle.qil_semantics.specs.State.{Name, State}
+use Rattle.qil_semantics.specs.Values.{Outcome}
+use Rattle.qil_semantics.specs.Calls.{in_shape, call_at, text_at}
 use Rattle.qil_code.specs.declared.numbered.NumberedArgument.{NumberedArgument}
 use Rattle.qil_code.specs.declared.numbered.Receiver.{Receiver}
 use Rattle.qil_code.specs.Named.{named_argument, named_receiver}

@@ -2,8 +2,8 @@
 use Rattle.std.specs.Prelude.{ℕ, ◌+◌, ◌-◌, ◌*◌, ◌==◌, ◌≤◌, if◌then◌else◌, List, [], ◌∷◌, length, Option, Some, None}
 use Rattle.qil_tree.specs.declared.tree.Func.{Func}
 use Rattle.qil_layout.specs.Layout.{width_bytes}
-use Rattle.qil_meaning.specs.State as meaning
-use Rattle.qil_meaning.specs.Cost.{entered_cost}
+use Rattle.qil_semantics.specs.State as meaning
+use Rattle.qil_semantics.specs.Cost.{entered_cost}
 use Rattle.qil_code.specs.declared.numbered.NumberedInst.{NumberedInst}
 use Rattle.qil_code.specs.declared.numbered.NumberedInst.TheVariants as insts
 use Rattle.qil_code.specs.declared.numbered.NumberedJump.{NumberedJump}

@@ -1,4 +1,4 @@
--- The kinds of moves, as one record each; and what each keeps in a delta.
+-- The kinds of moves, as one record each; and what each keeps in an undo record.
 use Rattle.std.specs.Prelude.{ℕ, Bool, true, false, List, [], ◌∷◌, Option, Some, None}
 use Rattle.qil_memory.specs.Undo.{Kept}
 use Rattle.qil_code.specs.declared.numbered.Slot.{Slot}

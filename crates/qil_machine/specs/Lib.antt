@@ -1,7 +1,7 @@
 -- The definitions.
 pub mod Moves
 pub mod Kinds
-pub mod Deltas
+pub mod UndoRecords
 pub mod Places
 pub mod Results
 pub mod Steps

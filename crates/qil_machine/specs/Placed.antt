@@ -4,8 +4,8 @@ use Rattle.qil_tree.specs.declared.tree.Block.{Block}
 use Rattle.qil_tree.specs.declared.tree.Func.{Func}
 use Rattle.qil_tree.specs.declared.tree.Program.{Program}
 use Rattle.qil_rules.specs.Text.{IsAmong}
-use Rattle.qil_meaning.specs.State.{Name, Frame}
-use Rattle.qil_meaning.specs.Step.{func_named, block_labelled}
+use Rattle.qil_semantics.specs.State.{Name, Frame}
+use Rattle.qil_semantics.specs.Step.{func_named, block_labelled}
 use Rattle.qil_code.specs.Facts.{jump_labels}
 
 -- the program has a block of each of these labels

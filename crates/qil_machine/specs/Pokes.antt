@@ -3,9 +3,9 @@ use Rattle.std.specs.Prelude.{◌≡◌, ◌≤◌, ℕ, List, [], ◌∷◌, le
 use Rattle.qil_tree.specs.declared.ops.Class.{Class}
 use Rattle.qil_tree.specs.declared.tree.Program.{Program}
 use Rattle.qil_ops.specs.Values.{width, low_bits}
-use Rattle.qil_meaning.specs.State.{Name, Frame, State}
-use Rattle.qil_meaning.specs.Step.{func_named}
-use Rattle.qil_meaning.specs.Poke.{PokeFault, poke_temp, no_frame, unknown_temporary}
+use Rattle.qil_semantics.specs.State.{Name, Frame, State}
+use Rattle.qil_semantics.specs.Step.{func_named}
+use Rattle.qil_semantics.specs.Poke.{PokeFault, poke_temp, no_frame, unknown_temporary}
 use Rattle.qil_code.specs.declared.numbered.Slot.{Slot}
 use Rattle.qil_code.specs.Numbered.{names_in}
 use Rattle.qil_frames.specs.Frames.{HasFrame, HasSlot, on_innermost, with_slot}

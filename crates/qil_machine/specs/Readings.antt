@@ -1,6 +1,6 @@
 -- What is read of temporaries by number, and by name.
 use Rattle.std.specs.Prelude.{ℕ, Bool, ◌==◌, ◌&&◌, List, [], ◌∷◌, find, Option, None}
-use Rattle.qil_meaning.specs.State.{Name, Frame}
+use Rattle.qil_semantics.specs.State.{Name, Frame}
 use Rattle.qil_frames.specs.Frames.{SlotFrame}
 
 -- the innermost frame of a function, where the innermost comes first

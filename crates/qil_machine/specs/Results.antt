@@ -4,9 +4,9 @@ use Rattle.qil_memory.specs.Buffers.{stack_end}
 use Rattle.qil_memory.specs.Undo.{with_top}
 use Rattle.qil_memory.specs.declared.fault.BlitFault.{BlitFault}
 use Rattle.qil_memory.specs.declared.fault.BlitFault.TheVariants as blits
-use Rattle.qil_meaning.specs.State.{Name}
-use Rattle.qil_meaning.specs.Values.{Outcome}
-use Rattle.qil_meaning.specs.Calls.{taken}
+use Rattle.qil_semantics.specs.State.{Name}
+use Rattle.qil_semantics.specs.Values.{Outcome}
+use Rattle.qil_semantics.specs.Calls.{taken}
 use Rattle.qil_code.specs.declared.numbered.Slot.{Slot}
 use Rattle.qil_code.specs.declared.numbered.Receiver.{Receiver}
 use Rattle.qil_frames.specs.Frames.{SlotFrame, on_innermost}

@@ -1,8 +1,8 @@
 -- Why a machine isn't started.
 use Rattle.std.specs.Prelude.{◌≡◌, Result, Err, IsOk}
-use Rattle.qil_meaning.specs.State.{State}
-use Rattle.qil_meaning.specs.declared.start.StartFault.{StartFault}
-use Rattle.qil_meaning.specs.declared.start.StartFault.TheVariants as faults
+use Rattle.qil_semantics.specs.State.{State}
+use Rattle.qil_semantics.specs.declared.start.StartFault.{StartFault}
+use Rattle.qil_semantics.specs.declared.start.StartFault.TheVariants as faults
 use Rattle.qil_machine.specs.declared.error.StartError.{StartError}
 use Rattle.qil_machine.specs.declared.error.StartError.TheVariants as errors
 

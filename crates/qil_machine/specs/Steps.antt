@@ -2,8 +2,8 @@
 use Rattle.std.specs.Prelude.{◌≡◌, ◌<◌, ◌==◌, if◌then◌else◌, ℕ, List, [], ◌∷◌, length, Option, Some, None, Ok, Err, slice_get}
 use Rattle.qil_tree.specs.declared.ops.Class.TheVariants as classes
 use Rattle.qil_tree.specs.declared.tree.Program.{Program}
-use Rattle.qil_meaning.specs.Values.{Outcome, val}
-use Rattle.qil_meaning.specs.Slots.{temps_of}
+use Rattle.qil_semantics.specs.Values.{Outcome, val}
+use Rattle.qil_semantics.specs.Slots.{temps_of}
 use Rattle.qil_code.specs.declared.numbered.NumberedInst.{NumberedInst}
 use Rattle.qil_code.specs.declared.numbered.NumberedInst.TheVariants as insts
 use Rattle.qil_code.specs.declared.numbered.NumberedJump.{NumberedJump}

@@ -13,10 +13,10 @@ ghost use Rattle.qil_machine.specs.Places.{IsRunning, HasMade};
 ghost use Rattle.qil_machine.specs.Results.{Explains};
 ghost use Rattle.qil_machine.specs.Steps.{IsHere, HasInst, JumpTakes};
 
-use crate::delta::Delta;
 use crate::error::StepError;
-use crate::log::{DeltaSink, keep_made};
+use crate::log::{UndoSink, keep_made};
 use crate::machine::Machine;
+use crate::undo_record::UndoRecord;
 use qil_code::{NumberedArgument, NumberedBlock, NumberedOperand, Receiver, Slot};
 use qil_tree::{AllocOp, Class};
 use std::alloc::Allocator;
@@ -24,7 +24,7 @@ use std::alloc::Allocator;
 impl<'c, A: Allocator + Copy> Machine<'c, A> {
     /// As `call_at`.
     #[inline(always)]
-    pub(crate) fn call_apart<K: DeltaSink<Delta<A>>>(
+    pub(crate) fn call_apart<K: UndoSink<UndoRecord<A>>>(
         &mut self,
         to: Option<Receiver>,
         callee: NumberedOperand,
@@ -50,9 +50,9 @@ impl<'c, A: Allocator + Copy> Machine<'c, A> {
         }
     }
 
-    /// As `grow_stack`, with the delta kept.
+    /// As `grow_stack`, with the undo record kept.
     #[inline(always)]
-    pub(crate) fn grow_apart<K: DeltaSink<Delta<A>>>(
+    pub(crate) fn grow_apart<K: UndoSink<UndoRecord<A>>>(
         &mut self,
         class: Class,
         slot: Slot,
@@ -76,9 +76,9 @@ impl<'c, A: Allocator + Copy> Machine<'c, A> {
         keep_made(into, self.grow_stack(class, slot, op, count, index))
     }
 
-    /// As `copy_bytes`, with the delta kept.
+    /// As `copy_bytes`, with the undo record kept.
     #[inline(always)]
-    pub(crate) fn copy_apart<K: DeltaSink<Delta<A>>>(
+    pub(crate) fn copy_apart<K: UndoSink<UndoRecord<A>>>(
         &mut self,
         source: NumberedOperand,
         target: NumberedOperand,
@@ -103,7 +103,7 @@ impl<'c, A: Allocator + Copy> Machine<'c, A> {
 
     /// As `leave`.
     #[inline(always)]
-    pub(crate) fn leave_apart<K: DeltaSink<Delta<A>>>(
+    pub(crate) fn leave_apart<K: UndoSink<UndoRecord<A>>>(
         &mut self,
         block: &NumberedBlock<A>,
         index: u32,

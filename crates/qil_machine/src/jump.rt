@@ -5,18 +5,17 @@ ghost use Rattle.qil_code.specs.declared.numbered.NumberedJump.{NumberedJump};
 ghost use Rattle.qil_code.proofs.EdgesNamed.{IsEdgeOf};
 ghost use Rattle.qil_state.specs.State.{state_of, head_names};
 ghost use Rattle.qil_state.specs.Stepping.{left_whole, went_whole};
-ghost use Rattle.qil_rules.specs.Mentions.{returned_class};
 ghost use Rattle.qil_machine.specs.Moves.{weight};
 ghost use Rattle.qil_machine.specs.Costs.{WeighsAtMost, entered_weight, returned_weight, jump_weight};
 ghost use Rattle.qil_machine.specs.Places.{IsRunning, Made, HasMade};
 ghost use Rattle.qil_machine.specs.Results.{Explains};
 ghost use Rattle.qil_machine.specs.Steps.{IsHere, HasOperand, HasReturned, BranchTakes, JumpTakes};
 
-use crate::delta::Delta;
 use crate::error::StepError;
-use crate::log::{DeltaSink, keep_made};
+use crate::log::{UndoSink, keep_made};
 use crate::machine::Machine;
-use qil_code::{Edge, NumberedBlock, NumberedJump, NumberedOperand};
+use crate::undo_record::UndoRecord;
+use qil_code::{Edge, NumberedBlock, NumberedJump, NumberedOperand, class_returned};
 use qil_state::{Fault, fitted, value};
 use qil_tree::{AbiType, Class};
 use std::alloc::Allocator;
@@ -24,12 +23,12 @@ use std::alloc::Allocator;
 impl<'c, A: Allocator + Copy> Machine<'c, A> {
     /// Goes along an edge of the jump at the end of the block.
     #[inline(always)]
-    pub(crate) fn go_along(
+    pub(crate) fn take_edge(
         &mut self,
         block: &NumberedBlock<A>,
         edge: &Edge<A>,
         index: u32,
-    ) -> Result<Delta<A>, StepError>
+    ) -> Result<UndoRecord<A>, StepError>
         requires running { IsRunning self.old }
         requires here { IsHere self.old.program self.old.frames block.now index }
         requires end { slice_get block.now.insts index ≡ None }
@@ -41,14 +40,16 @@ impl<'c, A: Allocator + Copy> Machine<'c, A> {
         ensures few { length edge.now.moves ≤ 1 → result ≢ Err StepError.OutOfMemory }
         ensures err { OnErr result (self.new ≡ self.old) }
     {
+        // Reading a field makes known what its type keeps.
         let _ = &self.code;
+        // The clauses alone name these two.
         let _ = block;
         let _ = index;
-        let delta = match self.go(edge) {
-            Ok(delta) => delta,
+        let undo_record = match self.go(edge) {
+            Ok(undo_record) => undo_record,
             Err(error) => return Err(error),
         };
-        Ok(delta)
+        Ok(undo_record)
     }
 
     /// Goes along the first edge unless the operand's low 32 bits are zero, else along the second.
@@ -60,7 +61,7 @@ impl<'c, A: Allocator + Copy> Machine<'c, A> {
         if_set: &Edge<A>,
         if_zero: &Edge<A>,
         index: u32,
-    ) -> Result<Delta<A>, StepError>
+    ) -> Result<UndoRecord<A>, StepError>
         requires running { IsRunning self.old }
         requires here { IsHere self.old.program self.old.frames block.now index }
         requires end { slice_get block.now.insts index ≡ None }
@@ -77,14 +78,17 @@ impl<'c, A: Allocator + Copy> Machine<'c, A> {
             Err(fault) => return Err(StepError::Fault(fault)),
         };
         if value == 0 {
-            return self.go_along(block, if_zero, index);
+            return self.take_edge(block, if_zero, index);
         }
-        self.go_along(block, if_set, index)
+        self.take_edge(block, if_set, index)
     }
 
     /// Returns the value of an operand.
     #[inline(always)]
-    pub(crate) fn return_value(&mut self, source: NumberedOperand) -> Result<Delta<A>, StepError>
+    pub(crate) fn return_value(
+        &mut self,
+        source: NumberedOperand,
+    ) -> Result<UndoRecord<A>, StepError>
         requires running { IsRunning self.old }
         requires source { HasOperand self.old.frames source }
         ensures does { OnOk result (left_whole self.old (NumberedJump.Ret (Some source)) ≡ Ok (state_of self.new)) }
@@ -109,7 +113,7 @@ impl<'c, A: Allocator + Copy> Machine<'c, A> {
     pub(crate) fn give_back(
         &mut self,
         source: Option<NumberedOperand>,
-    ) -> Result<Delta<A>, StepError>
+    ) -> Result<UndoRecord<A>, StepError>
         requires running { IsRunning self.old }
         requires source { HasReturned self.old.frames source }
         ensures does { OnOk result (left_whole self.old (NumberedJump.Ret source) ≡ Ok (state_of self.new)) }
@@ -119,6 +123,7 @@ impl<'c, A: Allocator + Copy> Machine<'c, A> {
         ensures memory { result ≢ Err StepError.OutOfMemory }
         ensures err { OnErr result (self.new ≡ self.old) }
     {
+        // Reading a frame makes known what the frames keep.
         let _ = self.frames.innermost();
         match source {
             Some(source) => self.return_value(source),
@@ -126,9 +131,9 @@ impl<'c, A: Allocator + Copy> Machine<'c, A> {
         }
     }
 
-    /// Does the jump at the end of the block, and keeps its delta.
+    /// Does the jump at the end of the block, and keeps its undo record.
     #[inline(always)]
-    pub(crate) fn leave<K: DeltaSink<Delta<A>>>(
+    pub(crate) fn leave<K: UndoSink<UndoRecord<A>>>(
         &mut self,
         block: &NumberedBlock<A>,
         index: u32,
@@ -146,25 +151,15 @@ impl<'c, A: Allocator + Copy> Machine<'c, A> {
         ensures err { OnErr result (self.new ≡ self.old) }
         ensures none { OnErr result (into.new ≡ into.old) }
     {
+        // Reading a frame makes known what the frames keep.
         let _ = self.frames.innermost();
         match &block.jump {
-            NumberedJump::Jmp(edge) => keep_made(into, self.go_along(block, edge, index)),
+            NumberedJump::Jmp(edge) => keep_made(into, self.take_edge(block, edge, index)),
             NumberedJump::Jnz(source, if_set, if_zero) => {
                 keep_made(into, self.branch(block, *source, if_set, if_zero, index))
             }
             NumberedJump::Ret(source) => keep_made(into, self.give_back(*source)),
             NumberedJump::Hlt => Err(StepError::Fault(Fault::Halted)),
         }
-    }
-}
-
-/// The class in which a returned value is read.
-#[inline(always)]
-fn class_returned(returns: Option<AbiType>) -> Class
-    ensures { result ≡ returned_class returns }
-{
-    match returns {
-        Some(abi_type) => abi_type.class(),
-        None => Class::W,
     }
 }

@@ -4,7 +4,6 @@
 mod advance;
 mod apart;
 mod call;
-mod delta;
 mod error;
 mod jump;
 mod log;
@@ -17,13 +16,16 @@ mod same;
 mod start;
 mod step;
 mod undo;
+mod undo_record;
 mod watched;
 
-pub use delta::{Copied, Delta, DeltaKind, Grown};
+pub use call::only_argument;
 pub use error::{MoveError, PokeError, StartError};
-pub use log::{DeltaSink, OneDelta};
+pub use log::{OneUndoRecord, UndoSink};
 pub use machine::Machine;
+pub use output::{OUTPUT_LIMIT, copy_text, text_length};
 pub use qil_code::{BlockId, Code, Receiver, Slot};
 pub use qil_frames::Frame;
 pub use qil_state::Status;
 pub use undo::value_of;
+pub use undo_record::{Copied, Grown, UndoKind, UndoRecord};

@@ -1,14 +1,14 @@
-//! Where deltas go: into the hands of a caller, onto the end of a list, or wherever else one can be taken.
+//! Where undo records go: into the hands of a caller, onto the end of a list, or wherever else one can be taken.
 
 ghost use Rattle.std.specs.Prelude.{◌≡◌, ◌<◌, [], ◌∷◌, ◌++◌, Some, None, OnErr, vec_len, vec_capacity};
 ghost use Rattle.qil_machine.specs.Places.{IsPassedOn};
 
-use crate::delta::Delta;
 use crate::error::StepError;
+use crate::undo_record::UndoRecord;
 use std::alloc::Allocator;
 
 /// Something that takes an item, and has room for it. From which one to which other it comes by an item, `takes` says.
-pub trait DeltaSink<T> {
+pub trait UndoSink<T> {
     ghost takes: { Self → Self → T → Type 0 };
 
     ghost has_room: { Self → Type 0 };
@@ -20,11 +20,11 @@ pub trait DeltaSink<T> {
 
 /// Room for one.
 #[derive(Drop)]
-pub struct OneDelta<T> {
+pub struct OneUndoRecord<T> {
     pub item: Option<T>,
 }
 
-impl<T: Drop> DeltaSink<T> for OneDelta<T> {
+impl<T: Drop> UndoSink<T> for OneUndoRecord<T> {
     ghost takes = { λ o p x. p.item ≡ Some x };
 
     ghost has_room = { λ o. o.item ≡ None };
@@ -35,7 +35,7 @@ impl<T: Drop> DeltaSink<T> for OneDelta<T> {
     }
 }
 
-impl<T: Drop, A: Allocator> DeltaSink<T> for Vec<T, A> {
+impl<T: Drop, A: Allocator> UndoSink<T> for Vec<T, A> {
     ghost takes = { λ v w x. w.items ≡ v.items ++ x ∷ [] };
 
     ghost has_room = { λ v. vec_len v < vec_capacity v };
@@ -49,19 +49,19 @@ impl<T: Drop, A: Allocator> DeltaSink<T> for Vec<T, A> {
     }
 }
 
-/// Keeps the delta that was made, if one was.
+/// Keeps the undo record that was made, if one was.
 #[inline(always)]
-pub(crate) fn keep_made<A: Allocator, K: DeltaSink<Delta<A>>>(
+pub(crate) fn keep_made<A: Allocator, K: UndoSink<UndoRecord<A>>>(
     into: &mut K,
-    made: Result<Delta<A>, StepError>,
+    made: Result<UndoRecord<A>, StepError>,
 ) -> Result<(), StepError>
     requires { K.has_room into.old }
     ensures kept { IsPassedOn made result (K.takes into.old into.new) }
     ensures none { OnErr result (into.new ≡ into.old) }
 {
     match made {
-        Ok(delta) => {
-            into.keep(delta);
+        Ok(undo_record) => {
+            into.keep(undo_record);
             Ok(())
         }
         Err(error) => Err(error),

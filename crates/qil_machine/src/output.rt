@@ -3,8 +3,8 @@
 ghost use Rattle.std.specs.Prelude.{◌≡◌, ◌+◌, ◌*◌, ◌<◌, ◌≤◌, ◌^◌, ◌∷◌, ◌++◌, ℕ, [], length, take, vec_len, vec_capacity, None, Some, Ok, IfOk, IfErr, OnOk, OnErr};
 ghost use Rattle.qil_memory.specs.Buffers.{stack_end};
 ghost use Rattle.qil_memory.specs.Live.{live};
-ghost use Rattle.qil_meaning.specs.State.{dead_address};
-ghost use Rattle.qil_meaning.specs.Calls.{text_at};
+ghost use Rattle.qil_semantics.specs.State.{dead_address};
+ghost use Rattle.qil_semantics.specs.Calls.{text_at};
 ghost use Rattle.qil_frames.specs.Frames.{on_innermost, at_index};
 ghost use Rattle.qil_state.specs.State.{state_of, head_names, ReceiverFits, IsNext};
 ghost use Rattle.qil_machine.specs.Calls.{HasArguments, called_whole, bytes_from, AreLive, PutsText};
@@ -14,9 +14,9 @@ ghost use Rattle.qil_machine.specs.Places.{IsRunning, Made};
 ghost use Rattle.qil_machine.specs.Results.{gives, Explains, WriteExplains, TextExplains};
 
 use crate::call::only_argument;
-use crate::delta::Delta;
 use crate::error::StepError;
 use crate::machine::{Machine, receive};
+use crate::undo_record::UndoRecord;
 use qil_code::{NumberedArgument, Receiver};
 use qil_layout::Callee;
 use qil_memory::Memory;
@@ -24,12 +24,13 @@ use qil_state::Fault;
 use qil_tree::AbiType;
 use std::alloc::Allocator;
 
-const OUTPUT_LIMIT: usize = 1_048_576;
+/// The most bytes of output that a run may write.
+pub const OUTPUT_LIMIT: usize = 1_048_576;
 
 impl<'c, A: Allocator + Copy> Machine<'c, A> {
     /// Gives a value to the slot that takes it and goes one instruction on, where bytes were written after so many.
     #[inline(always)]
-    fn wrote(&mut self, count: u32, to: Option<Receiver>, value: u64, index: u32) -> Delta<A>
+    fn wrote(&mut self, count: u32, to: Option<Receiver>, value: u64, index: u32) -> UndoRecord<A>
         requires running { IsRunning self.old }
         requires receiver { ReceiverFits self.old.frames to }
         requires next { IsNext self.old.program self.old.frames index }
@@ -42,8 +43,8 @@ impl<'c, A: Allocator + Copy> Machine<'c, A> {
         let old = receive(&mut self.frames, to, Some(value));
         self.frames.set_index(index + 1);
         match to {
-            None => Delta::wrote(index, count),
-            Some(receiver) => Delta::wrote_to(receiver.slot, old, index, count),
+            None => UndoRecord::wrote(index, count),
+            Some(receiver) => UndoRecord::wrote_to(receiver.slot, old, index, count),
         }
     }
 
@@ -54,7 +55,7 @@ impl<'c, A: Allocator + Copy> Machine<'c, A> {
         byte: u8,
         to: Option<Receiver>,
         index: u32,
-    ) -> Result<Delta<A>, StepError>
+    ) -> Result<UndoRecord<A>, StepError>
         requires running { IsRunning self.old }
         requires receiver { ReceiverFits self.old.frames to }
         requires next { IsNext self.old.program self.old.frames index }
@@ -83,7 +84,7 @@ impl<'c, A: Allocator + Copy> Machine<'c, A> {
         to: Option<Receiver>,
         args: &[NumberedArgument],
         index: u32,
-    ) -> Result<Delta<A>, StepError>
+    ) -> Result<UndoRecord<A>, StepError>
         requires running { IsRunning self.old }
         requires next { IsNext self.old.program self.old.frames index }
         requires small { index + 1 < 2 ^ 32 }
@@ -100,7 +101,7 @@ impl<'c, A: Allocator + Copy> Machine<'c, A> {
             Ok(word) => {
                 let byte = (word % 256) as u8;
                 match self.put_byte(byte, to, index) {
-                    Ok(delta) => Ok(delta),
+                    Ok(undo_record) => Ok(undo_record),
                     Err(error) => Err(error),
                 }
             }
@@ -115,7 +116,7 @@ impl<'c, A: Allocator + Copy> Machine<'c, A> {
         address: u64,
         to: Option<Receiver>,
         index: u32,
-    ) -> Result<Delta<A>, StepError>
+    ) -> Result<UndoRecord<A>, StepError>
         requires running { IsRunning self.old }
         requires receiver { ReceiverFits self.old.frames to }
         requires next { IsNext self.old.program self.old.frames index }
@@ -147,7 +148,7 @@ impl<'c, A: Allocator + Copy> Machine<'c, A> {
         to: Option<Receiver>,
         args: &[NumberedArgument],
         index: u32,
-    ) -> Result<Delta<A>, StepError>
+    ) -> Result<UndoRecord<A>, StepError>
         requires running { IsRunning self.old }
         requires next { IsNext self.old.program self.old.frames index }
         requires small { index + 1 < 2 ^ 32 }
@@ -162,7 +163,7 @@ impl<'c, A: Allocator + Copy> Machine<'c, A> {
         let slots = self.frames.innermost().slots();
         match only_argument(slots, AbiType::L, Some(AbiType::W), to, args) {
             Ok(text) => match self.put_text(text, to, index) {
-                Ok(delta) => Ok(delta),
+                Ok(undo_record) => Ok(undo_record),
                 Err(error) => Err(error),
             },
             Err(fault) => Err(StepError::Fault(fault)),
@@ -175,7 +176,7 @@ impl<'c, A: Allocator + Copy> Machine<'c, A> {
 /// # Errors
 ///
 /// The first address from there on that is dead.
-fn text_length<A: Allocator + Copy>(memory: &Memory<A>, address: u64) -> Result<u64, u64>
+pub fn text_length<A: Allocator + Copy>(memory: &Memory<A>, address: u64) -> Result<u64, u64>
     ensures text { IfOk result (λ n. text_at (live memory.now) address ≡ Ok (bytes_from (live memory.now) address n)) }
     ensures live { IfOk result (AreLive (live memory.now) address) }
     ensures small { IfOk result (λ n. (n ≤ stack_end) × (address + n < 2 ^ 64)) }
@@ -192,7 +193,7 @@ fn text_length<A: Allocator + Copy>(memory: &Memory<A>, address: u64) -> Result<
 }
 
 /// Writes so many bytes from an address on, and the byte 10, where there is room.
-fn copy_text<A: Allocator + Copy>(
+pub fn copy_text<A: Allocator + Copy>(
     output: &mut Vec<u8, A>,
     memory: &Memory<A>,
     address: u64,
@@ -201,7 +202,8 @@ fn copy_text<A: Allocator + Copy>(
     requires room { vec_len output.old + (count + 1) ≤ vec_capacity output.old }
     requires live { AreLive (live memory.now) address count }
     requires fits { address + count < 2 ^ 64 }
-    ensures { output.new.items ≡ output.old.items ++ (bytes_from (live memory.now) address count ++ 10 ∷ []) }
+    ensures items { output.new.items ≡ output.old.items ++ (bytes_from (live memory.now) address count ++ 10 ∷ []) }
+    ensures room { vec_capacity output.new ≡ vec_capacity output.old }
 {
     for i in 0..count {
         match memory.byte(address + i) {

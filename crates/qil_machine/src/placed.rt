@@ -15,6 +15,7 @@ impl<'c, A: Allocator + Copy> Machine<'c, A> {
     pub fn is_placed(&self)
         ensures { ArePlaced self.now.program (state_of self.now).frames }
     {
+        // Reading a block makes known what the code keeps.
         let _ = self.code.block(FuncId { index: 0 }, BlockId { index: 0 });
     }
 }

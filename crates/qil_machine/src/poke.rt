@@ -2,17 +2,17 @@
 
 ghost use Rattle.std.specs.Prelude.{◌≡◌, ◌≤◌, ℕ, List, Some, Ok, Err, IfOk, IfErr, OnOk, OnErr, slice_get};
 ghost use Rattle.qil_memory.specs.Calls.{IsWidth};
-ghost use Rattle.qil_meaning.specs.Poke.{poke_memory, poke_temp, dead_bytes};
-ghost use Rattle.qil_meaning.specs.Cost.{temp_poke_cost, bytes_poke_cost};
+ghost use Rattle.qil_semantics.specs.Poke.{poke_memory, poke_temp, dead_bytes};
+ghost use Rattle.qil_semantics.specs.Cost.{temp_poke_cost, bytes_poke_cost};
 ghost use Rattle.qil_state.specs.State.{state_of, head_names};
 ghost use Rattle.qil_frames.specs.Frames.{HasSlot};
 ghost use Rattle.qil_machine.specs.Moves.{weight};
 ghost use Rattle.qil_machine.specs.Places.{Made};
 ghost use Rattle.qil_machine.specs.Pokes.{IsOfClass, Refuses, RefusesName, RefusesSlot, names_by_slot, poke_slot};
 
-use crate::delta::Delta;
 use crate::error::PokeError;
 use crate::machine::Machine;
+use crate::undo_record::UndoRecord;
 use qil_code::Slot;
 use qil_ops::unary;
 use qil_tree::{Class, UnaryOp};
@@ -29,7 +29,7 @@ impl<'c, A: Allocator + Copy> Machine<'c, A> {
         address: u64,
         width: u64,
         number: u64,
-    ) -> Result<Delta<A>, PokeError>
+    ) -> Result<UndoRecord<A>, PokeError>
         requires { IsWidth width }
         ensures poke { OnOk result (poke_memory (state_of self.old) address width number ≡ Ok (state_of self.new)) }
         ensures made { IfOk result (λ d. Made d self.old self.new) }
@@ -41,14 +41,14 @@ impl<'c, A: Allocator + Copy> Machine<'c, A> {
             Ok(old) => old,
             Err(_) => return Err(PokeError::DeadAddress),
         };
-        Ok(Delta::poked_bytes(width as u8, address as u32, old))
+        Ok(UndoRecord::poked_bytes(width as u8, address as u32, old))
     }
     /// Replaces a temporary of the innermost frame by a number, cut to its class. It takes no memory.
     ///
     /// # Errors
     ///
     /// `NoFrame` where the run is done, `UnknownTemporary` where the innermost function has no such slot.
-    pub fn poke_temp(&mut self, slot: Slot, value: u64) -> Result<Delta<A>, PokeError>
+    pub fn poke_temp(&mut self, slot: Slot, value: u64) -> Result<UndoRecord<A>, PokeError>
         ensures slot { OnOk result (HasSlot self.old.frames slot) }
         ensures poke { (name : List ℕ) → slice_get (head_names self.old.program self.old.frames) slot.index ≡ Some name → OnOk result (poke_temp self.old.program (state_of self.old) name value ≡ Ok (state_of self.new)) }
         ensures by_slot { OnOk result (poke_slot self.old.program (state_of self.old) slot value ≡ Ok (state_of self.new)) }
@@ -62,7 +62,7 @@ impl<'c, A: Allocator + Copy> Machine<'c, A> {
         let old = self
             .frames
             .set(slot, Some(unary(UnaryOp::Copy, class, value)));
-        Ok(Delta::poked_slot(slot, old))
+        Ok(UndoRecord::poked_slot(slot, old))
     }
 
     /// Replaces a temporary of the innermost frame, whose name is without its sigil, as `poke_temp` does.
@@ -70,7 +70,7 @@ impl<'c, A: Allocator + Copy> Machine<'c, A> {
     /// # Errors
     ///
     /// `NoFrame` where the run is done, `UnknownTemporary` where the innermost function has no such temporary.
-    pub fn poke_named(&mut self, name: &[u8], value: u64) -> Result<Delta<A>, PokeError>
+    pub fn poke_named(&mut self, name: &[u8], value: u64) -> Result<UndoRecord<A>, PokeError>
         ensures poke { OnOk result (poke_temp self.old.program (state_of self.old) name.now value ≡ Ok (state_of self.new)) }
         ensures made { IfOk result (λ d. Made d self.old self.new) }
         ensures cost { IfOk result (λ d. weight d ≤ temp_poke_cost) }

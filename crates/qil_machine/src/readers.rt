@@ -5,7 +5,7 @@ ghost use Rattle.std.specs.Option.{option_copied};
 ghost use Rattle.qil_tree.specs.declared.tree.Func.{Func};
 ghost use Rattle.qil_memory.specs.Calls.{IsWidth, loaded};
 ghost use Rattle.qil_memory.specs.Live.{live};
-ghost use Rattle.qil_meaning.specs.Stops.{reading, temp_in, value_reading};
+ghost use Rattle.qil_semantics.specs.Stops.{reading, temp_in, value_reading};
 ghost use Rattle.qil_code.specs.Numbered.{func_at, names_of};
 ghost use Rattle.qil_frames.specs.Frames.{HasSlot, held};
 ghost use Rattle.qil_state.specs.declared.status.Status.{Status};

@@ -10,8 +10,8 @@ ghost use Rattle.qil_state.specs.State.{ReceiverFits};
 ghost use Rattle.qil_machine.specs.Moves.{at, end_of, inst_count, undone, Fits};
 ghost use Rattle.qil_machine.specs.Kinds.{slots_move, one, bytes_move, called_move, returned_move, grown_move, copied_move, wrote_move, ended_move, poked_slot_move, poked_bytes_move, with_received, value_of};
 
-use crate::delta::{Copied, Delta, DeltaKind, Grown};
 use crate::machine::Machine;
+use crate::undo_record::{Copied, Grown, UndoKind, UndoRecord};
 use qil_code::{BlockId, Code, Receiver, Slot};
 use qil_frames::{Frame, Frames, KeptSlots, PhiSaved};
 use qil_layout::FuncId;
@@ -19,16 +19,16 @@ use qil_state::Status;
 use std::alloc::Allocator;
 
 impl<'c, A: Allocator + Copy> Machine<'c, A> {
-    /// Puts back what a move kept. `Delta::fits` is the test of its condition.
+    /// Puts back what a move kept. `UndoRecord::fits` is the test of its condition.
     #[inline(always)]
-    pub fn undo(&mut self, delta: Delta<A>)
-        requires { Fits delta self.old }
-        ensures { self.new ≡ undone delta self.old }
+    pub fn undo(&mut self, undo_record: UndoRecord<A>)
+        requires { Fits undo_record self.old }
+        ensures { self.new ≡ undone undo_record self.old }
     {
-        let Delta { kind } = delta;
+        let UndoRecord { kind } = undo_record;
         match kind {
-            DeltaKind::Assigned { slot, index, old } => self.undo_assigned(slot, old, index),
-            DeltaKind::Stored {
+            UndoKind::Assigned { slot, index, old } => self.undo_assigned(slot, old, index),
+            UndoKind::Stored {
                 count,
                 index,
                 address,
@@ -36,11 +36,11 @@ impl<'c, A: Allocator + Copy> Machine<'c, A> {
             } => {
                 self.undo_stored(count, index, address, number);
             }
-            DeltaKind::Left { block } => self.undo_left(block, KeptSlots::None),
-            DeltaKind::LeftOne { block, slot, old } => {
+            UndoKind::Left { block } => self.undo_left(block, KeptSlots::None),
+            UndoKind::LeftOne { block, slot, old } => {
                 self.undo_left(block, KeptSlots::One(slot, old));
             }
-            DeltaKind::LeftTwo {
+            UndoKind::LeftTwo {
                 block,
                 first,
                 second,
@@ -49,10 +49,10 @@ impl<'c, A: Allocator + Copy> Machine<'c, A> {
             } => {
                 self.undo_left(block, KeptSlots::Two(first, second, first_old, second_old));
             }
-            DeltaKind::LeftShort { block, kept } => self.undo_left(block, KeptSlots::Short(kept)),
-            DeltaKind::LeftMany { block, kept } => self.undo_left(block, KeptSlots::Many(kept)),
-            DeltaKind::Called { index } => self.undo_called(index),
-            DeltaKind::Returned {
+            UndoKind::LeftShort { block, kept } => self.undo_left(block, KeptSlots::Short(kept)),
+            UndoKind::LeftMany { block, kept } => self.undo_left(block, KeptSlots::Many(kept)),
+            UndoKind::Called { index } => self.undo_called(index),
+            UndoKind::Returned {
                 was_set,
                 top,
                 old,
@@ -60,10 +60,10 @@ impl<'c, A: Allocator + Copy> Machine<'c, A> {
             } => {
                 self.undo_returned(frame, top, value_of(was_set, old));
             }
-            DeltaKind::Grew(grown) => self.undo_boxed_grew(grown),
-            DeltaKind::Copied(copied) => self.undo_boxed_copied(copied),
-            DeltaKind::Wrote { index, count } => self.undo_wrote(index, count),
-            DeltaKind::WroteTo {
+            UndoKind::Grew(grown) => self.undo_boxed_grew(grown),
+            UndoKind::Copied(copied) => self.undo_boxed_copied(copied),
+            UndoKind::Wrote { index, count } => self.undo_wrote(index, count),
+            UndoKind::WroteTo {
                 was_set,
                 slot,
                 index,
@@ -72,11 +72,11 @@ impl<'c, A: Allocator + Copy> Machine<'c, A> {
             } => {
                 self.undo_wrote_to(slot, value_of(was_set, old), index, count);
             }
-            DeltaKind::Ended => self.undo_ended(),
-            DeltaKind::PokedSlot { was_set, slot, old } => {
+            UndoKind::Ended => self.undo_ended(),
+            UndoKind::PokedSlot { was_set, slot, old } => {
                 self.undo_poked_slot(slot, value_of(was_set, old));
             }
-            DeltaKind::PokedBytes {
+            UndoKind::PokedBytes {
                 count,
                 address,
                 number,
@@ -164,6 +164,7 @@ impl<'c, A: Allocator + Copy> Machine<'c, A> {
             value,
             saved,
         } = grown;
+        // Reading the top makes known what the memory keeps.
         let _ = self.memory.top();
         self.memory.undo(saved);
         let _ = self.frames.set(slot, value);
@@ -185,6 +186,7 @@ impl<'c, A: Allocator + Copy> Machine<'c, A> {
         ensures { self.new ≡ undone (copied_move copied.index copied.saved) self.old }
     {
         let Copied { index, saved } = copied;
+        // Reading the top makes known what the memory keeps.
         let _ = self.memory.top();
         self.memory.undo(saved);
         self.frames.set_index(index);
@@ -246,7 +248,7 @@ fn run_again(status: &mut Status)
     }
 }
 
-/// What a slot held, by the two fields in which a delta keeps it.
+/// What a slot held, by the two fields in which an undo record keeps it.
 #[inline(always)]
 pub fn value_of(set: bool, value: u64) -> Option<u64>
     ensures { result ≡ value_of set value }

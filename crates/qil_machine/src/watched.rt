@@ -7,7 +7,7 @@ ghost use Rattle.qil_layout.specs.Layout.{low_bytes};
 ghost use Rattle.qil_memory.specs.Bytes.{number};
 ghost use Rattle.qil_memory.specs.Calls.{IsWidth};
 ghost use Rattle.qil_memory.specs.Live.{live, read};
-ghost use Rattle.qil_meaning.specs.Stops.{is_at};
+ghost use Rattle.qil_semantics.specs.Stops.{is_at};
 ghost use Rattle.qil_code.specs.Numbered.{func_at, block_at};
 ghost use Rattle.qil_state.specs.State.{state_of};
 ghost use Rattle.qil_machine.specs.Readings.{stands_at};

@@ -15,7 +15,7 @@ impl<A: Allocator + Copy> Memory<A> {
     ///
     /// # Errors
     ///
-    /// Those of `blit`, but for `OutOfMemory`.
+    /// Those of `blit` except `OutOfMemory`.
     pub fn copy(&mut self, source: u64, target: u64, n: u64) -> Result<(), BlitFault>
         ensures ok { OnOk result (blitted (live self.old) source target n ≡ Ok (live self.new)) }
         ensures fault { IfErr result (λ e. blitted (live self.old) source target n ≡ Err e) }

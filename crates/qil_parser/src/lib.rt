@@ -1,8 +1,8 @@
 //! The parser of QBE IL programs: tokens in, a tree out.
 //!
 //! `specs/Grammar.antt`, `Functions.antt`, `DataGrammar.antt` and `Programs.antt` are the grammar: which tokens spell which tree.
-//! `specs/Fault.antt` says where tokens stop to be a program's and what the fault is called. `parse` answers exactly
-//! what they say.
+//! `specs/Fault.antt` says where tokens stop being a program's and what the fault is called. `parse` answers exactly what they
+//! say.
 #![tactic(auto)]
 
 mod cursor;

@@ -3,8 +3,8 @@ use Rattle.std.proofs.Common.{◌≡◌, refl, ap, ℕ, List, [], ◌∷◌, ◌
 use Rattle.std.specs.Prelude.{codes}
 use Rattle.std.specs.List.{flat_map}
 use Rattle.qil_streams.specs.Text.{line}
-use Rattle.qil_pieces.specs.Texts.{text_of}
-use Rattle.qil_answers.specs.Shown.{or_none}
+use Rattle.qil_fragments.specs.Texts.{text_of}
+use Rattle.qil_render.specs.Shown.{or_none}
 
 lines_of : {X : Type 0} (f : X → List ℕ) (xs : List X) → text_of (map f xs) ≡ flat_map f xs
 lines_of f [] = refl

@@ -12,9 +12,9 @@ use Rattle.qil_commands.specs.declared.command.Refused.{Refused}
 use Rattle.qil_commands.specs.Command.{command_of}
 use Rattle.qil_streams.specs.Reader.{IsLine}
 use Rattle.qil_streams.proofs.ScriptLemmas.{WholeLines-nil, WholeLines-line}
-use Rattle.qil_meaning.specs.State.{State}
-use Rattle.qil_meaning.specs.Poke.{PokeFault}
-use Rattle.qil_meaning.specs.Timeline.{position, at_end}
+use Rattle.qil_semantics.specs.State.{State}
+use Rattle.qil_semantics.specs.Poke.{PokeFault}
+use Rattle.qil_semantics.specs.Timeline.{position, at_end}
 use Rattle.qil_stops.specs.Listed.{is_listed}
 use Rattle.qil_stops.specs.declared.stop.StopKind.{StopKind}
 use Rattle.qil_replies.specs.SessionState.{SessionState, has_kind, is_full}

@@ -9,13 +9,13 @@ use Rattle.qil_commands.specs.declared.command.Command.TheVariants as commands
 use Rattle.qil_commands.specs.declared.command.Refused.{Refused}
 use Rattle.qil_commands.specs.Command.{command_of}
 use Rattle.qil_streams.specs.Device.{Puts}
-use Rattle.qil_meaning.specs.State.{State}
-use Rattle.qil_meaning.specs.Poke.{PokeFault, no_frame, dead_bytes, unknown_temporary, poke_temp, poke_memory}
-use Rattle.qil_meaning.specs.Timeline.{Timeline, position, at_end, to, moved, gone}
-use Rattle.qil_meaning.specs.Moves.{forward_by, back_by}
-use Rattle.qil_meaning.specs.Runs.{stop_on, stop_back, within, target, IsLeast}
-use Rattle.qil_meaning.specs.declared.reason.Reason.{Reason}
-use Rattle.qil_meaning.specs.declared.reason.Reason.TheVariants.{Memory}
+use Rattle.qil_semantics.specs.State.{State}
+use Rattle.qil_semantics.specs.Poke.{PokeFault, no_frame, dead_bytes, unknown_temporary, poke_temp, poke_memory}
+use Rattle.qil_semantics.specs.Timeline.{Timeline, position, at_end, to, moved, gone}
+use Rattle.qil_semantics.specs.Moves.{forward_by, back_by}
+use Rattle.qil_semantics.specs.Runs.{stop_on, stop_back, within, target, IsLeast}
+use Rattle.qil_semantics.specs.declared.reason.Reason.{Reason}
+use Rattle.qil_semantics.specs.declared.reason.Reason.TheVariants.{Memory}
 use Rattle.qil_stops.specs.declared.stop.Watched.TheVariants as watches
 use Rattle.qil_stops.specs.declared.stop.StopKind.{StopKind}
 use Rattle.qil_stops.specs.declared.stop.StopKind.TheVariants as kinds

@@ -6,5 +6,5 @@ pub mod Answers
 pub mod Reached
 pub mod Transcript
 -- what this crate's own are stated with, for what stands on it
-pub use Rattle.qil_answers.specs as qil_answers
+pub use Rattle.qil_render.specs as qil_render
 pub use Rattle.qil_stops.specs as qil_stops

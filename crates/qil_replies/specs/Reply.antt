@@ -2,11 +2,11 @@
 use Rattle.std.specs.Prelude.{ℕ, List, [], ◌++◌}
 use Rattle.qil_tree.specs.declared.tree.Program.{Program}
 use Rattle.qil_streams.specs.Text.{line}
-use Rattle.qil_meaning.specs.State.{State}
+use Rattle.qil_semantics.specs.State.{State}
 use Rattle.qil_stops.specs.declared.stop.NumberedStop.{NumberedStop}
-use Rattle.qil_answers.specs.Texts.{state_line}
-use Rattle.qil_answers.specs.Shown.{printed, temps_shown, frames_shown, memory_shown, output_shown}
-use Rattle.qil_answers.specs.Listing.{block_shown}
+use Rattle.qil_render.specs.Texts.{state_line}
+use Rattle.qil_render.specs.Shown.{printed, temps_shown, frames_shown, memory_shown, output_shown}
+use Rattle.qil_render.specs.Listing.{block_shown}
 use Rattle.qil_replies.specs.declared.reply.Reply.{Reply}
 use Rattle.qil_replies.specs.declared.reply.Reply.TheVariants as replies
 use Rattle.qil_replies.specs.Texts.{refusal_text, reason_line, stop_line, deleted_line, stops_shown}

@@ -6,9 +6,9 @@ use Rattle.qil_layout.specs.Layout.{address_of}
 use Rattle.qil_commands.specs.declared.command.Address.{Address}
 use Rattle.qil_commands.specs.declared.command.Address.TheVariants as addresses
 use Rattle.qil_commands.specs.declared.command.BreakPlace.{BreakPlace}
-use Rattle.qil_names.specs.Numbers.{place_of}
-use Rattle.qil_meaning.specs.State.{Name}
-use Rattle.qil_meaning.specs.Timeline.{Timeline, position}
+use Rattle.qil_symbols.specs.Numbers.{place_of}
+use Rattle.qil_semantics.specs.State.{Name}
+use Rattle.qil_semantics.specs.Timeline.{Timeline, position}
 use Rattle.qil_code.specs.Numbered.{names_of}
 use Rattle.qil_code.specs.Reading.{func_names, labels_at}
 use Rattle.qil_stops.specs.declared.stop.Place.{Place}

@@ -3,17 +3,17 @@ use Rattle.std.specs.Prelude.{ℕ, ◌==◌, cond, List, [], ◌∷◌, map, cod
 use Rattle.qil_tree.specs.declared.tree.Program.{Program}
 use Rattle.qil_commands.specs.declared.command.Refused.{Refused}
 use Rattle.qil_commands.specs.declared.command.Refused.TheVariants.{LineTooLong, UnknownCommand, MissingWord, BadWord, ExtraWord}
-use Rattle.qil_meaning.specs.declared.reason.Reason.{Reason}
-use Rattle.qil_meaning.specs.declared.reason.Reason.TheVariants as reasons
+use Rattle.qil_semantics.specs.declared.reason.Reason.{Reason}
+use Rattle.qil_semantics.specs.declared.reason.Reason.TheVariants as reasons
 use Rattle.qil_code.specs.Numbered.{func_at, block_at, names_of}
 use Rattle.qil_code.specs.Slots.{name_at}
-use Rattle.qil_answers.specs.qil_state.State.{func_name, label_in}
+use Rattle.qil_render.specs.qil_state.State.{func_name, label_in}
 use Rattle.qil_stops.specs.declared.stop.Watched.TheVariants as watches
 use Rattle.qil_stops.specs.declared.stop.StopKind.{StopKind}
 use Rattle.qil_stops.specs.declared.stop.StopKind.TheVariants as kinds
 use Rattle.qil_stops.specs.declared.stop.NumberedStop.{NumberedStop}
-use Rattle.qil_pieces.specs.Texts.{text_of}
-use Rattle.qil_answers.specs.Shown.{or_none}
+use Rattle.qil_fragments.specs.Texts.{text_of}
+use Rattle.qil_render.specs.Shown.{or_none}
 use Rattle.qil_replies.specs.declared.reply.CommandRefusal.{CommandRefusal}
 use Rattle.qil_replies.specs.declared.reply.CommandRefusal.TheVariants as refusals
 

@@ -4,12 +4,12 @@ use Rattle.qil_tree.specs.declared.tree.Program.{Program}
 use Rattle.qil_rules.specs.Verdict.{Verdict}
 use Rattle.qil_rules.specs.declared.form.Form.{Form}
 use Rattle.qil_layout.specs.Layout.{bytes_of}
-use Rattle.qil_meaning.specs.State.{State}
-use Rattle.qil_meaning.specs.Start.{start_of}
-use Rattle.qil_meaning.specs.Timeline.{Timeline, begun}
+use Rattle.qil_semantics.specs.State.{State}
+use Rattle.qil_semantics.specs.Start.{start_of}
+use Rattle.qil_semantics.specs.Timeline.{Timeline, begun}
 use Rattle.qil_loading.specs.Load.{Accepts}
 use Rattle.qil_loading.specs.Lines.{loaded_line}
-use Rattle.qil_answers.specs.Texts.{place_line}
+use Rattle.qil_render.specs.Texts.{place_line}
 use Rattle.qil_replies.specs.SessionState.{SessionState, session_at}
 use Rattle.qil_replies.specs.Answers.{IsAnswered}
 

@@ -11,6 +11,6 @@ mod stops;
 mod texts;
 
 pub use put::put_reply;
-pub use qil_answers::{Readers, code_of, is_final, put_place};
+pub use qil_render::{Readers, code_of, is_final, put_place};
 pub use reply::{CommandRefusal, Reply};
 pub use script::script_has_answers;

@@ -2,20 +2,20 @@
 
 ghost use Rattle.std.specs.Prelude.{◌-◌, ◌<◌, ◌^◌, ◌++◌};
 ghost use Rattle.qil_streams.specs.Device.{HasPut};
-ghost use Rattle.qil_answers.specs.qil_state.State.{state_of};
-ghost use Rattle.qil_answers.specs.Texts.{state_line};
+ghost use Rattle.qil_render.specs.qil_state.State.{state_of};
+ghost use Rattle.qil_render.specs.Texts.{state_line};
 ghost use Rattle.qil_replies.specs.Texts.{reason_line};
 ghost use Rattle.qil_replies.specs.Reply.{reply_text};
 
 use crate::reply::Reply;
 use crate::stops::put_stops;
 use crate::texts::{put_deleted, put_reason, put_stop, refusal_words};
-use qil_answers::{
+use qil_code::Code;
+use qil_render::{
     Readers, code_of, put_block, put_frames, put_memory, put_output, put_place, put_printed,
     put_temps,
 };
-use qil_code::Code;
-use qil_meaning::Reason;
+use qil_semantics::Reason;
 use qil_stops::NumberedStop;
 use qil_streams::{Put, PutError, put_line};
 use std::alloc::Allocator;

@@ -1,7 +1,7 @@
 //! The replies to commands.
 
 use qil_commands::{LineName, Refused};
-use qil_meaning::Reason;
+use qil_semantics::Reason;
 use qil_stops::StopKind;
 
 /// Why a line changed nothing and shows nothing.

@@ -5,11 +5,11 @@ ghost use Rattle.qil_streams.specs.Device.{HasPut};
 ghost use Rattle.qil_replies.specs.Texts.{line_refusal_text, refusal_text, reason_line, width_letter, stop_line, deleted_line};
 
 use crate::reply::CommandRefusal;
-use qil_answers::{func_name, label_name, temp_name};
 use qil_code::Code;
 use qil_commands::Refused;
-use qil_meaning::Reason;
-use qil_pieces::{Fragment, put_fragments};
+use qil_fragments::{Fragment, put_fragments};
+use qil_render::{func_name, label_name, temp_name};
+use qil_semantics::Reason;
 use qil_stops::{StopKind, Watched};
 use qil_streams::{Put, PutError};
 use std::alloc::Allocator;

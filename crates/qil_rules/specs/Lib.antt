@@ -1,7 +1,7 @@
 -- The definitions.
 pub mod Codes
 pub mod Operands
-pub mod Mentions
+pub mod Occurrences
 pub mod Text
 pub mod Rules
 pub mod Forms

@@ -4,9 +4,9 @@ use Rattle.std.specs.Prelude.{None}
 use Rattle.qil_tree.specs.declared.tree.Program.{Program}
 use Rattle.qil_rules.specs.Verdict.{Verdict}
 use Rattle.qil_layout.specs.Layout.{fault_of}
-use Rattle.qil_laying.specs.Answer.{IsFault}
-use Rattle.qil_laying.specs.declared.error.LayoutError.{LayoutError}
-use Rattle.qil_laying.specs.declared.error.LayoutError.TheVariants as layout
+use Rattle.qil_layout_builder.specs.Answer.{IsFault}
+use Rattle.qil_layout_builder.specs.declared.error.LayoutError.{LayoutError}
+use Rattle.qil_layout_builder.specs.declared.error.LayoutError.TheVariants as layout
 use Rattle.qil_loading.specs.declared.load.LoadError.{LoadError}
 use Rattle.qil_loading.specs.declared.load.LoadError.TheVariants as errors
 use Rattle.qil_loading.specs.declared.refusal.Refusal.TheVariants as refusals

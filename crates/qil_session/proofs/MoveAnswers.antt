@@ -4,11 +4,11 @@ use Rattle.std.specs.Prelude.{◌≢◌, ◌==◌, is_some}
 use Rattle.std.proofs.lemmas.Bool.{ne_eqb, cases_lt}
 use Rattle.qil_tree.specs.declared.tree.Program.{Program}
 use Rattle.qil_commands.specs.declared.command.Command.TheVariants.{Step, Back, Continue, Reverse}
-use Rattle.qil_meaning.specs.Timeline.{Timeline, position, oldest, at_end, moved, gone}
-use Rattle.qil_meaning.specs.Moves.{forward_by, back_by}
-use Rattle.qil_meaning.specs.Runs.{if_holds, within, target, stop_on, stop_back, stopping, IsLeast, RunsOn, RunsBack}
-use Rattle.qil_meaning.specs.declared.reason.Reason.{Reason}
-use Rattle.qil_meaning.specs.declared.reason.Reason.TheVariants.{End, Start, Oldest, Watch, Break, Limit, Memory}
+use Rattle.qil_semantics.specs.Timeline.{Timeline, position, oldest, at_end, moved, gone}
+use Rattle.qil_semantics.specs.Moves.{forward_by, back_by}
+use Rattle.qil_semantics.specs.Runs.{if_holds, within, target, stop_on, stop_back, stopping, IsLeast, RunsOn, RunsBack}
+use Rattle.qil_semantics.specs.declared.reason.Reason.{Reason}
+use Rattle.qil_semantics.specs.declared.reason.Reason.TheVariants.{End, Start, Oldest, Watch, Break, Limit, Memory}
 use Rattle.qil_stops.specs.Listed.{Listed}
 use Rattle.qil_stops.specs.Named.{named_stops}
 use Rattle.qil_stops.proofs.OnWay.{least-within}

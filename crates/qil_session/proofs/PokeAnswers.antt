@@ -7,12 +7,12 @@ use Rattle.qil_tree.specs.declared.tree.Program.{Program}
 use Rattle.qil_layout.specs.Layout.{width_bytes}
 use Rattle.qil_commands.specs.declared.command.Address.{Address}
 use Rattle.qil_commands.specs.declared.command.Command.TheVariants.{Set, Poke}
-use Rattle.qil_meaning.specs.State.{Name, Frame, State}
-use Rattle.qil_meaning.specs.Timeline.{Timeline, position, to, poked}
-use Rattle.qil_meaning.specs.Poke.{PokeFault, no_frame, dead_bytes, unknown_temporary, poke_in, poke_frames, poke_temp, poke_memory, remembered, temp_class}
-use Rattle.qil_meaning.specs.Step.{func_named}
-use Rattle.qil_meaning.proofs.KeptLemmas.{position-to}
-use Rattle.qil_meaning.specs.declared.reason.Reason.TheVariants.{Memory}
+use Rattle.qil_semantics.specs.State.{Name, Frame, State}
+use Rattle.qil_semantics.specs.Timeline.{Timeline, position, to, poked}
+use Rattle.qil_semantics.specs.Poke.{PokeFault, no_frame, dead_bytes, unknown_temporary, poke_in, poke_frames, poke_temp, poke_memory, remembered, temp_class}
+use Rattle.qil_semantics.specs.Step.{func_named}
+use Rattle.qil_semantics.proofs.KeptLemmas.{position-to}
+use Rattle.qil_semantics.specs.declared.reason.Reason.TheVariants.{Memory}
 use Rattle.qil_machine.specs.declared.error.PokeError.{PokeError}
 use Rattle.qil_machine.specs.declared.error.PokeError.TheVariants.{NoFrame, UnknownTemporary, DeadAddress, OutOfMemory}
 use Rattle.qil_memory.specs.declared.fault.Dead.{Dead}

@@ -5,7 +5,7 @@ use Rattle.qil_commands.specs.declared.command.Command.{Command}
 use Rattle.qil_commands.specs.declared.command.Command.TheVariants as commands
 use Rattle.qil_commands.specs.declared.command.Refused.{Refused}
 use Rattle.qil_streams.specs.Device.{Puts}
-use Rattle.qil_meaning.specs.State.{Name}
+use Rattle.qil_semantics.specs.State.{Name}
 use Rattle.qil_replies.specs.declared.reply.CommandRefusal.TheVariants.{Line}
 use Rattle.qil_replies.specs.declared.reply.Reply.{Reply}
 use Rattle.qil_replies.specs.declared.reply.Reply.TheVariants as replies

@@ -8,8 +8,8 @@ use Rattle.qil_layout.specs.Layout.{width_bytes}
 use Rattle.qil_commands.specs.declared.command.Address.{Address}
 use Rattle.qil_commands.specs.declared.command.BreakPlace.{BreakPlace}
 use Rattle.qil_commands.specs.declared.command.Command.TheVariants.{Break, WatchBytes, WatchTemp, Delete}
-use Rattle.qil_meaning.specs.State.{Name}
-use Rattle.qil_meaning.specs.Timeline.{Timeline}
+use Rattle.qil_semantics.specs.State.{Name}
+use Rattle.qil_semantics.specs.Timeline.{Timeline}
 use Rattle.qil_stops.specs.declared.stop.Place.{Place}
 use Rattle.qil_stops.specs.declared.stop.Watched.{Watched}
 use Rattle.qil_stops.specs.declared.stop.Watched.TheVariants as watches

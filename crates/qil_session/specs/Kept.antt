@@ -1,7 +1,7 @@
 -- What a session keeps.
 use Rattle.std.specs.Prelude.{ℕ, Bool}
 use Rattle.qil_tree.specs.declared.tree.Program.{Program}
-use Rattle.qil_meaning.specs.Timeline.{Timeline}
+use Rattle.qil_semantics.specs.Timeline.{Timeline}
 use Rattle.qil_stops.specs.Listed.{Listed}
 use Rattle.qil_replies.specs.SessionState.{SessionState, session_at}
 

@@ -2,7 +2,7 @@
 
 ghost use Rattle.std.specs.Prelude.{◌≡◌, ◌+◌, ◌-◌, ◌^◌, ◌<◌, ◌≤◌};
 ghost use Rattle.qil_commands.specs.Command.{command_of};
-ghost use Rattle.qil_meaning.specs.Timeline.{position};
+ghost use Rattle.qil_semantics.specs.Timeline.{position};
 ghost use Rattle.qil_streams.specs.Device.{Counts};
 ghost use Rattle.qil_session.specs.AnsweredLine.{AnswersLine};
 ghost use Rattle.qil_session.specs.Kept.{session_state};
@@ -10,8 +10,8 @@ ghost use Rattle.qil_session.specs.Kept.{session_state};
 use crate::session::{Next, Session};
 use qil_code::Code;
 use qil_commands::{Command, read_command};
-use qil_deltas::Runs;
 use qil_streams::{Put, PutError};
+use qil_undo_log::Runs;
 use std::alloc::Allocator;
 
 /// Answers a line, of which the prefix is kept: a `quit` is no more than reported.

@@ -15,8 +15,8 @@ mod stopping;
 mod words;
 
 pub use answer::answer_line;
-pub use qil_deltas::{DepthRuns, Runs, Stepwise};
 pub use qil_replies::{Reply, put_reply};
 pub use qil_streams::{DeviceFault, FromReader, IntoWriter, Sink, Source};
+pub use qil_undo_log::{DepthRuns, Runs, Stepwise};
 pub use serving::{IoFault, serve, serve_in_turn, serve_lines};
 pub use session::{Next, Session};

@@ -2,18 +2,18 @@
 
 ghost use Rattle.std.specs.Prelude.{◌≡◌, ℕ, ◌+◌, ◌<◌, ◌≤◌, ◌^◌, Ok, Some};
 ghost use Rattle.qil_commands.specs.declared.command.Command.TheVariants as commands;
-ghost use Rattle.qil_meaning.specs.Timeline.{position};
-ghost use Rattle.qil_meaning.specs.State.{is_final};
+ghost use Rattle.qil_semantics.specs.Timeline.{position};
+ghost use Rattle.qil_semantics.specs.State.{is_final};
 ghost use Rattle.qil_state.specs.State.{state_of};
 ghost use Rattle.qil_stops.specs.Listed.{Listed};
 ghost use Rattle.qil_replies.specs.SessionState.{session_at};
 ghost use Rattle.qil_replies.specs.Answers.{Replies, back_refusal};
 
 use qil_code::Code;
-use qil_deltas::Runs;
-use qil_meaning::Reason;
 use qil_replies::{CommandRefusal, Readers, Reply};
+use qil_semantics::Reason;
 use qil_stops::Stops;
+use qil_undo_log::Runs;
 use std::alloc::Allocator;
 
 /// Whether the run is over.

@@ -2,7 +2,7 @@
 
 ghost use Rattle.std.specs.Prelude.{◌≡◌, ℕ, ◌+◌, ◌<◌, ◌^◌, Ok, Some};
 ghost use Rattle.qil_commands.specs.declared.command.Command.TheVariants as commands;
-ghost use Rattle.qil_meaning.specs.Timeline.{position};
+ghost use Rattle.qil_semantics.specs.Timeline.{position};
 ghost use Rattle.qil_stops.specs.Listed.{Listed};
 ghost use Rattle.qil_replies.specs.SessionState.{resolved_address, session_at};
 ghost use Rattle.qil_replies.specs.Answers.{Replies};
@@ -10,11 +10,11 @@ ghost use Rattle.qil_replies.specs.Answers.{Replies};
 use crate::words::{resolved_address, width_bytes};
 use qil_code::Code;
 use qil_commands::Address;
-use qil_deltas::Runs;
 use qil_machine::PokeError;
-use qil_meaning::Reason;
 use qil_replies::{CommandRefusal, Reply, code_of};
+use qil_semantics::Reason;
 use qil_tree::Width;
+use qil_undo_log::Runs;
 use std::alloc::Allocator;
 
 /// Replies to `set %x N`.

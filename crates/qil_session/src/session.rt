@@ -1,9 +1,9 @@
 //! A session: a history, which commands move along, and stops.
 
 ghost use Rattle.std.specs.Prelude.{◌≡◌, ◌+◌, ◌-◌, ◌^◌, ◌<◌, ◌≤◌, [], IfOk, IfErr, Ok, Some};
-ghost use Rattle.qil_meaning.specs.Timeline.{position};
+ghost use Rattle.qil_semantics.specs.Timeline.{position};
 ghost use Rattle.qil_streams.specs.Device.{Counts, HasPut};
-ghost use Rattle.qil_replies.specs.qil_answers.Texts.{place_line};
+ghost use Rattle.qil_replies.specs.qil_render.Texts.{place_line};
 ghost use Rattle.qil_replies.specs.SessionState.{text_in};
 ghost use Rattle.qil_replies.specs.Answers.{Answers, Replies};
 ghost use Rattle.qil_session.specs.Kept.{session_state};
@@ -16,10 +16,10 @@ use crate::showing::show_bytes;
 use crate::stopping::{add_break, delete, watch_bytes, watch_temp};
 use qil_code::Code;
 use qil_commands::{Command, Refused};
-use qil_deltas::{DepthRuns, Runs};
 use qil_replies::{CommandRefusal, Reply, code_of, put_place, put_reply};
 use qil_stops::{DepthEnd, Stops};
 use qil_streams::{Put, PutError};
+use qil_undo_log::{DepthRuns, Runs};
 use std::alloc::{AllocError, Allocator};
 use std::marker::Model;
 

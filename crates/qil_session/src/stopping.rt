@@ -2,7 +2,7 @@
 
 ghost use Rattle.std.specs.Prelude.{◌≡◌, ℕ, Bool, Ok, Some};
 ghost use Rattle.qil_commands.specs.declared.command.Command.TheVariants as commands;
-ghost use Rattle.qil_meaning.specs.Timeline.{Timeline};
+ghost use Rattle.qil_semantics.specs.Timeline.{Timeline};
 ghost use Rattle.qil_tree.specs.declared.tree.Program.{Program};
 ghost use Rattle.qil_replies.specs.SessionState.{session_at};
 ghost use Rattle.qil_replies.specs.Answers.{Replies, made_reply};

@@ -1,8 +1,8 @@
 -- What a temporary is made of by its slot is what it is made of by its name.
 use Rattle.std.proofs.Common.{◌≡◌, ℕ, suc, Bool, true, false, List, [], ◌∷◌, length, get_or, Option, Some, None, option_map, unwrap_or, if◌then◌else◌, refl, sym, ap, arith}
 use Rattle.std.specs.Str.{bytes_eq}
-use Rattle.qil_names.specs.Numbers.{place_of}
-use Rattle.qil_meaning.specs.State.{Name}
+use Rattle.qil_symbols.specs.Numbers.{place_of}
+use Rattle.qil_semantics.specs.State.{Name}
 use Rattle.qil_shadow.specs.declared.origin.Origin.{Origin}
 use Rattle.qil_shadow.specs.declared.origin.Origin.TheVariants as origins
 use Rattle.qil_shadow.specs.Numbered.{origins_by}

@@ -6,10 +6,10 @@ use Rattle.std.specs.Str.{bytes_eq}
 use Rattle.qil_tree.specs.declared.tree.Data.{Data}
 use Rattle.qil_tree.specs.declared.tree.Func.{Func}
 use Rattle.qil_tree.specs.declared.tree.Program.{Program}
-use Rattle.qil_names.specs.Numbers.{place_of}
+use Rattle.qil_symbols.specs.Numbers.{place_of}
 use Rattle.qil_memory.specs.qil_layout.Layout.{data_base, data_limit, is_alignment, align_of, start_of, end_of, object_fault, fault_from, data_address, func_address, built_in_address, address_of}
 use Rattle.qil_layout.proofs.BytesLemmas.{rounded_low, some_alignment, neither, unreported}
-use Rattle.qil_meaning.specs.State.{Name}
+use Rattle.qil_semantics.specs.State.{Name}
 use Rattle.qil_shadow.specs.declared.origin.ObjectId.{ObjectId}
 use Rattle.qil_shadow.specs.Objects.{object_names, object_named}
 use Rattle.qil_shadow.specs.Table.{IsOnlyAt}

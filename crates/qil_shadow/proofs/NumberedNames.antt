@@ -7,9 +7,9 @@ use Rattle.std.proofs.lemmas.List.{drop_more, length-map}
 use Rattle.qil_tree.specs.declared.tree.Data.{Data}
 use Rattle.qil_tree.specs.declared.tree.Func.{Func}
 use Rattle.qil_tree.specs.declared.tree.Program.{Program}
-use Rattle.qil_names.specs.Numbers.{place_of}
-use Rattle.qil_names.specs.Tables.{for_name}
-use Rattle.qil_meaning.specs.State.{Name}
+use Rattle.qil_symbols.specs.Numbers.{place_of}
+use Rattle.qil_symbols.specs.Tables.{for_name}
+use Rattle.qil_semantics.specs.State.{Name}
 use Rattle.qil_shadow.specs.Objects.{object_names}
 use Rattle.qil_shadow.specs.ObjectNumbers.{data_number, function_number, built_in_number}
 

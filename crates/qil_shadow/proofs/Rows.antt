@@ -1,7 +1,7 @@
 -- Worked rows, computed: which moves of small programs are suspicious. What is expected was worked out by another implementation.
 use Rattle.std.proofs.Common.{◌≡◌, refl, ℕ, List, [], ◌∷◌, Option, Some, None, option_map, map}
 use Rattle.std.specs.Prelude.{codes}
-use Rattle.qil_names.specs.Numbers.{place_of}
+use Rattle.qil_symbols.specs.Numbers.{place_of}
 use Rattle.qil_tree.specs.declared.ops.AbiType.TheVariants as types
 use Rattle.qil_tree.specs.declared.ops.Width.TheVariants as widths
 use Rattle.qil_tree.specs.declared.ops.UnaryOp.TheVariants as unary
@@ -15,10 +15,10 @@ use Rattle.qil_tree.specs.declared.tree.Item.TheVariants as items
 use Rattle.qil_tree.specs.declared.tree.Field.TheVariants as fields
 use Rattle.qil_tree.specs.declared.tree.Func.{Func}
 use Rattle.qil_tree.specs.declared.tree.Program.{Program}
-use Rattle.qil_meaning.specs.State.{State}
-use Rattle.qil_meaning.specs.Start.{start_of}
-use Rattle.qil_meaning.specs.Step.{func_named}
-use Rattle.qil_meaning.proofs.Programs.{A0, n, %, $, w, l, inst, call, result, block, func, data_, prog, of_start, runs}
+use Rattle.qil_semantics.specs.State.{State}
+use Rattle.qil_semantics.specs.Start.{start_of}
+use Rattle.qil_semantics.specs.Step.{func_named}
+use Rattle.qil_semantics.proofs.Programs.{A0, n, %, $, w, l, inst, call, result, block, func, data_, prog, of_start, runs}
 use Rattle.qil_shadow.specs.declared.access.Kind.{Kind}
 use Rattle.qil_shadow.specs.declared.access.Kind.TheVariants as kinds
 use Rattle.qil_shadow.specs.Bytes.{laid_origins}

@@ -9,8 +9,8 @@ use Rattle.qil_tree.specs.declared.tree.Program.{Program}
 use Rattle.qil_memory.specs.qil_rules.Operands.{inst_reads}
 use Rattle.qil_memory.specs.qil_layout.Layout.{data_base, bytes_of, width_bytes}
 use Rattle.qil_memory.specs.Buffers.{stack_base}
-use Rattle.qil_meaning.specs.State.{Frame, State}
-use Rattle.qil_meaning.specs.Values.{Outcome, vals, first, second}
+use Rattle.qil_semantics.specs.State.{Frame, State}
+use Rattle.qil_semantics.specs.Values.{Outcome, vals, first, second}
 use Rattle.qil_shadow.specs.declared.origin.Origin.{Origin}
 use Rattle.qil_shadow.specs.declared.access.Action.{Action}
 use Rattle.qil_shadow.specs.declared.access.Action.TheVariants as actions

@@ -7,8 +7,8 @@ use Rattle.qil_tree.specs.declared.tree.JumpKind.{JumpKind}
 use Rattle.qil_tree.specs.declared.tree.Block.{Block}
 use Rattle.qil_tree.specs.declared.tree.Func.{Func}
 use Rattle.qil_tree.specs.declared.tree.Program.{Program}
-use Rattle.qil_meaning.specs.State.{Frame}
-use Rattle.qil_meaning.specs.Step.{func_named, block_labelled}
+use Rattle.qil_semantics.specs.State.{Frame}
+use Rattle.qil_semantics.specs.Step.{func_named, block_labelled}
 
 -- an instruction, or a jump of a function
 pub data Next (A : Type 0) : Type 0 where

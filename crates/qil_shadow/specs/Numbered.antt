@@ -4,7 +4,7 @@ use Rattle.std.specs.Str.{bytes_eq}
 use Rattle.qil_tree.specs.declared.tree.Data.{Data}
 use Rattle.qil_tree.specs.declared.tree.Func.{Func}
 use Rattle.qil_tree.specs.declared.tree.Program.{Program}
-use Rattle.qil_meaning.specs.State.{Name}
+use Rattle.qil_semantics.specs.State.{Name}
 use Rattle.qil_code.specs.Numbered.{func_at, names_of}
 use Rattle.qil_code.specs.Slots.{name_at}
 use Rattle.qil_code.specs.declared.numbered.NumberedOperand.{NumberedOperand}

@@ -4,9 +4,9 @@ use Rattle.std.specs.Option.{option_or}
 use Rattle.qil_tree.specs.declared.tree.Data.{Data}
 use Rattle.qil_tree.specs.declared.tree.Func.{Func}
 use Rattle.qil_tree.specs.declared.tree.Program.{Program}
-use Rattle.qil_names.specs.Tables.{for_name}
+use Rattle.qil_symbols.specs.Tables.{for_name}
 use Rattle.qil_memory.specs.qil_layout.Layout.{data_base, start_of, end_of, fault_of}
-use Rattle.qil_meaning.specs.State.{Name}
+use Rattle.qil_semantics.specs.State.{Name}
 
 -- of the first of that name, if the first of all has this number
 abbrev pub data_number : {A : Type 0} → ℕ → List (Data A) → Name → Option ℕ

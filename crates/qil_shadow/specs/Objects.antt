@@ -3,9 +3,9 @@ use Rattle.std.specs.Prelude.{ℕ, ◌+◌, Bool, true, false, ◌==◌, ◌&&�
 use Rattle.qil_tree.specs.declared.tree.Data.{Data}
 use Rattle.qil_tree.specs.declared.tree.Func.{Func}
 use Rattle.qil_tree.specs.declared.tree.Program.{Program}
-use Rattle.qil_names.specs.Numbers.{place_of}
+use Rattle.qil_symbols.specs.Numbers.{place_of}
 use Rattle.qil_memory.specs.qil_layout.Layout.{size_of, data_base, start_of, end_of}
-use Rattle.qil_meaning.specs.State.{Name}
+use Rattle.qil_semantics.specs.State.{Name}
 use Rattle.qil_shadow.specs.declared.origin.ObjectId.{ObjectId}
 
 -- a data object; a function, or one that every program has; what a temporary of a function was given by an `alloc`

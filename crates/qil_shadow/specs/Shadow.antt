@@ -12,7 +12,7 @@ use Rattle.qil_tree.specs.declared.tree.Data.{Data}
 use Rattle.qil_tree.specs.declared.tree.Func.{Func}
 use Rattle.qil_tree.specs.declared.tree.Program.{Program}
 use Rattle.qil_memory.specs.qil_layout.Layout.{data_base, width_bytes, start_of, end_of}
-use Rattle.qil_meaning.specs.State.{Name}
+use Rattle.qil_semantics.specs.State.{Name}
 use Rattle.qil_shadow.specs.declared.origin.ObjectId.{ObjectId}
 use Rattle.qil_shadow.specs.declared.origin.Origin.{Origin}
 use Rattle.qil_shadow.specs.declared.origin.Origin.TheVariants as origins

@@ -19,14 +19,14 @@ use Rattle.qil_tree.specs.declared.tree.Func.{Func}
 use Rattle.qil_tree.specs.declared.tree.Program.{Program}
 use Rattle.qil_tree.specs.Types.{class_of}
 use Rattle.qil_memory.specs.qil_rules.Operands.{inst_reads, right_class, stored_class}
-use Rattle.qil_memory.specs.qil_rules.Mentions.{returned_class}
+use Rattle.qil_memory.specs.qil_rules.Occurrences.{returned_class}
 use Rattle.qil_memory.specs.qil_layout.declared.callee.Callee.{Callee}
 use Rattle.qil_memory.specs.qil_layout.declared.callee.Callee.TheVariants.{Defined}
 use Rattle.qil_memory.specs.qil_layout.Callee.{callee_at}
 use Rattle.qil_memory.specs.qil_layout.Layout.{width_bytes, rounded}
-use Rattle.qil_meaning.specs.State.{Name, Frame, State}
-use Rattle.qil_meaning.specs.Values.{Outcome, val, vals, first, second}
-use Rattle.qil_meaning.specs.Step.{alignment, block_labelled, PhiMove, phi_moves}
+use Rattle.qil_semantics.specs.State.{Name, Frame, State}
+use Rattle.qil_semantics.specs.Values.{Outcome, val, vals, first, second}
+use Rattle.qil_semantics.specs.Step.{alignment, block_labelled, PhiMove, phi_moves}
 use Rattle.qil_shadow.specs.declared.origin.Origin.{Origin}
 use Rattle.qil_shadow.specs.declared.origin.Origin.TheVariants as origins
 use Rattle.qil_shadow.specs.declared.origin.ByteOrigin.TheVariants as bytes

@@ -1,9 +1,9 @@
--- Suspicions: which accesses are one, of which kind, and what is told of it; and those of a run.
+-- Suspicions: which accesses are one, of which kind, and what is reported of it; and those of a run.
 use Rattle.std.specs.Prelude.{ℕ, zero, suc, ◌+◌, ◌-◌, max, Bool, false, not, ◌||◌, if◌then◌else◌, List, [], ◌∷◌, ◌++◌, flat_map, Option, Some, None, slice_get}
 use Rattle.qil_tree.specs.declared.tree.Program.{Program}
-use Rattle.qil_meaning.specs.State.{Frame, State}
-use Rattle.qil_meaning.specs.Stops.{Place, place_of}
-use Rattle.qil_meaning.specs.Targets.{after}
+use Rattle.qil_semantics.specs.State.{Frame, State}
+use Rattle.qil_semantics.specs.Stops.{Place, place_of}
+use Rattle.qil_semantics.specs.Targets.{after}
 use Rattle.qil_shadow.specs.declared.origin.Origin.{Origin}
 use Rattle.qil_shadow.specs.declared.origin.Origin.TheVariants.{Number, Address, Part, Cut, Mixed}
 use Rattle.qil_shadow.specs.declared.access.Kind.{Kind}

@@ -24,7 +24,7 @@ fn take<A: Allocator>(origins: &mut OriginStack<A>, receiver: Option<Receiver>, 
     }
 }
 
-/// Ends the innermost call, if it has a caller, and tells what is the top of the stack then.
+/// Ends the innermost call, if it has a caller, and gives the top of the stack then.
 fn leave<A: Allocator>(origins: &mut OriginStack<A>, top: u64, origin: Origin) -> u64
     ensures calls { origins.new ≡ left_calls origin origins.old }
     ensures top { result ≡ left_top top origins.old }

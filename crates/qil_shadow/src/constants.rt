@@ -1,5 +1,5 @@
-//! What constants are made of. Numbered code has the address of a name as a constant, and the tree tells which constant is one: it
-//! is looked at where the value can be an address.
+//! What constants are made of. Numbered code has the address of a name as a constant, and the tree says which constant is one: it
+//! is looked at only if the value can be an address.
 
 ghost use Rattle.std.specs.Prelude.{◌≡◌, Some};
 ghost use Rattle.qil_memory.specs.qil_layout.Layout.{address_of};
@@ -141,6 +141,15 @@ impl<'c, A: Allocator + Copy> Shadow<'c, A> {
                     self.constant_origin(code, place, reading, class, value)
                 }
             }
+        }
+    }
+
+    /// Whether an operand is surely a number: a constant that can't be an address, or a temporary that is made of none.
+    #[inline(always)]
+    pub(crate) fn is_number(&self, operand: NumberedOperand) -> bool {
+        match operand {
+            NumberedOperand::Slot(slot) => self.calls.origin(slot).is_number(),
+            NumberedOperand::Constant(value) => value < LEAST_ADDRESS,
         }
     }
 

@@ -2,12 +2,12 @@
 
 ghost use Rattle.std.specs.Prelude.{◌≡◌, ◌+◌, List, ℕ, length, IfOk, OnOk};
 ghost use Rattle.std.specs.Option.{option_or};
-ghost use Rattle.qil_names.specs.Tables.{value_at};
+ghost use Rattle.qil_symbols.specs.Tables.{value_at};
 ghost use Rattle.qil_shadow.specs.Objects.{object_named};
 ghost use Rattle.qil_shadow.specs.ObjectNumbers.{data_number, function_number, built_in_number};
 
 use crate::origin::ObjectId;
-use qil_names::Firsts;
+use qil_symbols::Firsts;
 use qil_tree::{Data, Func, Program};
 use std::alloc::{AllocError, Allocator};
 use std::hash::RandomState;
@@ -27,7 +27,7 @@ fn number_after(number: u32) -> Result<u32, AllocError>
     Ok(number + 1)
 }
 
-/// Notes the numbers of the data, and tells the next.
+/// Notes the numbers of the data, and gives the next.
 fn note_datas<'a, A: Allocator + Copy>(
     table: &mut Firsts<'a, u32, A>,
     datas: &[Data<'a, A>],
@@ -43,7 +43,7 @@ fn note_datas<'a, A: Allocator + Copy>(
     Ok(number)
 }
 
-/// Notes the numbers of the functions, from one on, and tells the next.
+/// Notes the numbers of the functions, from one on, and gives the next.
 fn note_funcs<'a, A: Allocator + Copy>(
     table: &mut Firsts<'a, u32, A>,
     first: u32,
@@ -85,8 +85,8 @@ pub struct ObjectNames<'c, A: Allocator> {
 impl<'c, A: Allocator> Model for ObjectNames<'c, A> {
     ghost use Rattle.std.specs.Prelude.{◌≡◌, List, ℕ};
     ghost use Rattle.qil_tree.specs.declared.tree.Program.{Program};
-    ghost use Rattle.qil_names.specs.Numbers.{place_of};
-    ghost use Rattle.qil_names.specs.Tables.{value_at};
+    ghost use Rattle.qil_symbols.specs.Numbers.{place_of};
+    ghost use Rattle.qil_symbols.specs.Tables.{value_at};
     ghost use Rattle.qil_shadow.specs.Objects.{object_names};
 
     ghost Value = { Program A };

@@ -11,6 +11,7 @@ use crate::calls::Calls;
 use crate::memory::OriginMemory;
 use crate::names::ObjectNames;
 use crate::object::{Object, ObjectKind};
+use crate::open_bits::OpenBits;
 use crate::origin::{ObjectId, Origin};
 use crate::suspicion::{Access, Doubt, Hit, Place, Suspicion};
 use qil_code::{NumberedOperand, Slot};
@@ -33,6 +34,10 @@ pub struct Shadow<'c, A: Allocator> {
     /// What parameters or phis get, before they get it.
     pub(crate) moved: Vec<(Slot, Origin), A>,
     pub(crate) found: Vec<Suspicion, A>,
+    /// Which bits nothing has set.
+    pub(crate) open: OpenBits<A>,
+    /// The text that the step writes by `$puts`: its address, and what that is made of.
+    pub(crate) text: Option<(u64, Origin)>,
 }
 
 /// The value of an operand, if it is set.
@@ -189,6 +194,8 @@ impl<'c, A: Allocator + Copy> Shadow<'c, A> {
         let kind = ObjectKind::Slot(place.func, slot);
         self.calls.make(kind, slot, address, count, self.position)?;
         self.memory.clear(top, address + count - top);
+        self.open.memory.open(top, address + count - top);
+        self.open.set(slot, 0);
         Ok(())
     }
 
@@ -203,6 +210,7 @@ impl<'c, A: Allocator + Copy> Shadow<'c, A> {
             self.calls.set(*slot, *origin);
         }
         self.moved.truncate(0);
+        self.open.put_gathered();
     }
 
     /// What was suspicious since the last time, in its order.
@@ -256,7 +264,7 @@ fn first_outside(access: &Access, object: &Object) -> u64
     }
 }
 
-/// Of which address it is told what lies there: of an access out of its object the first byte that is.
+/// The address at which a report says what lies there: for an access out of its object the first byte that is outside.
 fn told_address(access: &Access, doubt: &Doubt) -> u64
     ensures { result ≡ told_by access.now doubt.now.kind doubt.now.object }
 {

@@ -6,11 +6,11 @@ use crate::calls::Calls;
 use crate::memory::OriginMemory;
 use crate::names::ObjectNames;
 use crate::object::{BuiltIn, Object, ObjectKind, Objects};
+use crate::open_bits::OpenBits;
 use crate::origin::{ByteOrigin, ObjectId, Origin};
 use crate::shadow::Shadow;
 use crate::stack::OriginStack;
-use crate::widths::byte_count;
-use qil_code::Code;
+use qil_code::{Code, byte_count};
 use qil_layout::{DATA_BASE, FuncId};
 use qil_memory::STACK_BASE;
 use qil_tree::{AbiType, Data, Field, Item, Program, Width};
@@ -145,6 +145,8 @@ impl<'c, A: Allocator + Copy> Shadow<'c, A> {
             position: 0,
             moved: Vec::new(alloc),
             found: Vec::new(alloc),
+            open: OpenBits::new(alloc, code.slot_count(func))?,
+            text: None,
         })
     }
 }

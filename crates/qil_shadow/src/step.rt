@@ -1,20 +1,21 @@
-//! A step of the shadow: what comes next is looked at, and then the shadow is that of the state behind it. Where the step ends the
-//! run, nothing is asked of the shadow.
+//! A step of the shadow: it looks at what comes next, and becomes the shadow of the state behind it. A step that ends the run
+//! asks nothing of it.
 
 use crate::access::Action;
 use crate::bytes::load_bytes;
 use crate::constants::Reading;
+use crate::open_rules::open_passed;
 use crate::operations::{binary_origin, extended_origin, unary_origin};
 use crate::origin::Origin;
 use crate::shadow::{Shadow, access, are_one_temporary, value_of};
 use crate::suspicion::Place;
-use crate::widths::{alignment, byte_count, class_returned, class_right, class_stored};
+use crate::widths::class_right;
 use qil_code::{
     BlockId, Code, Edge, NumberedArgument, NumberedExpr, NumberedInst, NumberedJump,
-    NumberedOperand, PhiMove, Receiver, Slot,
+    NumberedOperand, PhiMove, Receiver, Slot, alignment, byte_count, class_returned, class_stored,
 };
 use qil_layout::{Callee, FuncId};
-use qil_tree::{AbiType, AllocOp, Class, LoadOp, Width};
+use qil_tree::{AbiType, AllocOp, BinaryOp, Class, LoadOp, Width};
 use std::alloc::{AllocError, Allocator};
 
 /// How many calls there may be.
@@ -87,15 +88,13 @@ impl<'c, A: Allocator + Copy> Shadow<'c, A> {
                 class,
                 self.origin_of(code, place, Reading::First, class, operand),
             ),
-            NumberedExpr::Binary(op, left, right) => binary_origin(
-                op,
-                class,
-                are_one_temporary(left, right),
-                self.origin_of(code, place, Reading::First, class, left),
-                value_of(slots, left).unwrap_or(0),
-                self.origin_of(code, place, Reading::Second, class_right(op, class), right),
-                value_of(slots, right).unwrap_or(0),
-            ),
+            NumberedExpr::Binary(op, left, right) => {
+                if self.is_number(left) && self.is_number(right) {
+                    Origin::Number
+                } else {
+                    self.binary(code, place, slots, class, op, left, right)
+                }
+            }
             NumberedExpr::Compare(_, _, _, _) => Origin::Number,
             NumberedExpr::Extend(op, operand) => extended_origin(
                 op,
@@ -106,7 +105,31 @@ impl<'c, A: Allocator + Copy> Shadow<'c, A> {
             }
         };
         self.calls.set(to, origin);
+        self.assign_open(slots, class, to, expr);
         Ok(())
+    }
+
+    /// What an operation gives, one of whose operands may be made of an address. Most have numbers alone.
+    #[inline(never)]
+    fn binary(
+        &self,
+        code: &Code<'c, A>,
+        place: Place,
+        slots: &[Option<u64>],
+        class: Class,
+        op: BinaryOp,
+        left: NumberedOperand,
+        right: NumberedOperand,
+    ) -> Origin {
+        binary_origin(
+            op,
+            class,
+            are_one_temporary(left, right),
+            self.origin_of(code, place, Reading::First, class, left),
+            value_of(slots, left).unwrap_or(0),
+            self.origin_of(code, place, Reading::Second, class_right(op, class), right),
+            value_of(slots, right).unwrap_or(0),
+        )
     }
 
     /// What a load gives.
@@ -123,6 +146,7 @@ impl<'c, A: Allocator + Copy> Shadow<'c, A> {
             return Ok(Origin::Number);
         };
         let origin = self.origin_of(code, place, Reading::First, Class::L, operand);
+        self.use_address(origin, operand);
         let count = load_bytes(op);
         self.look(place, access(Action::Load(op), origin, address, count))?;
         Ok(self.memory.load(address, count, class))
@@ -145,11 +169,14 @@ impl<'c, A: Allocator + Copy> Shadow<'c, A> {
             return Ok(());
         };
         let origin = self.origin_of(code, place, Reading::Second, Class::L, address);
+        self.use_address(origin, address);
         let count = byte_count(width);
         self.look(place, access(Action::Store(width), origin, target, count))?;
         let class = class_stored(width);
         let stored = self.origin_of(code, place, Reading::First, class, number);
         self.memory.store(target, count, stored);
+        let open = self.open_of(class, number);
+        self.open.memory.store(target, count, open);
         Ok(())
     }
 
@@ -173,6 +200,7 @@ impl<'c, A: Allocator + Copy> Shadow<'c, A> {
             return Ok(());
         }
         let origin = self.origin_of(code, place, Reading::First, Class::L, source);
+        self.use_address(origin, source);
         self.look(
             place,
             access(Action::CopyFrom, origin, source_address, count),
@@ -181,8 +209,10 @@ impl<'c, A: Allocator + Copy> Shadow<'c, A> {
             return Ok(());
         }
         let origin = self.origin_of(code, place, Reading::Second, Class::L, target);
+        self.use_address(origin, target);
         self.look(place, access(Action::CopyTo, origin, target_address, count))?;
         self.memory.copy(source_address, target_address, count);
+        self.open.memory.copy(source_address, target_address, count);
         Ok(())
     }
 
@@ -195,6 +225,7 @@ impl<'c, A: Allocator + Copy> Shadow<'c, A> {
         op: AllocOp,
         count: NumberedOperand,
     ) -> Result<(), AllocError> {
+        self.use_bits(self.open_of(Class::L, count));
         match value_of(slots, count) {
             Some(count) => self.grow(place, to, alignment(op), count),
             None => Ok(()),
@@ -214,15 +245,47 @@ impl<'c, A: Allocator + Copy> Shadow<'c, A> {
         let Some(address) = value_of(slots, callee) else {
             return Ok(());
         };
+        self.use_callee(callee, address);
         match code.image().function_at(address) {
             Some(Callee::Defined(func)) => self.call_function(code, place, func, to, args),
-            Some(Callee::PutChar | Callee::Puts | Callee::Exit) => {
+            Some(callee) => {
+                self.call_built_in(code, place, slots, callee, args);
                 if let Some(to) = to {
                     self.calls.set(to.slot, Origin::Number);
+                    self.open.set(to.slot, open_passed(to.abi_type, 0));
                 }
                 Ok(())
             }
-            None => Ok(()),
+            None => {
+                self.open.note(self.position);
+                Ok(())
+            }
+        }
+    }
+
+    /// What a call of a function that every program has uses.
+    fn call_built_in(
+        &mut self,
+        code: &Code<'c, A>,
+        place: Place,
+        slots: &[Option<u64>],
+        callee: Callee,
+        args: &[NumberedArgument],
+    ) {
+        let Some(given) = args.first() else {
+            return;
+        };
+        let open = self.open_of(given.abi_type.class(), given.source);
+        match callee {
+            Callee::Defined(_) => {}
+            Callee::PutChar => self.use_bits(open % 256),
+            Callee::Exit => self.use_bits(open),
+            Callee::Puts => {
+                let reading = Reading::Argument(0);
+                let origin = self.origin_of(code, place, reading, Class::L, given.source);
+                self.use_bits(open);
+                self.text = value_of(slots, given.source).map(|address| (address, origin));
+            }
         }
     }
 
@@ -237,18 +300,20 @@ impl<'c, A: Allocator + Copy> Shadow<'c, A> {
     ) -> Result<(), AllocError> {
         self.moved.truncate(0);
         let params: &[(Slot, AbiType)] = code.params(func);
-        for (index, (slot, _)) in params.iter().enumerate() {
+        for (index, (slot, wanted)) in params.iter().enumerate() {
             if let Some(arg) = args.get(index) {
                 let class = arg.abi_type.class();
                 let reading = Reading::Argument(index);
                 let origin = self.origin_of(code, place, reading, class, arg.source);
                 self.moved.push((*slot, origin))?;
+                self.pass_open(arg.abi_type, arg.source, *slot, *wanted)?;
             }
         }
         if self.calls.depth() >= MOST_CALLS {
             return Ok(());
         }
         self.calls.enter(code.slot_count(func), to)?;
+        self.open.push(code.slot_count(func), to)?;
         self.put_moved();
         Ok(())
     }
@@ -262,13 +327,14 @@ impl<'c, A: Allocator + Copy> Shadow<'c, A> {
         jump: &NumberedJump<A>,
     ) -> Result<(), AllocError> {
         match jump {
-            NumberedJump::Jmp(edge) => self.go_along(code, place, edge),
+            NumberedJump::Jmp(edge) => self.take_edge(code, place, edge),
             NumberedJump::Jnz(test, set, zero) => match value_of(slots, *test) {
                 Some(value) => {
+                    self.use_test(*test, value);
                     if value % 4_294_967_296 == 0 {
-                        self.go_along(code, place, zero)
+                        self.take_edge(code, place, zero)
                     } else {
-                        self.go_along(code, place, set)
+                        self.take_edge(code, place, set)
                     }
                 }
                 None => Ok(()),
@@ -293,12 +359,13 @@ impl<'c, A: Allocator + Copy> Shadow<'c, A> {
             Some(operand) => self.origin_of(code, place, Reading::Returned, class, operand),
             None => Origin::Number,
         };
+        self.return_open(code.returns(place.func), operand);
         self.give_back(origin);
     }
 
     /// Goes along an edge.
     #[inline(always)]
-    fn go_along(
+    fn take_edge(
         &mut self,
         code: &Code<'c, A>,
         place: Place,
@@ -308,7 +375,20 @@ impl<'c, A: Allocator + Copy> Shadow<'c, A> {
             [] => Ok(()),
             [only] => {
                 let origin = self.phi_origin(code, place, edge.to, 0, only);
+                let open = self.phi_open(only);
                 self.calls.set(only.target, origin);
+                self.open.set(only.target, open);
+                Ok(())
+            }
+            [first, second] => {
+                let origin = self.phi_origin(code, place, edge.to, 0, first);
+                let other = self.phi_origin(code, place, edge.to, 1, second);
+                let open = self.phi_open(first);
+                let other_open = self.phi_open(second);
+                self.calls.set(first.target, origin);
+                self.calls.set(second.target, other);
+                self.open.set(first.target, open);
+                self.open.set(second.target, other_open);
                 Ok(())
             }
             moves => self.do_phis(code, place, edge.to, moves),
@@ -327,6 +407,8 @@ impl<'c, A: Allocator + Copy> Shadow<'c, A> {
         for (index, one) in moves.iter().enumerate() {
             let origin = self.phi_origin(code, place, to, index, one);
             self.moved.push((one.target, origin))?;
+            let open = self.phi_open(one);
+            self.open.gather(one.target, open)?;
         }
         self.put_moved();
         Ok(())

@@ -1,4 +1,4 @@
-//! What is told of an access that is suspicious.
+//! The report of a suspicious access.
 
 use crate::access::{Action, Kind};
 use crate::object::{Object, ObjectKind};

@@ -1,63 +1,9 @@
-//! What instructions say of classes and widths.
+//! What instructions say of classes.
 
-ghost use Rattle.std.specs.Prelude.{◌≡◌, ◌≤◌, ◌<◌};
-ghost use Rattle.qil_memory.specs.qil_rules.Mentions.{returned_class};
-ghost use Rattle.qil_memory.specs.qil_rules.Operands.{right_class, stored_class};
-ghost use Rattle.qil_memory.specs.qil_layout.Layout.{width_bytes};
-ghost use Rattle.qil_meaning.specs.Step.{alignment};
+ghost use Rattle.std.specs.Prelude.{◌≡◌};
+ghost use Rattle.qil_memory.specs.qil_rules.Operands.{right_class};
 
-use qil_tree::{AbiType, AllocOp, BinaryOp, Class, Width};
-
-/// The class in which a number to store is read.
-#[inline(always)]
-pub(crate) fn class_stored(width: Width) -> Class
-    ensures { result ≡ stored_class width }
-{
-    match width {
-        Width::L => Class::L,
-        Width::B | Width::H | Width::W => Class::W,
-    }
-}
-
-/// How many bytes a store writes.
-#[inline(always)]
-pub(crate) fn byte_count(width: Width) -> u64
-    ensures value { result ≡ width_bytes width }
-    ensures some { 0 < result }
-    ensures few { result ≤ 8 }
-{
-    match width {
-        Width::B => 1,
-        Width::H => 2,
-        Width::W => 4,
-        Width::L => 8,
-    }
-}
-
-/// The multiple to which the top is rounded up.
-#[inline(always)]
-pub(crate) fn alignment(op: AllocOp) -> u64
-    ensures value { result ≡ alignment op }
-    ensures some { 0 < result }
-    ensures few { result ≤ 16 }
-{
-    match op {
-        AllocOp::Four => 4,
-        AllocOp::Eight => 8,
-        AllocOp::Sixteen => 16,
-    }
-}
-
-/// The class in which a returned value is read.
-#[inline(always)]
-pub(crate) fn class_returned(returns: Option<AbiType>) -> Class
-    ensures { result ≡ returned_class returns }
-{
-    match returns {
-        Some(abi_type) => abi_type.class(),
-        None => Class::W,
-    }
-}
+use qil_tree::{BinaryOp, Class};
 
 /// The class of the second operand: the amount of a shift is a word.
 #[inline(always)]

@@ -10,12 +10,12 @@ use Rattle.qil_tree.specs.declared.ops.AbiType.{AbiType}
 use Rattle.qil_tree.specs.declared.tree.Param.{Param}
 use Rattle.qil_tree.specs.declared.tree.Func.{Func}
 use Rattle.qil_tree.specs.declared.tree.Program.{Program}
-use Rattle.qil_meaning.specs.State.{Name, Temps}
-use Rattle.qil_meaning.specs.Names.{block_names, temps_named}
-use Rattle.qil_meaning.specs.Slots.{slot_of, temps_of}
-use Rattle.qil_meaning.specs.Temps.{with_temp, by_name, named, overlay}
-use Rattle.qil_meaning.specs.Values.{fit, fit_all}
-use Rattle.qil_meaning.specs.Calls.{shape_of}
+use Rattle.qil_semantics.specs.State.{Name, Temps}
+use Rattle.qil_semantics.specs.Names.{block_names, temps_named}
+use Rattle.qil_semantics.specs.Slots.{slot_of, temps_of}
+use Rattle.qil_semantics.specs.Temps.{with_temp, by_name, named, overlay}
+use Rattle.qil_semantics.specs.Values.{fit, fit_all}
+use Rattle.qil_semantics.specs.Calls.{shape_of}
 use Rattle.qil_code.specs.declared.numbered.Slot.{Slot}
 use Rattle.qil_code.specs.declared.numbered.NumberedArgument.{NumberedArgument}
 use Rattle.qil_code.specs.declared.numbered.FuncCode.{FuncCode}

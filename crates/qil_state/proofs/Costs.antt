@@ -10,11 +10,11 @@ use Rattle.qil_tree.specs.declared.tree.JumpKind.TheVariants as jumps
 use Rattle.qil_tree.specs.declared.tree.Block.{Block}
 use Rattle.qil_tree.specs.declared.tree.Func.{Func}
 use Rattle.qil_tree.specs.declared.tree.Program.{Program}
-use Rattle.qil_meaning.specs.State as meaning
-use Rattle.qil_meaning.specs.State.{Name, State}
-use Rattle.qil_meaning.specs.Names.{temps_named}
-use Rattle.qil_meaning.specs.Step.{func_named, block_labelled}
-use Rattle.qil_meaning.specs.Cost.{inst_cost, jump_cost, place_cost, block_cost, func_cost, outcome_cost, cost_in}
+use Rattle.qil_semantics.specs.State as meaning
+use Rattle.qil_semantics.specs.State.{Name, State}
+use Rattle.qil_semantics.specs.Names.{temps_named}
+use Rattle.qil_semantics.specs.Step.{func_named, block_labelled}
+use Rattle.qil_semantics.specs.Cost.{inst_cost, jump_cost, place_cost, block_cost, func_cost, outcome_cost, cost_in}
 use Rattle.qil_code.specs.declared.numbered.NumberedBlock.{NumberedBlock}
 use Rattle.qil_code.specs.declared.numbered.NumberedInst.{NumberedInst}
 use Rattle.qil_code.specs.Facts.{Finds, KnowsLabels}

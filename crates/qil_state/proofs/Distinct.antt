@@ -6,9 +6,9 @@ use Rattle.std.specs.Str.{bytes_eq}
 use Rattle.std.proofs.lemmas.Slice.Eq.{bytes_eq-Decides}
 use Rattle.qil_tree.specs.declared.tree.Func.{Func}
 use Rattle.qil_tree.specs.declared.tree.Program.{Program}
-use Rattle.qil_meaning.specs.State.{Name}
-use Rattle.qil_meaning.specs.Slots.{slot_of}
-use Rattle.qil_meaning.specs.Names.{once, block_names}
+use Rattle.qil_semantics.specs.State.{Name}
+use Rattle.qil_semantics.specs.Slots.{slot_of}
+use Rattle.qil_semantics.specs.Names.{once, block_names}
 use Rattle.qil_code.specs.Slots.{name_at}
 use Rattle.qil_code.specs.Numbered.{func_at, names_in, names_of}
 

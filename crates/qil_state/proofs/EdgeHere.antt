@@ -4,11 +4,11 @@ use Rattle.std.specs.List.{All, flat_map}
 use Rattle.qil_tree.specs.declared.tree.Block.{Block}
 use Rattle.qil_tree.specs.declared.tree.Func.{Func}
 use Rattle.qil_tree.specs.declared.tree.Program.{Program}
-use Rattle.qil_meaning.specs.State as meaning
-use Rattle.qil_meaning.specs.State.{Name, State, unset_temporary}
-use Rattle.qil_meaning.specs.Values.{Outcome, ◌>>=◌}
-use Rattle.qil_meaning.specs.Step as step
-use Rattle.qil_meaning.specs.Step.{phi_moves, merges, enters_block, goes, block_labelled}
+use Rattle.qil_semantics.specs.State as meaning
+use Rattle.qil_semantics.specs.State.{Name, State, unset_temporary}
+use Rattle.qil_semantics.specs.Values.{Outcome, ◌>>=◌}
+use Rattle.qil_semantics.specs.Step as step
+use Rattle.qil_semantics.specs.Step.{phi_moves, merges, enters_block, goes, block_labelled}
 use Rattle.qil_code.specs.declared.numbered.Slot.{Slot}
 use Rattle.qil_code.specs.declared.numbered.Edge.{Edge}
 use Rattle.qil_code.specs.Slots.{name_at}

@@ -8,14 +8,14 @@ use Rattle.std.proofs.lemmas.List.{length-set}
 use Rattle.std.proofs.lemmas.List.Elements.{All-head, All-tail}
 use Rattle.qil_tree.specs.declared.ops.Class.{Class}
 use Rattle.qil_tree.specs.declared.tree.Program.{Program}
-use Rattle.qil_meaning.specs.State as meaning
-use Rattle.qil_meaning.specs.State.{Name, Temps, unset_temporary}
-use Rattle.qil_meaning.specs.Slots.{temps_of}
-use Rattle.qil_meaning.specs.Temps.{with_temp, by_name, named, overlay}
-use Rattle.qil_meaning.specs.Values as values
-use Rattle.qil_meaning.specs.Values.{Outcome, ◌>>=◌, val, vals}
-use Rattle.qil_meaning.specs.Step as step
-use Rattle.qil_meaning.specs.Step.{move_read, merges}
+use Rattle.qil_semantics.specs.State as meaning
+use Rattle.qil_semantics.specs.State.{Name, Temps, unset_temporary}
+use Rattle.qil_semantics.specs.Slots.{temps_of}
+use Rattle.qil_semantics.specs.Temps.{with_temp, by_name, named, overlay}
+use Rattle.qil_semantics.specs.Values as values
+use Rattle.qil_semantics.specs.Values.{Outcome, ◌>>=◌, val, vals}
+use Rattle.qil_semantics.specs.Step as step
+use Rattle.qil_semantics.specs.Step.{move_read, merges}
 use Rattle.qil_code.specs.declared.numbered.Slot.{Slot}
 use Rattle.qil_code.specs.declared.numbered.NumberedOperand.{NumberedOperand}
 use Rattle.qil_code.specs.declared.numbered.NumberedOperand.TheVariants as numbered_operands

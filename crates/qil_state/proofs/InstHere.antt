@@ -6,10 +6,10 @@ use Rattle.qil_tree.specs.declared.tree.Inst.{Inst}
 use Rattle.qil_tree.specs.declared.tree.Block.{Block}
 use Rattle.qil_tree.specs.declared.tree.Func.{Func}
 use Rattle.qil_tree.specs.declared.tree.Program.{Program}
-use Rattle.qil_meaning.specs.State as meaning
-use Rattle.qil_meaning.specs.State.{Name, State}
-use Rattle.qil_meaning.specs.Names.{temps_named}
-use Rattle.qil_meaning.specs.Step.{does}
+use Rattle.qil_semantics.specs.State as meaning
+use Rattle.qil_semantics.specs.State.{Name, State}
+use Rattle.qil_semantics.specs.Names.{temps_named}
+use Rattle.qil_semantics.specs.Step.{does}
 use Rattle.qil_code.specs.declared.numbered.NumberedBlock.{NumberedBlock}
 use Rattle.qil_code.specs.declared.numbered.NumberedInst.{NumberedInst}
 use Rattle.qil_code.specs.Facts.{Finds}

@@ -10,12 +10,12 @@ use Rattle.qil_tree.specs.declared.tree.JumpKind.TheVariants as jumps
 use Rattle.qil_tree.specs.declared.tree.Block.{Block}
 use Rattle.qil_tree.specs.declared.tree.Func.{Func}
 use Rattle.qil_tree.specs.declared.tree.Program.{Program}
-use Rattle.qil_rules.specs.Mentions.{returned_class}
-use Rattle.qil_meaning.specs.State as meaning
-use Rattle.qil_meaning.specs.State.{Name, State, halted}
-use Rattle.qil_meaning.specs.Names.{temps_named}
-use Rattle.qil_meaning.specs.Values.{◌>>=◌, val, fit}
-use Rattle.qil_meaning.specs.Step.{does, leave, goes, returns}
+use Rattle.qil_rules.specs.Occurrences.{returned_class}
+use Rattle.qil_semantics.specs.State as meaning
+use Rattle.qil_semantics.specs.State.{Name, State, halted}
+use Rattle.qil_semantics.specs.Names.{temps_named}
+use Rattle.qil_semantics.specs.Values.{◌>>=◌, val, fit}
+use Rattle.qil_semantics.specs.Step.{does, leave, goes, returns}
 use Rattle.qil_code.specs.declared.numbered.NumberedBlock.{NumberedBlock}
 use Rattle.qil_code.specs.Facts.{Finds, KnowsLabels, jump_labels}
 use Rattle.qil_code.specs.Gather.{labels_in}

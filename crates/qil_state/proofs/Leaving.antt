@@ -8,13 +8,13 @@ use Rattle.qil_tree.specs.declared.ops.AbiType.TheVariants as types
 use Rattle.qil_tree.specs.declared.tree.Block.{Block}
 use Rattle.qil_tree.specs.declared.tree.Func.{Func}
 use Rattle.qil_tree.specs.declared.tree.Program.{Program}
-use Rattle.qil_rules.specs.Mentions.{returned_class}
+use Rattle.qil_rules.specs.Occurrences.{returned_class}
 use Rattle.qil_memory.specs.Buffers.{Buffers}
-use Rattle.qil_meaning.specs.State as meaning
-use Rattle.qil_meaning.specs.State.{Name, State, halted}
-use Rattle.qil_meaning.specs.Slots.{temps_of}
-use Rattle.qil_meaning.specs.Values.{◌>>=◌, val, fit}
-use Rattle.qil_meaning.specs.Step.{goes}
+use Rattle.qil_semantics.specs.State as meaning
+use Rattle.qil_semantics.specs.State.{Name, State, halted}
+use Rattle.qil_semantics.specs.Slots.{temps_of}
+use Rattle.qil_semantics.specs.Values.{◌>>=◌, val, fit}
+use Rattle.qil_semantics.specs.Step.{goes}
 use Rattle.qil_code.specs.declared.numbered.Slot.{Slot}
 use Rattle.qil_code.specs.declared.numbered.NumberedOperand.{NumberedOperand}
 use Rattle.qil_code.specs.declared.numbered.Edge.{Edge}

@@ -11,10 +11,10 @@ use Rattle.qil_tree.specs.declared.tree.Program.{Program}
 use Rattle.qil_tree.specs.Types.{class_of}
 use Rattle.qil_rules.specs.Operands.{argument_read}
 use Rattle.qil_ops.specs.Values.{width, low_bits}
-use Rattle.qil_meaning.specs.State.{Name, unset_temporary}
-use Rattle.qil_meaning.specs.Slots.{temps_of}
-use Rattle.qil_meaning.specs.Values.{Outcome, ◌>>=◌, known, vals}
-use Rattle.qil_meaning.specs.Calls.{agree, agree_all, gives, is_in_shape}
+use Rattle.qil_semantics.specs.State.{Name, unset_temporary}
+use Rattle.qil_semantics.specs.Slots.{temps_of}
+use Rattle.qil_semantics.specs.Values.{Outcome, ◌>>=◌, known, vals}
+use Rattle.qil_semantics.specs.Calls.{agree, agree_all, gives, is_in_shape}
 use Rattle.qil_code.specs.declared.numbered.Slot.{Slot}
 use Rattle.qil_code.specs.declared.numbered.NumberedOperand.{NumberedOperand}
 use Rattle.qil_code.specs.declared.numbered.NumberedOperand.TheVariants as numbered_operands

@@ -5,10 +5,10 @@ use Rattle.std.specs.Option.{option_and_then}
 use Rattle.qil_tree.specs.declared.tree.Block.{Block}
 use Rattle.qil_tree.specs.declared.tree.Func.{Func}
 use Rattle.qil_tree.specs.declared.tree.Program.{Program}
-use Rattle.qil_meaning.specs.State as meaning
-use Rattle.qil_meaning.specs.State.{Name, State}
-use Rattle.qil_meaning.specs.Names.{temps_named}
-use Rattle.qil_meaning.specs.Step.{does, in_func, in_block, func_named, block_labelled}
+use Rattle.qil_semantics.specs.State as meaning
+use Rattle.qil_semantics.specs.State.{Name, State}
+use Rattle.qil_semantics.specs.Names.{temps_named}
+use Rattle.qil_semantics.specs.Step.{does, in_func, in_block, func_named, block_labelled}
 use Rattle.qil_code.specs.declared.numbered.NumberedBlock.{NumberedBlock}
 use Rattle.qil_code.specs.Facts.{Finds}
 use Rattle.qil_code.specs.Numbered.{block_of, func_at, block_in, block_at, names_in, names_of}

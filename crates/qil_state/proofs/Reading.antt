@@ -5,11 +5,11 @@ use Rattle.std.proofs.lemmas.Option.{get_or_from_slice_get}
 use Rattle.qil_tree.specs.declared.ops.Class.{Class}
 use Rattle.qil_tree.specs.declared.tree.Program.{Program}
 use Rattle.qil_ops.specs.Values.{width, low_bits}
-use Rattle.qil_meaning.specs.State.{Name}
-use Rattle.qil_meaning.specs.Temps.{with_temp}
-use Rattle.qil_meaning.specs.Slots.{temps_of}
-use Rattle.qil_meaning.specs.Values.{Outcome, known, val}
-use Rattle.qil_meaning.proofs.SlotLemmas.{temps-at, temps-set}
+use Rattle.qil_semantics.specs.State.{Name}
+use Rattle.qil_semantics.specs.Temps.{with_temp}
+use Rattle.qil_semantics.specs.Slots.{temps_of}
+use Rattle.qil_semantics.specs.Values.{Outcome, known, val}
+use Rattle.qil_semantics.proofs.SlotLemmas.{temps-at, temps-set}
 use Rattle.qil_code.specs.declared.numbered.NumberedOperand.{NumberedOperand}
 use Rattle.qil_code.specs.declared.numbered.NumberedOperand.TheVariants as numbered_operands
 use Rattle.qil_code.specs.Slots.{name_at}

@@ -17,17 +17,17 @@ use Rattle.qil_tree.specs.declared.tree.JumpKind.TheVariants as jumps
 use Rattle.qil_tree.specs.declared.tree.Func.{Func}
 use Rattle.qil_tree.specs.declared.tree.Program.{Program}
 use Rattle.qil_rules.specs.Operands.{Read, expr_reads, inst_reads, argument_read, as_class}
-use Rattle.qil_rules.specs.Mentions.{returned_class}
+use Rattle.qil_rules.specs.Occurrences.{returned_class}
 use Rattle.qil_memory.specs.qil_layout.declared.callee.Callee.{Callee}
 use Rattle.qil_memory.specs.qil_layout.declared.callee.Callee.TheVariants.{Defined, PutChar, Puts, Exit}
 use Rattle.qil_memory.specs.qil_layout.Callee.{callee_at}
 use Rattle.qil_memory.specs.Live.{Live}
-use Rattle.qil_meaning.specs.State as meaning
-use Rattle.qil_meaning.specs.State.{Temps, State, call_shape}
-use Rattle.qil_meaning.specs.Values.{◌>>=◌, val, vals, result_of, fit, fit_all, first, rest}
-use Rattle.qil_meaning.specs.Calls.{Shape, next, in_shape, agree_all, gives, call_at, call_defined, shape_of, enters, putchar, puts, shape_of_putchar, shape_of_puts, shape_of_exit}
-use Rattle.qil_meaning.specs.Step as step
-use Rattle.qil_meaning.specs.Step.{act, sets, goes, leave, returns, move_read}
+use Rattle.qil_semantics.specs.State as meaning
+use Rattle.qil_semantics.specs.State.{Temps, State, call_shape}
+use Rattle.qil_semantics.specs.Values.{◌>>=◌, val, vals, result_of, fit, fit_all, first, rest}
+use Rattle.qil_semantics.specs.Calls.{Shape, next, in_shape, agree_all, gives, call_at, call_defined, shape_of, enters, putchar, puts, shape_of_putchar, shape_of_puts, shape_of_exit}
+use Rattle.qil_semantics.specs.Step as step
+use Rattle.qil_semantics.specs.Step.{act, sets, goes, leave, returns, move_read}
 use Rattle.qil_code.specs.Named.{resolved, resolved_expr, resolved_inst, resolved_argument, resolved_move, resolved_jump}
 
 -- ---- operands

@@ -3,10 +3,10 @@ use Rattle.std.proofs.Common.{◌≡◌, refl, sym, ap, ◌∙◌, subst, ℕ, �
 use Rattle.std.specs.Prelude.{slice_get}
 use Rattle.qil_tree.specs.declared.tree.Program.{Program}
 use Rattle.qil_memory.specs.Buffers.{Buffers}
-use Rattle.qil_meaning.specs.State as meaning
-use Rattle.qil_meaning.specs.State.{State}
-use Rattle.qil_meaning.specs.Step.{step_of, step_in, settled}
-use Rattle.qil_meaning.specs.Values.{Outcome}
+use Rattle.qil_semantics.specs.State as meaning
+use Rattle.qil_semantics.specs.State.{State}
+use Rattle.qil_semantics.specs.Step.{step_of, step_in, settled}
+use Rattle.qil_semantics.specs.Values.{Outcome}
 use Rattle.qil_code.specs.declared.numbered.NumberedBlock.{NumberedBlock}
 use Rattle.qil_code.specs.declared.numbered.NumberedInst.{NumberedInst}
 use Rattle.qil_code.specs.Facts.{Finds, KnowsLabels}

@@ -1,7 +1,7 @@
 -- The slots of a new frame, and what arguments pass to it.
 use Rattle.std.specs.Prelude.{ℕ, List, [], ◌∷◌, map, slice_set, Option, Some}
 use Rattle.qil_tree.specs.declared.ops.AbiType.{AbiType}
-use Rattle.qil_meaning.specs.Values.{fit}
+use Rattle.qil_semantics.specs.Values.{fit}
 use Rattle.qil_code.specs.declared.numbered.Slot.{Slot}
 use Rattle.qil_code.specs.declared.numbered.NumberedArgument.{NumberedArgument}
 use Rattle.qil_state.specs.Values.{argument_value}

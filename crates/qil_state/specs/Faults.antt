@@ -1,8 +1,8 @@
 -- Faults and statuses by number, read through names.
 use Rattle.std.specs.Prelude.{List, Result, Ok, Err}
-use Rattle.qil_meaning.specs.State as meaning
-use Rattle.qil_meaning.specs.State.{Name}
-use Rattle.qil_meaning.specs.Values.{Outcome}
+use Rattle.qil_semantics.specs.State as meaning
+use Rattle.qil_semantics.specs.State.{Name}
+use Rattle.qil_semantics.specs.Values.{Outcome}
 use Rattle.qil_code.specs.Slots.{name_at}
 use Rattle.qil_state.specs.declared.status.Fault.{Fault}
 use Rattle.qil_state.specs.declared.status.Fault.TheVariants as faults

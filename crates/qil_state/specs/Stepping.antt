@@ -5,10 +5,10 @@ use Rattle.qil_tree.specs.declared.tree.JumpKind.{JumpKind}
 use Rattle.qil_tree.specs.declared.tree.Func.{Func}
 use Rattle.qil_tree.specs.declared.tree.Program.{Program}
 use Rattle.qil_rules.specs.Operands.{inst_reads}
-use Rattle.qil_meaning.specs.State as meaning
-use Rattle.qil_meaning.specs.State.{Name, State}
-use Rattle.qil_meaning.specs.Values.{Outcome, ◌>>=◌, vals}
-use Rattle.qil_meaning.specs.Step.{act, in_func, func_named, goes, leave, returns}
+use Rattle.qil_semantics.specs.State as meaning
+use Rattle.qil_semantics.specs.State.{Name, State}
+use Rattle.qil_semantics.specs.Values.{Outcome, ◌>>=◌, vals}
+use Rattle.qil_semantics.specs.Step.{act, in_func, func_named, goes, leave, returns}
 use Rattle.qil_code.specs.declared.numbered.Edge.{Edge}
 use Rattle.qil_code.specs.declared.numbered.NumberedInst.{NumberedInst}
 use Rattle.qil_code.specs.declared.numbered.NumberedJump.{NumberedJump}

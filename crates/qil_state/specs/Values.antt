@@ -8,10 +8,10 @@ use Rattle.qil_tree.specs.Types.{class_of}
 use Rattle.qil_rules.specs.Operands.{expr_reads}
 use Rattle.qil_ops.specs.Values.{width, low_bits}
 use Rattle.qil_memory.specs.Live.{Live}
-use Rattle.qil_meaning.specs.State.{Name, Temps}
-use Rattle.qil_meaning.specs.Slots.{slot_of}
-use Rattle.qil_meaning.specs.Values.{Outcome, ◌>>=◌, vals, result_of}
-use Rattle.qil_meaning.specs.Calls.{Shape}
+use Rattle.qil_semantics.specs.State.{Name, Temps}
+use Rattle.qil_semantics.specs.Slots.{slot_of}
+use Rattle.qil_semantics.specs.Values.{Outcome, ◌>>=◌, vals, result_of}
+use Rattle.qil_semantics.specs.Calls.{Shape}
 use Rattle.qil_code.specs.declared.numbered.Slot.{Slot}
 use Rattle.qil_code.specs.declared.numbered.NumberedOperand.{NumberedOperand}
 use Rattle.qil_code.specs.declared.numbered.NumberedOperand.TheVariants as numbered_operands

@@ -4,12 +4,12 @@ use Rattle.std.proofs.lemmas.Bool.{ne_eqb}
 use Rattle.std.proofs.lemmas.Bool.Decides.{nat_tests, Decides-eqb}
 use Rattle.std.specs.Prelude.{◌==◌}
 use Rattle.std.specs.Option.{option_or}
-use Rattle.qil_meaning.specs.State.{State}
-use Rattle.qil_meaning.specs.Timeline.{Timeline, position, oldest, back, back_to, gone}
-use Rattle.qil_meaning.specs.Stops.{Numbered, stopped}
-use Rattle.qil_meaning.specs.Runs.{if_holds, within, bottom, stop_back, stopping, IsLeast, RunsBack}
-use Rattle.qil_meaning.specs.declared.reason.Reason.{Reason}
-use Rattle.qil_meaning.specs.declared.reason.Reason.TheVariants.{End, Watch, Break, Start, Oldest, Limit, Memory}
+use Rattle.qil_semantics.specs.State.{State}
+use Rattle.qil_semantics.specs.Timeline.{Timeline, position, oldest, back, back_to, gone}
+use Rattle.qil_semantics.specs.Stops.{Numbered, stopped}
+use Rattle.qil_semantics.specs.Runs.{if_holds, within, bottom, stop_back, stopping, IsLeast, RunsBack}
+use Rattle.qil_semantics.specs.declared.reason.Reason.{Reason}
+use Rattle.qil_semantics.specs.declared.reason.Reason.TheVariants.{End, Watch, Break, Start, Oldest, Limit, Memory}
 use Rattle.qil_stops.proofs.OnWay.{Passes, passes_more, least_at, least_limit, stopped-plain}
 
 -- ---- on the way: after k moves nothing was a reason to stop, and here only the oldest state can be one

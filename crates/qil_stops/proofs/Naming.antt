@@ -4,9 +4,9 @@ use Rattle.std.proofs.lemmas.Bool.Decides.{Decides-eqb}
 use Rattle.std.specs.Prelude.{◌==◌, find, option_map}
 use Rattle.std.specs.List.{filter_map}
 use Rattle.qil_tree.specs.declared.tree.Program.{Program}
-use Rattle.qil_meaning.specs.State.{State}
-use Rattle.qil_meaning.specs.Stops as meaning
-use Rattle.qil_meaning.specs.Stops.{Numbered, AreListed, differs, is_held, first_watch, first_break}
+use Rattle.qil_semantics.specs.State.{State}
+use Rattle.qil_semantics.specs.Stops as meaning
+use Rattle.qil_semantics.specs.Stops.{Numbered, AreListed, differs, is_held, first_watch, first_break}
 use Rattle.qil_stops.specs.declared.stop.NumberedStop.{NumberedStop}
 use Rattle.qil_stops.specs.Listed.{IsRising}
 use Rattle.qil_stops.specs.Named.{named, named_kind, named_stops, passes}

@@ -7,12 +7,12 @@ use Rattle.std.proofs.lemmas.Bool.{cases_lt}
 use Rattle.std.proofs.lemmas.List.{length-take}
 use borrow.Author.Count.{below_more}
 use Rattle.qil_tree.specs.declared.tree.Program.{Program}
-use Rattle.qil_meaning.specs.State.{State}
-use Rattle.qil_meaning.specs.Timeline.{Timeline, forward, position, at_end, moved, newest, forgotten_of}
-use Rattle.qil_meaning.specs.Stops.{Numbered, first_watch, first_break, stopped}
-use Rattle.qil_meaning.specs.Runs.{if_holds, within, stop_on, stopping, IsLeast, RunsOn}
-use Rattle.qil_meaning.specs.declared.reason.Reason.{Reason}
-use Rattle.qil_meaning.specs.declared.reason.Reason.TheVariants.{End, Watch, Break, Start, Oldest, Limit, Memory}
+use Rattle.qil_semantics.specs.State.{State}
+use Rattle.qil_semantics.specs.Timeline.{Timeline, forward, position, at_end, moved, newest, forgotten_of}
+use Rattle.qil_semantics.specs.Stops.{Numbered, first_watch, first_break, stopped}
+use Rattle.qil_semantics.specs.Runs.{if_holds, within, stop_on, stopping, IsLeast, RunsOn}
+use Rattle.qil_semantics.specs.declared.reason.Reason.{Reason}
+use Rattle.qil_semantics.specs.declared.reason.Reason.TheVariants.{End, Watch, Break, Start, Oldest, Limit, Memory}
 
 -- nothing stops after fewer than k moves
 abbrev pub Passes : (ℕ → Option Reason) → ℕ → Type 0

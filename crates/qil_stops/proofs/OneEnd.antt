@@ -2,11 +2,11 @@
 use Rattle.std.proofs.Common.{◌≡◌, ◌≢◌, sym, ap, ◌∙◌, ℕ, ◌<◌, ◌≤◌, ⊎_elim, Option, Some, None, refl, List, arith}
 use Rattle.std.proofs.lemmas.Bool.{cases_lt}
 use Rattle.qil_tree.specs.declared.tree.Program.{Program}
-use Rattle.qil_meaning.specs.Timeline.{Timeline, moved, gone}
-use Rattle.qil_meaning.specs.Stops.{Numbered}
-use Rattle.qil_meaning.specs.Runs.{stop_on, stop_back}
-use Rattle.qil_meaning.specs.declared.reason.Reason.{Reason}
-use Rattle.qil_meaning.specs.declared.reason.Reason.TheVariants.{End, Watch, Break, Start, Oldest, Limit, Memory}
+use Rattle.qil_semantics.specs.Timeline.{Timeline, moved, gone}
+use Rattle.qil_semantics.specs.Stops.{Numbered}
+use Rattle.qil_semantics.specs.Runs.{stop_on, stop_back}
+use Rattle.qil_semantics.specs.declared.reason.Reason.{Reason}
+use Rattle.qil_semantics.specs.declared.reason.Reason.TheVariants.{End, Watch, Break, Start, Oldest, Limit, Memory}
 use Rattle.qil_stops.specs.declared.depth_end.DepthEnd.{DepthEnd}
 use Rattle.qil_stops.specs.declared.depth_end.DepthEnd.TheVariants.{Depth, Stopped}
 use Rattle.qil_stops.specs.Depths.{depth, Passes, EndsAnyway, Ends, RunsToDepth, RunsBackToDepth}

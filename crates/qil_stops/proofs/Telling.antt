@@ -14,11 +14,11 @@ use Rattle.qil_tree.specs.declared.tree.Program.{Program}
 use Rattle.qil_layout.specs.Layout.{low_bytes}
 use Rattle.qil_memory.specs.Bytes.{number}
 use Rattle.qil_memory.specs.Live.{read}
-use Rattle.qil_meaning.specs.State.{Name, State, is_final}
-use Rattle.qil_meaning.specs.Stops.{Reading, dead, unset, bytes_read, value_read, bytes_reading, value_reading, same_reading, reading, memory_at, temp_in, differs, is_held, first_watch, first_break, stopped}
-use Rattle.qil_meaning.specs.Stops as meaning
-use Rattle.qil_meaning.specs.declared.reason.Reason.{Reason}
-use Rattle.qil_meaning.specs.declared.reason.Reason.TheVariants as reasons
+use Rattle.qil_semantics.specs.State.{Name, State, is_final}
+use Rattle.qil_semantics.specs.Stops.{Reading, dead, unset, bytes_read, value_read, bytes_reading, value_reading, same_reading, reading, memory_at, temp_in, differs, is_held, first_watch, first_break, stopped}
+use Rattle.qil_semantics.specs.Stops as meaning
+use Rattle.qil_semantics.specs.declared.reason.Reason.{Reason}
+use Rattle.qil_semantics.specs.declared.reason.Reason.TheVariants as reasons
 use Rattle.qil_history.specs.qil_code.Numbered.{func_at, names_of}
 use Rattle.qil_history.specs.qil_state.declared.status.Status.{Status}
 use Rattle.qil_history.specs.qil_state.declared.status.Status.TheVariants.{Running, Done, Exited, Faulted}

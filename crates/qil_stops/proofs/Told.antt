@@ -7,8 +7,8 @@ use Rattle.std.proofs.lemmas.Bool.Decides.{Decides-eqb}
 use Rattle.std.proofs.lemmas.List.{get_or_default}
 use Rattle.qil_tree.specs.declared.tree.Func.{Func}
 use Rattle.qil_tree.specs.declared.tree.Program.{Program}
-use Rattle.qil_meaning.specs.State.{Name, State, is_final}
-use Rattle.qil_meaning.specs.Stops.{is_held}
+use Rattle.qil_semantics.specs.State.{Name, State, is_final}
+use Rattle.qil_semantics.specs.Stops.{is_held}
 use Rattle.qil_code.specs.Numbered.{func_at, names_of}
 use Rattle.qil_state.specs.declared.status.Status.TheVariants.{Running}
 use Rattle.qil_state.specs.State.{Whole, state_of, head_names}

@@ -1,8 +1,8 @@
 -- With no stops there is no breakpoint.
 use Rattle.std.proofs.Common.{◌≡◌, ◌∙◌, refl, sym, ap, ℕ, List, [], length, None}
 use Rattle.qil_tree.specs.declared.tree.Program.{Program}
-use Rattle.qil_meaning.specs.State.{State}
-use Rattle.qil_meaning.specs.Stops.{first_break}
+use Rattle.qil_semantics.specs.State.{State}
+use Rattle.qil_semantics.specs.Stops.{first_break}
 use Rattle.qil_stops.specs.declared.stop.NumberedStop.{NumberedStop}
 use Rattle.qil_stops.specs.Named.{named_stops}
 use Rattle.qil_stops.proofs.Naming.{named-none}

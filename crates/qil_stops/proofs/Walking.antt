@@ -3,11 +3,11 @@ use Rattle.std.proofs.Common.{◌≡◌, refl, sym, ap, ◌∙◌, subst, ℕ, s
 use Rattle.std.specs.Option.{option_or}
 use borrow.Author.Count.{below_more}
 use Rattle.qil_tree.specs.declared.tree.Program.{Program}
-use Rattle.qil_meaning.specs.Timeline.{Timeline, forward, back, at_end, moved, gone, position, oldest}
-use Rattle.qil_meaning.specs.Stops.{Numbered, stopped}
-use Rattle.qil_meaning.specs.Runs.{if_holds, stop_on, stop_back, bottom}
-use Rattle.qil_meaning.specs.declared.reason.Reason.{Reason}
-use Rattle.qil_meaning.specs.declared.reason.Reason.TheVariants.{End, Start, Oldest, Limit, Memory}
+use Rattle.qil_semantics.specs.Timeline.{Timeline, forward, back, at_end, moved, gone, position, oldest}
+use Rattle.qil_semantics.specs.Stops.{Numbered, stopped}
+use Rattle.qil_semantics.specs.Runs.{if_holds, stop_on, stop_back, bottom}
+use Rattle.qil_semantics.specs.declared.reason.Reason.{Reason}
+use Rattle.qil_semantics.specs.declared.reason.Reason.TheVariants.{End, Start, Oldest, Limit, Memory}
 use Rattle.qil_frames.specs.Frames.{SlotFrame}
 use Rattle.qil_history.specs.qil_state.State.{frames_state}
 use Rattle.qil_stops.proofs.OnWay as on

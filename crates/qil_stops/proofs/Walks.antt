@@ -4,8 +4,8 @@ use Rattle.std.specs.Prelude.{◌↔◌, ◌≢◌}
 use Rattle.std.proofs.lemmas.Bool.{cond-true, cond-false}
 use borrow.Author.Count.{below_more}
 use Rattle.qil_tree.specs.declared.tree.Program.{Program}
-use Rattle.qil_meaning.specs.Timeline.{Timeline, forward, position, at_end, moved, gone}
-use Rattle.qil_meaning.specs.Moves.{least, forward_by, back_by}
+use Rattle.qil_semantics.specs.Timeline.{Timeline, forward, position, at_end, moved, gone}
+use Rattle.qil_semantics.specs.Moves.{least, forward_by, back_by}
 use Rattle.qil_history.specs.declared.history.BackError.{BackError}
 use Rattle.qil_history.specs.declared.history.BackError.TheVariants.{AtStart, Oldest}
 use Rattle.qil_stops.proofs.OnWay.{moved-position}

@@ -2,11 +2,11 @@
 -- which a run stops anyway.
 use Rattle.std.specs.Prelude.{◌≡◌, ℕ, ◌<◌, ◌≤◌, ◌⊎◌, List, length, Option, Some, None}
 use Rattle.qil_tree.specs.declared.tree.Program.{Program}
-use Rattle.qil_meaning.specs.Timeline.{Timeline, moved, gone}
-use Rattle.qil_meaning.specs.Stops.{Numbered}
-use Rattle.qil_meaning.specs.Runs.{stop_on, stop_back}
-use Rattle.qil_meaning.specs.declared.reason.Reason.{Reason}
-use Rattle.qil_meaning.specs.declared.reason.Reason.TheVariants.{Limit, Memory}
+use Rattle.qil_semantics.specs.Timeline.{Timeline, moved, gone}
+use Rattle.qil_semantics.specs.Stops.{Numbered}
+use Rattle.qil_semantics.specs.Runs.{stop_on, stop_back}
+use Rattle.qil_semantics.specs.declared.reason.Reason.{Reason}
+use Rattle.qil_semantics.specs.declared.reason.Reason.TheVariants.{Limit, Memory}
 use Rattle.qil_stops.specs.declared.depth_end.DepthEnd.{DepthEnd}
 use Rattle.qil_stops.specs.declared.depth_end.DepthEnd.TheVariants.{Depth, Stopped}
 

@@ -4,9 +4,9 @@ use Rattle.std.specs.List.{filter_map}
 use Rattle.qil_tree.specs.declared.tree.Block.{Block}
 use Rattle.qil_tree.specs.declared.tree.Func.{Func}
 use Rattle.qil_tree.specs.declared.tree.Program.{Program}
-use Rattle.qil_meaning.specs.State.{Name}
-use Rattle.qil_meaning.specs.Stops as meaning
-use Rattle.qil_meaning.specs.Stops.{memory_at, temp_in, break_at, watch, Numbered}
+use Rattle.qil_semantics.specs.State.{Name}
+use Rattle.qil_semantics.specs.Stops as meaning
+use Rattle.qil_semantics.specs.Stops.{memory_at, temp_in, break_at, watch, Numbered}
 use Rattle.qil_history.specs.qil_code.Numbered.{func_at, block_at, names_of}
 use Rattle.qil_stops.specs.declared.stop.Place.{Place}
 use Rattle.qil_stops.specs.declared.stop.Watched.{Watched}

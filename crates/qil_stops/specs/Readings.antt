@@ -5,8 +5,8 @@ use Rattle.qil_tree.specs.declared.tree.Program.{Program}
 use Rattle.qil_layout.specs.Layout.{low_bytes}
 use Rattle.qil_memory.specs.Bytes.{number}
 use Rattle.qil_memory.specs.Live.{read}
-use Rattle.qil_meaning.specs.State.{Name, State}
-use Rattle.qil_meaning.specs.Stops.{temp_in, reading, value_reading}
+use Rattle.qil_semantics.specs.State.{Name, State}
+use Rattle.qil_semantics.specs.Stops.{temp_in, reading, value_reading}
 use Rattle.qil_history.specs.qil_code.Numbered.{func_at, names_of}
 use Rattle.qil_stops.specs.declared.stop.Watched.{Watched}
 use Rattle.qil_stops.specs.declared.stop.Watched.TheVariants.{Bytes, Temp}

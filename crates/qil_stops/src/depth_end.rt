@@ -1,6 +1,6 @@
 //! Why a run over calls ended.
 
-use qil_meaning::Reason;
+use qil_semantics::Reason;
 
 /// Why a run over calls ended.
 #[derive(Clone, Copy, PartialEq, Eq)]

@@ -1,9 +1,9 @@
 //! Runs forward and back to a depth of calls.
 
 ghost use Rattle.std.specs.Prelude.{◌≡◌, ◌+◌, ◌≤◌, ◌^◌, length, cond};
-ghost use Rattle.qil_meaning.specs.Timeline.{position, at_end};
-ghost use Rattle.qil_meaning.specs.declared.reason.Reason.TheVariants.{End};
-ghost use Rattle.qil_meaning.specs.Runs.{bottom};
+ghost use Rattle.qil_semantics.specs.Timeline.{position, at_end};
+ghost use Rattle.qil_semantics.specs.declared.reason.Reason.TheVariants.{End};
+ghost use Rattle.qil_semantics.specs.Runs.{bottom};
 ghost use Rattle.qil_stops.specs.Listed.{AreReadable};
 ghost use Rattle.qil_stops.specs.Named.{named_stops};
 ghost use Rattle.qil_stops.specs.Depths.{RunsToDepth, RunsBackToDepth, bottom_or_depth};
@@ -13,7 +13,7 @@ use crate::{
     BackError, History, Machine, MoveError, NumberedStop, Stops, bottom_or_limit, end_or, is_over,
     machine_of, readings_here, stopped_here,
 };
-use qil_meaning::Reason;
+use qil_semantics::Reason;
 use std::alloc::Allocator;
 
 /// How many calls are open.

@@ -1,8 +1,8 @@
 //! Looks for a stop at the machine's state, after a move.
 
 ghost use Rattle.std.specs.Prelude.{◌≡◌, ◌≤◌, [], ◌∷◌, length};
-ghost use Rattle.qil_meaning.specs.State.{State, is_final};
-ghost use Rattle.qil_meaning.specs.Stops.{first_watch, first_break, stopped};
+ghost use Rattle.qil_semantics.specs.State.{State, is_final};
+ghost use Rattle.qil_semantics.specs.Stops.{first_watch, first_break, stopped};
 ghost use Rattle.qil_history.specs.qil_state.State.{state_of};
 ghost use Rattle.qil_stops.specs.Listed.{IsReadable, AreReadable};
 ghost use Rattle.qil_stops.specs.Named.{named_stops};
@@ -11,7 +11,7 @@ ghost use Rattle.qil_stops.specs.Readings.{Tells, AllTell};
 use crate::stop::NumberedStop;
 use arrayvec::ArrayVec;
 use qil_history::Machine;
-use qil_meaning::Reason;
+use qil_semantics::Reason;
 use std::alloc::Allocator;
 
 /// Whether the run is over.

@@ -1,8 +1,8 @@
 //! Looks at the state that a machine is in: what stops read there, and which of them hold.
 
 ghost use Rattle.std.specs.Prelude.{◌≡◌, ◌<◌, ◌≤◌, false, None, length};
-ghost use Rattle.qil_meaning.specs.State.{State, is_final};
-ghost use Rattle.qil_meaning.specs.Stops.{is_held, first_watch, first_break, stopped};
+ghost use Rattle.qil_semantics.specs.State.{State, is_final};
+ghost use Rattle.qil_semantics.specs.Stops.{is_held, first_watch, first_break, stopped};
 ghost use Rattle.qil_state.specs.State.{state_of};
 ghost use Rattle.qil_stops.specs.Listed.{HasWidth, IsReadable, AreReadable};
 ghost use Rattle.qil_stops.specs.Named.{named_kind, named_stops, passes};
@@ -13,7 +13,7 @@ use crate::watchable::Watchable;
 use crate::{NumberedStop, Place, StopKind, Watched};
 use arrayvec::ArrayVec;
 use qil_history::HasProgram;
-use qil_meaning::Reason;
+use qil_semantics::Reason;
 use std::alloc::Allocator;
 
 /// Whether the run is over.

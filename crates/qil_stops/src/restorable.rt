@@ -2,10 +2,10 @@
 
 ghost use Rattle.std.specs.Prelude.{◌≡◌, ◌+◌, ◌<◌, ◌≤◌, ◌⊎◌, ◌∷◌, ◌++◌, ℕ, [], true, false, length, take, drop, slice_get, Some, Ok, Err, IfOk, IfErr, OnOk, OnErr, None};
 ghost use Rattle.qil_memory.specs.Calls.{IsWidth};
-ghost use Rattle.qil_meaning.specs.State.{is_final};
-ghost use Rattle.qil_meaning.specs.Poke.{poke_temp, poke_memory, dead_bytes};
-ghost use Rattle.qil_meaning.specs.Stops.{first_break};
-ghost use Rattle.qil_meaning.specs.Targets.{after};
+ghost use Rattle.qil_semantics.specs.State.{is_final};
+ghost use Rattle.qil_semantics.specs.Poke.{poke_temp, poke_memory, dead_bytes};
+ghost use Rattle.qil_semantics.specs.Stops.{first_break};
+ghost use Rattle.qil_semantics.specs.Targets.{after};
 ghost use Rattle.qil_state.specs.State.{state_of};
 ghost use Rattle.qil_history.specs.qil_machine.Pokes.{poke_slot, RefusesName, RefusesSlot};
 ghost use Rattle.qil_stops.specs.Listed.{AreReadable};
@@ -23,7 +23,7 @@ use std::alloc::{AllocError, Allocator};
 ///
 /// A user is generic in `C: HasProgram<A>` and `M: Restorable<A, C>`: so it names no lifetime.
 pub trait Restorable<A: Allocator, C: HasProgram<A>>: Watchable<A, C> + Readers<A, C> {
-    /// Does nothing, and tells that what is read is the state that it has.
+    /// Does nothing. Its clause says that what is read is the state that it has.
     fn is_read(&self)
         ensures { Self.whole self.now ≡ Self.present self.now };
 

@@ -1,10 +1,10 @@
 //! Runs to the first place where there is a reason to stop.
 
 ghost use Rattle.std.specs.Prelude.{◌≡◌, ◌+◌, ◌<◌, ◌≤◌, ◌^◌, ◌↔◌, true, [], cond, length, unwrap_or};
-ghost use Rattle.qil_meaning.specs.State.{State};
-ghost use Rattle.qil_meaning.specs.Stops.{stopped};
-ghost use Rattle.qil_meaning.specs.Timeline.{position, oldest, at_end};
-ghost use Rattle.qil_meaning.specs.Runs.{bottom, RunsOn, RunsBack};
+ghost use Rattle.qil_semantics.specs.State.{State};
+ghost use Rattle.qil_semantics.specs.Stops.{stopped};
+ghost use Rattle.qil_semantics.specs.Timeline.{position, oldest, at_end};
+ghost use Rattle.qil_semantics.specs.Runs.{bottom, RunsOn, RunsBack};
 ghost use Rattle.qil_stops.specs.Listed.{AreReadable};
 ghost use Rattle.qil_stops.specs.Named.{named_stops};
 ghost use Rattle.qil_stops.specs.Readings.{AllTell};
@@ -13,7 +13,7 @@ use crate::found::{is_over, readings, stopped};
 use crate::stop::NumberedStop;
 use arrayvec::ArrayVec;
 use qil_history::{BackError, History, Machine, MoveError, machine_of};
-use qil_meaning::Reason;
+use qil_semantics::Reason;
 use std::alloc::Allocator;
 
 /// Moves forward to the first place where there is a reason to stop, and gives the reason and how many moves were made: at

@@ -5,7 +5,7 @@ ghost use Rattle.qil_layout.specs.Layout.{low_bytes};
 ghost use Rattle.qil_memory.specs.Bytes.{number};
 ghost use Rattle.qil_memory.specs.Calls.{IsWidth};
 ghost use Rattle.qil_memory.specs.Live.{live, read};
-ghost use Rattle.qil_meaning.specs.Stops.{is_held};
+ghost use Rattle.qil_semantics.specs.Stops.{is_held};
 ghost use Rattle.qil_history.specs.qil_state.State.{state_of};
 ghost use Rattle.qil_stops.specs.Listed.{HasWidth, IsReadable};
 ghost use Rattle.qil_stops.specs.Named.{named_kind, passes};

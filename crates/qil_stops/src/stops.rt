@@ -2,7 +2,7 @@
 
 ghost use Rattle.std.specs.Prelude.{◌≡◌, ◌+◌, ◌<◌, ◌≤◌, ◌^◌, ◌↔◌, ◌⊎◌, ◌∷◌, ◌++◌, ℕ, true, false, [], length, is_some, option_map, slice_get, Some, IfOk, OnOk, OnErr, IfErr, IfSome, IsErr};
 ghost use Rattle.qil_tree.specs.declared.tree.Program.{Program};
-ghost use Rattle.qil_meaning.specs.Stops.{AreListed};
+ghost use Rattle.qil_semantics.specs.Stops.{AreListed};
 ghost use Rattle.qil_stops.specs.Listed.{Listed, HasWidth, IsReadable, AreReadable, IsFull, IsRising, added, is_listed, without};
 ghost use Rattle.qil_stops.specs.Named.{has_place, has_watched, named_stops};
 

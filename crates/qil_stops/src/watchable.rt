@@ -7,8 +7,8 @@ ghost use Rattle.qil_layout.specs.Layout.{low_bytes};
 ghost use Rattle.qil_memory.specs.Bytes.{number};
 ghost use Rattle.qil_memory.specs.Calls.{IsWidth};
 ghost use Rattle.qil_memory.specs.Live.{live, read};
-ghost use Rattle.qil_meaning.specs.State.{State};
-ghost use Rattle.qil_meaning.specs.Stops.{is_at, reading, temp_in, value_reading};
+ghost use Rattle.qil_semantics.specs.State.{State};
+ghost use Rattle.qil_semantics.specs.Stops.{is_at, reading, temp_in, value_reading};
 ghost use Rattle.qil_code.specs.Numbered.{func_at, block_at, names_of};
 ghost use Rattle.qil_state.specs.State.{Whole, state_of};
 

@@ -2,9 +2,9 @@
 use Rattle.std.proofs.Common.{◌≡◌, ◌⊎◌, ℕ, zero, suc, ◌+◌, ◌-◌, ◌<◌, ◌≤◌, true, false, refl, sym, ◌∙◌, ap, arith, inl, inr}
 use Rattle.std.proofs.lemmas.Bool.{true≢false}
 use Rattle.qil_tree.specs.declared.tree.Program.{Program}
-use Rattle.qil_meaning.specs.State.{State, is_final}
-use Rattle.qil_meaning.specs.Step.{step_of}
-use Rattle.qil_meaning.specs.Targets.{after}
+use Rattle.qil_semantics.specs.State.{State, is_final}
+use Rattle.qil_semantics.specs.Step.{step_of}
+use Rattle.qil_semantics.specs.Targets.{after}
 
 -- some steps behind others
 after_more : {A : Type 0} (p : Program A) (s : State) (m r : ℕ) → after p (after p s m) r ≡ after p s (m + r)

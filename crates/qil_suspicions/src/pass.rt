@@ -1,8 +1,8 @@
 //! The pass: the shadow's step before each step of the machine.
 
 ghost use Rattle.std.specs.Prelude.{◌≡◌, ◌⊎◌, ◌+◌, ◌-◌, ◌^◌, ◌<◌, ◌≤◌, ℕ, List, true, false, IfOk, OnOk};
-ghost use Rattle.qil_meaning.specs.State.{is_final};
-ghost use Rattle.qil_meaning.specs.Targets.{after};
+ghost use Rattle.qil_semantics.specs.State.{is_final};
+ghost use Rattle.qil_semantics.specs.Targets.{after};
 ghost use Rattle.qil_state.specs.Faults.{status_of};
 ghost use Rattle.qil_state.specs.State.{state_of};
 
@@ -10,6 +10,7 @@ use crate::notes::{Note, Notes};
 use qil_code::Code;
 use qil_flatmachine::FlatMachine;
 use qil_layout::FuncId;
+use qil_memory::CAPACITY;
 use qil_shadow::{Place, Shadow};
 use qil_state::Status;
 use std::alloc::{AllocError, Allocator};
@@ -73,6 +74,23 @@ fn goes_on(status: Status) -> bool
     }
 }
 
+/// How many bytes a text has that begins at an address, with its zero byte; none if it runs into dead memory.
+fn text_size<A: Allocator + Copy>(machine: &FlatMachine<'_, A>, address: u64) -> Option<u64> {
+    for index in 0..=CAPACITY {
+        if machine.byte_after(address, index)? == 0 {
+            return Some(index + 1);
+        }
+    }
+    None
+}
+
+/// Looks at the text that a step writes by `$puts`, if it does.
+fn look_at_text<A: Allocator + Copy>(machine: &FlatMachine<'_, A>, shadow: &mut Shadow<'_, A>) {
+    if let Some(address) = shadow.text() {
+        shadow.look_at_text(text_size(machine, address));
+    }
+}
+
 impl<'c, A: Allocator + Copy> Pass<'c, A> {
     /// A pass from a machine at the start of a function.
     ///
@@ -116,6 +134,7 @@ impl<'c, A: Allocator + Copy> Pass<'c, A> {
         ensures over { OnOk result ((self.new.moves ≡ self.old.moves + 1) ⊎ (is_final (state_of self.new.whole).status ≡ true)) }
     {
         step_shadow(&self.machine, &mut self.shadow)?;
+        look_at_text(&self.machine, &mut self.shadow);
         if !self.shadow.found().is_empty() {
             note_found(&mut self.shadow, &mut self.notes)?;
         }
@@ -136,6 +155,7 @@ impl<'c, A: Allocator + Copy> Pass<'c, A> {
         ensures over { OnOk result ((self.new.moves ≡ count) ⊎ (is_final (state_of self.new.whole).status ≡ true)) }
     {
         for round in 0..count {
+            // The invariant alone names it.
             let _ = round;
             if !self.goes_on() {
                 return Ok(());
@@ -162,6 +182,12 @@ impl<'c, A: Allocator + Copy> Pass<'c, A> {
     /// What was suspicious.
     pub fn notes(&self) -> &[Note] {
         self.notes.all()
+    }
+
+    /// The first move of which more may be suspicious than its accesses, by any kind that is on by default and isn't about the heap
+    /// or sections.
+    pub fn first_unsure(&self) -> Option<u64> {
+        self.shadow.first_unsure()
     }
 
     /// The code that is run.

@@ -10,17 +10,17 @@ use Rattle.qil_streams.proofs.DeviceLemmas.{Appends-nil, Appends-append, Consume
 use Rattle.qil_tree.specs.declared.tree.Program.{Program}
 use Rattle.qil_rules.specs.Verdict.{Verdict}
 use Rattle.qil_layout.specs.Layout.{fault_of}
-use Rattle.qil_laying.specs.Answer.{IsFault}
+use Rattle.qil_layout_builder.specs.Answer.{IsFault}
 use Rattle.qil_layout.specs.declared.error.LayoutCode.{LayoutCode}
-use Rattle.qil_laying.specs.declared.error.LayoutError.{LayoutError}
-use Rattle.qil_laying.specs.declared.error.LayoutError.TheVariants as layout
+use Rattle.qil_layout_builder.specs.declared.error.LayoutError.{LayoutError}
+use Rattle.qil_layout_builder.specs.declared.error.LayoutError.TheVariants as layout
 use Rattle.qil_machine.specs.Starting.{StartExplains}
 use Rattle.qil_machine.specs.declared.error.StartError.{StartError}
 use Rattle.qil_machine.specs.declared.error.StartError.TheVariants as start
-use Rattle.qil_meaning.specs.State.{State}
-use Rattle.qil_meaning.specs.Start.{start_of}
-use Rattle.qil_meaning.specs.Timeline.{begun}
-use Rattle.qil_meaning.specs.declared.start.StartFault.{StartFault}
+use Rattle.qil_semantics.specs.State.{State}
+use Rattle.qil_semantics.specs.Start.{start_of}
+use Rattle.qil_semantics.specs.Timeline.{begun}
+use Rattle.qil_semantics.specs.declared.start.StartFault.{StartFault}
 use Rattle.qil_replies.specs.SessionState.{SessionState}
 use Rattle.qil_replies.specs.Answers.{IsAnswered, answers}
 use Rattle.qil_session.specs.Serve.{TakesFew}

@@ -1,8 +1,8 @@
 -- A session that was just opened.
 use Rattle.std.proofs.Common.{◌≡◌, ℕ, Bool, [], sym, ◌∙◌, ap}
 use Rattle.qil_tree.specs.declared.tree.Program.{Program}
-use Rattle.qil_meaning.specs.State.{State}
-use Rattle.qil_meaning.specs.Timeline.{Timeline, begun}
+use Rattle.qil_semantics.specs.State.{State}
+use Rattle.qil_semantics.specs.Timeline.{Timeline, begun}
 use Rattle.qil_session.specs.Kept.{Kept, session_state}
 use Rattle.qil_replies.specs.Transcript.{Setup, opened}
 

@@ -2,7 +2,7 @@
 use Rattle.std.specs.Prelude.{◌≡◌, ℕ, Bool, true, false, List, Option, Some, None}
 use Rattle.std.specs.Io.KnownBytes.{Appends}
 use Rattle.qil_streams.specs.Device.{IsPrefixOf}
-use Rattle.qil_meaning.specs.declared.start.StartFault.TheVariants as faults
+use Rattle.qil_semantics.specs.declared.start.StartFault.TheVariants as faults
 use Rattle.qil_machine.specs.declared.error.StartError.{StartError}
 use Rattle.qil_machine.specs.declared.error.StartError.TheVariants as start
 use Rattle.qil_loading.specs.declared.load.LoadError.{LoadError}

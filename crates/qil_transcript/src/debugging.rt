@@ -4,10 +4,10 @@ ghost use Rattle.std.specs.Prelude.{◌≡◌, ◌≢◌, ℕ, ◌-◌, ◌^◌,
 ghost use Rattle.qil_rules.specs.Verdict.{Verdict};
 ghost use Rattle.qil_layout.specs.Layout.{fault_of};
 ghost use Rattle.qil_layout.specs.declared.error.LayoutCode.{LayoutCode};
-ghost use Rattle.qil_meaning.specs.State.{State};
-ghost use Rattle.qil_meaning.specs.Start.{start_of};
-ghost use Rattle.qil_meaning.specs.Timeline.{begun, position};
-ghost use Rattle.qil_meaning.specs.declared.start.StartFault.{StartFault};
+ghost use Rattle.qil_semantics.specs.State.{State};
+ghost use Rattle.qil_semantics.specs.Start.{start_of};
+ghost use Rattle.qil_semantics.specs.Timeline.{begun, position};
+ghost use Rattle.qil_semantics.specs.declared.start.StartFault.{StartFault};
 ghost use Rattle.qil_state.specs.State.{state_of};
 ghost use Rattle.qil_streams.specs.Device.{Counts, Puts};
 ghost use Rattle.qil_session.specs.Kept.{session_state};
@@ -22,19 +22,19 @@ ghost use Rattle.qil_transcript.specs.Handed.{IsRefused, of_start, setup_of};
 use crate::outcome::Outcome;
 use qil_checkpoints::{Checkpoints, Restorable};
 use qil_code::Code;
-use qil_deltas::{Deltas, Ring};
 use qil_flat::{FlatCode, flatten};
 use qil_flatmachine::{CopiedMachine, FlatMachine, Replaying, RestorableMachine};
 use qil_history::History;
-use qil_laying::layout;
 use qil_layout::Image;
+use qil_layout_builder::layout;
 use qil_loading::{LoadError, Loaded, Refusal, check_text, put_loaded_line, put_refusal_line};
 use qil_machine::{Machine, StartError};
-use qil_meaning::StartFault;
-use qil_numbering::number;
+use qil_resolution::number;
 use qil_rules::Checked;
+use qil_semantics::StartFault;
 use qil_session::{IoFault, Runs, Session, Stepwise, serve_lines};
 use qil_streams::{Outlet, Put, PutError, Sink, Source};
+use qil_undo_log::{BoundedUndoLog, UndoLog};
 use std::alloc::Allocator;
 use std::hash::RandomState;
 
@@ -182,7 +182,7 @@ fn debug_history<
     debug_runs(alloc, history, None::<&()>, loaded, limit, source, out)
 }
 
-/// Debugs from a machine at its start: over all its deltas, or over the newest where there is a bound.
+/// Debugs from a machine at its start: over all its undo records, or over the newest where there is a bound.
 fn debug_machine<'c, A: Allocator + Copy + 'c, S: Source, P: Put>(
     alloc: A,
     machine: Machine<'c, A>,
@@ -207,10 +207,10 @@ fn debug_machine<'c, A: Allocator + Copy + 'c, S: Source, P: Put>(
 {
     match request.bound {
         None => {
-            let history = Deltas::new(alloc, machine);
+            let history = UndoLog::new(alloc, machine);
             debug_history(alloc, history, loaded, request.limit, source, out)
         }
-        Some(bound) => match Ring::new(alloc, machine, bound) {
+        Some(bound) => match BoundedUndoLog::new(alloc, machine, bound) {
             Ok(history) => debug_history(alloc, history, loaded, request.limit, source, out),
             Err(_) => Outcome::Memory,
         },
@@ -506,7 +506,7 @@ pub fn debug<A: Allocator + Copy, S: Source, W: Sink>(
     requires limit { limit ≤ 4294967295 }
     requires history { IfSome history (λ n. (1 ≤ n) × (n ≤ 1000000)) }
 
-    // Where the source tells its bytes, what was written is the transcript, up to what stopped it.
+    // If all bytes of the source are known, what was written is the transcript, up to what stopped it.
     ensures written { Written A result (record { text = text.now; entry = entry.now; args = args.now; limit = limit; keeps = history; moves_want_memory = true })
         (S.remaining source.old) (S.remaining source.new) (W.contents sink.old) (W.contents sink.new) }
 
@@ -558,7 +558,7 @@ pub fn debug_replaying<A: Allocator + Copy, S: Source, W: Sink>(
     requires writes { W.failures sink.old < 2 ^ 64 - 1 }
     requires limit { limit ≤ 4294967295 }
 
-    // Where the source tells its bytes, what was written is the transcript, up to what stopped it.
+    // If all bytes of the source are known, what was written is the transcript, up to what stopped it.
     ensures written { Written A result (record { text = text.now; entry = entry.now; args = args.now; limit = limit; keeps = None; moves_want_memory = false })
         (S.remaining source.old) (S.remaining source.new) (W.contents sink.old) (W.contents sink.new) }
 

@@ -1,6 +1,6 @@
 //! From the bytes of a program and a script to the bytes of the transcript: `debug`, and the same for long runs.
 //!
-//! What a program means stands in `qil_meaning`, what a command is answered in `qil_session`, how a script is served in
+//! What a program means stands in `qil_semantics`, what a command is answered in `qil_session`, how a script is served in
 //! `qil_session`; specs/ here says what is written of all of it.
 #![tactic(auto)]
 

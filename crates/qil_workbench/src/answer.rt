@@ -5,7 +5,7 @@ use std::process::ExitCode;
 /// What came of a text, next to the lines that were reported on the way.
 #[derive(Clone, Copy)]
 pub enum Answer {
-    /// The lines that were written tell everything.
+    /// The lines that were written say everything.
     Reported,
     /// The program has no `$main` without parameters.
     Refused,

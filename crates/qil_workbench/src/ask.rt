@@ -9,9 +9,9 @@ use crate::load::{checked, refused};
 use crate::moves::each_move;
 use crate::read_back::read_back;
 use qil_code::Code;
-use qil_laying::layout;
 use qil_layout::Image;
-use qil_numbering::number;
+use qil_layout_builder::layout;
+use qil_resolution::number;
 use qil_rules::Checked;
 use std::alloc::Allocator;
 

@@ -1,16 +1,16 @@
-//! One move that a history is asked for, as a line says it, and what comes of it.
+//! One move that a history makes, as a line names it, and its outcome.
 
 ghost use Rattle.std.specs.Prelude.{◌≡◌, true};
 ghost use Rattle.qil_memory.specs.Calls.{IsWidth};
 
 use qil_code::Code;
-use qil_deltas::{Deltas, Snapshots};
 use qil_history::{BackError, History};
 use qil_machine::{MoveError, PokeError};
+use qil_undo_log::{Snapshots, UndoLog};
 use std::alloc::Allocator;
 use std::str::SplitWhitespace;
 
-/// A move that is asked for.
+/// A move to make.
 #[derive(Clone, Copy)]
 pub enum Asked<'w> {
     Forward,
@@ -132,7 +132,7 @@ impl Came {
     }
 }
 
-/// The position from which on no move is asked for.
+/// The position from which on no move is made.
 const MOST: u64 = 1_000_000;
 
 /// Whether so many bytes can be poked.
@@ -142,22 +142,22 @@ fn is_width(width: u64) -> bool
     width == 1 || width == 2 || width == 4 || width == 8
 }
 
-/// Asks the deltas for a move.
-pub fn ask_deltas<'c, A: Allocator + Copy + 'c>(
-    deltas: &mut Deltas<'c, A>,
+/// Asks the undo records for a move.
+pub fn ask_undo_log<'c, A: Allocator + Copy + 'c>(
+    records: &mut UndoLog<'c, A>,
     asked: Asked<'_>,
 ) -> Came
-    ensures { deltas.new.machine.program ≡ deltas.old.machine.program }
+    ensures { records.new.machine.program ≡ records.old.machine.program }
 {
-    if deltas.position() >= MOST {
+    if records.position() >= MOST {
         return Came::TooFar;
     }
     match asked {
-        Asked::Forward => Came::of_forward(deltas.forward()),
-        Asked::Back => Came::of_back(deltas.back()),
-        Asked::Set(name, value) => Came::of_poke(deltas.poke_named(name.as_bytes(), value)),
+        Asked::Forward => Came::of_forward(records.forward()),
+        Asked::Back => Came::of_back(records.back()),
+        Asked::Set(name, value) => Came::of_poke(records.poke_named(name.as_bytes(), value)),
         Asked::Poke(width, address, number) if is_width(width) => {
-            Came::of_poke(deltas.poke_memory(address, width, number))
+            Came::of_poke(records.poke_memory(address, width, number))
         }
         Asked::Poke(_, _, _) => Came::NoWidth,
     }

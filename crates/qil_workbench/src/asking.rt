@@ -22,7 +22,7 @@ impl Question {
     }
 }
 
-/// What is asked, and with what.
+/// What is asked, and with which words.
 #[derive(Drop)]
 pub struct Asking<'b, R, A: Allocator> {
     pub rt: &'b R,

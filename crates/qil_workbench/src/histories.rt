@@ -1,40 +1,43 @@
-//! The same moves over two histories side by side: over the deltas of all moves, and over clones.
+//! The same moves over two histories side by side: over the undo records of all moves, and over clones.
 
 ghost use Rattle.std.specs.Prelude.{◌≡◌};
 
 use crate::answer::Answer;
-use crate::asked::{Asked, Came, Globals, ask_clones, ask_deltas, read_line};
+use crate::asked::{Asked, Came, Globals, ask_clones, ask_undo_log, read_line};
 use crate::started::started;
 use qil_code::Code;
-use qil_deltas::{Deltas, Snapshots};
 use qil_history::History;
-use qil_machine::{Delta, Machine};
+use qil_machine::{Machine, UndoRecord};
+use qil_undo_log::{Snapshots, UndoLog};
 use std::alloc::Allocator;
 
 /// Whether two histories hold the same: the first as many records as the other moves, and a machine that is equal in all that
 /// it holds.
-fn are_same<'c, A: Allocator + Copy + 'c>(deltas: &Deltas<'c, A>, clones: &Snapshots<'c, A>) -> bool
-    requires { deltas.now.machine.program ≡ clones.now.machine.program }
+fn are_same<'c, A: Allocator + Copy + 'c>(
+    records: &UndoLog<'c, A>,
+    clones: &Snapshots<'c, A>,
+) -> bool
+    requires { records.now.machine.program ≡ clones.now.machine.program }
 {
-    let (machine, records): (&Machine<'_, A>, &[Delta<A>]) = deltas.parts();
+    let (machine, records): (&Machine<'_, A>, &[UndoRecord<A>]) = records.parts();
     records.len() as u64 == clones.position() && machine.same(clones.machine())
 }
 
 /// Asks both histories for a move: where they stand after it and what came of it, if that is the same of both, and they
 /// hold the same; otherwise where they stood before.
 fn ask_both<'c, A: Allocator + Copy + 'c>(
-    deltas: &mut Deltas<'c, A>,
+    records: &mut UndoLog<'c, A>,
     clones: &mut Snapshots<'c, A>,
     asked: Asked<'_>,
 ) -> Result<(u64, Came), u64>
-    requires { deltas.old.machine.program ≡ clones.old.machine.program }
-    ensures { deltas.new.machine.program ≡ clones.new.machine.program }
+    requires { records.old.machine.program ≡ clones.old.machine.program }
+    ensures { records.new.machine.program ≡ clones.new.machine.program }
 {
-    let position = deltas.position();
-    let came = ask_deltas(deltas, asked);
+    let position = records.position();
+    let came = ask_undo_log(records, asked);
     let other = ask_clones(clones, asked);
-    if came.words() == other.words() && are_same(deltas, clones) {
-        Ok((deltas.position(), came))
+    if came.words() == other.words() && are_same(records, clones) {
+        Ok((records.position(), came))
     } else {
         Err(position)
     }
@@ -49,7 +52,7 @@ fn untold<R: Print>(rt: &R, position: u64, came: Came) -> Option<Answer> {
     }
 }
 
-/// Tells what came of a move; what is wrong, if something is.
+/// Writes the outcome of a move; gives what is wrong, if something is.
 fn wrong<R: Print>(rt: &R, came: Result<(u64, Came), u64>) -> Option<Answer> {
     match came {
         Ok((position, came)) => untold(rt, position, came),
@@ -57,35 +60,35 @@ fn wrong<R: Print>(rt: &R, came: Result<(u64, Came), u64>) -> Option<Answer> {
     }
 }
 
-/// Asks the histories for the move of a line, and tells where they stand after it; what is wrong, if something is.
+/// Makes the move of a line in both histories, and writes where they stand behind it; gives what is wrong, if something is.
 fn ask_line<'c, R: Print, G: Globals, A: Allocator + Copy + 'c>(
-    deltas: &mut Deltas<'c, A>,
+    records: &mut UndoLog<'c, A>,
     clones: &mut Snapshots<'c, A>,
     rt: &R,
     globals: &G,
     line: &str,
 ) -> Option<Answer>
-    requires { deltas.old.machine.program ≡ clones.old.machine.program }
-    ensures { deltas.new.machine.program ≡ clones.new.machine.program }
+    requires { records.old.machine.program ≡ clones.old.machine.program }
+    ensures { records.new.machine.program ≡ clones.new.machine.program }
 {
     match read_line(globals, line) {
-        Some(asked) => wrong(rt, ask_both(deltas, clones, asked)),
+        Some(asked) => wrong(rt, ask_both(records, clones, asked)),
         None => Some(Answer::NoMove),
     }
 }
 
 /// Asks the histories for the move of each line, up to the first where something is wrong.
 fn ask_lines<'c, R: Print, G: Globals, A: Allocator + Copy + 'c>(
-    deltas: &mut Deltas<'c, A>,
+    records: &mut UndoLog<'c, A>,
     clones: &mut Snapshots<'c, A>,
     rt: &R,
     globals: &G,
     lines: &str,
 ) -> Answer
-    requires { deltas.old.machine.program ≡ clones.old.machine.program }
+    requires { records.old.machine.program ≡ clones.old.machine.program }
 {
     for line in lines.lines() {
-        if let Some(wrong) = ask_line(deltas, clones, rt, globals, line) {
+        if let Some(wrong) = ask_line(records, clones, rt, globals, line) {
             return wrong;
         }
     }
@@ -103,9 +106,9 @@ fn ask_begun<'c, R: Print, G: Globals, A: Allocator + Copy + 'c>(
 ) -> Answer
     requires { machine.program ≡ other.program }
 {
-    let mut deltas = Deltas::new(alloc, machine);
+    let mut records = UndoLog::new(alloc, machine);
     let mut clones = Snapshots::new(alloc, other);
-    ask_lines(&mut deltas, &mut clones, rt, globals, lines)
+    ask_lines(&mut records, &mut clones, rt, globals, lines)
 }
 
 /// Copies a machine, for the other history.

@@ -15,7 +15,7 @@ pub fn refused<R: Print, E: Display>(rt: &R, error: &E) -> Answer {
     reported(println!(rt; "refused: {error}").is_ok())
 }
 
-/// Checks a program, or tells why it is refused.
+/// Checks a program, or says why it is refused.
 fn check_parsed<'t, R: Print, A: Allocator + Copy>(
     program: Program<'t, A>,
     rt: &R,

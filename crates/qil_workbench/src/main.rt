@@ -4,7 +4,7 @@
 //! - `read-back`: whether the numbered code, read back through names, is what the tree has; the tree of the text after
 //!   the first, if there is one.
 //! - `moves`: of a poke of a temporary and of bytes, and of each move of a run, what its record keeps and weighs.
-//! - `histories`: where the history of deltas and that of clones stand after each of the moves that the lines after the text
+//! - `histories`: where the history of undo records and that of clones stand after each of the moves that the lines after the text
 //!   ask for.
 //!
 //! What comes on standard output is the same on every machine, and `refused` for a text that isn't accepted or has no

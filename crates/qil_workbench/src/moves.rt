@@ -5,25 +5,28 @@ use crate::record::kind_of;
 use crate::started::started;
 use qil_code::{Code, NumberedInst, NumberedOperand, Slot};
 use qil_frames::Frame;
-use qil_machine::{Delta, Machine, MoveError, PokeError};
+use qil_machine::{Machine, MoveError, PokeError, UndoRecord};
 use qil_memory::{DATA_BASE, Saved};
 use std::alloc::{Allocator, Global};
 use std::mem::size_of;
 
-/// The most moves that are told of.
+/// The most moves that are reported.
 const MOST: u32 = 1_000_000;
 
 /// Tells what a record keeps and weighs; whether that was written.
-fn is_told<R: Print, A: Allocator + Copy>(rt: &R, delta: Delta<A>) -> bool {
-    let weight = delta.weight();
-    let kind = kind_of(delta.into_kind());
+fn is_told<R: Print, A: Allocator + Copy>(rt: &R, undo_record: UndoRecord<A>) -> bool {
+    let weight = undo_record.weight();
+    let kind = kind_of(undo_record.into_kind());
     println!(rt; "{kind}: weight {weight}").is_ok()
 }
 
 /// Tells of a poke, if it was made.
-fn is_poke_told<R: Print, A: Allocator + Copy>(rt: &R, poke: Result<Delta<A>, PokeError>) -> bool {
+fn is_poke_told<R: Print, A: Allocator + Copy>(
+    rt: &R,
+    poke: Result<UndoRecord<A>, PokeError>,
+) -> bool {
     match poke {
-        Ok(delta) => is_told(rt, delta),
+        Ok(undo_record) => is_told(rt, undo_record),
         Err(_) => true,
     }
 }
@@ -35,14 +38,17 @@ fn are_pokes_told<R: Print, A: Allocator + Copy>(machine: &mut Machine<'_, A>, r
 }
 
 /// Tells of a move, which has to be made.
-fn is_made_told<R: Print, A: Allocator + Copy>(rt: &R, made: Result<Delta<A>, MoveError>) -> bool {
+fn is_made_told<R: Print, A: Allocator + Copy>(
+    rt: &R,
+    made: Result<UndoRecord<A>, MoveError>,
+) -> bool {
     match made {
-        Ok(delta) => is_told(rt, delta),
+        Ok(undo_record) => is_told(rt, undo_record),
         Err(_) => false,
     }
 }
 
-/// Makes a move, and tells of it.
+/// Makes a move, and reports it.
 fn is_move_told<R: Print, A: Allocator + Copy>(machine: &mut Machine<'_, A>, rt: &R) -> bool {
     is_made_told(rt, machine.advance())
 }
@@ -62,7 +68,7 @@ fn are_moves_told<R: Print, A: Allocator + Copy>(machine: &mut Machine<'_, A>, r
 
 /// Tells how many bytes a record takes, what it keeps of bytes, a frame's handle, an operand and an instruction.
 fn are_sizes_told<R: Print>(rt: &R) -> bool {
-    let record = size_of::<Delta<Global>>();
+    let record = size_of::<UndoRecord<Global>>();
     let kept = size_of::<Saved<Global>>();
     let frame = size_of::<Frame<Global>>();
     let operand = size_of::<NumberedOperand>();

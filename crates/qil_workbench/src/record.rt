@@ -3,7 +3,7 @@
 use arrayvec::ArrayVec;
 use qil_code::Slot;
 use qil_frames::{Frame, KeptSlots, SavedSlot};
-use qil_machine::{Copied, DeltaKind, Grown};
+use qil_machine::{Copied, Grown, UndoKind};
 use qil_memory::{KeptBytes, Saved};
 use std::alloc::Allocator;
 
@@ -56,13 +56,13 @@ fn name_bytes<A: Allocator>(saved: Saved<A>) {
 
 /// The kind of a move, by what its record keeps, each part with its type. Another part of a kind, or another kind, doesn't
 /// pass the compiler.
-pub fn kind_of<A: Allocator>(kind: DeltaKind<A>) -> &'static str {
+pub fn kind_of<A: Allocator>(kind: UndoKind<A>) -> &'static str {
     match kind {
-        DeltaKind::Assigned { slot, index, old } => {
+        UndoKind::Assigned { slot, index, old } => {
             let _: (Slot, u32, Option<u64>) = (slot, index, old);
             "result"
         }
-        DeltaKind::Stored {
+        UndoKind::Stored {
             count,
             index,
             address,
@@ -71,22 +71,22 @@ pub fn kind_of<A: Allocator>(kind: DeltaKind<A>) -> &'static str {
             let _: (u8, u32, u32, u64) = (count, index, address, number);
             "bytes"
         }
-        DeltaKind::Left { block } => left::<A>(block, KeptSlots::None),
-        DeltaKind::LeftOne { block, slot, old } => left::<A>(block, KeptSlots::One(slot, old)),
-        DeltaKind::LeftTwo {
+        UndoKind::Left { block } => left::<A>(block, KeptSlots::None),
+        UndoKind::LeftOne { block, slot, old } => left::<A>(block, KeptSlots::One(slot, old)),
+        UndoKind::LeftTwo {
             block,
             first,
             second,
             first_old,
             second_old,
         } => { left::<A>(block, KeptSlots::Two(first, second, first_old, second_old)) }
-        DeltaKind::LeftShort { block, kept } => left(block, KeptSlots::Short(kept)),
-        DeltaKind::LeftMany { block, kept } => left(block, KeptSlots::Many(kept)),
-        DeltaKind::Called { index } => {
+        UndoKind::LeftShort { block, kept } => left(block, KeptSlots::Short(kept)),
+        UndoKind::LeftMany { block, kept } => left(block, KeptSlots::Many(kept)),
+        UndoKind::Called { index } => {
             let _: u32 = index;
             "call"
         }
-        DeltaKind::Returned {
+        UndoKind::Returned {
             was_set,
             top,
             old,
@@ -96,7 +96,7 @@ pub fn kind_of<A: Allocator>(kind: DeltaKind<A>) -> &'static str {
             let _: Frame<A> = frame;
             "return"
         }
-        DeltaKind::Grew(grown) => {
+        UndoKind::Grew(grown) => {
             let Grown {
                 index,
                 slot,
@@ -107,17 +107,17 @@ pub fn kind_of<A: Allocator>(kind: DeltaKind<A>) -> &'static str {
             name_bytes(saved);
             "bytes of the stack"
         }
-        DeltaKind::Copied(copied) => {
+        UndoKind::Copied(copied) => {
             let Copied { index, saved } = Box::into_inner(copied);
             let _: u32 = index;
             name_bytes(saved);
             "copied bytes"
         }
-        DeltaKind::Wrote { index, count } => {
+        UndoKind::Wrote { index, count } => {
             let _: (u32, u32) = (index, count);
             "output"
         }
-        DeltaKind::WroteTo {
+        UndoKind::WroteTo {
             was_set,
             slot,
             index,
@@ -127,12 +127,12 @@ pub fn kind_of<A: Allocator>(kind: DeltaKind<A>) -> &'static str {
             let _: (bool, Slot, u32, u32, u64) = (was_set, slot, index, count, old);
             "output and a result"
         }
-        DeltaKind::Ended => "end",
-        DeltaKind::PokedSlot { was_set, slot, old } => {
+        UndoKind::Ended => "end",
+        UndoKind::PokedSlot { was_set, slot, old } => {
             let _: (bool, Slot, u64) = (was_set, slot, old);
             "poke of a temporary"
         }
-        DeltaKind::PokedBytes {
+        UndoKind::PokedBytes {
             count,
             address,
             number,

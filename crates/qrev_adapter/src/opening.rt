@@ -1,7 +1,7 @@
 //! The opening of a session: from the arguments of a launch to a debuggee.
 
 ghost use Rattle.std.specs.Prelude.{◌≡◌, ◌≤◌, None, Some, IfSome};
-ghost use Rattle.qil_meaning.specs.qil_layout.Layout.{fault_of};
+ghost use Rattle.qil_semantics.specs.qil_layout.Layout.{fault_of};
 ghost use Rattle.qil_loading.specs.Load.{Checks};
 ghost use Rattle.qrev_recorder.specs.Record.{setup_of, IsBeginning};
 ghost use Rattle.qrev_notices.specs.Conversation.{asked_by};
@@ -11,16 +11,16 @@ ghost use Rattle.qrev_adapter.specs.Opened.{HasStarted, IsAccepted};
 
 use crate::session::serve_session;
 use qil_code::Code;
-use qil_deltas::{Deltas, Ring};
 use qil_flat::{FlatCode, flatten};
 use qil_flatmachine::{FlatMachine, RestorableMachine};
-use qil_laying::layout;
+use qil_layout_builder::layout;
 use qil_loading::{LoadError, Loaded, check_text};
 use qil_machine::Machine;
-use qil_meaning::Image;
-use qil_numbering::number;
+use qil_resolution::number;
 use qil_rules::Checked;
+use qil_semantics::Image;
 use qil_streams::{Sink, Source};
+use qil_undo_log::{BoundedUndoLog, UndoLog};
 use qrev_map::Names;
 use qrev_notices::{
     Closed, Debuggee, Ended, Files, Line, RecordFault, read_names, read_sources, record_fault,
@@ -88,7 +88,7 @@ fn open_session<
     serve_session(debuggee, launch, files, line)
 }
 
-/// Serves from a machine at its start, over all its deltas.
+/// Serves from a machine at its start, over all its undo records.
 fn open_whole<'c, A: Allocator + Copy + 'c, S: Source, W: Sink, F: Files<A>>(
     machine: Machine<'c, A>,
     opening: Opening<'c>,
@@ -105,7 +105,7 @@ fn open_whole<'c, A: Allocator + Copy + 'c, S: Source, W: Sink, F: Files<A>>(
     ensures { Serves result (asked_by request.entry) (heard S.remaining W.contents line.old) (heard S.remaining W.contents line.new) }
 {
     let alloc = line.alloc;
-    let live = match WholeSession::new(alloc, Deltas::new(alloc, machine), opening.limit) {
+    let live = match WholeSession::new(alloc, UndoLog::new(alloc, machine), opening.limit) {
         Ok(live) => live,
         Err(_) => {
             request.end();
@@ -116,7 +116,7 @@ fn open_whole<'c, A: Allocator + Copy + 'c, S: Source, W: Sink, F: Files<A>>(
     open_session(live, code, opening, loaded, launch, request, files, line)
 }
 
-/// Serves from a machine at its start, over the newest of its deltas.
+/// Serves from a machine at its start, over the newest of its undo records.
 fn open_bounded<'c, A: Allocator + Copy + 'c, S: Source, W: Sink, F: Files<A>>(
     machine: Machine<'c, A>,
     bound: u64,
@@ -135,7 +135,7 @@ fn open_bounded<'c, A: Allocator + Copy + 'c, S: Source, W: Sink, F: Files<A>>(
     ensures { Serves result (asked_by request.entry) (heard S.remaining W.contents line.old) (heard S.remaining W.contents line.new) }
 {
     let alloc = line.alloc;
-    let Ok(history) = Ring::new(alloc, machine, bound) else {
+    let Ok(history) = BoundedUndoLog::new(alloc, machine, bound) else {
         request.end();
         return Err(Ended::OutOfMemory);
     };
@@ -150,7 +150,7 @@ fn open_bounded<'c, A: Allocator + Copy + 'c, S: Source, W: Sink, F: Files<A>>(
     open_session(live, code, opening, loaded, launch, request, files, line)
 }
 
-/// Serves from a machine at its start: over all its deltas, or over the newest if there is a bound.
+/// Serves from a machine at its start: over all its undo records, or over the newest if there is a bound.
 fn open_machine<'c, A: Allocator + Copy + 'c, S: Source, W: Sink, F: Files<A>>(
     machine: Machine<'c, A>,
     opening: Opening<'c>,
@@ -469,7 +469,7 @@ fn open_recorded<A: Allocator + Copy, S: Source, W: Sink, F: Files<A>>(
     }
 }
 
-/// Why the session can't be recorded in a file, if it is to be and can't.
+/// Why the session can't be recorded in a file, if a record was asked for and can't be written.
 fn fault_of_record<A: Allocator + Copy, F: Files<A>>(
     alloc: A,
     files: &F,

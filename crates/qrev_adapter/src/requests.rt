@@ -29,7 +29,7 @@ use std::alloc::{AllocError, Allocator};
 #[derive(Clone, Copy)]
 pub enum Then {
     Nothing,
-    /// The editor is told that the run stands.
+    /// The editor gets `stopped`.
     Stopped(Why),
     Move(Travel),
     /// A run that goes on comes to a stand.
@@ -39,7 +39,7 @@ pub enum Then {
 /// How a session ends.
 #[derive(Clone, Copy)]
 pub enum Ending {
-    /// The editor is told, and may launch again.
+    /// The editor gets the error, and may launch again.
     Terminated,
     /// The adapter ends.
     Left,

@@ -23,7 +23,7 @@ use qrev_recorder::HasMachine;
 use qrev_requests::{Arguments, Launch};
 use std::alloc::Allocator;
 
-/// Goes where a request asks: until the run stands, which is told, or until a message has come.
+/// Goes where a request leads: until the run stops, with its event, or until a message has come.
 fn go_and_tell<'c, A: Allocator + Copy + 'c, L: HasMachine<A, Code<'c, A>>, W: Sink, F: Files<A>>(
     debuggee: &mut Debuggee<'c, A, L>,
     port: &mut Port<A, W>,
@@ -39,7 +39,7 @@ fn go_and_tell<'c, A: Allocator + Copy + 'c, L: HasMachine<A, Code<'c, A>>, W: S
     Ok(())
 }
 
-/// Runs to the end, which is told, or until a message has come.
+/// Runs to the end, with its event, or until a message has come.
 fn run_to_end<'c, A: Allocator + Copy + 'c, L: HasMachine<A, Code<'c, A>>, W: Sink, F: Files<A>>(
     debuggee: &mut Debuggee<'c, A, L>,
     port: &mut Port<A, W>,
@@ -75,7 +75,7 @@ fn begin<'c, A: Allocator + Copy + 'c, L: HasMachine<A, Code<'c, A>>, W: Sink, F
     go_and_tell(debuggee, port, files, stage, on)
 }
 
-/// Brings a run to a stand for a reason of its own, which is told.
+/// Stops a run for a reason of its own, with an event.
 fn stand<'c, A: Allocator + Copy + 'c, L: HasMachine<A, Code<'c, A>>, W: Sink>(
     debuggee: &mut Debuggee<'c, A, L>,
     port: &mut Port<A, W>,
@@ -94,7 +94,7 @@ fn stand<'c, A: Allocator + Copy + 'c, L: HasMachine<A, Code<'c, A>>, W: Sink>(
     }
 }
 
-/// Brings a run to a stand that is underway, which is told; one that stands already is told of nothing.
+/// Stops a run that is underway, with an event; for one that stands already nothing is sent.
 fn pause<'c, A: Allocator + Copy + 'c, L: HasMachine<A, Code<'c, A>>, W: Sink>(
     debuggee: &mut Debuggee<'c, A, L>,
     port: &mut Port<A, W>,
@@ -147,7 +147,7 @@ fn go_on<'c, A: Allocator + Copy + 'c, L: HasMachine<A, Code<'c, A>>, W: Sink, F
     }
 }
 
-/// Tells what follows a response. A run that isn't debugged goes on to its end, whatever is asked meanwhile.
+/// Sends what follows a response. A run that isn't debugged goes on to its end, whatever is asked meanwhile.
 fn follow<'c, A: Allocator + Copy + 'c, L: HasMachine<A, Code<'c, A>>, W: Sink, F: Files<A>>(
     debuggee: &mut Debuggee<'c, A, L>,
     port: &mut Port<A, W>,
@@ -319,8 +319,8 @@ fn answer_messages<
     Err(Ended::Broken)
 }
 
-/// Writes the record of a session that was closed so. An editor that ends the session is told: a restart is responded to later,
-/// and where the input has ended nobody may be reading any more.
+/// Writes the record of a session that was closed so. An editor that ends the session gets an event: a restart is responded to
+/// later, and if the input has ended nobody may be reading any more.
 fn close<
     'c,
     A: Allocator + Copy + 'c,

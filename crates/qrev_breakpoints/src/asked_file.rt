@@ -65,7 +65,7 @@ fn source_asked<'c, A: Allocator + Copy + 'c, L: HasMachine<A, Code<'c, A>>>(
     }
 }
 
-/// The source of a path, or of where that leads.
+/// The source at a path, or at the target of its link.
 fn source_by<A: Allocator + Copy>(
     alloc: A,
     source_map: &SourceMap<A>,

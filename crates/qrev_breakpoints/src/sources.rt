@@ -1,4 +1,4 @@
-//! `loadedSources`: the text, and the sources that a map tells of.
+//! `loadedSources`: the text, and the sources of its map.
 
 use qil_machine::Code;
 use qrev_debuggee::{Body, Debuggee, Failure, HasMachine};
@@ -38,7 +38,7 @@ fn first_lines<A: Allocator + Copy>(
     Ok(found)
 }
 
-/// Adds the sources that a map tells of, in the order in which they come first.
+/// Adds the sources of a map, in the order in which they come first.
 fn put_sources<A: Allocator + Copy>(
     alloc: A,
     list: SourceList<A>,

@@ -3,9 +3,9 @@
 use crate::asked_file::{AskedFile, AskedSource, file_asked};
 use crate::places::{FuncPlace, entries};
 use crate::rules::{add_rule, drop_rules, flaw_in};
+use qil_fragments::Fragment;
 use qil_lines::{Place, line_of, place_in};
 use qil_machine::Code;
-use qil_pieces::Fragment;
 use qil_tree::{Func, Program};
 use qrev_debuggee::{Body, Cause, Debuggee, Done, Failure, HasMachine, RequestedStop, StopFamily};
 use qrev_protocol::{Array, InObject, Whole};
@@ -30,7 +30,7 @@ pub enum Flaw {
     AnotherFile,
 }
 
-/// What the editor is told.
+/// The message for the editor.
 fn flaw_words(flaw: Flaw) -> &'static str {
     match flaw {
         Flaw::NoLine => "no line",
@@ -483,7 +483,7 @@ fn watch_object<'c, A: Allocator + Copy + 'c, L: HasMachine<A, Code<'c, A>>>(
     Ok(first)
 }
 
-/// Where the data object lies that is asked for as a whole, and how many bytes it has.
+/// The address and the size of the data object that is watched as a whole.
 fn object_asked<'c, A: Allocator + Copy + 'c, L: HasMachine<A, Code<'c, A>>>(
     debuggee: &Debuggee<'c, A, L>,
     family: StopFamily,

@@ -1,4 +1,4 @@
-//! `qrev_check FILE [ARGS..]`: runs a program, and tells what it does that no right compiler's output does.
+//! `qrev_check FILE [ARGS..]`: runs a program, and reports what no right compiler's output does.
 #![tactic(auto)]
 
 mod line;

@@ -7,10 +7,10 @@ use crate::telling::put_note;
 use qil_code::Code;
 use qil_flat::{FlatCode, flatten};
 use qil_flatmachine::FlatMachine;
-use qil_laying::layout;
 use qil_layout::Image;
+use qil_layout_builder::layout;
 use qil_loading::check_text;
-use qil_numbering::number;
+use qil_resolution::number;
 use qil_rules::Checked;
 use qil_state::Status;
 use qil_suspicions::Pass;
@@ -42,6 +42,20 @@ struct Request<'r> {
     limit: u64,
 }
 
+/// From which move on there may be suspicions of other kinds, if there may be some.
+fn put_others<A: Allocator + Copy>(
+    line: &mut Line<A>,
+    first: Option<u64>,
+) -> Result<(), AllocError> {
+    match first {
+        Some(position) => {
+            line.put(b", other kinds not before #")?;
+            line.put_number(position)
+        }
+        None => line.put(b", no other kinds"),
+    }
+}
+
 /// Writes the lines of a pass that is over.
 fn write_notes<A: Allocator + Copy, W: Write>(
     alloc: A,
@@ -55,6 +69,7 @@ fn write_notes<A: Allocator + Copy, W: Write>(
     line.put_count(pass.notes().len() as u64, b"suspicion")?;
     line.put(b" in ")?;
     line.put_count(pass.moves(), b"move")?;
+    put_others(&mut line, pass.first_unsure())?;
     line.put(b"\n")?;
     Ok(out.write_all(line.bytes()).is_ok())
 }

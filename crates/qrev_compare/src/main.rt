@@ -1,4 +1,4 @@
-//! `qrev-compare`: runs two texts in QBE IL side by side, and tells the first place where they part.
+//! `qrev-compare`: runs two texts in QBE IL side by side, and reports the first place where they part.
 #![tactic(auto)]
 
 ghost use Rattle.std.specs.Prelude.{◌≡◌, ◌<◌, ◌-◌, ◌^◌};
@@ -51,8 +51,8 @@ fn compare_over<A: Allocator + Copy, S: Source, W: Sink>(
     compare_texts(alloc, keys, &good, &bad, &request, source, sink)
 }
 
-/// Compares the texts, whose tables hash with keys drawn for it. The script is standard input, what is told goes to standard
-/// output, where each line is written at once.
+/// Compares the texts, with tables that hash with keys drawn for this run. The script is standard input. The report goes to
+/// standard output, each line as soon as it is known.
 fn compare<R: Input + Print + RandomSource>(
     rt: &R,
     alloc: Global,

@@ -16,7 +16,7 @@ use std::random::RandomSource;
 use std::rt::Env;
 use std::{env, fs, io, rt};
 
-/// One byte more than a program may have, so that one that is too long is told by the reader of programs.
+/// One byte more than a program may have, so that the reader of programs reports one that is too long.
 const READ_LIMIT: u64 = (1 << 20) + 1;
 
 /// The same of a map of places.

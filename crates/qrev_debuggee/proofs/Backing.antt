@@ -1,6 +1,6 @@
 -- Runs back, one after the other.
 use Rattle.std.proofs.Common.{◌≡◌, subst, ℕ, []}
-use Rattle.qil_meaning.specs.declared.reason.Reason.TheVariants as reasons
+use Rattle.qil_semantics.specs.declared.reason.Reason.TheVariants as reasons
 use Rattle.qrev_recorder.specs.qil_replies.qil_stops.declared.depth_end.DepthEnd.{DepthEnd}
 use Rattle.qrev_recorder.specs.qil_replies.qil_stops.declared.depth_end.DepthEnd.TheVariants as ends
 use Rattle.qrev_debuggee.specs.Moves.{Recorded, RanBackTo, RanBackPast, again}

@@ -1,8 +1,8 @@
 -- The move that an editor asks for: which command or which run over calls it is, and why the run stands after it.
 use Rattle.std.specs.Prelude.{◌≡◌, ◌≢◌, ◌⊎◌, ℕ, ◌+◌, ◌^◌, ◌≤◌, List, [], length, Option, Some, Result, Ok}
-use Rattle.qil_meaning.specs.Timeline.{position}
-use Rattle.qil_meaning.specs.Stops.{Numbered}
-use Rattle.qil_meaning.specs.declared.reason.Reason.TheVariants as reasons
+use Rattle.qil_semantics.specs.Timeline.{position}
+use Rattle.qil_semantics.specs.Stops.{Numbered}
+use Rattle.qil_semantics.specs.declared.reason.Reason.TheVariants as reasons
 use Rattle.qrev_recorder.specs.qil_replies.SessionState.{SessionState}
 use Rattle.qrev_recorder.specs.qil_replies.declared.reply.CommandRefusal.TheVariants as refusals
 use Rattle.qil_commands.specs.declared.command.Command.{Command}

@@ -3,16 +3,16 @@
 ghost use Rattle.std.specs.Prelude.{◌≡◌, [], length, IfOk, IfErr};
 ghost use Rattle.qil_commands.specs.Command.{command_of};
 ghost use Rattle.qil_machine.specs.qil_state.State.{state_of};
-ghost use Rattle.qil_meaning.specs.Timeline.{position, oldest};
+ghost use Rattle.qil_semantics.specs.Timeline.{position, oldest};
 ghost use Rattle.qrev_recorder.specs.qil_replies.qil_stops.Depths.{depth};
 ghost use Rattle.qrev_debuggee.specs.Moves.{Lined, RanTo, RanBack, RanBackTo, LineFails, RunFails};
 
 use crate::client::Client;
 use crate::failure::{Cause, Failure};
 use crate::rules::StopRule;
+use qil_fragments::{Fragment, put_fragments};
 use qil_machine::Code;
-use qil_meaning::Reason;
-use qil_pieces::{Fragment, put_fragments};
+use qil_semantics::Reason;
 use qil_streams::Buffer;
 use qil_tree::Program;
 use qrev_map::Names;
@@ -50,7 +50,7 @@ pub struct Debuggee<'c, A: Allocator, L: Debugged<A>> {
     pub alloc: A,
     pub recorder: Recorder<'c, A, L>,
     pub shown: Shown<'c>,
-    /// Where the text came from, if a map tells it.
+    /// Where the text came from, if a map says so.
     pub source_map: Option<SourceMap<A>>,
     /// The output that the editor was told.
     pub output: Vec<u8, A>,

@@ -35,7 +35,7 @@ pub enum Cause {
 }
 
 impl Cause {
-    /// What the editor is told.
+    /// The message for the editor.
     pub fn as_str(self) -> &'static str {
         match self {
             Cause::NoSession => "no session",

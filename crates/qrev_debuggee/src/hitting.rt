@@ -2,10 +2,10 @@
 
 use crate::debuggee::{Debuggee, RequestedStop};
 use crate::motion::Why;
-use qil_answers::{Readers, code_of, func_name, label_name};
+use qil_fragments::{Fragment, put_fragments};
 use qil_machine::Code;
-use qil_meaning::Reason;
-use qil_pieces::{Fragment, put_fragments};
+use qil_render::{Readers, code_of, func_name, label_name};
+use qil_semantics::Reason;
 use qil_streams::Buffer;
 use qrev_recorder::HasMachine;
 use std::alloc::{AllocError, Allocator};
@@ -18,7 +18,7 @@ fn place_told(answer: &[u8]) -> Option<&[u8]> {
     place.strip_prefix(b" ")
 }
 
-/// The place of the innermost frame, as the session tells it; nothing where no call is open.
+/// The place of the innermost frame, as the session shows it; nothing if no call is open.
 fn place_now<'c, A: Allocator + Copy + 'c, M: Readers<A, Code<'c, A>>>(
     alloc: A,
     machine: &M,

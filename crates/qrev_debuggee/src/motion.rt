@@ -6,7 +6,7 @@ ghost use Rattle.qrev_debuggee.specs.Moves.{Moves, MoveFails, WentToBeginning, w
 use crate::debuggee::Debuggee;
 use crate::failure::Failure;
 use qil_machine::Code;
-use qil_meaning::Reason;
+use qil_semantics::Reason;
 use qrev_recorder::{CommandRefusal, DepthEnd, Done, HasMachine};
 use std::alloc::Allocator;
 
@@ -25,7 +25,7 @@ pub enum Motion {
     ToBeginning(usize),
 }
 
-/// Why an editor is told that the run stands.
+/// The reason of an event `stopped`.
 #[derive(Clone, Copy)]
 pub enum Why {
     Entry,

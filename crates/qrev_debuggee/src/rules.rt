@@ -1,4 +1,4 @@
-//! When a breakpoint stops the run: by a condition, and by how often the run came to it; and what it tells in place of that.
+//! When a breakpoint stops the run: by a condition, and by how often the run came to it; and what a logpoint writes instead.
 
 ghost use Rattle.std.specs.Prelude.{◌≡◌, ◌≢◌, ◌%◌, ◌↔◌, IsTrue};
 ghost use Rattle.qrev_debuggee.specs.Hits.{Allows};
@@ -99,7 +99,7 @@ pub struct StopRule<A: Allocator> {
     /// An expression that has to hold.
     pub condition: Option<String<A>>,
     pub hits: Option<HitRule>,
-    /// What is told where it is met, in place of a stop.
+    /// What a logpoint writes where it is met.
     pub message: Option<String<A>>,
     /// The positions at which the run came to it and the condition held, in rising order.
     pub met: Vec<u64, A>,

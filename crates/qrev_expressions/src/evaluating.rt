@@ -4,8 +4,8 @@ use crate::operation::{Binary, Operation, Unary};
 use crate::parsing::Expression;
 use crate::scene::{Scene, global, load, temp};
 use crate::value::{Missing, Sized, Value};
-use qil_answers::{Readers, code_of};
 use qil_code::Code;
+use qil_render::{Readers, code_of};
 use qrev_map::Names;
 use std::alloc::{AllocError, Allocator};
 use std::num::{

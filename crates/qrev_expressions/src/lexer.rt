@@ -5,7 +5,7 @@ ghost use Rattle.std.specs.Prelude.{◌≤◌, length};
 use crate::operation::{Binary, Unary};
 use crate::value::Memory;
 
-/// A word or a symbol. `-` and `+` are told apart by what stands before them.
+/// A word or a symbol. Whether `-` and `+` are signs depends on what stands before them.
 #[derive(Clone, Copy)]
 pub enum Token<'x> {
     Number(u64),

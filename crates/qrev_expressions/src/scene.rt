@@ -1,4 +1,4 @@
-//! What an expression reads of a state: temporaries of the frame that it is asked for, bytes of live memory, and addresses.
+//! What an expression reads of a state: temporaries of a frame, bytes of live memory, and addresses.
 
 ghost use Rattle.std.specs.Prelude.{◌≡◌, IfSome};
 ghost use Rattle.qil_layout.specs.Layout.{address_of};
@@ -7,8 +7,8 @@ ghost use Rattle.qil_memory.specs.Live.{live};
 ghost use Rattle.qrev_expressions.specs.Readings.{IsHeld, number_read};
 
 use crate::value::{Memory, Missing, Sized, Value, signed};
-use qil_answers::{Readers, code_of, func_name};
 use qil_code::Code;
+use qil_render::{Readers, code_of, func_name};
 use qil_tree::Class;
 use qrev_map::{FloatClass, Names};
 use qrev_views::{FrameView, frame_of, value_at};

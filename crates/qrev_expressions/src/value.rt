@@ -33,8 +33,9 @@ pub enum Missing {
     NotWhole,
 }
 
-/// What an expression is worth in a state. A part of it that can't be had in this state makes the whole missing, but for what `&&`
-/// and `||` don't look at.
+/// What an expression is worth in a state. A part without a value in this state leaves the whole without one, unless `&&` or `
+///
+/// ` doesn't look at it.
 #[derive(Clone, Copy)]
 pub enum Value {
     Number(i128, Sized),

@@ -22,7 +22,7 @@ type Targets<A> = Array<A, InObject<InObject<Whole>>>;
 /// An item of it.
 type Target<A> = Object<A, InArray<InObject<InObject<Whole>>>>;
 
-/// The list that is filled, the word that is to be completed, and where it begins.
+/// The list to fill, the word to complete, and where it begins.
 #[derive(Drop)]
 struct Offer<'w, A: Allocator> {
     alloc: A,
@@ -224,7 +224,7 @@ fn offer_commands<'w, A: Allocator + Copy>(
     Ok(offer)
 }
 
-/// The word that is to be completed, where it begins, and whether nothing stands before it.
+/// The word to complete, where it begins, and whether nothing stands before it.
 #[derive(Clone, Copy)]
 struct Typed<'w> {
     word: &'w str,

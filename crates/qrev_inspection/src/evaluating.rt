@@ -13,7 +13,7 @@ use qrev_requests::Arguments;
 use qrev_views::{Readers, Showing, as_text, code_of, sigiled};
 use std::alloc::{AllocError, Allocator};
 
-/// An expression, and how its value is asked for.
+/// An expression, and the form of its value.
 #[derive(Clone, Copy)]
 pub struct Asked<'x> {
     pub text: &'x [u8],
@@ -191,7 +191,7 @@ fn is_bare(text: &[u8]) -> bool {
     }
 }
 
-/// The expression that is asked for. `p` before it is what some consoles send.
+/// The expression of a request. Some consoles send `p` before it.
 fn text_said<'q, A: Allocator + Copy>(asked: Arguments<'_, 'q, A>) -> &'q str {
     let text = asked.text("expression").unwrap_or("");
     text.strip_prefix("p ").unwrap_or(text)

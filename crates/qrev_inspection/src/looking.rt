@@ -4,7 +4,7 @@ ghost use Rattle.std.specs.Prelude.{◌≡◌, ◌⊎◌, ◌+◌, ◌-◌, ◌<
 ghost use Rattle.json.specs.Token.{Token};
 ghost use Rattle.qil_memory.specs.Live.{live};
 ghost use Rattle.qil_frames.specs.Frames.{SlotFrame};
-ghost use Rattle.qil_meaning.specs.Timeline.{position};
+ghost use Rattle.qil_semantics.specs.Timeline.{position};
 ghost use Rattle.qil_state.specs.State.{frame_state};
 ghost use Rattle.qrev_protocol.specs.Outgoing.{Adds};
 ghost use Rattle.qrev_debuggee.specs.declared.failure.Failure.TheVariants.{Because};
@@ -12,7 +12,7 @@ ghost use Rattle.qrev_debuggee.specs.declared.failure.Cause.TheVariants.{NoSuchF
 ghost use Rattle.qrev_views.specs.Frames.{ShowsStack};
 ghost use Rattle.qrev_views.specs.Scopes.{scopes_tokens};
 ghost use Rattle.qrev_views.specs.Variables.{ShowsTemps};
-ghost use Rattle.qrev_inspection.specs.Shown.{ShowsFrame, variables_member};
+ghost use Rattle.qrev_inspection.specs.Shown.{ShowsFrame, IsMissing, variables_member};
 
 use qil_machine::Code;
 use qrev_debuggee::{Body, Cause, Client, Debuggee, Failure, HasMachine};
@@ -24,7 +24,7 @@ use qrev_views::{
 };
 use std::alloc::{AllocError, Allocator};
 
-/// How an editor wants what a request asks for to be shown.
+/// The form of values that a request asks for.
 pub fn showing_said<A: Allocator + Copy>(client: Client, asked: Arguments<'_, '_, A>) -> Showing {
     Showing {
         is_hex: asked.inside("format").flag("hex").unwrap_or(false),
@@ -54,10 +54,11 @@ pub fn stack_trace<'c, A: Allocator + Copy + 'c, L: HasMachine<A, Code<'c, A>>>(
         × ShowsStack (position (L.state debuggee.now.recorder.live).timeline) (L.state debuggee.now.recorder.live).timeline.now page tokens × Adds body.out o.out tokens) }
 {
     let page = page_said(asked, "startFrame", "levels");
+    let position = debuggee.position();
     Ok(put_frames(
         debuggee.alloc,
         body,
-        debuggee.position(),
+        position,
         debuggee.machine(),
         debuggee.program(),
         debuggee.shown,
@@ -74,7 +75,7 @@ fn frame_scopes<'c, A: Allocator + Copy + 'c, M: Readers<A, Code<'c, A>>>(
     body: Body<A>,
 ) -> Result<Body<A>, Failure>
     ensures shown { IfOk result (λ o. Adds body.out o.out (scopes_tokens number (slice_get (M.whole machine.now).frames (number - 1)) datas)) }
-    ensures missing { IfErr result (λ why. why ≡ Because NoSuchFrame → (number ≡ 0) ⊎ (length (M.whole machine.now).frames < number)) }
+    ensures fails { IfErr result (λ why. IsMissing why (Because NoSuchFrame) number (M.whole machine.now).frames) }
 {
     let frame = frame_of(machine, number);
     if frame.is_none() && (number != 1 || machine.depth() > 0) {
@@ -163,7 +164,7 @@ fn frame_variables<'c, A: Allocator + Copy + 'c, M: Readers<A, Code<'c, A>>>(
     body: Body<A>,
 ) -> Result<Body<A>, Failure>
     ensures shown { IfOk result (λ o. (tokens : List Token) × ShowsFrame (M.whole machine.now) names.now.text.items showing number page tokens × Adds body.out o.out tokens) }
-    ensures missing { IfErr result (λ why. why ≡ Because NoSuchVariables → (number ≡ 0) ⊎ (length (M.whole machine.now).frames < number)) }
+    ensures fails { IfErr result (λ why. IsMissing why (Because NoSuchVariables) number (M.whole machine.now).frames) }
 {
     match frame_of(machine, number) {
         Some(frame) => Ok(temp_variables(

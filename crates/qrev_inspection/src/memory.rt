@@ -3,8 +3,8 @@
 ghost use Rattle.std.specs.Prelude.{◌<◌, ◌≤◌};
 
 use base64::engine::general_purpose::STANDARD;
+use qil_fragments::Fragment;
 use qil_machine::Code;
-use qil_pieces::Fragment;
 use qrev_debuggee::{Body, Cause, Debuggee, Failure, HasMachine};
 use qrev_requests::Arguments;
 use qrev_views::{Readers, byte_at, number_text};

@@ -1,4 +1,4 @@
-//! What an expression is worth, as an editor is told it.
+//! What an expression is worth, as an editor shows it.
 
 use qil_machine::Code;
 use qrev_debuggee::{Body, Cause};
@@ -6,7 +6,7 @@ use qrev_expressions::{Missing, Sized, Value, low_bits};
 use qrev_views::{Readers, Showing, byte_at, number_text};
 use std::alloc::{AllocError, Allocator};
 
-/// Why a value that is missing can't be had.
+/// Why an expression has no value.
 pub fn cause_of(missing: Missing) -> Cause {
     match missing {
         Missing::Unset => Cause::Unset,

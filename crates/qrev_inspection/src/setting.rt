@@ -2,9 +2,9 @@
 
 use crate::looking::showing_said;
 use crate::results::{cause_of, put_type};
-use qil_answers::func_name;
+use qil_fragments::Fragment;
 use qil_machine::Code;
-use qil_pieces::Fragment;
+use qil_render::func_name;
 use qil_tree::{Class, Data};
 use qrev_debuggee::{Body, Cause, Debuggee, Done, Failure, HasMachine};
 use qrev_expressions::{
@@ -173,7 +173,7 @@ fn temp_in<'c, 'l, A: Allocator + Copy + 'c, L: HasMachine<A, Code<'c, A>>>(
     temp_now(debuggee.machine(), &debuggee.names, name)
 }
 
-/// The name that a temporary has in the text, of the one that is told.
+/// The name of a temporary in the text, by the name that is shown.
 fn name_in<'c, A: Allocator + Copy + 'c, L: HasMachine<A, Code<'c, A>>>(
     debuggee: &Debuggee<'c, A, L>,
     told: &[u8],
@@ -272,7 +272,7 @@ fn letter_of_data<'l>(float: Option<FloatClass>, letter: &'l str) -> &'l str {
     }
 }
 
-/// The class in which a number of so many bytes is told.
+/// The class in which a number of so many bytes is shown.
 fn class_of_width(width: u64) -> Option<Class> {
     if width == 8 {
         Some(Class::L)
@@ -281,7 +281,7 @@ fn class_of_width(width: u64) -> Option<Class> {
     }
 }
 
-/// The letter in which memory is poked, the letter that is told of it, how many bytes it has, and which float it is.
+/// The letter of the poke of memory, the letter that is shown, how many bytes it has, and which float it is.
 fn poked(memory: Memory) -> (&'static str, &'static str, u64, Option<FloatClass>) {
     match memory {
         Memory::Byte => ("b", "b", 1, None),
@@ -407,7 +407,7 @@ fn set_said<'c, 'x, 'l, A: Allocator + Copy + 'c, L: HasMachine<A, Code<'c, A>>>
     }
 }
 
-/// Why nothing can be set in a scope, if so it is: only the temporaries of the innermost frame can be, and data.
+/// Why a scope is read-only, if it is. Only the temporaries of the innermost frame and data can be set.
 fn refusal_of<'c, A: Allocator + Copy + 'c, M: Readers<A, Code<'c, A>>>(
     machine: &M,
     reference: u64,
@@ -443,7 +443,7 @@ fn set_in<'c, 'x, 'l, A: Allocator + Copy + 'c, L: HasMachine<A, Code<'c, A>>>(
     }
 }
 
-/// Sets the variable that is asked for, and gives its value after that.
+/// Sets a variable, and gives its new value.
 fn set_asked<'c, 'l, A: Allocator + Copy + 'c, L: HasMachine<A, Code<'c, A>>>(
     debuggee: &mut Debuggee<'c, A, L>,
     asked: Arguments<'_, '_, A>,

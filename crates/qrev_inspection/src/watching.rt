@@ -1,9 +1,9 @@
 //! `dataBreakpointInfo`: which stop would watch a variable.
 
-use qil_answers::func_name;
+use qil_fragments::Fragment;
 use qil_layout::FuncId;
 use qil_machine::Code;
-use qil_pieces::Fragment;
+use qil_render::func_name;
 use qrev_debuggee::{Body, Debuggee, Failure, HasMachine};
 use qrev_map::Names;
 use qrev_requests::Arguments;
@@ -110,7 +110,7 @@ fn func_with<'c, A: Allocator + Copy + 'c, M: Readers<A, Code<'c, A>>>(
     }
 }
 
-/// Adds what watches a temporary of a function, if the frame that it is asked for is the innermost one.
+/// Adds the watch of a temporary of a function, if the frame of the request is the innermost one.
 fn put_temp_watch<A: Allocator + Copy>(
     alloc: A,
     is_innermost: bool,
@@ -215,7 +215,7 @@ fn data_watch<'c, A: Allocator + Copy + 'c, M: Readers<A, Code<'c, A>>>(
     }
 }
 
-/// What is to be watched.
+/// What to watch.
 #[derive(Clone, Copy)]
 enum Watched {
     Data,
@@ -233,7 +233,7 @@ fn watched_by_sigil<A: Allocator + Copy>(asked: Arguments<'_, '_, A>, name: &[u8
     }
 }
 
-/// What a name says, in the scope that is asked for.
+/// What a name means in the scope of the request.
 fn watched_by<A: Allocator + Copy>(asked: Arguments<'_, '_, A>, name: &[u8]) -> Watched {
     match asked.number("variablesReference") {
         Some(0) | None => watched_by_sigil(asked, name),

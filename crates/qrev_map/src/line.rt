@@ -1,4 +1,4 @@
-//! What one line of a map tells.
+//! What one line of a map says.
 
 ghost use Rattle.std.specs.Prelude.{◌≡◌, ◌==◌, ℕ, ◌+◌, ◌≤◌, ◌↔◌, List, [], ◌∷◌, length, IsTrue, IfOk, IfSome, IfNone, OnErr, SomeIff, slice_index};
 ghost use Rattle.std.specs.Char.{is_ascii_digit};
@@ -78,7 +78,7 @@ fn cut(bytes: &[u8]) -> Option<(&[u8], &[u8])>
     }
 }
 
-/// What a path and the digits behind it tell.
+/// What a path and the digits behind it say.
 fn place_in(path: &[u8], digits: &[u8]) -> Result<Told, Malformed>
     ensures told { IfOk result (HasPlace path.now digits.now) }
     ensures malformed { OnErr result ((origin : Origin) → IsPlace path.now digits.now origin → ⊥) }
@@ -103,8 +103,8 @@ fn are_readable(path: &[u8], digits: &[u8], column: &[u8]) -> bool
     std::str::from_utf8(path).is_ok() && is_numeral(digits) && is_numeral(column)
 }
 
-/// What the last three fields of a line tell: the path and the line of the source of a source, and a column. They tell nothing
-/// if there is no path, or no number of a line.
+/// What the last three fields of a line say: the path and the line of the source of a source, and a column. They say nothing if
+/// there is no path, or no number of a line.
 fn source_in(bytes: &[u8]) -> Result<Option<Told>, Malformed>
     ensures told { IfOk result (HasSource bytes.now) }
     ensures malformed { OnErr result ((source number column : List ℕ) → AreThree bytes.now source number column → ⊥) }
@@ -121,7 +121,7 @@ fn source_in(bytes: &[u8]) -> Result<Option<Told>, Malformed>
     Ok(place_in(path, digits).ok())
 }
 
-/// What a line that isn't empty tells.
+/// What a line that isn't empty says.
 fn origin_in(line: &[u8]) -> Result<Told, Malformed>
     ensures told { IfOk result (λ told. IsOrigin (fields_of line.now) (told_origin line.now told)) }
     ensures malformed { OnErr result ((origin : Origin) → IsOrigin (fields_of line.now) origin → ⊥) }
@@ -144,7 +144,7 @@ fn origin_in(line: &[u8]) -> Result<Told, Malformed>
     }
 }
 
-/// What a line tells, which is nothing if it is empty.
+/// What a line says, which is nothing if it is empty.
 pub fn told_in(line: &[u8]) -> Result<Option<Told>, Malformed>
     ensures told { IfOk result (λ told. Tells line.now (told_in line.now told)) }
     ensures malformed { OnErr result (IsMalformed line.now) }

@@ -26,7 +26,7 @@ impl<T: Drop> From<AllocFailed<T>> for MapError {
     }
 }
 
-/// Where a line of a map tells the path of a source, and the number of the line.
+/// Where a line of a map has the path of a source, and the number of the line.
 #[derive(Clone, Copy)]
 pub struct OriginSpan {
     pub start: usize,

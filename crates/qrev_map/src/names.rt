@@ -41,14 +41,14 @@ fn after_name<'t>(line: &'t [u8], sigil: &[u8], name: &[u8]) -> Option<&'t [u8]>
     after_word(line.strip_prefix(sigil)?, name)
 }
 
-/// The class of a float that a line tells of the temporary of a function.
+/// The class of a float, from the line of a temporary of a function.
 fn temp_class(line: &[u8], func: &[u8], temp: &[u8]) -> Option<FloatClass> {
     let words = after_word(line, b"float")?;
     let words = after_name(words, b"$", func)?;
     class_said(after_name(words, b"%", temp)?)
 }
 
-/// The class of a float that a line tells of the beginning of a data object.
+/// The class of a float, from the line of the beginning of a data object.
 fn data_class(line: &[u8], name: &[u8]) -> Option<FloatClass> {
     let words = after_word(line, b"data")?;
     let words = after_word(after_name(words, b"$", name)?, b"0")?;
@@ -65,7 +65,7 @@ pub enum Foreign {
     Runtime,
 }
 
-/// What a line tells of a function.
+/// What a line says of a function.
 fn foreign_in(line: &[u8], func: &[u8]) -> Option<Foreign> {
     if let Some(words) = after_word(line, b"outside") {
         return if words.strip_prefix(b"$")? == func {
@@ -81,13 +81,13 @@ fn foreign_in(line: &[u8], func: &[u8]) -> Option<Foreign> {
     }
 }
 
-/// The name that a line tells in place of a short one.
+/// The name that a line gives for a short one.
 fn old_name<'t>(line: &'t [u8], sigil: &[u8], short: &[u8]) -> Option<&'t [u8]> {
     let words = after_word(line, b"name")?;
     after_name(words, sigil, short)?.strip_prefix(sigil)
 }
 
-/// The short name that a line tells of a name.
+/// The short name that a line gives for a name.
 fn short_name<'t>(line: &'t [u8], sigil: &[u8], old: &[u8]) -> Option<&'t [u8]> {
     let words = after_word(line, b"name")?.strip_prefix(sigil)?;
     let (short, rest) = words.split_at(memchr(b'\t', words)?);
@@ -129,7 +129,7 @@ impl<A: Allocator> Names<A> {
         self.class_told(func, temp)
     }
 
-    /// The class that a line tells of a temporary.
+    /// The class that a line gives a temporary.
     fn class_told(&self, func: &[u8], temp: &[u8]) -> Option<FloatClass> {
         let text = self.text.as_slice();
         let mut start = 0;
@@ -154,7 +154,7 @@ impl<A: Allocator> Names<A> {
         self.data_class_told(name)
     }
 
-    /// The class that a line tells of a data object.
+    /// The class that a line gives a data object.
     fn data_class_told(&self, name: &[u8]) -> Option<FloatClass> {
         let text = self.text.as_slice();
         let mut start = 0;
@@ -195,7 +195,7 @@ impl<A: Allocator> Names<A> {
         self.old_told(sigil, name)
     }
 
-    /// The name that a line tells in place of a short one, or that name.
+    /// The name that a line gives for a short one, or that name.
     fn old_told<'n>(&'n self, sigil: &[u8], name: &'n [u8]) -> &'n [u8] {
         let text = self.text.as_slice();
         let mut start = 0;

@@ -1,4 +1,4 @@
-//! A map, read once, and what it tells of lines of a text.
+//! A map, read once, and what it says of lines of a text.
 
 ghost use Rattle.std.specs.Prelude.{◌≡◌, ◌+◌, ◌≤◌, length, IfOk, IfErr, OnOk, slice_get};
 ghost use Rattle.std.specs.Option.{option_flatten};
@@ -23,7 +23,7 @@ fn part(text: &[u8], start: usize, length: usize) -> &[u8]
     part
 }
 
-/// Adds what the line of a map tells that has so many bytes from a place on.
+/// Adds what the line of a map says that has so many bytes from a place on.
 fn add_line<A: Allocator>(
     spans: &mut Vec<Option<OriginSpan>, A>,
     text: &[u8],
@@ -46,7 +46,7 @@ fn add_line<A: Allocator>(
     Ok(())
 }
 
-/// What the lines of a map tell.
+/// What the lines of a map say.
 fn spans_in<A: Allocator>(alloc: A, text: &[u8]) -> Result<Vec<Option<OriginSpan>, A>, MapError>
     ensures told { IfOk result (λ spans. Tell (lines_of text.now) (origins_in text.now spans.items)) }
     ensures few { IfOk result (λ spans. length spans.items ≤ length text.now) }
@@ -84,7 +84,7 @@ impl<A: Allocator + Copy> Map<A> {
         part(self.text.as_slice(), span.start, span.length)
     }
 
-    /// What the line tells that stands after so many, if there is one and it tells something.
+    /// What the line with so many before it says, if there is one and it says something.
     fn span(&self, index: usize) -> Option<OriginSpan>
         ensures { result ≡ option_flatten (slice_get self.now.spans.items index) }
     {

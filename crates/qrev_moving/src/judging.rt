@@ -8,8 +8,8 @@ use qrev_map::Names;
 use qrev_views::Readers;
 use std::alloc::{AllocError, Allocator};
 
-/// Whether a condition holds in a state. What can't be had in this state doesn't hold; what can be had in none does, so that the
-/// run stands where that is seen.
+/// Whether a condition holds in a state. One that has no value in this state doesn't hold; one that can have none in any state
+/// does, so that the run stops where that shows.
 fn condition_holds<'c, A: Allocator + Copy + 'c, M: Readers<A, Code<'c, A>>>(
     alloc: A,
     machine: &M,
@@ -80,7 +80,7 @@ fn rule_of<A: Allocator>(rules: &[StopRule<A>], id: u64) -> Option<usize> {
     rules.iter().position(|rule| rule.id == id)
 }
 
-/// What becomes of the run at the breakpoint of a number, and what is told there.
+/// What becomes of the run at the breakpoint of a number, and what it logs there.
 fn judge_one<'c, A: Allocator + Copy + 'c, L: HasMachine<A, Code<'c, A>>>(
     debuggee: &mut Debuggee<'c, A, L>,
     id: u64,
@@ -117,7 +117,7 @@ fn judge_one<'c, A: Allocator + Copy + 'c, L: HasMachine<A, Code<'c, A>>>(
     }
 }
 
-/// Whether the run stands at one of the breakpoints at which it came, which it then is told of; and adds what is told at others.
+/// Whether the run stops at one of the breakpoints at which it came, whose number is noted; adds what others log.
 pub fn judge<'c, A: Allocator + Copy + 'c, L: HasMachine<A, Code<'c, A>>>(
     debuggee: &mut Debuggee<'c, A, L>,
     why: Why,

@@ -2,7 +2,7 @@
 
 use qil_lines::{Place, line_of};
 use qil_machine::Code;
-use qil_meaning::Reason;
+use qil_semantics::Reason;
 use qil_tree::{Func, Program};
 use qrev_debuggee::{Debuggee, Failure, HasMachine, Motion, Why, make_move};
 use qrev_views::{Readers, SourceMap};

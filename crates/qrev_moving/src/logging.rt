@@ -1,4 +1,4 @@
-//! What a breakpoint tells in place of a stop: a text with expressions in braces.
+//! What a logpoint writes: a text with expressions in braces.
 
 use qil_machine::Code;
 use qrev_expressions::{Missing, Scene, Told, Unread, evaluate, parse, tell};

@@ -1,4 +1,4 @@
-//! Moves that are told: what breakpoints tell on the way, and at the end that the run stands.
+//! Moves with their events: what logpoints write on the way, and `stopped` at the end.
 
 ghost use Rattle.std.specs.Prelude.{◌≡◌, codes, IfOk, None};
 ghost use Rattle.qrev_notices.specs.Conversation.{spoken, Tells};
@@ -10,13 +10,13 @@ use crate::underway::{
     Course, Onward, Pace, Underway, behind_piece, next_piece, tell_over, tell_underway,
 };
 use qil_machine::Code;
-use qil_meaning::Reason;
+use qil_semantics::Reason;
 use qil_streams::Sink;
 use qrev_debuggee::{Debuggee, Failure, HasMachine, Motion, Why, make_move};
 use qrev_notices::{Files, Port, Trouble, output_event, tell_end, tell_paused, tell_stopped};
 use std::alloc::{AllocError, Allocator};
 
-/// What is told where the script takes no line more.
+/// What is written if the record takes no line more.
 const FULL: &str = "the script is full: no line more is taken\n";
 
 /// Makes the next move of a travel.
@@ -33,7 +33,7 @@ fn move_on<'c, A: Allocator + Copy + 'c, L: HasMachine<A, Code<'c, A>>>(
     }
 }
 
-/// Makes the next move of a travel, and says whether the run stands after it; what breakpoints tell is added.
+/// Makes the next move of a travel, and gives whether the run stops behind it; adds what logpoints write.
 fn travel_on<'c, A: Allocator + Copy + 'c, L: HasMachine<A, Code<'c, A>>>(
     debuggee: &mut Debuggee<'c, A, L>,
     travel: Travel,
@@ -52,7 +52,7 @@ fn travel_on<'c, A: Allocator + Copy + 'c, L: HasMachine<A, Code<'c, A>>>(
     Ok(Next::GoesOn)
 }
 
-/// Travels until the run stands or a breakpoint tells something.
+/// Travels until the run stops or a logpoint writes something.
 fn travel_far<'c, A: Allocator + Copy + 'c, L: HasMachine<A, Code<'c, A>>>(
     debuggee: &mut Debuggee<'c, A, L>,
     underway: Underway,
@@ -90,7 +90,7 @@ fn why_standing(next: Next) -> Option<Why> {
     }
 }
 
-/// Travels on, and tells what breakpoints tell; gives why the run stands, if it does.
+/// Travels on, and sends what logpoints write; gives why the run stops, if it does.
 fn travel_and_log<'c, A: Allocator + Copy + 'c, L: HasMachine<A, Code<'c, A>>, W: Sink>(
     debuggee: &mut Debuggee<'c, A, L>,
     port: &mut Port<A, W>,
@@ -141,8 +141,8 @@ pub fn tell_broken_off<'c, A: Allocator + Copy + 'c, L: HasMachine<A, Code<'c, A
     tell_paused(debuggee, port)
 }
 
-/// Makes the next piece of a travel, past breakpoints that don't stop the run. Where the run stands behind it this is told; else
-/// what is underway is given, and whether it waits for a message.
+/// Makes the next piece of a travel, past breakpoints that don't stop the run. If the run stops behind it, `stopped` is sent;
+/// else what is underway is given, and whether it waits for a message.
 fn make_piece<'c, A: Allocator + Copy + 'c, L: HasMachine<A, Code<'c, A>>, W: Sink, F: Files<A>>(
     debuggee: &mut Debuggee<'c, A, L>,
     port: &mut Port<A, W>,
@@ -166,7 +166,7 @@ fn make_piece<'c, A: Allocator + Copy + 'c, L: HasMachine<A, Code<'c, A>>, W: Si
     Ok(Some((next, onward == Onward::Waits)))
 }
 
-/// Travels on piece by piece until the run stands, which is told, or until a message has come.
+/// Travels on piece by piece until the run stops, with its event, or until a message has come.
 pub fn travel_and_tell<
     'c,
     A: Allocator + Copy + 'c,
@@ -227,7 +227,7 @@ fn tell_failed<'c, A: Allocator + Copy + 'c, L: HasMachine<A, Code<'c, A>>, W: S
     tell_end(debuggee, port)
 }
 
-/// Runs on to the end without a stop, and tells the output and how the run ended; or until a message has come.
+/// Runs on to the end without a stop, and sends the output and how the run ended; or until a message has come.
 pub fn run_out<'c, A: Allocator + Copy + 'c, L: HasMachine<A, Code<'c, A>>, W: Sink, F: Files<A>>(
     debuggee: &mut Debuggee<'c, A, L>,
     port: &mut Port<A, W>,

@@ -4,13 +4,13 @@ ghost use Rattle.qrev_notices.specs.Conversation.{spoken, Tells};
 
 use crate::lines::{Stand, Travel, stand_of};
 use qil_machine::Code;
-use qil_meaning::Reason;
+use qil_semantics::Reason;
 use qil_streams::Sink;
 use qrev_debuggee::{Debuggee, HasMachine, Why};
 use qrev_notices::{Files, Port, Progress, Trouble, tell_progress};
 use std::alloc::Allocator;
 
-/// From how many pieces on an editor is shown how far a run is, and behind how many it is told again.
+/// From how many pieces on an editor sees how far a run is, and behind how many it sees that again.
 const PIECES_SHOWN: u64 = 16;
 
 /// A travel that an editor asked for, and how far it is.
@@ -101,7 +101,7 @@ pub fn behind_piece<A: Allocator, F: Files<A>>(files: &F, pace: Pace, why: Why) 
     }
 }
 
-/// What is told of a run with so many pieces done, if something is.
+/// What an editor sees of a run with so many pieces done, if something.
 fn progress_due(pieces: u64) -> Option<Progress> {
     if pieces == PIECES_SHOWN {
         return Some(Progress::Start);

@@ -34,7 +34,7 @@ const CAPABILITIES: [&str; 20] = [
     "supportsValueFormattingOptions",
 ];
 
-/// The body that tells what is served.
+/// The body with what the adapter can do.
 fn capabilities<A: Allocator + Copy>(
     alloc: A,
     request: &Request<'_>,

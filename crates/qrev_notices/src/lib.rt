@@ -1,4 +1,4 @@
-//! What an editor is told besides the responses in a session: why a launch opens none, where the run stands, what became of the
+//! What an editor gets besides the responses of a session: why a launch opens none, where the run stands, what became of the
 //! record; and where its messages come from and go to.
 #![tactic(auto)]
 

@@ -47,7 +47,7 @@ fn text_after<A: Allocator>(start: &[u8], number: u64, body: Body<A>) -> Result<
     Ok(text)
 }
 
-/// Begins the body of a response that tells success.
+/// The opening of a success response.
 pub fn begin_body<A: Allocator>(alloc: A, request: &Request<'_>) -> Result<Body<A>, AllocError> {
     response(alloc, request, Outcome::Done)?.object("body")
 }

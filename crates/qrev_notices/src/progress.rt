@@ -11,7 +11,7 @@ use qrev_protocol::{Object, Whole, event};
 use qrev_views::number_text;
 use std::alloc::{AllocError, Allocator};
 
-/// What is told of a long run.
+/// What an editor sees of a long run.
 #[derive(Clone, Copy, PartialEq, Eq)]
 pub enum Progress {
     Start,
@@ -44,7 +44,7 @@ fn progress_body<A: Allocator + Copy>(
     Ok(body)
 }
 
-/// Adds what the run does, where it is told first.
+/// Adds what the run does, in the first of these events.
 fn add_title<A: Allocator>(body: Body<A>, progress: Progress) -> Result<Body<A>, AllocError>
     requires { IsEventSoFar body.out.tokens }
     ensures { IfOk result (λ o. IsEventSoFar o.out.tokens) }
@@ -56,7 +56,7 @@ fn add_title<A: Allocator>(body: Body<A>, progress: Progress) -> Result<Body<A>,
     Ok(body)
 }
 
-/// The event that tells at which position a run is.
+/// The event with the position of a run.
 fn progress_event<A: Allocator + Copy>(
     alloc: A,
     progress: Progress,

@@ -106,7 +106,7 @@ fn command_text<A: Allocator + Copy>(
     Ok(text)
 }
 
-/// What the editor is told of a record that was written.
+/// The message about a record that was written.
 fn replay_text<A: Allocator + Copy>(
     alloc: A,
     launch: &Launch<A>,
@@ -119,7 +119,7 @@ fn replay_text<A: Allocator + Copy>(
     Ok(text)
 }
 
-/// What it is told of one that couldn't be written.
+/// The message about one that couldn't be written.
 fn unwritten_text<A: Allocator + Copy>(alloc: A, record: &str) -> Result<String<A>, AllocError> {
     let mut text = String::from_str(alloc, "record: cannot write ")?;
     text.push_str(record)?;
@@ -234,7 +234,7 @@ fn write<'c, A: Allocator + Copy + 'c, L: HasMachine<A, Code<'c, A>>, F: Files<A
     }
 }
 
-/// Writes the record of a session, if one was asked for, and tells nothing of it.
+/// Writes the record of a session, if one was asked for, without a message.
 pub fn keep_record<'c, A: Allocator + Copy + 'c, L: HasMachine<A, Code<'c, A>>, F: Files<A>>(
     debuggee: &Debuggee<'c, A, L>,
     files: &F,
@@ -245,7 +245,7 @@ pub fn keep_record<'c, A: Allocator + Copy + 'c, L: HasMachine<A, Code<'c, A>>, 
     Ok(())
 }
 
-/// Writes a record, and gives what the editor is told of it.
+/// Writes a record, and gives the message about it.
 fn record_text<'c, A: Allocator + Copy + 'c, L: HasMachine<A, Code<'c, A>>, F: Files<A>>(
     debuggee: &Debuggee<'c, A, L>,
     launch: &Launch<A>,
@@ -259,7 +259,7 @@ fn record_text<'c, A: Allocator + Copy + 'c, L: HasMachine<A, Code<'c, A>>, F: F
     }
 }
 
-/// Writes the record of a session, if one was asked for, and tells the editor how it is played.
+/// Writes the record of a session, if one was asked for, with the message that says how to play it.
 pub fn write_record<
     'c,
     A: Allocator + Copy + 'c,

@@ -11,7 +11,7 @@ use crate::stopped::{output_body, tell_plain};
 use crate::trouble::Trouble;
 use qil_loading::{LoadError, Refusal, put_refusal_line};
 use qil_machine::StartError;
-use qil_meaning::StartFault;
+use qil_semantics::StartFault;
 use qil_streams::{Buffer, Sink, Source};
 use qrev_protocol::{Object, Request, Whole};
 use qrev_requests::{Launch, Unfit, unfit_words};

@@ -33,7 +33,7 @@ fn map_path<A: Allocator + Copy>(alloc: A, launch: &Launch<A>) -> Result<String<
     }
 }
 
-/// The sources that a map tells of.
+/// The sources of a map.
 fn sources_in<A: Allocator + Copy>(
     alloc: A,
     path: String<A>,
@@ -79,7 +79,7 @@ fn names_path<A: Allocator + Copy>(alloc: A, launch: &Launch<A>) -> Result<Strin
     Ok(names)
 }
 
-/// Reads what the names of the text of a launch stand for, if that is told beside it.
+/// Reads what the names of the text of a launch stand for, if a file beside it says so.
 pub fn read_names<A: Allocator + Copy, F: Files<A>>(
     alloc: A,
     launch: &Launch<A>,

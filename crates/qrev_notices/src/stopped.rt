@@ -1,4 +1,4 @@
-//! What an editor is told when a run stands: the output that is new, and why and where the run stands.
+//! What an editor gets when a run stops: the output that is new, and why and where it stopped.
 
 ghost use Rattle.std.specs.Prelude.{codes, ◌≤◌, length, IfOk};
 ghost use Rattle.qrev_notices.specs.Conversation.{spoken, Tells, IsEventSoFar};
@@ -6,10 +6,10 @@ ghost use Rattle.qrev_notices.specs.Last.{IsNamedEvent, TellsLast};
 
 use crate::port::Port;
 use crate::trouble::Trouble;
-use qil_answers::{Readers, code_of, func_name, is_final};
+use qil_fragments::Fragment;
 use qil_machine::Code;
-use qil_meaning::Reason;
-use qil_pieces::Fragment;
+use qil_render::{Readers, code_of, func_name, is_final};
+use qil_semantics::Reason;
 use qil_state::{Fault, Status};
 use qil_streams::Sink;
 use qrev_debuggee::{Body, Debuggee, HasMachine, RequestedStop, StopFamily, Why, hits};
@@ -74,7 +74,7 @@ fn common(one: &[u8], other: &[u8]) -> usize
     count
 }
 
-/// Tells that the output isn't what was told of it, if so it is.
+/// Sends a remark if the output isn't what the editor has seen of it.
 fn tell_difference<A: Allocator + Copy, W: Sink>(
     alloc: A,
     differs: bool,
@@ -105,7 +105,7 @@ fn tell_more<A: Allocator + Copy, W: Sink>(
     port.tell(output_event(alloc, "stdout", text.as_str())?)
 }
 
-/// How many bytes of an output are told: a character that its end cuts waits for its rest, while the run goes on.
+/// How many bytes of an output are sent: a character that its end cuts waits for its rest, while the run goes on.
 fn whole_length(new: &[u8], is_over: bool) -> usize
     ensures { result ≤ length new.now }
 {
@@ -177,7 +177,7 @@ fn words_of(status: Status, why: Why, on_function: bool) -> Words {
     Words { reason, text }
 }
 
-/// Whether a request for function breakpoints made the first of the breakpoints that are told.
+/// Whether a request for function breakpoints made the first of these breakpoints.
 fn is_on_function(hits: &[u64], stops: &[RequestedStop]) -> bool {
     match hits.first() {
         Some(first) => stops.iter().any(|stop| stop.id == *first
@@ -242,7 +242,7 @@ fn add_numbers<A: Allocator>(list: HitList<A>, numbers: &[u64]) -> Result<HitLis
     Ok(list)
 }
 
-/// Adds the breakpoints that were hit, if some were.
+/// Adds the breakpoints that were hit, if there are some.
 fn add_hits<A: Allocator>(body: Body<A>, numbers: &[u64]) -> Result<Body<A>, AllocError>
     requires { IsNamedEvent (codes "stopped") body.out.tokens }
     ensures { IfOk result (λ o. IsNamedEvent (codes "stopped") o.out.tokens) }
@@ -322,7 +322,7 @@ pub fn ended_elsewhere<'c, A: Allocator + Copy + 'c, M: Readers<A, Code<'c, A>>>
     }
 }
 
-/// The breakpoints to tell: those that were looked at, or else all at which the run stands.
+/// The breakpoints to name: those that were judged, or else all at which the run stands.
 fn hits_told<'c, A: Allocator + Copy + 'c, L: HasMachine<A, Code<'c, A>>>(
     debuggee: &mut Debuggee<'c, A, L>,
     why: Why,

@@ -2,8 +2,8 @@
 use Rattle.std.proofs.Common.{◌≡◌, ℕ, Bool, [], sym, ◌∙◌}
 use Rattle.qil_tree.specs.declared.tree.Program.{Program}
 use Rattle.qil_rules.specs.Verdict.{Verdict}
-use Rattle.qil_meaning.specs.State.{State}
-use Rattle.qil_meaning.specs.Timeline.{Timeline, begun}
+use Rattle.qil_semantics.specs.State.{State}
+use Rattle.qil_semantics.specs.Timeline.{Timeline, begun}
 use Rattle.qil_loading.specs.Lines.{IsLoaded}
 use Rattle.qil_loading.specs.declared.loaded.Loaded.{Loaded}
 use Rattle.qil_replies.specs.SessionState.{SessionState, session_at}

@@ -10,12 +10,12 @@ use Rattle.std.specs.Prelude.{Result}
 use Rattle.qil_commands.specs.declared.command.Command.{Command}
 use Rattle.qil_commands.specs.declared.command.Refused.{Refused}
 use Rattle.qil_commands.specs.declared.command.Command.TheVariants as commands
-use Rattle.qil_meaning.specs.Timeline.{Timeline, position, oldest, at_end, moved, gone}
-use Rattle.qil_meaning.specs.Moves.{forward_by, back_by}
-use Rattle.qil_meaning.specs.Stops.{Numbered}
-use Rattle.qil_meaning.specs.Runs.{if_holds, bottom, stop_on, stop_back}
-use Rattle.qil_meaning.specs.declared.reason.Reason.{Reason}
-use Rattle.qil_meaning.specs.declared.reason.Reason.TheVariants.{End, Start, Oldest}
+use Rattle.qil_semantics.specs.Timeline.{Timeline, position, oldest, at_end, moved, gone}
+use Rattle.qil_semantics.specs.Moves.{forward_by, back_by}
+use Rattle.qil_semantics.specs.Stops.{Numbered}
+use Rattle.qil_semantics.specs.Runs.{if_holds, bottom, stop_on, stop_back}
+use Rattle.qil_semantics.specs.declared.reason.Reason.{Reason}
+use Rattle.qil_semantics.specs.declared.reason.Reason.TheVariants.{End, Start, Oldest}
 use Rattle.qil_replies.specs.declared.reply.Reply.TheVariants as replies
 use Rattle.qil_replies.specs.SessionState.{SessionState, text_in}
 use Rattle.qil_replies.specs.Answers.{Answer, Replies, answer, IsValid, if_back, goes_to, refuses}

@@ -12,8 +12,8 @@ use Rattle.qil_streams.specs.Script.{lines_of}
 use Rattle.qil_streams.proofs.ScriptLemmas.{WholeLines-end}
 use Rattle.qil_commands.specs.Command.{command_of}
 use Rattle.qil_rules.specs.Verdict.{Verdict}
-use Rattle.qil_meaning.specs.State.{State}
-use Rattle.qil_meaning.specs.Timeline.{begun}
+use Rattle.qil_semantics.specs.State.{State}
+use Rattle.qil_semantics.specs.Timeline.{begun}
 use Rattle.qil_loading.specs.declared.loaded.Loaded.{Loaded}
 use Rattle.qil_replies.specs.declared.reply.Reply.{Reply}
 use Rattle.qil_replies.specs.SessionState.{SessionState, text_in}

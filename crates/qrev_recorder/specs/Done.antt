@@ -4,8 +4,8 @@ use Rattle.qil_commands.specs.Command.{command_of}
 use Rattle.qil_commands.specs.declared.command.Command.{Command}
 use Rattle.qil_commands.specs.declared.command.Refused.{Refused}
 use Rattle.qil_streams.specs.Reader.{IsLine}
-use Rattle.qil_meaning.specs.Timeline.{position}
-use Rattle.qil_meaning.specs.Stops.{Numbered}
+use Rattle.qil_semantics.specs.Timeline.{position}
+use Rattle.qil_semantics.specs.Stops.{Numbered}
 use Rattle.qil_stops.specs.Named.{named_stops}
 use Rattle.qil_stops.specs.Depths.{RunsToDepth, RunsBackToDepth}
 use Rattle.qil_stops.specs.declared.depth_end.DepthEnd.{DepthEnd}

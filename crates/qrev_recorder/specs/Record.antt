@@ -1,8 +1,8 @@
 -- What a recorder keeps: a script of lines that were answered, and the transcript that it has.
 use Rattle.std.specs.Prelude.{◌≡◌, ℕ, Bool, true, false, List, [], ◌∷◌, ◌++◌, Option, Some, None, Result}
 use Rattle.qil_rules.specs.Verdict.{Verdict}
-use Rattle.qil_meaning.specs.State.{State}
-use Rattle.qil_meaning.specs.Timeline.{begun}
+use Rattle.qil_semantics.specs.State.{State}
+use Rattle.qil_semantics.specs.Timeline.{begun}
 use Rattle.qil_loading.specs.Lines.{IsLoaded}
 use Rattle.qil_loading.specs.declared.loaded.Loaded.{Loaded}
 use Rattle.qil_commands.specs.Command.{command_of}

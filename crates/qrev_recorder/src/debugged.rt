@@ -2,7 +2,7 @@
 
 ghost use Rattle.std.specs.Prelude.{◌≡◌, ℕ, ◌≤◌, ◌-◌, ◌<◌, ◌^◌};
 ghost use Rattle.qil_streams.specs.Device.{Puts};
-ghost use Rattle.qil_meaning.specs.Timeline.{position, oldest, at_end};
+ghost use Rattle.qil_semantics.specs.Timeline.{position, oldest, at_end};
 ghost use Rattle.qil_stops.specs.qil_state.State.{state_of};
 ghost use Rattle.qil_stops.specs.Named.{named_stops};
 ghost use Rattle.qil_stops.specs.Depths.{RunsToDepth, RunsBackToDepth};

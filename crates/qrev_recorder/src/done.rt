@@ -3,8 +3,8 @@
 ghost use Rattle.std.specs.Prelude.{◌≡◌};
 ghost use Rattle.qrev_recorder.specs.Done.{done_of};
 
-use qil_meaning::Reason;
 use qil_replies::{CommandRefusal, Reply};
+use qil_semantics::Reason;
 use std::alloc::AllocError;
 
 /// What a line did.

@@ -14,8 +14,8 @@ ghost use Rattle.qrev_recorder.specs.Record.{KeepsMoves};
 
 use crate::debugged::Debugged;
 use qil_commands::{Command, Refused, read_command};
+use qil_fragments::{Fragment, put_fragments};
 use qil_loading::{Loaded, put_loaded_line};
-use qil_pieces::{Fragment, put_fragments};
 use qil_replies::Reply;
 use qil_streams::{Buffer, Put, PutError};
 use std::alloc::{AllocError, Allocator};

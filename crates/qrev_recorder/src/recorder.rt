@@ -1,7 +1,7 @@
 //! The recorder.
 
 ghost use Rattle.std.specs.Prelude.{◌≡◌, ◌<◌, ◌≤◌, ◌^◌, true, false, [], IfOk, IfErr, IfSome, IfNone};
-ghost use Rattle.qil_meaning.specs.Timeline.{position};
+ghost use Rattle.qil_semantics.specs.Timeline.{position};
 ghost use Rattle.qil_streams.specs.Script.{lines_of};
 ghost use Rattle.qil_commands.specs.Command.{command_of};
 ghost use Rattle.qil_stops.specs.Named.{named_stops};
@@ -14,7 +14,7 @@ use crate::done::{Done, LineError, done_by};
 use crate::keeping::{add_line, is_line, is_quit, keep_backs, keep_steps, loaded_text, reply_text};
 use qil_commands::read_command;
 use qil_loading::Loaded;
-use qil_meaning::Reason;
+use qil_semantics::Reason;
 use qil_stops::{DepthEnd, Stops};
 use std::alloc::{AllocError, Allocator};
 

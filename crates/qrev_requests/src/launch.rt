@@ -61,7 +61,7 @@ impl From<AllocError> for Unfit {
     }
 }
 
-/// What the editor is told.
+/// The message for the editor.
 pub fn unfit_words(unfit: Unfit) -> &'static str {
     match unfit {
         Unfit::Program => "program: no path",

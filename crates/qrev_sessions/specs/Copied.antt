@@ -1,8 +1,8 @@
 -- What a session over copies of states runs, and the timeline of its run, whichever machine keeps the copies.
 use Rattle.std.specs.Prelude.{List, false}
 use Rattle.qil_tree.specs.declared.tree.Program.{Program}
-use Rattle.qil_meaning.specs.State.{State}
-use Rattle.qil_meaning.specs.Timeline.{Timeline}
+use Rattle.qil_semantics.specs.State.{State}
+use Rattle.qil_semantics.specs.Timeline.{Timeline}
 use Rattle.qil_machine.specs.qil_state.State.{Whole}
 use Rattle.qil_flatmachine.specs.declared.copied.Replaying.{Replaying}
 use Rattle.qil_checkpoints.specs.Held.{Held, held_timeline}

@@ -2,7 +2,7 @@
 use Rattle.std.specs.Prelude.{ℕ}
 use Rattle.qil_stops.specs.Depths.{RunsToDepth, RunsBackToDepth}
 use Rattle.qil_stops.specs.declared.depth_end.DepthEnd.{DepthEnd}
-use Rattle.qil_meaning.specs.Timeline.{Timeline}
+use Rattle.qil_semantics.specs.Timeline.{Timeline}
 use Rattle.qil_session.specs.qil_replies.SessionState.{SessionState}
 use Rattle.qil_stops.specs.Named.{named_stops}
 use Rattle.qrev_sessions.specs.declared.running.Way.{Way}

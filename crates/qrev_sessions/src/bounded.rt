@@ -1,34 +1,34 @@
 //! A session that keeps the newest moves, as a recorder drives it.
 
 ghost use Rattle.std.specs.Prelude.{◌≡◌, ◌^◌, ◌<◌, ◌≤◌, true, [], IfOk};
-ghost use Rattle.qil_deltas.specs.Kept.{recent_timeline};
+ghost use Rattle.qil_undo_log.specs.Kept.{recent_timeline};
 ghost use Rattle.qil_session.specs.qil_replies.SessionState.{session_at};
 ghost use Rattle.qil_session.specs.Kept.{session_state};
-ghost use Rattle.qil_meaning.specs.Timeline.{position};
+ghost use Rattle.qil_semantics.specs.Timeline.{position};
 ghost use Rattle.qrev_sessions.specs.Ways.{RunsBy};
 ghost use Rattle.qrev_sessions.specs.declared.running.Way.TheVariants.{Forward};
 
 use crate::replying::{put_reply, reply};
 use crate::running::{Way, run};
 use qil_commands::{Command, Refused};
-use qil_deltas::Ring;
 use qil_history::{FrameView, History, Readers};
 use qil_machine::{Code, Slot, Status};
 use qil_session::{Reply, Session};
 use qil_stops::{DepthEnd, Stops, is_over};
 use qil_streams::{Buffer, PutError};
+use qil_undo_log::BoundedUndoLog;
 use qrev_recorder::{Debugged, HasMachine};
 use std::alloc::{AllocError, Allocator};
 
 /// A session that keeps the newest moves.
 #[derive(Drop)]
 pub struct BoundedSession<'c, A: Allocator> {
-    session: Session<A, Ring<'c, A>>,
+    session: Session<A, BoundedUndoLog<'c, A>>,
 }
 
 impl<'c, A: Allocator + Copy + 'c> BoundedSession<'c, A> {
     /// A session without stops.
-    pub fn new(alloc: A, history: Ring<'c, A>, limit: u64) -> Result<Self, AllocError>
+    pub fn new(alloc: A, history: BoundedUndoLog<'c, A>, limit: u64) -> Result<Self, AllocError>
         ensures { IfOk result (λ s. session_state true (λ h. h.machine.program) recent_timeline s.session
             ≡ session_at true history.entry.machine.program (recent_timeline history.entry) (record { given = 0; kept = [] }) limit) }
     {

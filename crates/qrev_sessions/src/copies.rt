@@ -9,7 +9,7 @@ ghost use Rattle.qil_streams.specs.Device.{Puts};
 ghost use Rattle.qil_session.specs.Kept.{session_state};
 ghost use Rattle.qil_session.specs.qil_replies.SessionState.{text_in};
 ghost use Rattle.qil_session.specs.qil_replies.Answers.{Replies};
-ghost use Rattle.qil_meaning.specs.Timeline.{begun, position, at_end};
+ghost use Rattle.qil_semantics.specs.Timeline.{begun, position, at_end};
 ghost use Rattle.qil_machine.specs.qil_state.State.{IsMachine, state_of};
 ghost use Rattle.qil_checkpoints.specs.Held.{held_timeline};
 ghost use Rattle.qrev_sessions.specs.Ways.{RunsBy};

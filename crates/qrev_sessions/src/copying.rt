@@ -4,7 +4,7 @@
 ghost use Rattle.std.specs.Prelude.{◌≡◌, ◌^◌, ◌<◌, ◌≤◌, false, [], None, IfOk};
 ghost use Rattle.qil_session.specs.qil_replies.SessionState.{session_at};
 ghost use Rattle.qil_session.specs.Kept.{session_state};
-ghost use Rattle.qil_meaning.specs.Timeline.{begun, position};
+ghost use Rattle.qil_semantics.specs.Timeline.{begun, position};
 ghost use Rattle.qil_machine.specs.qil_state.State.{state_of};
 ghost use Rattle.qrev_sessions.specs.Copied.{copied_program, copied_state, copied_timeline};
 

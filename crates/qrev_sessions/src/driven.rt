@@ -8,7 +8,7 @@ ghost use Rattle.std.specs.Prelude.{slice_get, ◌≡◌, ◌-◌, ◌^◌, ◌<
 ghost use Rattle.qil_streams.specs.Device.{Puts};
 ghost use Rattle.qil_session.specs.qil_replies.SessionState.{text_in};
 ghost use Rattle.qil_session.specs.qil_replies.Answers.{Replies};
-ghost use Rattle.qil_meaning.specs.Timeline.{position, oldest, at_end};
+ghost use Rattle.qil_semantics.specs.Timeline.{position, oldest, at_end};
 ghost use Rattle.qil_machine.specs.qil_state.State.{IsMachine, state_of};
 ghost use Rattle.qrev_sessions.specs.Copied.{copied_state};
 ghost use Rattle.qil_stops.specs.Named.{named_stops};

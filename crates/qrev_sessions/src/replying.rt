@@ -8,7 +8,7 @@ ghost use Rattle.qil_streams.specs.Device.{Puts};
 ghost use Rattle.qil_session.specs.Kept.{session_state};
 ghost use Rattle.qil_session.specs.qil_replies.Answers.{Replies};
 ghost use Rattle.qil_session.specs.qil_replies.Reply.{reply_text};
-ghost use Rattle.qil_meaning.specs.Timeline.{position};
+ghost use Rattle.qil_semantics.specs.Timeline.{position};
 ghost use Rattle.qil_machine.specs.qil_state.State.{state_of};
 
 use qil_commands::{Command, Refused};

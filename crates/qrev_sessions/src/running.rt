@@ -4,7 +4,7 @@
 
 ghost use Rattle.std.specs.Prelude.{◌≡◌, ◌^◌, ◌<◌, ◌≤◌, Bool, true};
 ghost use Rattle.qil_session.specs.Kept.{session_state};
-ghost use Rattle.qil_meaning.specs.Timeline.{position};
+ghost use Rattle.qil_semantics.specs.Timeline.{position};
 ghost use Rattle.qrev_sessions.specs.Ways.{RunsBy};
 ghost use Rattle.qrev_sessions.specs.declared.running.Way.TheVariants.{Forward};
 

@@ -6,17 +6,17 @@ use Rattle.json.specs.Token.{Token}
 use Rattle.qil_tree.specs.declared.tree.Func.{Func}
 use Rattle.qil_tree.specs.declared.tree.Program.{Program}
 use Rattle.qil_memory.specs.Live.{Live}
-use Rattle.qil_meaning.specs.State.{Name, Frame}
-use Rattle.qil_meaning.specs.Step.{func_named}
-use Rattle.qil_meaning.specs.Slots.{temps_of}
+use Rattle.qil_semantics.specs.State.{Name, Frame}
+use Rattle.qil_semantics.specs.Step.{func_named}
+use Rattle.qil_semantics.specs.Slots.{temps_of}
 use Rattle.qil_code.specs.Numbered.{func_at, block_in, block_at, names_of}
 use Rattle.qil_code.specs.Slots.{name_at}
 use Rattle.qil_code.specs.Facts.{Finds}
 use Rattle.qil_frames.specs.Frames.{SlotFrame}
 use Rattle.qil_state.specs.State.{func_name, frame_state, PlaceFits, FrameFits, FramesFit}
 use Rattle.qil_state.proofs.Reading.{are_slots, slot_read}
-use Rattle.qil_answers.specs.Shown.{temps_of_frame}
-use Rattle.qil_answers.proofs.Here.{names_here}
+use Rattle.qil_render.specs.Shown.{temps_of_frame}
+use Rattle.qil_render.proofs.Here.{names_here}
 use Rattle.qrev_views.specs.Variables.{reference, live_reference, ShowsTemp}
 use Rattle.qrev_views.specs.declared.variable.Showing.{Showing}
 

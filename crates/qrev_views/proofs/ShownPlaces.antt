@@ -2,7 +2,7 @@
 use Rattle.std.proofs.Common.{◌≡◌, refl, sym, ap, ◌∙◌, ℕ, List, [], ◌∷◌, ◌++◌, Some, None, Option}
 use Rattle.std.specs.Prelude.{option_map, unwrap_or}
 use Rattle.json.specs.Token.{Token}
-use Rattle.qil_meaning.specs.State.{Frame}
+use Rattle.qil_semantics.specs.State.{Frame}
 use Rattle.qrev_map.specs.Maps.{Origin}
 use Rattle.qrev_views.specs.declared.frames.Shown.{Shown}
 use Rattle.qrev_views.specs.Frames.{IsPlace, ShowsFrame, ShowsFrameAt}

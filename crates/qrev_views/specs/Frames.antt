@@ -1,9 +1,9 @@
 -- The frames of a run, as the tokens of an editor's stack.
 use Rattle.std.specs.Prelude.{◌≡◌, ℕ, suc, ◌+◌, List, [], ◌∷◌, ◌++◌, length, codes, decimal}
 use Rattle.json.specs.Token.{Token, begin_object, end_object, begin_array, end_array, key, string, number}
-use Rattle.qil_pieces.specs.Texts.{text_of}
-use Rattle.qil_meaning.specs.State.{Frame, State}
-use Rattle.qil_answers.specs.Texts.{state_line}
+use Rattle.qil_fragments.specs.Texts.{text_of}
+use Rattle.qil_semantics.specs.State.{Frame, State}
+use Rattle.qil_render.specs.Texts.{state_line}
 use Rattle.qrev_views.specs.Texts.{shown_text, without_end}
 use Rattle.qrev_views.specs.Pages.{page_of}
 use Rattle.qrev_views.specs.declared.variable.Page.{Page}

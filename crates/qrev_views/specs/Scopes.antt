@@ -7,7 +7,7 @@ use Rattle.qil_frames.specs.Frames.{SlotFrame}
 abbrev pub scope_name : List ℕ → List Token
 scope_name name = begin_object ∷ key (codes "name") ∷ string name ∷ []
 
--- how it is to be shown
+-- how it should be shown
 abbrev pub scope_hint : List ℕ → List Token
 scope_hint hint = key (codes "presentationHint") ∷ string hint ∷ []
 

@@ -15,12 +15,12 @@ use Rattle.qil_tree.specs.declared.tree.Program.{Program}
 use Rattle.qil_layout.specs.Layout.{address_of, width_bytes}
 use Rattle.qil_memory.specs.Live.{Live}
 use Rattle.qil_memory.specs.Calls.{loaded}
-use Rattle.qil_meaning.specs.State.{Name, Frame, State}
-use Rattle.qil_meaning.specs.Step.{func_named}
-use Rattle.qil_meaning.specs.Poke.{temp_class}
-use Rattle.qil_answers.specs.Texts.{state_line}
-use Rattle.qil_answers.specs.Shown.{temps_of_frame}
-use Rattle.qil_pieces.specs.Texts.{text_of}
+use Rattle.qil_semantics.specs.State.{Name, Frame, State}
+use Rattle.qil_semantics.specs.Step.{func_named}
+use Rattle.qil_semantics.specs.Poke.{temp_class}
+use Rattle.qil_render.specs.Texts.{state_line}
+use Rattle.qil_render.specs.Shown.{temps_of_frame}
+use Rattle.qil_fragments.specs.Texts.{text_of}
 use Rattle.qrev_map.specs.declared.names.FloatClass.{FloatClass}
 use Rattle.qrev_map.specs.declared.names.FloatClass.TheVariants as floats
 use Rattle.qrev_views.specs.Pages.{page_of}

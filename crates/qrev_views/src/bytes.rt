@@ -5,8 +5,8 @@ ghost use Rattle.qil_memory.specs.Calls.{IsWidth, loaded};
 ghost use Rattle.qil_memory.specs.Live.{live};
 ghost use Rattle.qrev_views.specs.Variables.{value_of};
 
-use qil_answers::Readers;
 use qil_code::Code;
+use qil_render::Readers;
 use std::alloc::Allocator;
 
 /// The byte at an address, if it is live.

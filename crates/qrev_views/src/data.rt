@@ -6,7 +6,7 @@ ghost use Rattle.qil_layout.specs.Layout.{width_bytes};
 ghost use Rattle.qil_memory.specs.Calls.{IsWidth};
 ghost use Rattle.qil_memory.specs.Live.{live};
 ghost use Rattle.qrev_protocol.specs.Outgoing.{Adds};
-ghost use Rattle.qil_pieces.specs.Texts.{text_of};
+ghost use Rattle.qil_fragments.specs.Texts.{text_of};
 ghost use Rattle.qrev_views.specs.Pages.{page_of};
 ghost use Rattle.qrev_views.specs.Texts.{shown_text};
 ghost use Rattle.qrev_views.specs.Variables.{shown_width, width_letter, data_letter, variable_head, name_member, ShowsData, ShowsEach};
@@ -16,9 +16,9 @@ use crate::remarks::told_value;
 use crate::texts::{joined, sigiled};
 use crate::values::Style;
 use crate::variable::{Page, Showing, add_address, add_expression, add_type, begin_variable};
-use qil_answers::{Readers, code_of};
 use qil_code::Code;
-use qil_pieces::Fragment;
+use qil_fragments::Fragment;
+use qil_render::{Readers, code_of};
 use qil_tree::{Class, Data, Field, Item, Program, Width};
 use qrev_map::{FloatClass, Names};
 use qrev_protocol::{Array, InArray, Object};
@@ -39,7 +39,7 @@ pub fn data_named<'p, 'a, A: Allocator>(
 /// The reference of the parts of the first data object.
 pub const OBJECTS: u64 = (1 << 30) + 2;
 
-/// The class of a value of so many bytes, by which it is told with its sign: none of one or two bytes has one.
+/// The class of a value of so many bytes, by which it is shown with its sign: one of one or two bytes has none.
 fn class_of_width(width: u64) -> Option<Class> {
     if width == 8 {
         Some(Class::L)

@@ -12,11 +12,11 @@ ghost use Rattle.qrev_views.specs.Sources.{counted_line, shown_index, frame_line
 use crate::source_map::{SourceLine, SourceMap};
 use crate::texts::{joined, place_text};
 use crate::variable::Page;
-use qil_answers::{Readers, code_of, func_name, label_name};
 use qil_code::Code;
+use qil_fragments::Fragment;
 use qil_history::FrameView;
 use qil_lines::{Place, line_of};
-use qil_pieces::Fragment;
+use qil_render::{Readers, code_of, func_name, label_name};
 use qil_tree::Program;
 use qrev_protocol::{Array, InArray, Object};
 use std::alloc::{AllocError, Allocator};

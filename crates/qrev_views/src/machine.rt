@@ -1,7 +1,7 @@
 //! What a state has besides temporaries and data, as variables that can't be set.
 
 ghost use Rattle.std.specs.Prelude.{◌≡◌, List, ℕ, codes, decimal, flat_map, slice_get, IfOk, Some};
-ghost use Rattle.qil_answers.specs.Texts.{state_line};
+ghost use Rattle.qil_render.specs.Texts.{state_line};
 ghost use Rattle.qil_state.specs.State.{state_of};
 ghost use Rattle.qrev_protocol.specs.Outgoing.{Adds};
 ghost use Rattle.qrev_views.specs.Pages.{page_of};
@@ -10,8 +10,8 @@ ghost use Rattle.qrev_views.specs.Variables.{fixed_tokens, machine_rows};
 
 use crate::texts::{as_text, number_text, place_text};
 use crate::variable::{Page, begin_variable, end_read_only};
-use qil_answers::Readers;
 use qil_code::Code;
+use qil_render::Readers;
 use qrev_protocol::Array;
 use std::alloc::{AllocError, Allocator};
 

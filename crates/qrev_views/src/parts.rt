@@ -11,9 +11,9 @@ use crate::remarks::{data_around, told_value};
 use crate::texts::joined;
 use crate::values::Style;
 use crate::variable::{Page, Showing, add_address, add_expression, begin_variable};
-use qil_answers::{Readers, code_of};
 use qil_code::Code;
-use qil_pieces::Fragment;
+use qil_fragments::Fragment;
+use qil_render::{Readers, code_of};
 use qil_tree::{Class, Data, Field, Item, Width};
 use qrev_protocol::Array;
 use std::alloc::{AllocError, Allocator};
@@ -24,7 +24,7 @@ const MOST_PARTS: u64 = 4096;
 /// How many bytes of a text are shown.
 const TEXT_LIMIT: u64 = 256;
 
-/// How many numbers are shown of memory of which no text tells what is in it.
+/// How many numbers are shown of memory whose contents no text describes.
 const PLAIN_COUNT: u64 = 16;
 
 /// A part: where it lies, and its width, or of how many bytes the text is that it is.
@@ -54,7 +54,7 @@ fn letter(width: Width) -> &'static [u8] {
     }
 }
 
-/// The class in which a number of a width is told.
+/// The class in which a number of a width is shown.
 fn class_of(width: Width) -> Option<Class> {
     match width {
         Width::L => Some(Class::L),

@@ -6,15 +6,15 @@ ghost use Rattle.qrev_views.specs.Values.{IsRemark, IsTold};
 use crate::texts::joined;
 use crate::values::{Style, value_text};
 use qil_code::Code;
+use qil_fragments::Fragment;
 use qil_layout::Callee;
-use qil_pieces::Fragment;
 use qil_tree::{Class, Data};
 use std::alloc::{AllocError, Allocator};
 
 /// The address of the first data object.
 const FIRST_DATA: u64 = 65_536;
 
-/// How far below zero a number is told with its sign.
+/// How far below zero a number is shown with its sign.
 const NEAR_ZERO: u64 = 65_536;
 
 /// The data object in which an address lies, or after which it does, and its own address.

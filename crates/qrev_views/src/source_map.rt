@@ -27,7 +27,7 @@ pub struct SourceLine<A: Allocator> {
 }
 
 impl<A: Allocator + Copy> SourceMap<A> {
-    /// A path of the map, as an editor is told it.
+    /// A path of the map, as an editor gets it.
     fn shown_path(&self, alloc: A, path: &[u8]) -> Result<String<A>, AllocError> {
         let path = as_text(alloc, path)?;
         let path = unescaped(alloc, path.as_str())?;

@@ -17,9 +17,9 @@ use crate::values::Style;
 use crate::variable::{
     Page, Showing, add_address, add_expression, add_type, begin_variable, end_variable,
 };
-use qil_answers::{Readers, code_of, func_name, temp_name};
 use qil_code::{Code, Slot};
 use qil_history::FrameView;
+use qil_render::{Readers, code_of, func_name, temp_name};
 use qil_tree::Class;
 use qrev_map::{FloatClass, Names};
 use qrev_protocol::{Array, InArray, Object};
@@ -95,7 +95,7 @@ fn pointed<'c, A: Allocator + Copy + 'c, M: Readers<A, Code<'c, A>>>(
     POINTED + before + u64::from(slot.index)
 }
 
-/// Begins a temporary with the name that is told of it.
+/// Begins a temporary with the name that is shown.
 fn begin_temp<A: Allocator + Copy, U: Drop>(
     alloc: A,
     list: Array<A, U>,

@@ -2,13 +2,13 @@
 
 ghost use Rattle.std.specs.Prelude.{◌≡◌, ◌++◌, IfOk, decimal, encode_utf8_all, flat_map, string_bytes};
 ghost use Rattle.qil_state.specs.State.{state_of};
-ghost use Rattle.qil_pieces.specs.Texts.{fragment_text};
-ghost use Rattle.qil_answers.specs.Texts.{state_line};
+ghost use Rattle.qil_fragments.specs.Texts.{fragment_text};
+ghost use Rattle.qil_render.specs.Texts.{state_line};
 ghost use Rattle.qrev_views.specs.Texts.{shown_text, without_end};
 
-use qil_answers::{Readers, put_place};
 use qil_code::Code;
-use qil_pieces::{Fragment, put_fragments};
+use qil_fragments::{Fragment, put_fragments};
+use qil_render::{Readers, put_place};
 use qil_streams::{Buffer, PutError};
 use std::alloc::{AllocError, Allocator};
 

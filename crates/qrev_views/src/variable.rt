@@ -9,7 +9,7 @@ use crate::texts::number_text;
 use qrev_protocol::{Array, InArray, Object};
 use std::alloc::{AllocError, Allocator};
 
-/// How an editor wants variables to be shown.
+/// The form in which an editor asks for variables.
 #[derive(Clone, Copy)]
 pub struct Showing {
     pub is_hex: bool,

@@ -11,7 +11,7 @@ use Rattle.std.proofs.lemmas.Map.Made.{is_some-lookup, length-le_from_is_member,
 use Rattle.std.proofs.lemmas.List.Folds.{list_any_at, Any-from_list_any}
 use Rattle.indexmap.specs.IndexMap.{IndexMap, keys}
 use Rattle.qil_checker.specs.declared.lookup.TableKind.TheVariants.{Named}
-use Rattle.qil_rules.specs.declared.mention.Mention.{Mention}
+use Rattle.qil_rules.specs.declared.occurrence.Occurrence.{Occurrence}
 use Rattle.qil_rules.specs.Text.{IsTemporary}
 use Rattle.qil_rules.specs.Rules.{HasManyTemporaries}
 use Rattle.qil_checker.specs.Tables.{place_in, is_named, first}
@@ -48,7 +48,7 @@ is_long n m l = grind (arith, nat_tests)
 short : (n m : ℕ) → IsTrue (nat_lt n m) → n < m
 short n m t = grind (arith, nat_tests)
 
-module _ {S : Type 0} (m : IndexMap (Bor (List ℕ)) ℕ S) (text : List Mention)
+module _ {S : Type 0} (m : IndexMap (Bor (List ℕ)) ℕ S) (text : List Occurrence)
     (places : (x : List ℕ) → place_in m x ≡ first (is_named Named x) 0 text)
     (unique : IsDistinct (λ x y. bytes_eq x.now y.now) (keys m))
   where

@@ -6,7 +6,7 @@ use Rattle.std.specs.HashMap.{UpdatesBy}
 use Rattle.std.proofs.lemmas.Map.Text.{hash_map_updates_str}
 use Rattle.std.proofs.lemmas.Slice.Eq.{bytes_eq-Decides}
 use Rattle.indexmap.specs.IndexMap.{IndexMap}
-use Rattle.qil_names.specs.Tables.{for_name}
+use Rattle.qil_symbols.specs.Tables.{for_name}
 use Rattle.qil_checker.specs.Tables.{place_in}
 
 or_none : {X : Type 0} (a : Option X) → option_or a None ≡ a

@@ -1,5 +1,5 @@
 -- A program is well-formed or breaks one rule first, never both.
-use Rattle.qil_rules.specs.Mentions.{texts}
+use Rattle.qil_rules.specs.Occurrences.{texts}
 use Rattle.qil_checker.proofs.Programs.Firsts.{not_both, only_memory, only_reported}
 use Rattle.qil_checker.proofs.checker.answered.Goals as goal
 

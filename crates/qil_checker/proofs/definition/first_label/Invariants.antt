@@ -1,7 +1,7 @@
--- The first label of the mentions that are left is the first of all.
+-- The first label of the occurrences that are left is the first of all.
 use Rattle.std.proofs.Common.{◌≡◌, drop}
 use Rattle.qil_checker.specs.Tables.{begun_label}
 use Rattle.qil_checker.proofs.definition.first_label.Given as goal
 
-abbrev pub invariant-loop-mention : goal.invariant-loop-mention
-invariant-loop-mention l = begun_label (drop l.mention-index l.mentions) ≡ begun_label l.mentions
+abbrev pub invariant-loop-occurrence : goal.invariant-loop-occurrence
+invariant-loop-occurrence l = begun_label (drop l.occurrence-index l.occurrences) ≡ begun_label l.occurrences

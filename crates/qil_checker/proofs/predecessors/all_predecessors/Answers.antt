@@ -7,11 +7,11 @@ use Rattle.qil_checker.proofs.predecessors.all_predecessors.Goals as goal
 pub loop-place-init : goal.loop-place-init
 loop-place-init c = grind (ints, arith, common_steps)
 
-pub offset_bounds-mentions-place : goal.offset_bounds-mentions-place
-offset_bounds-mentions-place c = grind (ints, arith, common_steps)
+pub offset_bounds-occurrences-place : goal.offset_bounds-occurrences-place
+offset_bounds-occurrences-place c = grind (ints, arith, common_steps)
 
-pub bounds-mentions-place : goal.bounds-mentions-place
-bounds-mentions-place c = grind (ints, arith, common_steps)
+pub bounds-occurrences-place : goal.bounds-occurrences-place
+bounds-occurrences-place c = grind (ints, arith, common_steps)
 
 pub bytes-requires-in-Edge : goal.bytes-requires-in-Edge
 bytes-requires-in-Edge c = grind (ints, arith, common_steps)

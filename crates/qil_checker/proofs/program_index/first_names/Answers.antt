@@ -4,14 +4,14 @@ use borrow.Author.Differences.{ints}
 use Rattle.std.proofs.Common.{arith, ap, ◌∙◌}
 use Rattle.std.specs.Option.{option_or}
 use Rattle.std.proofs.lemmas.Result.{IfOk-from_err}
-use Rattle.qil_names.specs.Tables.{for_name}
+use Rattle.qil_symbols.specs.Tables.{for_name}
 use Rattle.qil_checker.specs.Tables.{place_in, first, has_name}
-use Rattle.qil_checker.specs.Whole.{mentions_of}
+use Rattle.qil_checker.specs.Whole.{occurrences_of}
 use Rattle.qil_checker.proofs.Programs.Gathered.{recorded_name, all_recorded}
 use Rattle.qil_checker.proofs.program_index.first_names.Goals as goal
 
 pub loop-number-init : goal.loop-number-init
-loop-number-init g c = λ x. ap (λ o. option_or o (first (has_name x) 0 (mentions_of c.args.texts.now))) (c.new-table.ensures x)
+loop-number-init g c = λ x. ap (λ o. option_or o (first (has_name x) 0 (occurrences_of c.args.texts.now))) (c.new-table.ensures x)
 
 pub loop-number-preserved : goal.loop-number-preserved
 loop-number-preserved g c = λ x.

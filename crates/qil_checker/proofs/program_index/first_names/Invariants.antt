@@ -2,8 +2,8 @@
 use Rattle.std.proofs.Common.{◌≡◌, List, ℕ, drop}
 use Rattle.std.specs.Option.{option_or}
 use Rattle.qil_checker.specs.Tables.{place_in, first, has_name}
-use Rattle.qil_checker.specs.Whole.{mentions_of}
+use Rattle.qil_checker.specs.Whole.{occurrences_of}
 use Rattle.qil_checker.proofs.program_index.first_names.Given as goal
 
 abbrev pub invariant-loop-number : goal.invariant-loop-number
-invariant-loop-number g l = (x : List ℕ) → option_or (place_in l.table.places x) (first (has_name x) l.number (mentions_of (drop l.number l.texts))) ≡ first (has_name x) 0 (mentions_of l.texts)
+invariant-loop-number g l = (x : List ℕ) → option_or (place_in l.table.places x) (first (has_name x) l.number (occurrences_of (drop l.number l.texts))) ≡ first (has_name x) 0 (occurrences_of l.texts)

@@ -21,11 +21,11 @@ index-requires g c =
     let within : c.loop-index.index ≤ length c.loop-index.positions.items = c.loop-index.invariant.within in
     omega (arith, within, c.loop-index-test.true)
 
-pub let_go-requires-clause-length : goal.let_go-requires-clause-length
-let_go-requires-clause-length g c = c.loop-index.invariant.long
+pub recycle-requires-clause-length : goal.recycle-requires-clause-length
+recycle-requires-clause-length g c = c.loop-index.invariant.long
 
-pub let_go-requires-clause-inside : goal.let_go-requires-clause-inside
-let_go-requires-clause-inside g c =
+pub recycle-requires-clause-inside : goal.recycle-requires-clause-inside
+recycle-requires-clause-inside g c =
     let within : c.loop-index.index ≤ length c.loop-index.positions.items = c.loop-index.invariant.within in
     omega (arith, within, c.loop-index-test.true)
 
@@ -38,12 +38,12 @@ loop-index-preserved-then-not-keeps g c =
     let within : c.loop-index.index ≤ length ks = i.within in
     let inside : c.loop-index.index - 1 < length ks = omega (arith, within, c.loop-index-test.true) in
     record {
-      long = c.let_go.ensures.length;
-      whole = c.let_go.ensures.whole ∙ i.whole;
-      within = upto-left ks c.let_go.new.positions.items (c.loop-index.index - 1) inside c.let_go.ensures.items;
-      last = upto-removed c.args.rule.now.last ks c.let_go.new.positions.items c.loop-index.index (c.loop-index.index - 1) inside (omega (arith, c.loop-index-test.true)) c.let_go.ensures.items i.last;
-      kept = λ pokes n is. still-next first was (g.M.HasCopies.kept c.args.machine.now) (g.M.HasCopies.kept c.loop-index.machine) (g.M.HasCopies.kept c.let_go.new.machine) ks c.let_go.new.positions.items pokes n i.whole
-          (i.kept pokes n is) (c.let_go.ensures.kept pokes n);
+      long = c.recycle.ensures.length;
+      whole = c.recycle.ensures.whole ∙ i.whole;
+      within = upto-left ks c.recycle.new.positions.items (c.loop-index.index - 1) inside c.recycle.ensures.items;
+      last = upto-removed c.args.rule.now.last ks c.recycle.new.positions.items c.loop-index.index (c.loop-index.index - 1) inside (omega (arith, c.loop-index-test.true)) c.recycle.ensures.items i.last;
+      kept = λ pokes n is. still-next first was (g.M.HasCopies.kept c.args.machine.now) (g.M.HasCopies.kept c.loop-index.machine) (g.M.HasCopies.kept c.recycle.new.machine) ks c.recycle.new.positions.items pokes n i.whole
+          (i.kept pokes n is) (c.recycle.ensures.kept pokes n);
     }
 
 pub loop-index-preserved : goal.loop-index-preserved

@@ -1,7 +1,7 @@
 -- From mark to mark.
 use Rattle.std.proofs.Common.{◌≡◌, refl, sym, ap, ◌∙◌, subst, ◌≤◌, ℕ, List, length, Some, arith}
 use Rattle.std.specs.Prelude.{slice_get}
-use Rattle.qil_meaning.specs.State.{State}
+use Rattle.qil_semantics.specs.State.{State}
 use Rattle.qil_state.specs.State.{Whole, state_of}
 use Rattle.qil_checkpoints.specs.Walk.{walk}
 use Rattle.qil_checkpoints.specs.Held.{first_of, FromStart}

@@ -1,6 +1,6 @@
 -- The earlier state, with what leads to it.
 use Rattle.std.proofs.Common.{refl, sym, ap, ◌∙◌, subst, List}
-use Rattle.qil_meaning.specs.State.{State}
+use Rattle.qil_semantics.specs.State.{State}
 use Rattle.qil_state.specs.State.{Whole, state_of}
 use Rattle.qil_checkpoints.specs.declared.poked.Poked.{Poked}
 use Rattle.qil_checkpoints.specs.Walk.{walk}

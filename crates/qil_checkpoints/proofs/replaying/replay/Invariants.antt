@@ -1,6 +1,6 @@
 -- The moves up to the pokes so far are made; the others are the part from there on.
 use Rattle.std.proofs.Common.{◌≡◌, List, drop}
-use Rattle.qil_meaning.specs.State.{State}
+use Rattle.qil_semantics.specs.State.{State}
 use Rattle.qil_state.specs.State.{state_of}
 use Rattle.qil_checkpoints.specs.declared.poked.Poked.{Poked}
 use Rattle.qil_checkpoints.specs.Walk.{ArePoked, IsPart, walk, AreMoves}

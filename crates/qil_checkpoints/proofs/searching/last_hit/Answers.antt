@@ -5,7 +5,7 @@ use Rattle.qil_stops.specs.Named.{named_stops}
 use Rattle.qil_stops.specs.Readings.{AllTell}
 use Rattle.qil_stops.proofs.Telling.{reported-at}
 use Rattle.qil_stops.proofs.Told.{told-as}
-use Rattle.qil_meaning.specs.State.{State}
+use Rattle.qil_semantics.specs.State.{State}
 use Rattle.qil_checkpoints.specs.Hits.{stop_at}
 use Rattle.qil_checkpoints.proofs.Parts.{poked-le}
 use Rattle.qil_checkpoints.proofs.AlongWalks.{by-program-to}

@@ -1,6 +1,6 @@
 -- Move by move.
 use Rattle.std.proofs.Common.{◌≡◌, ◌∙◌, sym, ap, refl, subst, ℕ, ◌+◌, ◌≤◌, Option, arith}
-use Rattle.qil_meaning.specs.State.{State}
+use Rattle.qil_semantics.specs.State.{State}
 use Rattle.qil_state.specs.State.{state_of}
 use Rattle.qil_checkpoints.specs.declared.hit.Hit.{Hit}
 use Rattle.qil_checkpoints.specs.Hits.{IsLastHit}

@@ -1,6 +1,6 @@
 -- The part so far was gone through, and the last position of it where so few calls are open is known.
 use Rattle.std.proofs.Common.{◌≡◌, ◌≤◌}
-use Rattle.qil_meaning.specs.State.{State}
+use Rattle.qil_semantics.specs.State.{State}
 use Rattle.qil_state.specs.State.{state_of}
 use Rattle.qil_checkpoints.specs.Walk.{walk, AreMoves}
 use Rattle.qil_checkpoints.specs.Hits.{IsLastHit}

@@ -1,6 +1,6 @@
 -- So far both had the same events.
 use Rattle.std.proofs.Common.{◌≡◌, ◌≤◌}
-use Rattle.qil_meaning.specs.Timeline.{position}
+use Rattle.qil_semantics.specs.Timeline.{position}
 use Rattle.qil_compare.proofs.Fronts.{AreAlike}
 use Rattle.qil_compare.proofs.comparing.compare_coded.Given as goal
 

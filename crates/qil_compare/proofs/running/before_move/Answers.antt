@@ -1,6 +1,6 @@
 -- What is kept of the machine is kept of the state now.
 use Rattle.std.proofs.Common.{◌∙◌, ap}
-use Rattle.qil_meaning.specs.State.{State, is_final}
+use Rattle.qil_semantics.specs.State.{State, is_final}
 use Rattle.qil_state.specs.State.{state_of}
 use Rattle.qil_compare.proofs.Walking.{kept_at}
 use Rattle.qil_compare.proofs.running.before_move.Goals as goal

@@ -1,6 +1,6 @@
 -- The machine is in the state of the timeline.
 use Rattle.std.proofs.Common.{◌∙◌, ap}
-use Rattle.qil_meaning.specs.State.{State, is_final}
+use Rattle.qil_semantics.specs.State.{State, is_final}
 use Rattle.qil_compare.proofs.running.is_at_end.Goals as goal
 
 pub returns : goal.returns

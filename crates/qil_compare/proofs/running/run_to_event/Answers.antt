@@ -1,6 +1,6 @@
 -- Each move goes one further, and an event is that of the last.
 use Rattle.std.proofs.Common.{◌≡◌, ◌≤◌, arith, ◌∙◌, sym, ap, refl, subst, false, Some, None, Err}
-use Rattle.qil_meaning.specs.Timeline.{forward, at_end}
+use Rattle.qil_semantics.specs.Timeline.{forward, at_end}
 use Rattle.qil_machine.specs.declared.error.MoveError.{MoveError}
 use Rattle.qil_compare.specs.declared.event.Found.{Found}
 use Rattle.qil_compare.specs.Next.{RunsToEvent}

@@ -4,9 +4,9 @@ use Rattle.qil_memory.specs.Live.{live}
 use Rattle.qil_streams.specs.Text.{line}
 use Rattle.qil_compare.specs.Events.{bytes_from}
 use Rattle.qil_streams.proofs.TextLemmas.{HasPut-as, HasPut-stop}
-use Rattle.qil_answers.specs.Texts.{byte_text}
-use Rattle.qil_answers.specs.Shown.{spaced_byte, bytes_text}
-use Rattle.qil_answers.proofs.Reported.{reported_none, reported_as, reported_stop, reported_more, reported_last}
+use Rattle.qil_render.specs.Texts.{byte_text}
+use Rattle.qil_render.specs.Shown.{spaced_byte, bytes_text}
+use Rattle.qil_render.proofs.Reported.{reported_none, reported_as, reported_stop, reported_more, reported_last}
 use Rattle.qil_comparison.proofs.Values.{no_bytes, positive, later_bytes, bytes_first, later_step, later_end}
 use Rattle.qil_comparison.proofs.event_text.put_bytes.Goals as goal
 

@@ -2,8 +2,8 @@
 use Rattle.std.proofs.Common.{◌≡◌, ◌+◌, ◌-◌}
 use Rattle.qil_memory.specs.Live.{live}
 use Rattle.qil_streams.specs.Text.{line}
-use Rattle.qil_answers.specs.Shown.{bytes_text}
-use Rattle.qil_answers.proofs.Reported.{Reported}
+use Rattle.qil_render.specs.Shown.{bytes_text}
+use Rattle.qil_render.proofs.Reported.{Reported}
 use Rattle.qil_compare.specs.Events.{bytes_from}
 use Rattle.qil_comparison.proofs.Values.{later_bytes}
 use Rattle.qil_comparison.proofs.event_text.put_bytes.Given as goal

@@ -1,7 +1,7 @@
 -- The name, and the values of the parameters.
 use Rattle.std.proofs.Common.{◌∷◌, [], ◌++◌, ◌∙◌, codes, decimal, ap, sym, List, ℕ}
 use Rattle.qil_comparison.specs.Told.{place_text, value_text, further_value, values_text, returned_text, event_line, found_line, way_line, side_text, verdict_line, sides_text}
-use Rattle.qil_pieces.specs.Texts.{text_of}
+use Rattle.qil_fragments.specs.Texts.{text_of}
 use Rattle.qil_state.specs.State.{state_of}
 use Rattle.qil_compare.specs.Events.{call_params}
 use Rattle.qil_streams.proofs.TextLemmas.{HasPut-as, HasPut-append, HasPut-stop}

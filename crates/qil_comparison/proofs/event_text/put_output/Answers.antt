@@ -1,6 +1,6 @@
 -- The byte in quotes.
 use Rattle.std.proofs.Common.{◌∷◌, [], ◌++◌, ◌∙◌, codes, decimal, ap, sym, List, ℕ}
-use Rattle.qil_answers.specs.Texts.{byte_text, quoted_byte, state_line}
+use Rattle.qil_render.specs.Texts.{byte_text, quoted_byte, state_line}
 use Rattle.qil_streams.proofs.TextLemmas.{HasPut-as, HasPut-append, HasPut-stop}
 use Rattle.qil_comparison.proofs.event_text.put_output.Goals as goal
 

@@ -3,7 +3,7 @@ use Rattle.std.proofs.Common.{◌≡◌, ◌+◌, ◌-◌, ◌<◌, ◌≤◌, �
 use Rattle.std.specs.List.{flat_map}
 use Rattle.qil_state.specs.State.{state_of}
 use Rattle.qil_streams.proofs.TextLemmas.{HasPut-as, HasPut-stop}
-use Rattle.qil_answers.proofs.Reported.{reported_none, reported_as, reported_stop, reported_more, reported_all}
+use Rattle.qil_render.proofs.Reported.{reported_none, reported_as, reported_stop, reported_more, reported_all}
 use Rattle.qil_compare.specs.Coded.{value_of}
 use Rattle.qil_compare.specs.Events.{call_params}
 use Rattle.qil_comparison.specs.Told.{value_text, further_value, values_text}

@@ -2,7 +2,7 @@
 use Rattle.std.proofs.Common.{◌≡◌, drop}
 use Rattle.std.specs.List.{flat_map}
 use Rattle.qil_state.specs.State.{state_of}
-use Rattle.qil_answers.proofs.Reported.{Reported}
+use Rattle.qil_render.proofs.Reported.{Reported}
 use Rattle.qil_compare.specs.Events.{call_params}
 use Rattle.qil_comparison.specs.Told.{further_value, values_text}
 use Rattle.qil_comparison.proofs.event_text.put_params.Given as goal

@@ -2,7 +2,7 @@
 use Rattle.std.proofs.Common.{◌∷◌, [], ◌++◌, ◌∙◌, codes, decimal, ap, sym, List, ℕ}
 use Rattle.qil_comparison.specs.Told.{place_text, value_text, further_value, values_text, returned_text, event_line, found_line, way_line, side_text, verdict_line, sides_text}
 use Rattle.std.specs.Prelude.{option_map}
-use Rattle.qil_pieces.specs.Texts.{text_of}
+use Rattle.qil_fragments.specs.Texts.{text_of}
 use Rattle.qil_compare.specs.Seen.{seen}
 use Rattle.qil_compare.specs.Next.{returns_of}
 use Rattle.qil_streams.proofs.TextLemmas.{HasPut-as, HasPut-append, HasPut-stop}

@@ -4,7 +4,7 @@ use Rattle.qil_comparison.specs.Told.{place_text, value_text, further_value, val
 use Rattle.std.specs.Prelude.{unwrap_or}
 use Rattle.qil_memory.specs.Live.{live}
 use Rattle.qil_streams.specs.Text.{line}
-use Rattle.qil_answers.specs.Shown.{bytes_text}
+use Rattle.qil_render.specs.Shown.{bytes_text}
 use Rattle.qil_compare.specs.Seen.{Offset, data_place}
 use Rattle.qil_compare.specs.Next.{nowhere}
 use Rattle.qil_compare.specs.Coded.{offset_of}

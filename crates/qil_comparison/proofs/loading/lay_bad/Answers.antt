@@ -1,7 +1,7 @@
 -- Why the program can't be run; and what is written of both, where it can.
 use Rattle.std.proofs.Common.{◌∙◌, ap, sym}
 use Rattle.qil_tree.specs.declared.tree.Program.{Program}
-use Rattle.qil_meaning.specs.Start.{start_of}
+use Rattle.qil_semantics.specs.Start.{start_of}
 use Rattle.qil_session.proofs.Explaining.{layout-explained, layout-shortage}
 use Rattle.qil_comparison.specs.declared.request.SideName.TheVariants.{Good}
 use Rattle.qil_comparison.specs.Compared.{opened_as}

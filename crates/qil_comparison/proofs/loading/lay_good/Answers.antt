@@ -1,7 +1,7 @@
 -- Why one of the texts isn't loaded; and what is written of both, once they are.
 use Rattle.std.proofs.Common.{◌∙◌, ap, sym, subst}
 use Rattle.qil_tree.specs.declared.tree.Program.{Program}
-use Rattle.qil_meaning.specs.Start.{start_of}
+use Rattle.qil_semantics.specs.Start.{start_of}
 use Rattle.qil_loading.specs.Load.{Accepts}
 use Rattle.qil_session.proofs.Explaining.{layout-explained, layout-shortage}
 use Rattle.qil_comparison.specs.declared.request.SideName.TheVariants.{Good, Bad}

@@ -1,7 +1,7 @@
 -- What is written of both programs, where the bad one can be run.
 use Rattle.std.proofs.Common.{◌∙◌, ap}
 use Rattle.qil_tree.specs.declared.tree.Program.{Program}
-use Rattle.qil_meaning.specs.Start.{start_of}
+use Rattle.qil_semantics.specs.Start.{start_of}
 use Rattle.qil_comparison.proofs.Loads.{start_unloaded, start_shortage}
 use Rattle.qil_comparison.proofs.loading.number_bad.Goals as goal
 

@@ -2,7 +2,7 @@
 use Rattle.std.specs.Prelude.{None}
 use Rattle.std.proofs.Common.{◌∙◌, ap, refl, sym}
 use Rattle.qil_tree.specs.declared.tree.Program.{Program}
-use Rattle.qil_meaning.specs.Start.{start_of}
+use Rattle.qil_semantics.specs.Start.{start_of}
 use Rattle.qil_comparison.specs.Compared.{setup_of}
 use Rattle.qil_comparison.proofs.Comparisons.{Written-memory}
 use Rattle.qil_comparison.proofs.loading.run_ready.Goals as goal

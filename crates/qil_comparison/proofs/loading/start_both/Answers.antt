@@ -1,5 +1,5 @@
 -- What is written of both programs; and that a bad one that can't be started isn't run.
-use Rattle.qil_meaning.specs.Start.{start_of}
+use Rattle.qil_semantics.specs.Start.{start_of}
 use Rattle.qil_comparison.proofs.Loads.{ok_is_no_fault}
 use Rattle.qil_comparison.proofs.loading.start_both.Goals as goal
 

@@ -1,6 +1,6 @@
 -- The name of the file, and the line.
 use Rattle.std.proofs.Common.{◌∷◌, [], codes}
-use Rattle.qil_pieces.specs.Texts.{text_of}
+use Rattle.qil_fragments.specs.Texts.{text_of}
 use Rattle.qil_loading.specs.Lines.{refused_line}
 use Rattle.qil_streams.proofs.TextLemmas.{HasPut-append, HasPut-stop}
 use Rattle.qil_comparison.proofs.refusal.put_refusal.Goals as goal

@@ -1,7 +1,7 @@
 -- The bad side begins with what it keeps.
 use Rattle.std.specs.Prelude.{ℕ, Option, None}
 use Rattle.std.proofs.Common.{◌∙◌, ap, refl, sym}
-use Rattle.qil_meaning.specs.Timeline.{begun}
+use Rattle.qil_semantics.specs.Timeline.{begun}
 use Rattle.qil_state.specs.State.{state_of}
 use Rattle.qil_comparison.specs.Compared.{setup_of}
 use Rattle.qil_comparison.proofs.Comparisons.{Written-memory, few_none}

@@ -1,11 +1,11 @@
 -- The name, what comes next, and where the side stands, as its machine has it.
 use Rattle.std.proofs.Common.{◌≡◌, ◌++◌}
-use Rattle.qil_meaning.specs.Timeline.{position}
+use Rattle.qil_semantics.specs.Timeline.{position}
 use Rattle.qil_state.specs.State.{state_of}
 use Rattle.qil_streams.proofs.TextLemmas.{HasPut-as, HasPut-append, HasPut-stop}
-use Rattle.qil_answers.specs.Texts.{state_line}
-use Rattle.qil_answers.specs.Shown.{frames_shown}
-use Rattle.qil_answers.specs.Listing.{block_shown}
+use Rattle.qil_render.specs.Texts.{state_line}
+use Rattle.qil_render.specs.Shown.{frames_shown}
+use Rattle.qil_render.specs.Listing.{block_shown}
 use Rattle.qil_comparison.specs.Told.{found_line, stand_text, way_line}
 use Rattle.qil_comparison.proofs.telling.put_side.Goals as goal
 

@@ -1,10 +1,10 @@
 -- The place, the frames, the block, and the way there.
 use Rattle.std.proofs.Common.{◌++◌}
-use Rattle.qil_answers.specs.Texts.{state_line}
+use Rattle.qil_render.specs.Texts.{state_line}
 use Rattle.qil_comparison.specs.Told.{way_line}
 use Rattle.qil_state.specs.State.{state_of}
-use Rattle.qil_answers.specs.Shown.{frames_shown}
-use Rattle.qil_answers.specs.Listing.{block_shown}
+use Rattle.qil_render.specs.Shown.{frames_shown}
+use Rattle.qil_render.specs.Listing.{block_shown}
 use Rattle.qil_streams.proofs.TextLemmas.{HasPut-append, HasPut-stop}
 use Rattle.qil_comparison.proofs.telling.put_stand.Goals as goal
 

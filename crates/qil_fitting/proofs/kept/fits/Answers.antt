@@ -1,4 +1,4 @@
--- What a delta is, its kind is.
+-- What an undo record is, its kind is.
 use Rattle.std.proofs.Common.{◌↔◌, subst, IsTrue}
 use Rattle.qil_machine.specs.Moves.{Fits}
 use Rattle.qil_fitting.proofs.kept.fits.Goals as goal

@@ -28,8 +28,8 @@ loop-i-preserved g c = record {
   room = c.push_reserved.ensures.capacity ∙ c.loop-i.invariant.room;
 }
 
-pub returns : goal.returns
-returns g c =
+pub returns-clause-items : goal.returns-clause-items
+returns-clause-items g c =
     let all : c.loop-i.i ≡ c.args.count = omega arith in
     c.push_reserved-2.ensures.items ∙ ap (λ xs. xs ++ 10 ∷ []) (c.loop-i.invariant.items ∙ ap (λ n. c.args.output.now.items ++ bytes_from (live c.args.memory.now) c.args.address n) all)
     ∙ append_assoc c.args.output.now.items (bytes_from (live c.args.memory.now) c.args.address c.args.count) (10 ∷ [])

@@ -4,9 +4,9 @@ use Rattle.qil_tree.specs.declared.tree.Program.{Program}
 use Rattle.qil_streams.specs.Text.{line}
 use Rattle.qil_streams.proofs.DeviceLemmas.{Appends-nil}
 use Rattle.qil_streams.proofs.TextLemmas.{HasPut-as}
-use Rattle.qil_meaning.specs.State.{Name}
-use Rattle.qil_answers.specs.qil_state.State.{state_of}
-use Rattle.qil_answers.specs.Shown.{printed}
+use Rattle.qil_semantics.specs.State.{Name}
+use Rattle.qil_render.specs.qil_state.State.{state_of}
+use Rattle.qil_render.specs.Shown.{printed}
 use Rattle.qil_replies.specs.Reply.{reply_text}
 use Rattle.qil_replies.specs.Texts.{stop_line, stops_shown}
 use Rattle.qil_replies.proofs.put.put_reply.Goals as goal

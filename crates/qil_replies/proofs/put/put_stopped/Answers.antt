@@ -1,7 +1,7 @@
 -- The reason, and after it the place.
 use Rattle.qil_streams.proofs.TextLemmas.{HasPut-append, HasPut-stop}
-use Rattle.qil_answers.specs.qil_state.State.{state_of}
-use Rattle.qil_answers.specs.Texts.{state_line}
+use Rattle.qil_render.specs.qil_state.State.{state_of}
+use Rattle.qil_render.specs.Texts.{state_line}
 use Rattle.qil_replies.specs.Texts.{reason_line}
 use Rattle.qil_replies.proofs.put.put_stopped.Goals as goal
 

@@ -1,7 +1,7 @@
 -- Answers to the goals of `answer_continue`.
 use Rattle.std.proofs.Common.{sym, ◌∙◌, ap, subst, List}
-use Rattle.qil_meaning.specs.State.{State, is_final}
-use Rattle.qil_meaning.specs.Runs.{RunsOn}
+use Rattle.qil_semantics.specs.State.{State, is_final}
+use Rattle.qil_semantics.specs.Runs.{RunsOn}
 use Rattle.qil_stops.specs.declared.stop.NumberedStop.{NumberedStop}
 use Rattle.qil_stops.specs.Named.{named_stops}
 use Rattle.qil_session.proofs.MoveAnswers.{replies_run_end, replies_run}

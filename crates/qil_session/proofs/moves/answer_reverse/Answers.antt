@@ -1,6 +1,6 @@
 -- Answers to the goals of `answer_reverse`.
 use Rattle.std.proofs.Common.{subst, List}
-use Rattle.qil_meaning.specs.Runs.{RunsBack}
+use Rattle.qil_semantics.specs.Runs.{RunsBack}
 use Rattle.qil_stops.specs.declared.stop.NumberedStop.{NumberedStop}
 use Rattle.qil_stops.specs.Named.{named_stops}
 use Rattle.qil_session.proofs.MoveAnswers.{back_reported, replies_no_reverse, replies_reverse}

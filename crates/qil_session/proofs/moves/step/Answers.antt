@@ -1,6 +1,6 @@
 -- Answers to the goals of `step`.
 use Rattle.std.proofs.Common.{sym, ◌∙◌, ap}
-use Rattle.qil_meaning.specs.State.{State, is_final}
+use Rattle.qil_semantics.specs.State.{State, is_final}
 use Rattle.qil_session.proofs.MoveAnswers.{replies_end, replies_step, replies_step_wants, step_wants}
 use Rattle.qil_session.proofs.moves.step.Goals as goal
 

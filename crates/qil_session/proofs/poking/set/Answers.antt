@@ -1,6 +1,6 @@
 -- Answers to the goals of `set`.
 use Rattle.std.proofs.Common.{ap, ◌∙◌, Err}
-use Rattle.qil_meaning.specs.Poke.{no_frame, unknown_temporary}
+use Rattle.qil_semantics.specs.Poke.{no_frame, unknown_temporary}
 use Rattle.qil_session.proofs.PokeAnswers.{replies_set, replies_set_refused, replies_set_wants}
 use Rattle.qil_session.proofs.poking.set.Goals as goal
 

@@ -1,7 +1,7 @@
 -- The whole lines so far were answered. Each is of a byte at least, and moves less than 2^32 moves.
 use Rattle.std.proofs.Common.{◌≡◌, ◌+◌, ◌-◌, ◌*◌, ◌≤◌, ◌^◌, []}
 use Rattle.qil_streams.specs.Reader.{rest_of, Reads}
-use Rattle.qil_meaning.specs.Timeline.{position}
+use Rattle.qil_semantics.specs.Timeline.{position}
 use Rattle.qil_session.specs.Kept.{session_state}
 use Rattle.qil_session.proofs.ServeLemmas.{Standing}
 use Rattle.qil_session.proofs.serving.serve_lines.Given as goal

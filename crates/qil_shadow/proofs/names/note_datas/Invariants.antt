@@ -1,7 +1,7 @@
 -- The table's number of a name, or else that of the data that are left, is its number.
 use Rattle.std.proofs.Common.{◌≡◌, List, ℕ, drop}
 use Rattle.std.specs.Option.{option_or}
-use Rattle.qil_names.specs.Tables.{value_at}
+use Rattle.qil_symbols.specs.Tables.{value_at}
 use Rattle.qil_shadow.specs.ObjectNumbers.{data_number}
 use Rattle.qil_shadow.proofs.names.note_datas.Given as goal
 

@@ -1,7 +1,7 @@
 -- The table's number of a name, or else that of the functions that are left, is its number.
 use Rattle.std.proofs.Common.{◌≡◌, ◌+◌, List, ℕ, drop}
 use Rattle.std.specs.Option.{option_or}
-use Rattle.qil_names.specs.Tables.{value_at}
+use Rattle.qil_symbols.specs.Tables.{value_at}
 use Rattle.qil_shadow.specs.ObjectNumbers.{function_number}
 use Rattle.qil_shadow.proofs.names.note_funcs.Given as goal
 

@@ -1,6 +1,6 @@
 use Rattle.std.proofs.Common.{◌≡◌, drop}
 use Rattle.std.specs.Prelude.{map}
-use Rattle.qil_meaning.specs.Calls.{agree_all}
+use Rattle.qil_semantics.specs.Calls.{agree_all}
 use Rattle.qil_state.proofs.arguments.all_agree.Given as goal
 
 -- those after agree

@@ -2,7 +2,7 @@
 use Rattle.std.proofs.Common.{sym, ap, ◌∙◌}
 use Rattle.std.specs.Prelude.{option_map, Some}
 use Rattle.qil_code.specs.Named.{named_receiver}
-use Rattle.qil_meaning.specs.Calls.{gives}
+use Rattle.qil_semantics.specs.Calls.{gives}
 use Rattle.qil_state.proofs.arguments.is_given.Goals as goal
 
 pub returns-in-None-returns : goal.returns-in-None-returns

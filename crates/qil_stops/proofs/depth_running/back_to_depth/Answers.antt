@@ -1,8 +1,8 @@
 -- Each move goes one further on the way, what was read at the start is still read, and calls are open.
 use Rattle.std.proofs.Common.{◌≡◌, ◌<◌, ◌≤◌, arith, ◌∙◌, sym, refl, Some, None}
 use Rattle.std.proofs.lemmas.Bool.Decides.{nat_tests}
-use Rattle.qil_meaning.specs.Timeline.{gone}
-use Rattle.qil_meaning.specs.Runs.{bottom}
+use Rattle.qil_semantics.specs.Timeline.{gone}
+use Rattle.qil_semantics.specs.Runs.{bottom}
 use Rattle.qil_stops.specs.Named.{named_stops}
 use Rattle.qil_stops.proofs.BackWay.{back-begun, back-more, gone-more}
 use Rattle.qil_stops.proofs.Telling.{found-at, reported-still}

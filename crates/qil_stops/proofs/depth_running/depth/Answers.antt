@@ -1,7 +1,7 @@
 -- A machine's frames are those of the state that it represents.
 use Rattle.std.proofs.Common.{◌∙◌, ap, length}
 use Rattle.std.proofs.lemmas.List.{length-reverse}
-use Rattle.qil_meaning.specs.State.{State}
+use Rattle.qil_semantics.specs.State.{State}
 use Rattle.qil_stops.proofs.Walking.{as_many}
 use Rattle.qil_stops.proofs.depth_running.depth.Goals as goal
 

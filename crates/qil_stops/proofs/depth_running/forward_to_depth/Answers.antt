@@ -1,7 +1,7 @@
 -- Each move goes one further on the way, what was read at the start is still read, and calls are open.
 use Rattle.std.proofs.Common.{◌≡◌, ◌<◌, ◌≤◌, arith, ◌∙◌, sym, ap, refl, false, Some, None}
 use Rattle.std.proofs.lemmas.Bool.Decides.{nat_tests}
-use Rattle.qil_meaning.specs.Timeline.{forward, at_end, moved}
+use Rattle.qil_semantics.specs.Timeline.{forward, at_end, moved}
 use Rattle.qil_stops.specs.Named.{named_stops}
 use Rattle.qil_stops.proofs.OnWay.{on-begun, on-more, on-position, moved-more, not_true}
 use Rattle.qil_stops.proofs.Telling.{found-at, reported-still}

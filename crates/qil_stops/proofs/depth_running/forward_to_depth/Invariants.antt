@@ -1,6 +1,6 @@
 -- The moves so far, after none of which the run was to stop, nor so few calls were open.
 use Rattle.std.proofs.Common.{◌≡◌}
-use Rattle.qil_meaning.specs.Timeline.{moved}
+use Rattle.qil_semantics.specs.Timeline.{moved}
 use Rattle.qil_stops.specs.Named.{named_stops}
 use Rattle.qil_stops.specs.Readings.{AllTell}
 use Rattle.qil_stops.proofs.OnWay.{IsOnWay}

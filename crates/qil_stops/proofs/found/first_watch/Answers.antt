@@ -1,6 +1,6 @@
 -- The test of a watch by what was read before.
 use Rattle.std.proofs.Common.{◌∙◌, sym}
-use Rattle.qil_meaning.specs.Stops.{differs}
+use Rattle.qil_semantics.specs.Stops.{differs}
 use Rattle.qil_history.specs.qil_state.State.{state_of}
 use Rattle.qil_stops.proofs.Kept.{readable-at}
 use Rattle.qil_stops.proofs.Naming.{first_watch-by, first-here, first-past}

@@ -1,6 +1,6 @@
 -- No breakpoint so far holds.
 use Rattle.std.proofs.Common.{◌≡◌, drop}
-use Rattle.qil_meaning.specs.Stops.{is_held, first_break}
+use Rattle.qil_semantics.specs.Stops.{is_held, first_break}
 use Rattle.qil_state.specs.State.{state_of}
 use Rattle.qil_stops.specs.Named.{named_stops}
 use Rattle.qil_stops.proofs.Naming.{first_by}

@@ -1,7 +1,7 @@
 -- No watch so far reads otherwise.
 use Rattle.std.proofs.Common.{◌≡◌, ℕ, ◌<◌, None, drop, get_or}
-use Rattle.qil_meaning.specs.State.{State}
-use Rattle.qil_meaning.specs.Stops.{differs, first_watch}
+use Rattle.qil_semantics.specs.State.{State}
+use Rattle.qil_semantics.specs.Stops.{differs, first_watch}
 use Rattle.qil_state.specs.State.{state_of}
 use Rattle.qil_stops.specs.declared.stop.NumberedStop.{NumberedStop}
 use Rattle.qil_stops.specs.Named.{named_stops}

@@ -1,6 +1,6 @@
 -- A watch is never held, whatever it watches: by hand, so that another answer is refused at once.
 use Rattle.std.proofs.Common.{◌∙◌, sym, ap}
-use Rattle.qil_meaning.specs.Stops.{is_held}
+use Rattle.qil_semantics.specs.Stops.{is_held}
 use Rattle.qil_state.specs.State.{state_of}
 use Rattle.qil_stops.specs.Named.{named_kind, passes}
 use Rattle.qil_stops.proofs.Told.{no_watch}

@@ -1,6 +1,6 @@
 -- Where no stop may hold, each reads as before, and none is a breakpoint that is there.
 use Rattle.std.proofs.Common.{◌∙◌, arith}
-use Rattle.qil_meaning.specs.Stops.{is_held}
+use Rattle.qil_semantics.specs.Stops.{is_held}
 use Rattle.qil_state.specs.State.{state_of}
 use Rattle.qil_stops.proofs.Kept.{readable-at}
 use Rattle.qil_stops.proofs.Naming.{first_break-by, first-past, first-none}

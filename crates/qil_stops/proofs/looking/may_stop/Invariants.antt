@@ -1,6 +1,6 @@
 -- No stop so far may hold.
 use Rattle.std.proofs.Common.{◌≡◌, ℕ, ◌<◌, None, drop, get_or}
-use Rattle.qil_meaning.specs.Stops.{is_held, first_break}
+use Rattle.qil_semantics.specs.Stops.{is_held, first_break}
 use Rattle.qil_state.specs.State.{state_of}
 use Rattle.qil_stops.specs.declared.stop.NumberedStop.{NumberedStop}
 use Rattle.qil_stops.specs.Named.{named_stops}

@@ -1,7 +1,7 @@
 -- With no stops and with some.
 use Rattle.std.proofs.Common.{◌≡◌, subst, List, length}
-use Rattle.qil_meaning.specs.Stops.{Numbered}
-use Rattle.qil_meaning.specs.Runs.{RunsBack}
+use Rattle.qil_semantics.specs.Stops.{Numbered}
+use Rattle.qil_semantics.specs.Runs.{RunsBack}
 use Rattle.qil_stops.proofs.Naming.{named-none, no_length}
 use Rattle.qil_stops.proofs.BackWay.{back-near, start-already, start-at_once, oldest-already, oldest-at_once}
 use Rattle.qil_stops.proofs.running.run_back.Goals as goal

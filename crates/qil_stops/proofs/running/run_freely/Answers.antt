@@ -1,6 +1,6 @@
 -- Each move goes one further on the way.
 use Rattle.std.proofs.Common.{◌≡◌, arith, ◌∙◌, ap, refl, false, []}
-use Rattle.qil_meaning.specs.Timeline.{forward, at_end}
+use Rattle.qil_semantics.specs.Timeline.{forward, at_end}
 use Rattle.qil_stops.proofs.OnWay.{on-begun, on-more, on-position, none-stopped, not_true}
 use Rattle.qil_stops.proofs.running.run_freely.Goals as goal
 

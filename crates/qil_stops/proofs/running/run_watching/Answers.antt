@@ -1,6 +1,6 @@
 -- Each move goes one further on the way, and what was read at the start is still read.
 use Rattle.std.proofs.Common.{◌≡◌, arith, ◌∙◌, sym, ap, refl, false}
-use Rattle.qil_meaning.specs.Timeline.{forward, at_end}
+use Rattle.qil_semantics.specs.Timeline.{forward, at_end}
 use Rattle.qil_stops.specs.Named.{named_stops}
 use Rattle.qil_stops.proofs.OnWay.{on-begun, on-more, on-halt, on-position, not_true}
 use Rattle.qil_stops.proofs.Telling.{found-at, reported-still}

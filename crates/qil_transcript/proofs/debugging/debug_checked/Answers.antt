@@ -1,7 +1,7 @@
 -- Answers to the goals of `debug_checked`.
 use Rattle.std.proofs.Common.{◌∙◌, ap}
 use Rattle.qil_tree.specs.declared.tree.Program.{Program}
-use Rattle.qil_meaning.specs.Start.{start_of}
+use Rattle.qil_semantics.specs.Start.{start_of}
 use Rattle.qil_transcript.specs.Handed.{setup_of}
 use Rattle.qil_session.proofs.Explaining.{layout-explained, layout-shortage}
 use Rattle.qil_transcript.proofs.DebugLemmas.{Written-refuse, refused-no_session, shortage-not_refused}

@@ -1,7 +1,7 @@
 -- Answers to the goals of `debug_flat`.
 use Rattle.std.proofs.Common.{◌∙◌, sym, ap, Ok}
 use Rattle.qil_tree.specs.declared.tree.Program.{Program}
-use Rattle.qil_meaning.specs.Start.{start_of}
+use Rattle.qil_semantics.specs.Start.{start_of}
 use Rattle.qil_state.specs.State.{state_of}
 use Rattle.qil_flatmachine.specs.Kept.{WithCopies}
 use Rattle.qil_transcript.specs.Handed.{setup_of}

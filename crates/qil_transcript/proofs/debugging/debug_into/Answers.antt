@@ -2,7 +2,7 @@
 use Rattle.std.proofs.Common.{◌∙◌, ap}
 use Rattle.qil_tree.specs.declared.tree.Program.{Program}
 use Rattle.qil_layout.specs.Layout.{fault_of}
-use Rattle.qil_meaning.specs.Start.{start_of}
+use Rattle.qil_semantics.specs.Start.{start_of}
 use Rattle.qil_transcript.specs.Handed.{setup_of}
 use Rattle.qil_session.proofs.Explaining.{check-explained}
 use Rattle.qil_transcript.proofs.DebugLemmas.{Written-refuse, no_session, refused-no_session, shortage-not_refused}

@@ -1,7 +1,7 @@
 -- Answers to the goals of `debug_laid_out`.
 use Rattle.std.proofs.Common.{◌∙◌, ap}
 use Rattle.qil_tree.specs.declared.tree.Program.{Program}
-use Rattle.qil_meaning.specs.Start.{start_of}
+use Rattle.qil_semantics.specs.Start.{start_of}
 use Rattle.qil_transcript.proofs.debugging.debug_laid_out.Goals as goal
 
 pub returns-clause-written : goal.returns-clause-written

@@ -1,7 +1,7 @@
 -- Answers to the goals of `debug_machine`.
 use Rattle.std.specs.Prelude.{ℕ, Option, None}
 use Rattle.std.proofs.Common.{◌∙◌, ap, refl, sym}
-use Rattle.qil_meaning.specs.Timeline.{begun}
+use Rattle.qil_semantics.specs.Timeline.{begun}
 use Rattle.qil_state.specs.State.{state_of}
 use Rattle.qil_transcript.specs.Handed.{setup_of, moves_want_memory}
 use Rattle.qil_transcript.proofs.DebugLemmas.{Written-memory, untaken}

@@ -1,6 +1,6 @@
 -- Answers to the goals of `debug_restorable`.
 use Rattle.std.proofs.Common.{ℕ, Option, ◌∙◌, ap, refl, sym}
-use Rattle.qil_meaning.specs.Timeline.{begun}
+use Rattle.qil_semantics.specs.Timeline.{begun}
 use Rattle.qil_state.specs.State.{state_of}
 use Rattle.qil_transcript.specs.Handed.{setup_of, moves_want_memory}
 use Rattle.qil_transcript.proofs.debugging.debug_restorable.Goals as goal

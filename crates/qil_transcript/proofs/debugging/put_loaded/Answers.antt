@@ -2,7 +2,7 @@
 use Rattle.std.proofs.Common.{length}
 use Rattle.qil_streams.proofs.TextLemmas.{Puts-append, Puts-stop}
 use Rattle.qil_layout.specs.Layout.{bytes_of}
-use Rattle.qil_answers.specs.Texts.{place_line}
+use Rattle.qil_render.specs.Texts.{place_line}
 use Rattle.qil_loading.specs.Lines.{loaded_line}
 use Rattle.qil_transcript.proofs.debugging.put_loaded.Goals as goal
 

@@ -1,6 +1,6 @@
 -- Answers to the goals of `open_copies`.
 use Rattle.std.proofs.Common.{◌∙◌, refl, sym, ap, ℕ, Option, false}
-use Rattle.qil_meaning.specs.Timeline.{begun}
+use Rattle.qil_semantics.specs.Timeline.{begun}
 use Rattle.qil_state.specs.State.{state_of}
 use Rattle.qrev_recorder.specs.Record.{moves_want_memory, setup_of}
 use Rattle.qrev_recorder.proofs.Beginnings.{is_beginning}

@@ -1,7 +1,7 @@
 -- Answers to the goals of `open_flat`.
 use Rattle.std.proofs.Common.{◌∙◌, sym, ap}
 use Rattle.qil_tree.specs.declared.tree.Program.{Program}
-use Rattle.qil_meaning.specs.Start.{start_of}
+use Rattle.qil_semantics.specs.Start.{start_of}
 use Rattle.qrev_adapter.proofs.opening.open_flat.Goals as goal
 
 pub open_restorable-requires-clause-begins : goal.open_restorable-requires-clause-begins

@@ -1,6 +1,6 @@
 -- Each run goes on where the one before came to the limit.
 use Rattle.std.proofs.Common.{rules, ◌≡◌}
-use Rattle.qil_meaning.specs.declared.reason.Reason.TheVariants as reasons
+use Rattle.qil_semantics.specs.declared.reason.Reason.TheVariants as reasons
 use Rattle.qrev_recorder.specs.qil_replies.qil_stops.declared.depth_end.DepthEnd.TheVariants as ends
 use Rattle.qrev_debuggee.specs.Moves.{once}
 use Rattle.qrev_debuggee.proofs.Backing.{once_more}

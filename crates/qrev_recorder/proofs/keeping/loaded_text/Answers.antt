@@ -1,7 +1,7 @@
 -- Answers to the goals of `loaded_text`.
 use Rattle.std.proofs.Common.{length, Some}
 use Rattle.qil_layout.specs.Layout.{bytes_of}
-use Rattle.qil_replies.specs.qil_answers.Texts.{place_line}
+use Rattle.qil_replies.specs.qil_render.Texts.{place_line}
 use Rattle.qil_loading.specs.Lines.{loaded_line}
 use Rattle.qil_replies.specs.Reply.{reply_text}
 use Rattle.qrev_recorder.proofs.Recording.{both_put}

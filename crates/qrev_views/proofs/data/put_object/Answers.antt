@@ -3,7 +3,7 @@ use Rattle.std.proofs.Common.{◌≡◌, [], ◌∷◌, ◌++◌, refl, append_a
 use Rattle.std.specs.Prelude.{unwrap_or, codes, string_bytes}
 use Rattle.json.specs.Token.{Token, end_object}
 use Rattle.qil_layout.specs.Layout.{address_of}
-use Rattle.qil_pieces.specs.Texts.{text_of}
+use Rattle.qil_fragments.specs.Texts.{text_of}
 use Rattle.qrev_views.specs.Texts.{shown_text}
 use Rattle.qrev_views.specs.Variables.{data_letter, shown_width, variable_head, type_member, name_member, reference}
 use Rattle.qrev_views.proofs.data.put_object.Goals as goal

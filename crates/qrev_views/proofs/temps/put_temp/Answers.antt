@@ -4,7 +4,7 @@ use Rattle.std.specs.Prelude.{unwrap_or, codes, cond, string_bytes}
 use Rattle.json.specs.Token.{Token, end_object}
 use Rattle.qil_memory.specs.Live.{live}
 use Rattle.qil_code.specs.Numbered.{func_at}
-use Rattle.qil_meaning.specs.Poke.{temp_class}
+use Rattle.qil_semantics.specs.Poke.{temp_class}
 use Rattle.qrev_views.specs.Texts.{shown_text}
 use Rattle.qrev_views.specs.Variables.{letter_of, live_reference, variable_head, type_member, name_member, read_only}
 use Rattle.qrev_views.proofs.temps.put_temp.Goals as goal

@@ -8,7 +8,7 @@ use Rattle.qil_memory.specs.Live.{live}
 use Rattle.qil_code.specs.Numbered.{names_of}
 use Rattle.qil_code.specs.Facts.{Finds}
 use Rattle.qil_state.specs.State.{frame_state, FrameFits}
-use Rattle.qil_answers.specs.Shown.{temps_of_frame}
+use Rattle.qil_render.specs.Shown.{temps_of_frame}
 use Rattle.qrev_views.proofs.Each.{none_shown, item_shown, all_shown}
 use Rattle.qrev_views.proofs.Rows.{frame_fits, temp_shown, temp_named, temps_long, ShowsNamed}
 use Rattle.qrev_views.proofs.temps.put_temps.Goals as goal

@@ -4,7 +4,7 @@ use Rattle.std.specs.Prelude.{slice_get, ◌==◌}
 use Rattle.json.specs.Token.{Token}
 use Rattle.qil_memory.specs.Live.{live}
 use Rattle.qil_state.specs.State.{frame_state}
-use Rattle.qil_answers.specs.Shown.{temps_of_frame}
+use Rattle.qil_render.specs.Shown.{temps_of_frame}
 use Rattle.qrev_protocol.specs.Outgoing.{Adds}
 use Rattle.qrev_views.proofs.Each.{EachSoFar}
 use Rattle.qrev_views.proofs.Rows.{ShowsNamed}

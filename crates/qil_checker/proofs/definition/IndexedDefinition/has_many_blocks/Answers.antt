@@ -9,4 +9,4 @@ above : (blocks count : ℕ) → blocks ≡ count → IsTrue (nat_lt 65535 block
 above blocks count e = (λ t. grind (arith, nat_tests), λ l. grind (arith, nat_tests))
 
 pub returns : goal.returns
-returns g c = let s = c.args.self.now in above s.blocks (count_by is_label s.mentions.items) s.blocks_are
+returns g c = let s = c.args.self.now in above s.blocks (count_by is_label s.occurrences.items) s.blocks_are

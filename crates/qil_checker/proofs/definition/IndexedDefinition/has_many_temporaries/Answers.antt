@@ -6,4 +6,4 @@ use Rattle.qil_checker.proofs.definition.IndexedDefinition.has_many_temporaries.
 pub returns : goal.returns
 returns g c =
     let s = c.args.self.now in
-    many s.tables.named.places s.mentions.items s.named_places c.len.ensures.unique _ c.len.result c.len.ensures.len refl
+    many s.tables.named.places s.occurrences.items s.named_places c.len.ensures.unique _ c.len.result c.len.ensures.len refl

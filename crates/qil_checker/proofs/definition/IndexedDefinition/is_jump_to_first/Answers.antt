@@ -4,4 +4,4 @@ use Rattle.qil_checker.proofs.definition.IndexedDefinition.is_jump_to_first.Goal
 
 pub returns-in-Edge : goal.returns-in-Edge
 returns-in-Edge g c =
-    jump_to_first c.args.self.now.mentions.items c.in-Edge.field-0 c.in-Edge.label c.args.place c.args.mention.now c.is_first.result c.requires c.in-Edge.is c.is_first.ensures
+    jump_to_first c.args.self.now.occurrences.items c.in-Edge.field-0 c.in-Edge.label c.args.place c.args.occurrence.now c.is_first.result c.requires c.in-Edge.is c.is_first.ensures

@@ -4,4 +4,4 @@ use Rattle.qil_checker.proofs.definition.IndexedDefinition.is_lost_label.Goals a
 
 pub returns-in-PhiLabel : goal.returns-in-PhiLabel
 returns-in-PhiLabel g c =
-    lost_phi_label c.args.self.now.mentions.items c.in-PhiLabel.label c.args.place c.args.mention.now c.lacks-in-PhiLabel.result c.requires c.in-PhiLabel.is c.lacks-in-PhiLabel.ensures
+    lost_phi_label c.args.self.now.occurrences.items c.in-PhiLabel.label c.args.place c.args.occurrence.now c.lacks-in-PhiLabel.result c.requires c.in-PhiLabel.is c.lacks-in-PhiLabel.ensures

@@ -6,9 +6,9 @@ use Rattle.qil_checker.proofs.definition.IndexedDefinition.is_second_label.Goals
 pub returns-in-Some : goal.returns-in-Some
 returns-in-Some g c =
     let s = c.args.self.now in
-    second_label s.mentions.items c.in-Label.name c.args.place c.in-Some.first c.args.mention.now c.requires c.in-Label.is (sym (c.in-Some.ensures ∙ s.label_places c.in-Label.name))
+    second_label s.occurrences.items c.in-Label.name c.args.place c.in-Some.first c.args.occurrence.now c.requires c.in-Label.is (sym (c.in-Some.ensures ∙ s.label_places c.in-Label.name))
 
 pub returns-in-None : goal.returns-in-None
 returns-in-None g c =
     let s = c.args.self.now in
-    absurd (no_label s.mentions.items c.in-Label.name c.args.place c.args.mention.now c.requires c.in-Label.is (sym (c.in-None.ensures ∙ s.label_places c.in-Label.name)))
+    absurd (no_label s.occurrences.items c.in-Label.name c.args.place c.args.occurrence.now c.requires c.in-Label.is (sym (c.in-None.ensures ∙ s.label_places c.in-Label.name)))

@@ -1,4 +1,4 @@
--- What search would try in vain at first, or for long, is answered here at once: the tables are those of the mentions.
+-- What search would try in vain at first, or for long, is answered here at once: the tables are those of the occurrences.
 use Rattle.std.proofs.Common.{arith, ◌∙◌, ap}
 use Rattle.std.proofs.lemmas.Grind.{common_steps}
 use Rattle.std.specs.List.{count_by}

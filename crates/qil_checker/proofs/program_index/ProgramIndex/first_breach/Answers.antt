@@ -1,10 +1,10 @@
--- The first mention of a text that breaks the rule.
+-- The first occurrence of a text that breaks the rule.
 use Rattle.std.proofs.lemmas.Grind.{common_steps, elements}
 use borrow.Author.Differences.{ints}
 use Rattle.std.proofs.Common.{◌≡◌, ap, subst, List, Some, slice_get, ◌<◌, IsTrue, length, arith, below_more}
-use Rattle.qil_rules.specs.declared.mention.Mention.{Mention}
+use Rattle.qil_rules.specs.declared.occurrence.Occurrence.{Occurrence}
 use Rattle.qil_rules.specs.Rules.{Breaks}
-use Rattle.qil_checker.specs.Whole.{mentions_of}
+use Rattle.qil_checker.specs.Whole.{occurrences_of}
 use Rattle.qil_checker.proofs.Texts.Places.{read_there}
 use Rattle.qil_checker.proofs.Programs.Scans.{breaks_within}
 use Rattle.qil_checker.proofs.program_index.ProgramIndex.first_breach.Goals as goal
@@ -14,8 +14,8 @@ breaks-requires-clause-at_hand g c = c.loop-place.invariant.1
 
 pub predecessors_for-predecessors-requires-clause-there : goal.predecessors_for-predecessors-requires-clause-there
 predecessors_for-predecessors-requires-clause-there g c =
-    subst (λ (t : List Mention). slice_get t c.loop-place.place ≡ Some c.mention-item.result) c.deref-mention-items.ensures.value
-    (read_there c.deref-mention-items.result.now c.loop-place.place c.mention-item.result (omega arith) c.mention-item.is)
+    subst (λ (t : List Occurrence). slice_get t c.loop-place.place ≡ Some c.occurrence-item.result) c.deref-occurrence-items.ensures.value
+    (read_there c.deref-occurrence-items.result.now c.loop-place.place c.occurrence-item.result (omega arith) c.occurrence-item.is)
 
 pub predecessors_for-predecessors-requires-clause-at_hand : goal.predecessors_for-predecessors-requires-clause-at_hand
 predecessors_for-predecessors-requires-clause-at_hand g c = c.loop-place.invariant.1
@@ -23,8 +23,8 @@ predecessors_for-predecessors-requires-clause-at_hand g c = c.loop-place.invaria
 pub loop-place-preserved : goal.loop-place-preserved
 loop-place-preserved g c = (
   λ j l b.
-      let all = mentions_of c.args.self.now.texts.items in
-      let text = c.args.visit.now.text.now.mentions.items in
+      let all = occurrences_of c.args.self.now.texts.items in
+      let text = c.args.visit.now.text.now.occurrences.items in
       below_more (λ k. Breaks c.args.rule all text c.args.visit.now.number k → ⊥) c.loop-place.place (λ k h. c.loop-place.invariant.0 k h)
       (λ h. let yes : IsTrue c.in_ok-breaks.field-0 = c.in_ok-breaks.ensures.1 h in absurd (grind arith)) j l b,
   c.predecessors_for-predecessors.ensures,
@@ -32,19 +32,19 @@ loop-place-preserved g c = (
 
 pub returns : goal.returns
 returns g c = λ k b.
-    let text = c.args.visit.now.text.now.mentions.items in
-    let l : k < length text = breaks_within c.args.rule (mentions_of c.args.self.now.texts.items) text c.args.visit.now.number k b in
-    let e : length c.deref-mention-items.result.now ≡ length text = ap length c.deref-mention-items.ensures.value in
+    let text = c.args.visit.now.text.now.occurrences.items in
+    let l : k < length text = breaks_within c.args.rule (occurrences_of c.args.self.now.texts.items) text c.args.visit.now.number k b in
+    let e : length c.deref-occurrence-items.result.now ≡ length text = ap length c.deref-occurrence-items.ensures.value in
     c.loop-place.invariant.0 k (omega arith) b
 
 pub loop-place-init : goal.loop-place-init
 loop-place-init c = grind (ints, arith, common_steps)
 
-pub offset_bounds-mention-items-place : goal.offset_bounds-mention-items-place
-offset_bounds-mention-items-place c = grind (ints, arith, common_steps)
+pub offset_bounds-occurrence-items-place : goal.offset_bounds-occurrence-items-place
+offset_bounds-occurrence-items-place c = grind (ints, arith, common_steps)
 
-pub bounds-mention-items-place : goal.bounds-mention-items-place
-bounds-mention-items-place c = grind (ints, arith, common_steps)
+pub bounds-occurrence-items-place : goal.bounds-occurrence-items-place
+bounds-occurrence-items-place c = grind (ints, arith, common_steps)
 
 pub breaks-requires-clause-there : goal.breaks-requires-clause-there
 breaks-requires-clause-there c = grind (ints, arith, elements)

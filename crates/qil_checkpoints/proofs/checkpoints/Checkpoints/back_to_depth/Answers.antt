@@ -1,8 +1,8 @@
 -- A run back that stops where so few calls are open, or on the way there.
 use Rattle.std.proofs.Common.{◌≡◌, ◌≤◌, ◌∙◌, sym, ap, subst, length, arith}
 use Rattle.qil_tree.specs.declared.tree.Program.{Program}
-use Rattle.qil_meaning.specs.Timeline.{Timeline}
-use Rattle.qil_meaning.specs.Runs.{RunsBack}
+use Rattle.qil_semantics.specs.Timeline.{Timeline}
+use Rattle.qil_semantics.specs.Runs.{RunsBack}
 use Rattle.qil_stops.specs.Named.{named_stops}
 use Rattle.qil_stops.specs.Depths.{RunsBackToDepth}
 use Rattle.qil_stops.specs.declared.depth_end.DepthEnd.{DepthEnd}

@@ -1,7 +1,7 @@
 -- The last position at which a stop holds is gone to.
 use Rattle.std.proofs.Common.{◌∙◌, sym, ap, subst, ◌-◌}
-use Rattle.qil_meaning.specs.Timeline.{gone}
-use Rattle.qil_meaning.specs.Runs.{RunsBack}
+use Rattle.qil_semantics.specs.Timeline.{gone}
+use Rattle.qil_semantics.specs.Runs.{RunsBack}
 use Rattle.qil_stops.specs.Named.{named_stops}
 use Rattle.qil_checkpoints.specs.Walk.{timeline_at}
 use Rattle.qil_checkpoints.specs.Held.{Held, first_of, held_timeline}

@@ -1,6 +1,6 @@
 -- A machine has as many frames as calls are open.
 use Rattle.std.proofs.Common.{◌∙◌, ap, length}
-use Rattle.qil_meaning.specs.State.{State}
+use Rattle.qil_semantics.specs.State.{State}
 use Rattle.qil_stops.proofs.Walking.{as_many}
 use Rattle.qil_checkpoints.proofs.checkpoints.Checkpoints.depth.Goals as goal
 

@@ -1,7 +1,7 @@
 -- Each step goes one further on the way, what was read at the start is still read, and calls are open.
 use Rattle.std.proofs.Common.{◌≡◌, ◌<◌, ◌≤◌, ◌+◌, ◌∙◌, sym, ap, refl, subst, length, Some, None, arith}
 use Rattle.std.proofs.lemmas.Bool.Decides.{nat_tests}
-use Rattle.qil_meaning.specs.Timeline.{Timeline, forward, at_end, moved}
+use Rattle.qil_semantics.specs.Timeline.{Timeline, forward, at_end, moved}
 use Rattle.qil_stops.specs.Named.{named_stops}
 use Rattle.qil_stops.specs.Readings.{AllTell}
 use Rattle.qil_stops.specs.Depths.{depth}

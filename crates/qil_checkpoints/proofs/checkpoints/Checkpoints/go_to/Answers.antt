@@ -1,6 +1,6 @@
 -- Fewer copies and pokes, and the earlier state.
 use Rattle.std.proofs.Common.{ap, ◌∙◌, arith}
-use Rattle.qil_meaning.specs.Timeline.{gone}
+use Rattle.qil_semantics.specs.Timeline.{gone}
 use Rattle.qil_checkpoints.specs.Held.{Held, held_timeline}
 use Rattle.qil_checkpoints.proofs.HeldLemmas.{reached}
 use Rattle.qil_checkpoints.proofs.checkpoints.Checkpoints.go_to.Goals as goal

@@ -1,6 +1,6 @@
 -- The timeline is as long as moves were made, and is the walk in other words too.
 use Rattle.std.proofs.Common.{sym, ap, ◌∙◌, subst}
-use Rattle.qil_meaning.specs.Timeline.{position}
+use Rattle.qil_semantics.specs.Timeline.{position}
 use Rattle.qil_checkpoints.specs.Walk.{IsWalk}
 use Rattle.qil_checkpoints.specs.Held.{Held, first_of, held_timeline}
 use Rattle.qil_checkpoints.proofs.WalkTimelines.{at-position, timeline-is_walk}

@@ -1,7 +1,7 @@
 -- The machine is where it was, and the depth is that of the last position where so few calls are open.
 use Rattle.std.proofs.Common.{◌≡◌, ◌∙◌, sym, ap, refl, subst, ℕ, ◌-◌, List, Option}
 use Rattle.std.specs.Option.{option_map}
-use Rattle.qil_meaning.specs.State.{State}
+use Rattle.qil_semantics.specs.State.{State}
 use Rattle.qil_checkpoints.specs.declared.hit.Hit.{Hit}
 use Rattle.qil_checkpoints.specs.declared.poked.Poked.{Poked}
 use Rattle.qil_checkpoints.specs.Held.{Held, first_of, held_timeline, Reaches}

@@ -1,6 +1,6 @@
 -- One copy, of the start.
 use Rattle.std.proofs.Common.{ap, ◌∙◌, List, [], ◌∷◌, ◌++◌, ℕ}
-use Rattle.qil_meaning.specs.State.{State}
+use Rattle.qil_semantics.specs.State.{State}
 use Rattle.qil_state.specs.State.{state_of}
 use Rattle.qil_state.specs.State.{Whole}
 use Rattle.qil_checkpoints.proofs.HeldLemmas.{held-begun, timeline-begun}

@@ -1,7 +1,7 @@
 -- One poke more, and no copy behind it.
 use Rattle.std.proofs.Common.{◌≡◌, ◌∙◌, sym, ap, refl, List, [], ◌∷◌, ◌++◌, Ok}
-use Rattle.qil_meaning.specs.State.{State}
-use Rattle.qil_meaning.specs.Timeline.{Timeline, poked, to}
+use Rattle.qil_semantics.specs.State.{State}
+use Rattle.qil_semantics.specs.Timeline.{Timeline, poked, to}
 use Rattle.qil_state.specs.State.{Whole, state_of}
 use Rattle.qil_checkpoints.specs.declared.poked.Poked.{Poked}
 use Rattle.qil_checkpoints.specs.Walk.{after_poke, timeline_at}

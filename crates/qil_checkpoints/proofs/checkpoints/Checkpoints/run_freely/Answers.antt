@@ -1,7 +1,7 @@
 -- All moves, or the end.
 use Rattle.std.proofs.Common.{subst}
-use Rattle.qil_meaning.specs.Runs.{RunsOn}
-use Rattle.qil_meaning.specs.declared.reason.Reason.{Reason}
+use Rattle.qil_semantics.specs.Runs.{RunsOn}
+use Rattle.qil_semantics.specs.declared.reason.Reason.{Reason}
 use Rattle.qil_checkpoints.specs.Held.{held_timeline}
 use Rattle.std.proofs.Common.{sym, []}
 use Rattle.qil_checkpoints.proofs.Onward.{run-unwatched}

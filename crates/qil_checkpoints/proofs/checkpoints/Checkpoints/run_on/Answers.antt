@@ -1,6 +1,6 @@
 -- Part after part.
 use Rattle.std.proofs.Common.{◌∙◌, sym, refl, subst, ◌+◌, arith}
-use Rattle.qil_meaning.specs.Timeline.{Timeline}
+use Rattle.qil_semantics.specs.Timeline.{Timeline}
 use Rattle.qil_stops.proofs.Walks.{IsWalked}
 use Rattle.qil_checkpoints.specs.Held.{held_timeline}
 use Rattle.qil_checkpoints.proofs.Onward.{walked-by, walked-of}

@@ -1,6 +1,6 @@
 -- The steps of the machine are those of the walk.
 use Rattle.std.proofs.Common.{refl, sym, ap, ◌∙◌}
-use Rattle.qil_meaning.specs.Timeline.{moved, at_end}
+use Rattle.qil_semantics.specs.Timeline.{moved, at_end}
 use Rattle.qil_checkpoints.specs.Held.{Held, held_timeline}
 use Rattle.qil_checkpoints.proofs.HeldLemmas.{held-run, timeline-run, running-run, over-run}
 use Rattle.qil_checkpoints.proofs.checkpoints.Checkpoints.run_part.Goals as goal

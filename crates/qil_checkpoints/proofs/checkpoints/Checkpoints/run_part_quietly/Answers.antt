@@ -1,6 +1,6 @@
 -- The steps of the machine are those of the walk, and so is what is read along them.
 use Rattle.std.proofs.Common.{refl, sym, ap, ◌∙◌, subst}
-use Rattle.qil_meaning.specs.Timeline.{moved, at_end}
+use Rattle.qil_semantics.specs.Timeline.{moved, at_end}
 use Rattle.qil_stops.specs.Readings.{AllTell}
 use Rattle.qil_checkpoints.specs.Held.{Held, held_timeline}
 use Rattle.qil_checkpoints.specs.Hits.{IsQuiet}

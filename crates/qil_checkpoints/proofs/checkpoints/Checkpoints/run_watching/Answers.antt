@@ -1,7 +1,7 @@
 -- Part after part, behind whose moves but the last no stop may hold; what was read at the start is still read.
 use Rattle.std.proofs.Common.{◌≡◌, ◌∙◌, sym, refl, ap, subst, length, ◌+◌, ◌-◌, ◌<◌, arith}
-use Rattle.qil_meaning.specs.Timeline.{Timeline, at_end, moved}
-use Rattle.qil_meaning.specs.Runs.{RunsOn}
+use Rattle.qil_semantics.specs.Timeline.{Timeline, at_end, moved}
+use Rattle.qil_semantics.specs.Runs.{RunsOn}
 use Rattle.qil_stops.specs.Named.{named_stops}
 use Rattle.qil_stops.specs.Readings.{AllTell}
 use Rattle.qil_stops.proofs.OnWay.{IsOnWay, on-begun, on-more, on-halt, on-end, stopped-plain}

@@ -1,7 +1,7 @@
 -- To a copy that is kept of a later state.
 use Rattle.std.proofs.Common.{◌≡◌, refl, sym, ap, ◌∙◌, ◌+◌, ◌-◌, ◌<◌, ◌≤◌, ℕ, List, arith}
 use Rattle.std.specs.Prelude.{slice_get}
-use Rattle.qil_meaning.specs.Timeline.{moved, at_end}
+use Rattle.qil_semantics.specs.Timeline.{moved, at_end}
 use Rattle.qil_state.specs.State.{state_of}
 use Rattle.qil_checkpoints.specs.Walk.{timeline_at}
 use Rattle.qil_checkpoints.specs.Held.{Held, first_of, held_timeline}

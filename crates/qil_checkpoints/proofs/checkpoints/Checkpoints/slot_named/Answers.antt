@@ -1,8 +1,8 @@
 -- The machine's own refusal explains the one by name.
 use Rattle.std.proofs.Common.{subst}
 use Rattle.std.specs.Prelude.{IfErr}
-use Rattle.qil_meaning.specs.State.{State}
-use Rattle.qil_meaning.specs.Poke.{poke_temp}
+use Rattle.qil_semantics.specs.State.{State}
+use Rattle.qil_semantics.specs.Poke.{poke_temp}
 use Rattle.qil_history.specs.Pokes.{Explains}
 use Rattle.qil_checkpoints.specs.Held.{Held, held_timeline}
 use Rattle.qil_checkpoints.proofs.Refusing.{names-explained}

@@ -1,7 +1,7 @@
 -- With no stops and with some.
 use Rattle.std.proofs.Common.{◌≡◌, subst, List, length, ◌+◌, ◌≤◌, arith}
-use Rattle.qil_meaning.specs.Stops.{Numbered}
-use Rattle.qil_meaning.specs.Runs.{RunsOn}
+use Rattle.qil_semantics.specs.Stops.{Numbered}
+use Rattle.qil_semantics.specs.Runs.{RunsOn}
 use Rattle.qil_stops.proofs.Naming.{named-none, no_length}
 use Rattle.qil_stops.proofs.OnWay.{on-near}
 use Rattle.qil_checkpoints.specs.Held.{held_timeline}

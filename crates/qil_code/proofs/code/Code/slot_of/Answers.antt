@@ -1,6 +1,6 @@
 -- The number of a name of a function that is there.
 use Rattle.std.proofs.Common.{◌∙◌, ap, arith}
-use Rattle.qil_names.specs.Numbers.{place_of}
+use Rattle.qil_symbols.specs.Numbers.{place_of}
 use Rattle.qil_code.proofs.Readers.{coded, uncoded, temps-there, no-names, no-place}
 use Rattle.qil_code.proofs.code.Code.slot_of.Goals as goal
 

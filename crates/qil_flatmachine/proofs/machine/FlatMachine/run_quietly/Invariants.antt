@@ -1,8 +1,8 @@
 -- The steps so far, each of a run that went on, as it does still, and behind none of them may a stop hold.
 use Rattle.std.proofs.Common.{◌≡◌, ℕ, ◌<◌, ◌≤◌, false, None}
-use Rattle.qil_meaning.specs.State.{is_final}
-use Rattle.qil_meaning.specs.Stops.{first_break}
-use Rattle.qil_meaning.specs.Targets.{after}
+use Rattle.qil_semantics.specs.State.{is_final}
+use Rattle.qil_semantics.specs.Stops.{first_break}
+use Rattle.qil_semantics.specs.Targets.{after}
 use Rattle.qil_state.specs.State.{state_of}
 use Rattle.qil_machine.specs.Places.{IsRunning}
 use Rattle.qil_stops.specs.Named.{named_stops}

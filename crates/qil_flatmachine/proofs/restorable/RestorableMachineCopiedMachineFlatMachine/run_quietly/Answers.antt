@@ -1,5 +1,5 @@
 -- With no stops nothing can be a breakpoint.
-use Rattle.qil_meaning.specs.Targets.{after}
+use Rattle.qil_semantics.specs.Targets.{after}
 use Rattle.qil_state.specs.State.{state_of}
 use Rattle.qil_stops.proofs.Naming.{no_length}
 use Rattle.qil_stops.proofs.Unbroken.{unbroken-none}

@@ -15,4 +15,4 @@ returns-in-Ok-clause-cost g c = c.in-Ok.ensures.weighs
 
 pub returns-in-Err-Fault-clause-cost : goal.returns-in-Err-Fault-clause-cost
 returns-in-Err-Fault-clause-cost g c =
-    (c.end.result, subst (λ k. g.K.DeltaSink.takes k c.keep.new.self c.end.result) c.in-Err-Fault.ensures.none c.keep.ensures, rw c.end.ensures.weighs (least_cost c.args.self.now.program _))
+    (c.end.result, subst (λ k. g.K.UndoSink.takes k c.keep.new.self c.end.result) c.in-Err-Fault.ensures.none c.keep.ensures, rw c.end.ensures.weighs (least_cost c.args.self.now.program _))

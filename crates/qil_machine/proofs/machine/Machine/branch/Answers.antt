@@ -12,36 +12,36 @@ returns-in-Err-clause-fault g c =
 
 pub returns-then-value-eq0-clause-does : goal.returns-then-value-eq0-clause-does
 returns-then-value-eq0-clause-does g c =
-    subst (λ o. OnOk c.go_along.result (o ≡ Ok (state_of c.go_along.new.self)))
+    subst (λ o. OnOk c.take_edge.result (o ≡ Ok (state_of c.take_edge.new.self)))
     (sym (ap (left_whole c.args.self.now) c.requires.jump
     ∙ branched_zero _ c.args.self.now c.innermost.result.now c.slots.result.now c.args.source c.args.if_set.now c.args.if_zero.now c.in-Ok.value c.self.view_is c.self.invariant c.innermost.ensures c.slots.ensures.value c.in-Ok.ensures c.if-value-eq0.true))
-    c.go_along.ensures.does
+    c.take_edge.ensures.does
 
 pub returns-then-value-eq0-clause-fault : goal.returns-then-value-eq0-clause-fault
 returns-then-value-eq0-clause-fault g c =
-    subst (λ o. IfErr c.go_along.result (Explains (head_names c.args.self.now.program c.args.self.now.frames) o))
+    subst (λ o. IfErr c.take_edge.result (Explains (head_names c.args.self.now.program c.args.self.now.frames) o))
     (sym (ap (left_whole c.args.self.now) c.requires.jump
     ∙ branched_zero _ c.args.self.now c.innermost.result.now c.slots.result.now c.args.source c.args.if_set.now c.args.if_zero.now c.in-Ok.value c.self.view_is c.self.invariant c.innermost.ensures c.slots.ensures.value c.in-Ok.ensures c.if-value-eq0.true))
-    c.go_along.ensures.fault
+    c.take_edge.ensures.fault
 
 pub returns-clause-does : goal.returns-clause-does
 returns-clause-does g c =
-    subst (λ o. OnOk c.go_along-2.result (o ≡ Ok (state_of c.go_along-2.new.self)))
+    subst (λ o. OnOk c.take_edge-2.result (o ≡ Ok (state_of c.take_edge-2.new.self)))
     (sym (ap (left_whole c.args.self.now) c.requires.jump
     ∙ branched_set _ c.args.self.now c.innermost.result.now c.slots.result.now c.args.source c.args.if_set.now c.args.if_zero.now c.in-Ok.value c.self.view_is c.self.invariant c.innermost.ensures c.slots.ensures.value c.in-Ok.ensures (omega (arith, c.if-value-eq0.false))))
-    c.go_along-2.ensures.does
+    c.take_edge-2.ensures.does
 
 pub returns-clause-fault : goal.returns-clause-fault
 returns-clause-fault g c =
-    subst (λ o. IfErr c.go_along-2.result (Explains (head_names c.args.self.now.program c.args.self.now.frames) o))
+    subst (λ o. IfErr c.take_edge-2.result (Explains (head_names c.args.self.now.program c.args.self.now.frames) o))
     (sym (ap (left_whole c.args.self.now) c.requires.jump
     ∙ branched_set _ c.args.self.now c.innermost.result.now c.slots.result.now c.args.source c.args.if_set.now c.args.if_zero.now c.in-Ok.value c.self.view_is c.self.invariant c.innermost.ensures c.slots.ensures.value c.in-Ok.ensures (omega (arith, c.if-value-eq0.false))))
-    c.go_along-2.ensures.fault
+    c.take_edge-2.ensures.fault
 
 pub returns-then-value-eq0-clause-memory : goal.returns-then-value-eq0-clause-memory
 returns-then-value-eq0-clause-memory g c =
-    takes_zero _ c.args.self.now c.innermost.result.now c.slots.result.now c.args.source c.args.if_set.now c.args.if_zero.now c.in-Ok.value _ c.self.view_is c.self.invariant c.innermost.ensures c.slots.ensures.value c.in-Ok.ensures c.if-value-eq0.true c.go_along.ensures.few
+    takes_zero _ c.args.self.now c.innermost.result.now c.slots.result.now c.args.source c.args.if_set.now c.args.if_zero.now c.in-Ok.value _ c.self.view_is c.self.invariant c.innermost.ensures c.slots.ensures.value c.in-Ok.ensures c.if-value-eq0.true c.take_edge.ensures.few
 
 pub returns-clause-memory : goal.returns-clause-memory
 returns-clause-memory g c =
-    takes_set _ c.args.self.now c.innermost.result.now c.slots.result.now c.args.source c.args.if_set.now c.args.if_zero.now c.in-Ok.value _ c.self.view_is c.self.invariant c.innermost.ensures c.slots.ensures.value c.in-Ok.ensures (omega (arith, c.if-value-eq0.false)) c.go_along-2.ensures.few
+    takes_set _ c.args.self.now c.innermost.result.now c.slots.result.now c.args.source c.args.if_set.now c.args.if_zero.now c.in-Ok.value _ c.self.view_is c.self.invariant c.innermost.ensures c.slots.ensures.value c.in-Ok.ensures (omega (arith, c.if-value-eq0.false)) c.take_edge-2.ensures.few

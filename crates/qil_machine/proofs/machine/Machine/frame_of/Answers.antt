@@ -2,7 +2,7 @@
 use Rattle.std.proofs.Common.{◌≡◌, ◌∙◌, ℕ, List, [], ◌∷◌, length, replicate, Option, Some, None, refl, sym, ap, subst, All, Bor}
 use Rattle.std.specs.Prelude.{slice_get}
 use Rattle.std.proofs.lemmas.List.{length-replicate, length-map}
-use Rattle.qil_names.specs.Numbers.{names_of}
+use Rattle.qil_symbols.specs.Numbers.{names_of}
 use Rattle.qil_tree.specs.declared.ops.AbiType.{AbiType}
 use Rattle.qil_code.specs.declared.numbered.Slot.{Slot}
 use Rattle.qil_code.specs.declared.numbered.Receiver.{Receiver}

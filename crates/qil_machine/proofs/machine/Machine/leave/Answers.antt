@@ -7,14 +7,14 @@ use Rattle.qil_machine.proofs.Keeping.{kept_does, kept_made, kept_weight, kept_f
 use Rattle.qil_machine.proofs.Jumps.{may_return, jmp_is, hlt_is, several}
 use Rattle.qil_machine.proofs.machine.Machine.leave.Goals as goal
 
-pub go_along-requires-clause-here : goal.go_along-requires-clause-here
-go_along-requires-clause-here g c = c.requires.here
+pub take_edge-requires-clause-here : goal.take_edge-requires-clause-here
+take_edge-requires-clause-here g c = c.requires.here
 
-pub go_along-requires-clause-end : goal.go_along-requires-clause-end
-go_along-requires-clause-end g c = c.requires.end
+pub take_edge-requires-clause-end : goal.take_edge-requires-clause-end
+take_edge-requires-clause-end g c = c.requires.end
 
-pub go_along-requires-clause-edge : goal.go_along-requires-clause-edge
-go_along-requires-clause-edge g c = rw c.in-Jmp.is refl
+pub take_edge-requires-clause-edge : goal.take_edge-requires-clause-edge
+take_edge-requires-clause-edge g c = rw c.in-Jmp.is refl
 
 pub branch-self-requires-clause-here : goal.branch-self-requires-clause-here
 branch-self-requires-clause-here g c = c.requires.here
@@ -30,30 +30,30 @@ give_back-requires-clause-source g c = may_return _ c.args.self.now c.args.block
 
 pub returns-in-Jmp-clause-does : goal.returns-in-Jmp-clause-does
 returns-in-Jmp-clause-does g c =
-    kept_does _ c.go_along.result c.keep_made.result _ c.keep_made.ensures.kept
-    (subst (λ o. OnOk c.go_along.result (o ≡ Ok (state_of c.go_along.new.self)))
+    kept_does _ c.take_edge.result c.keep_made.result _ c.keep_made.ensures.kept
+    (subst (λ o. OnOk c.take_edge.result (o ≡ Ok (state_of c.take_edge.new.self)))
     (sym (ap (left_whole c.args.self.now) c.in-Jmp.is ∙ jmp_is _ c.args.self.now c.innermost.result.now c.in-Jmp.edge c.self.view_is c.self.invariant c.innermost.ensures))
-    c.go_along.ensures.does)
+    c.take_edge.ensures.does)
 
 pub returns-in-Jmp-clause-made : goal.returns-in-Jmp-clause-made
-returns-in-Jmp-clause-made g c = kept_made _ _ c.go_along.result c.keep_made.result _ c.keep_made.ensures.kept c.go_along.ensures.made
+returns-in-Jmp-clause-made g c = kept_made _ _ c.take_edge.result c.keep_made.result _ c.keep_made.ensures.kept c.take_edge.ensures.made
 
 pub returns-in-Jmp-clause-weighs : goal.returns-in-Jmp-clause-weighs
-returns-in-Jmp-clause-weighs g c = rw c.in-Jmp.is (kept_weight _ c.go_along.result c.keep_made.result _ c.keep_made.ensures.kept c.go_along.ensures.weighs)
+returns-in-Jmp-clause-weighs g c = rw c.in-Jmp.is (kept_weight _ c.take_edge.result c.keep_made.result _ c.keep_made.ensures.kept c.take_edge.ensures.weighs)
 
 pub returns-in-Jmp-clause-fault : goal.returns-in-Jmp-clause-fault
 returns-in-Jmp-clause-fault g c =
-    kept_fault _ c.go_along.result c.keep_made.result _ c.keep_made.ensures.kept
-    (subst (λ o. IfErr c.go_along.result (Explains (head_names c.args.self.now.program c.args.self.now.frames) o))
+    kept_fault _ c.take_edge.result c.keep_made.result _ c.keep_made.ensures.kept
+    (subst (λ o. IfErr c.take_edge.result (Explains (head_names c.args.self.now.program c.args.self.now.frames) o))
     (sym (ap (left_whole c.args.self.now) c.in-Jmp.is ∙ jmp_is _ c.args.self.now c.innermost.result.now c.in-Jmp.edge c.self.view_is c.self.invariant c.innermost.ensures))
-    c.go_along.ensures.fault)
+    c.take_edge.ensures.fault)
 
 pub returns-in-Jmp-clause-memory : goal.returns-in-Jmp-clause-memory
 returns-in-Jmp-clause-memory g c =
-    λ is. rw c.in-Jmp.is (several (length c.in-Jmp.edge.moves) _ c.go_along.ensures.few (kept_error _ c.go_along.result c.keep_made.result _ c.keep_made.ensures.kept is))
+    λ is. rw c.in-Jmp.is (several (length c.in-Jmp.edge.moves) _ c.take_edge.ensures.few (kept_error _ c.take_edge.result c.keep_made.result _ c.keep_made.ensures.kept is))
 
 pub returns-in-Jmp-clause-err : goal.returns-in-Jmp-clause-err
-returns-in-Jmp-clause-err g c = kept_same _ c.go_along.result c.keep_made.result _ c.keep_made.ensures.kept c.go_along.ensures.err
+returns-in-Jmp-clause-err g c = kept_same _ c.take_edge.result c.keep_made.result _ c.keep_made.ensures.kept c.take_edge.ensures.err
 
 pub returns-in-Jmp-clause-none : goal.returns-in-Jmp-clause-none
 returns-in-Jmp-clause-none g c = c.keep_made.ensures.none

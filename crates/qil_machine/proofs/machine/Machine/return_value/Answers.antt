@@ -1,8 +1,8 @@
 use Rattle.std.proofs.Common.{◌∙◌, ap}
 use Rattle.std.specs.Prelude.{unwrap_or}
 use Rattle.qil_tree.specs.declared.ops.AbiType.TheVariants as types
-use Rattle.qil_rules.specs.Mentions.{returned_class}
-use Rattle.qil_meaning.specs.Values.{fit}
+use Rattle.qil_rules.specs.Occurrences.{returned_class}
+use Rattle.qil_semantics.specs.Values.{fit}
 use Rattle.qil_code.specs.Reading.{returns_at}
 use Rattle.qil_machine.proofs.Jumps.{return_steps, return_fails, returned_is}
 use Rattle.qil_machine.proofs.machine.Machine.return_value.Goals as goal

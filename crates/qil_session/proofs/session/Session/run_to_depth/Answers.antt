@@ -1,6 +1,6 @@
 -- Answers to the goals of `Session::run_to_depth`.
 use Rattle.std.proofs.Common.{◌≡◌, ◌+◌, ◌∙◌, ap, arith}
-use Rattle.qil_meaning.specs.Timeline.{position}
+use Rattle.qil_semantics.specs.Timeline.{position}
 use Rattle.qil_stops.proofs.OnWay.{moved-position}
 use Rattle.qil_session.specs.Kept.{Kept}
 use Rattle.qil_session.proofs.session.Session.run_to_depth.Goals as goal

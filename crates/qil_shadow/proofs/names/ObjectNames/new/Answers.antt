@@ -1,7 +1,7 @@
 -- The data, the functions, and those that every program has.
 use Rattle.std.proofs.Common.{◌∙◌, ◌+◌, ap, length}
 use Rattle.std.specs.Option.{option_or}
-use Rattle.qil_names.specs.Tables.{value_at}
+use Rattle.qil_symbols.specs.Tables.{value_at}
 use Rattle.qil_shadow.specs.ObjectNumbers.{data_number, function_number}
 use Rattle.qil_shadow.proofs.NumberedNames.{recorded_names}
 use Rattle.qil_shadow.proofs.names.ObjectNames.new.Goals as goal

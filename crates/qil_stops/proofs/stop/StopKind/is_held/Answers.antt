@@ -2,8 +2,8 @@
 use Rattle.std.proofs.Common.{◌≡◌, ◌∙◌, refl, sym, ap, Bool, false, Option, Some, None}
 use Rattle.qil_tree.specs.declared.tree.Func.{Func}
 use Rattle.qil_tree.specs.declared.tree.Program.{Program}
-use Rattle.qil_meaning.specs.State.{Name, State}
-use Rattle.qil_meaning.specs.Stops.{is_held}
+use Rattle.qil_semantics.specs.State.{Name, State}
+use Rattle.qil_semantics.specs.Stops.{is_held}
 use Rattle.qil_history.specs.qil_state.State.{state_of}
 use Rattle.qil_history.specs.qil_code.Numbered.{func_at, names_of}
 use Rattle.std.specs.Prelude.{slice_get}

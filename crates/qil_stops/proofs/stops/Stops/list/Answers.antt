@@ -1,6 +1,6 @@
 -- What the stops represent is listed by number too.
 use Rattle.std.proofs.Common.{subst}
-use Rattle.qil_meaning.specs.Stops.{AreListed}
+use Rattle.qil_semantics.specs.Stops.{AreListed}
 use Rattle.qil_stops.specs.Listed.{Listed}
 use Rattle.qil_stops.specs.Named.{named_stops}
 use Rattle.qil_stops.proofs.Naming.{named-listed}

@@ -1,7 +1,7 @@
 -- The steps so far, as many as rounds unless the run is over.
 use Rattle.std.proofs.Common.{◌≡◌, ◌⊎◌, ◌≤◌, true}
-use Rattle.qil_meaning.specs.State.{is_final}
-use Rattle.qil_meaning.specs.Targets.{after}
+use Rattle.qil_semantics.specs.State.{is_final}
+use Rattle.qil_semantics.specs.Targets.{after}
 use Rattle.qil_state.specs.State.{state_of}
 use Rattle.qil_suspicions.proofs.pass.Pass.run.Given as goal
 

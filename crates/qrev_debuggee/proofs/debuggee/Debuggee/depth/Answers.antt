@@ -1,6 +1,6 @@
 -- The machine has the state of the session.
 use Rattle.std.proofs.Common.{◌∙◌, ap, length}
-use Rattle.qil_meaning.specs.State.{State}
+use Rattle.qil_semantics.specs.State.{State}
 use Rattle.qrev_debuggee.proofs.debuggee.Debuggee.depth.Goals as goal
 
 pub returns : goal.returns

@@ -1,6 +1,0 @@
--- The lemmas.
-pub mod KeptLemmas
-pub mod RingLemmas
-pub mod Rooms
-pub mod WeightLemmas
-pub mod CloneLemmas

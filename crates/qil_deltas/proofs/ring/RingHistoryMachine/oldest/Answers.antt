@@ -1,6 +1,0 @@
--- By hand, so that another position is refused at once.
-use Rattle.std.proofs.Common.{ap}
-use Rattle.qil_deltas.proofs.ring.RingHistoryMachine.oldest.Goals as goal
-
-pub returns : goal.returns
-returns g c = ap (λ k. k.forgotten) c.self.view_is

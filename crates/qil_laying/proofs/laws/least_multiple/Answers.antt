@@ -1,6 +1,0 @@
--- The goals of `least_multiple` that the check leaves open.
-use Rattle.qil_laying.proofs.LawLemmas.{rounded_is}
-use Rattle.qil_laying.proofs.laws.least_multiple.Goals as goal
-
-pub returns : goal.returns
-returns c = rounded_is

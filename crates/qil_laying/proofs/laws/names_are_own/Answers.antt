@@ -1,6 +1,0 @@
--- The goals of `names_are_own` that the check leaves open.
-use Rattle.qil_laying.proofs.OwnNames.{own_names}
-use Rattle.qil_laying.proofs.laws.names_are_own.Goals as goal
-
-pub returns : goal.returns
-returns g c = λ p kept. own_names p kept

@@ -1,7 +1,0 @@
--- What is left, and the fields that are still to come.
-use Rattle.qil_layout.specs.Layout.{field_size}
-use Rattle.qil_laying.proofs.RoomLemmas.{IsOpen}
-use Rattle.qil_laying.proofs.room.after_fields.Given as goal
-
-abbrev pub invariant-loop-field : goal.invariant-loop-field
-invariant-loop-field g l = IsOpen field_size l.fields l.room l.field-index l.left

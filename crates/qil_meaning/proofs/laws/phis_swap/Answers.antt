@@ -1,6 +1,0 @@
--- The goals of `phis_swap` that the check leaves open.
-use Rattle.qil_meaning.proofs.laws.phis_swap.Goals as goal
-use Rattle.qil_meaning.proofs.PhiLemmas.{swaps}
-
-pub returns : goal.returns
-returns g c p f k a b x y h d e = swaps p f k a b x y h d e

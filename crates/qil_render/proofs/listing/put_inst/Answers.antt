@@ -1,0 +1,21 @@
+-- Answers to the goals of `put_inst`.
+use Rattle.std.proofs.Common.{codes, ◌++◌}
+use Rattle.qil_printer.specs.Canonical.{inst_text}
+use Rattle.qil_render.specs.Listing.{row_prefix}
+use Rattle.qil_streams.proofs.TextLemmas.{HasPut-append, HasPut-stop}
+use Rattle.qil_render.proofs.listing.put_inst.Goals as goal
+
+pub returns-in_err-put_prefix : goal.returns-in_err-put_prefix
+returns-in_err-put_prefix g c =
+    HasPut-stop _ _ c.from_residual.ensures.1 _ _ _ (row_prefix c.args.at c.args.index) ((inst_text c.args.inst.now) ++ (codes "\n")) c.in_err-put_prefix.ensures
+
+pub returns-in_err-inst_text : goal.returns-in_err-inst_text
+returns-in_err-inst_text g c =
+    HasPut-append _ _ _ _ _ (row_prefix c.args.at c.args.index) ((inst_text c.args.inst.now) ++ (codes "\n")) c.in_ok-put_prefix.ensures
+    (HasPut-stop _ _ c.from_residual-in_err-inst_text.ensures.1 _ _ _ (inst_text c.args.inst.now) (codes "\n") c.in_err-inst_text.ensures)
+
+pub returns : goal.returns
+returns g c =
+    HasPut-append _ _ _ _ _ (row_prefix c.args.at c.args.index) ((inst_text c.args.inst.now) ++ (codes "\n")) c.in_ok-put_prefix.ensures
+    (HasPut-append _ _ _ _ _ (inst_text c.args.inst.now) (codes "\n") c.in_ok-inst_text.ensures
+    (c.put.ensures))
