@@ -131,8 +131,9 @@ class CallWriter:
         self.note(f"{name} gives its result otherwise than the call takes it", Weight.OTHER)
         if returns is not None and returns.startswith(":"):
             slot = self.fresh("slot")
-            # As much as a load of the result wants, at least.
-            self.slots.append((slot, "alloc16", max(target.function().aggregates[returns].size, 8)))
+            # As much as a load of the result wants, at least; none of the runtime's is larger than 16 bytes.
+            aggregate = target.function().aggregates.get(returns)
+            self.slots.append((slot, "alloc16", max(aggregate.size, 8) if aggregate else 16))
             self.emit(f"\tcall {name}({', '.join([f'l {slot}'] + arguments)})")
             if call.result is not None:
                 cls = carried_class(call.result_kind())

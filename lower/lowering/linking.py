@@ -16,10 +16,8 @@ from .report import Report, Weight
 from .runtime import Runtime
 from .symbols import BUILT_IN, Symbol, Unit, references, signature_at, signature_of
 
-# What the mathematical library of C has beyond what is exact.
-INEXACT = frozenset(f"${name}{end}" for end in ("", "f") for name in (
-    "sin cos tan asin acos atan atan2 sinh cosh tanh asinh acosh atanh exp exp2 expm1 log log2 log10 log1p pow cbrt "
-    "hypot erf erfc tgamma lgamma fma").split())
+# What the mathematical library of C has beyond what is exact here.
+INEXACT = frozenset(f"${name}{end}" for end in ("", "f") for name in ("erf", "erfc"))
 # The runtime's own function in the place of the built-in one, where its result or its address is used.
 COUNTED_PUTS = "$puts.counted"
 

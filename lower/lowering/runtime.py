@@ -17,22 +17,26 @@ ENCODING = "latin-1"
 # What functions take and give that are about floats: in the runtime these are their bits. Each name has a sister for
 # singles, which ends in `f`.
 FLOATING = {
-    "d(d)": "fabs floor ceil trunc round rint nearbyint sqrt", "d(dd)": "fmod copysign fmin fmax",
-    "d(dw)": "ldexp scalbn", "d(dl)": "frexp modf",
+    "d(d)": "fabs floor ceil trunc round rint nearbyint sqrt cbrt exp exp2 expm1 log log2 log10 log1p sin cos tan asin "
+            "acos atan sinh cosh tanh asinh acosh atanh logb tgamma lgamma",
+    "d(dd)": "fmod copysign fmin fmax pow atan2 hypot nextafter fdim", "d(ddd)": "fma", "d(dw)": "ldexp scalbn",
+    "d(dl)": "frexp modf scalbln", "l(d)": "lround lrint llround llrint", "w(d)": "ilogb",
 }
 
 
 def floating_signatures() -> dict[str, Signature]:
-    found = {"$lround": Signature("l", ("d",)), "$lrint": Signature("l", ("d",)), "$atof": Signature("d", ("l",)),
-             "$strtod": Signature("d", ("l", "l")), "$strtof": Signature("s", ("l", "l"))}
+    found = {"$atof": Signature("d", ("l",)), "$strtod": Signature("d", ("l", "l")),
+             "$strtof": Signature("s", ("l", "l"))}
     for shape, names in FLOATING.items():
         for name in names.split():
             found["$" + name] = Signature(shape[0], tuple(shape[2:-1]))
-            found[f"${name}f"] = Signature("s", tuple(shape[2:-1].replace("d", "s")))
+            found[f"${name}f"] = Signature(shape[0].replace("d", "s"), tuple(shape[2:-1].replace("d", "s")))
     return found
 
 
-SIGNATURES = floating_signatures()
+# A quotient and a rest of each class are given as an aggregate, by its address as a first parameter.
+SIGNATURES = floating_signatures() | {"$" + name: Signature(":quotient", (cls, cls))
+                                      for name, cls in (("div", "w"), ("ldiv", "l"), ("lldiv", "l"))}
 
 
 def is_offered(name: str) -> bool:

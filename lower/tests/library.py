@@ -187,7 +187,11 @@ def shapes() -> list[Shape]:
     for end, kind, make in (("", "d", double), ("f", "s", single)):
         found += [texts(name + end, kind, kind, make)
                   for name in "fabs floor ceil trunc round rint nearbyint sqrt".split()]
-        found += [texts(name + end, kind, kind * 2, make, make) for name in "fmod copysign fmin fmax".split()]
+        found += [texts(name + end, kind, kind * 2, make, make)
+                  for name in "fmod copysign fmin fmax fdim nextafter".split()]
+        found += [texts(name + end, "l", kind, make) for name in "lround lrint llround llrint".split()]
+        found += [texts("ilogb" + end, "w", kind, make), texts("logb" + end, kind, kind, make),
+                  texts("scalbln" + end, kind, kind + "l", make, power)]
         found += [texts(name + end, kind, kind + "w", make, power) for name in ("ldexp", "scalbn")]
         found += [texts(name + end, kind, kind + "e", make, lambda choice: 0) for name in ("frexp", "modf")]
     return found
@@ -206,7 +210,8 @@ def bits_of(kind: str, value: int | float | None) -> int:
 
 def asked(shape: Shape, given: list[Given]) -> Record:
     """What the machine's library does."""
-    library = ctypes.CDLL("libm.so.6" if shape.gives in "ds" else None, use_errno=True)
+    is_mathematical = shape.gives in "ds" or shape.takes in ("d", "s")
+    library = ctypes.CDLL("libm.so.6" if is_mathematical else None, use_errno=True)
     call = getattr(library, shape.name)
     call.restype, call.argtypes = TYPES[shape.gives], [TYPES[kind] for kind in shape.takes]
     buffer, place = ctypes.create_string_buffer(BUFFER), ctypes.c_int64(0)
@@ -516,12 +521,90 @@ def is_there() -> bool:
         return False
 
 
+# Options, each call of getopt on words that are drawn.
+
+OPTION_WORDS = (b"-a", b"-b", b"-ab", b"-c", b"-cx", b"-ac", b"-acx y", b"-", b"--", b"word", b"-z", b"-za", b"-:", b"")
+OPTION_LETTERS = (b"abc:", b":abc:", b"c:za", b"")
+TRY_OPTIONS = """
+function $try(w %count, l %words, l %options) {
+@start
+	storew 0, $optind
+	storew 0, $opterr
+@loop
+	%found =w call $getopt(w %count, l %words, l %options)
+	%argument =l loadl $optarg
+	%index =w loadw $optind
+	%letter =w loadw $optopt
+	%is.wrong =w ceqw %found, 63
+	%is.lacking =w ceqw %found, 58
+	%is.told =w or %is.wrong, %is.lacking
+	%told =w mul %letter, %is.told
+	%is.any =w cnel %argument, 0
+	jnz %is.any, @tell, @none
+@none
+	%argument =l copy $none
+@tell
+	%written =w call $printf(l $format, ..., w %found, l %argument, w %index, w %told)
+	%is.end =w ceqw %found, -1
+	jnz %is.end, @end, @loop
+@end
+	ret
+}
+data $none = { b "none\\0" }
+data $format = { b "%d %s %d %d\\n\\0" }
+"""
+
+
+def options_found(words: list[bytes], letters: bytes) -> str:
+    """What the machine's library finds, without a look behind the first word that is no option."""
+    library = ctypes.CDLL(None)
+    library.getopt.argtypes = [ctypes.c_int, ctypes.c_void_p, ctypes.c_char_p]
+    texts = [ctypes.create_string_buffer(word) for word in words]
+    pointers = (ctypes.c_void_p * (len(words) + 1))(*map(ctypes.addressof, texts), None)
+    index, told = ctypes.c_int.in_dll(library, "optind"), ctypes.c_int.in_dll(library, "opterr")
+    index.value, told.value = 0, 0
+    lines = ""
+    while True:
+        found = library.getopt(len(words), pointers, b"+" + letters)
+        argument = ctypes.c_char_p.in_dll(library, "optarg").value
+        letter = ctypes.c_int.in_dll(library, "optopt").value if found in (58, 63) else 0
+        lines += f"{found} {'none' if argument is None else argument.decode()} {index.value} {letter}\n"
+        if found == -1:
+            return lines
+
+
+def options_fault(running: Running) -> str | None:
+    choice = random.Random(5)
+    wanted, calls, data = "", "", ""
+    for number in range(150):
+        words = [b"name", *(choice.choice(OPTION_WORDS) for _ in range(choice.randrange(6)))]
+        letters = choice.choice(OPTION_LETTERS)
+        wanted += options_found(words, letters)
+        names = []
+        for place, word in enumerate(words):
+            names.append(f"l $word.{number}.{place}")
+            data += f"data $word.{number}.{place} = {{ b {string_of(word + bytes(1))} }}\n"
+        data += f"data $words.{number} = {{ {', '.join(names)}, l 0 }}\n"
+        data += f"data $letters.{number} = {{ b {string_of(letters + bytes(1))} }}\n"
+        calls += f"\tcall $try(w {len(words)}, l $words.{number}, l $letters.{number})\n"
+    # Words of the last kind are told of, as the library's source has it.
+    wanted += "name: invalid option -- 'z'\nname: option requires an argument -- 'c'\n"
+    data += 'data $told = { l $word.0.0, l $told.z, l $told.c, l 0 }\ndata $told.z = { b "-z\\0" }\n' \
+        'data $told.c = { b "-c\\0" }\ndata $told.letters = { b "c:\\0" }\n'
+    calls += "\tstorew 1, $optind\n\tstorew 1, $opterr\n" + \
+        "\t%found =w call $getopt(w 3, l $told, l $told.letters)\n" * 2
+    program = "export function w $main() {\n@start\n" + calls + "\tret 0\n}\n" + TRY_OPTIONS + data
+    lowered = running.lower_here(program)
+    return lowered if isinstance(lowered, str) else differ("output", wanted, running.run(lowered.text).output)
+
+
 def results(running: Running, most: int = 320) -> Results:
     for seed in range(12):
         yield f"library/sorting {seed}", sorting_fault(running, seed)
     yield "library/streams", streams_fault(running)
     waits = None if is_there() else Skipped("a C library that ctypes finds")
     yield "library/rand", waits or random_fault(running)
+    yield "library/options", waits or options_fault(running)
     yield "library/no suspicion", waits or suspicion_fault(running, 4)
     for shape in shapes():
         count = most if shape.gives in "ds" else 384 if shape.name.startswith(("is", "to")) else most

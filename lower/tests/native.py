@@ -225,7 +225,7 @@ def source_of(folder: pathlib.Path, number: int, text: str, is_by_c: bool) -> pa
     """A text in a form that gcc takes: as qbe makes it, if that is installed and requested, or as C."""
     if not is_by_c and shutil.which("qbe"):
         (folder / f"{number}.ssa").write_text(text)
-        subprocess.run(["qbe", "-o", f"{number}.s", f"{number}.ssa"], cwd=folder, timeout=60, check=True)
+        subprocess.run(["qbe", "-o", f"{number}.s", f"{number}.ssa"], cwd=folder, timeout=600, check=True)
         return folder / f"{number}.s"
     source = folder / f"{number}.c"
     source.write_text(Translator(TextReader(text, f"{number}.ssa").read(), number).written())
@@ -240,9 +240,9 @@ def native(texts: list[str], words: list[str], is_by_c: bool = False) -> Ended:
         (folder / "helpers.c").write_text(HELPERS)
         built = subprocess.run(["gcc", "-w", "-O1", "-fno-builtin", "-fno-strict-aliasing", "-fwrapv", "-no-pie", "-o",
                                 "program", *sources, "helpers.c", "-lm"], cwd=folder, capture_output=True, text=True,
-                               timeout=60)
+                               timeout=600)
         if built.returncode:
             return Ended(built.stderr, 1000)
         run = subprocess.run(["./program", *words], cwd=folder, stdout=subprocess.PIPE, stderr=subprocess.STDOUT,
-                             stdin=subprocess.DEVNULL, timeout=60)
+                             stdin=subprocess.DEVNULL, timeout=600)
         return Ended(run.stdout.decode("latin-1"), run.returncode)
