@@ -6,6 +6,8 @@ mod access;
 mod bytes;
 mod calls;
 mod constants;
+mod heap;
+mod heap_step;
 mod laws;
 mod memory;
 mod names;
@@ -25,6 +27,7 @@ mod suspicion;
 mod widths;
 
 pub use access::{Action, Kind};
+pub use heap::HeapRole;
 pub use laws::{accesses_hold, words_go_through_memory};
 pub use object::{BuiltIn, Object, ObjectKind};
 pub use origin::{ByteOrigin, ObjectId, Origin};

@@ -212,19 +212,16 @@ impl<'c, A: Allocator + Copy> Shadow<'c, A> {
         }
     }
 
-    /// Whether so many bytes of a text are all in a living object of their address, and set.
+    /// Whether so many bytes of a text are all in a living object of their address.
     fn is_whole_text(&self, address: u64, origin: Origin, count: u64) -> bool {
         let Origin::Address(object) = origin else {
             return false;
         };
         match self.calls.object(object) {
             Some(object) => {
-                object.ended.is_none()
-                    && !object.is_function()
-                    && object.contains(address, count)
-                    && !self.open.memory.has_open(address, count)
+                object.ended.is_none() && !object.is_function() && object.contains(address, count)
             }
-            None => false,
+            None => self.is_block_right(object, address, count),
         }
     }
 
@@ -232,7 +229,10 @@ impl<'c, A: Allocator + Copy> Shadow<'c, A> {
     pub fn look_at_text(&mut self, count: Option<u64>) {
         if let Some((address, origin)) = self.text {
             let is_whole = match count {
-                Some(count) => self.is_whole_text(address, origin, count),
+                Some(count) => {
+                    self.is_whole_text(address, origin, count)
+                        && !self.open.memory.has_open(address, count)
+                }
                 None => false,
             };
             if !is_whole {

@@ -8,6 +8,7 @@ ghost use Rattle.qil_shadow.specs.Doubts.{doubt_through, through_found, is_all_i
 
 use crate::access::{Action, Kind};
 use crate::calls::Calls;
+use crate::heap::Heap;
 use crate::memory::OriginMemory;
 use crate::names::ObjectNames;
 use crate::object::{Object, ObjectKind};
@@ -36,6 +37,7 @@ pub struct Shadow<'c, A: Allocator> {
     pub(crate) found: Vec<Suspicion, A>,
     /// Which bits nothing has set.
     pub(crate) open: OpenBits<A>,
+    pub(crate) heap: Heap<A>,
     /// The text that the step writes by `$puts`: its address, and what that is made of.
     pub(crate) text: Option<(u64, Origin)>,
 }

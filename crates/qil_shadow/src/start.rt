@@ -3,6 +3,7 @@
 ghost use Rattle.std.specs.Prelude.{◌≡◌, None, length, OnOk};
 
 use crate::calls::Calls;
+use crate::heap::Heap;
 use crate::memory::OriginMemory;
 use crate::names::ObjectNames;
 use crate::object::{BuiltIn, Object, ObjectKind, Objects};
@@ -146,6 +147,7 @@ impl<'c, A: Allocator + Copy> Shadow<'c, A> {
             moved: Vec::new(alloc),
             found: Vec::new(alloc),
             open: OpenBits::new(alloc, code.slot_count(func))?,
+            heap: Heap::new(alloc),
             text: None,
         })
     }

@@ -148,6 +148,7 @@ impl<'c, A: Allocator + Copy> Shadow<'c, A> {
         let origin = self.origin_of(code, place, Reading::First, Class::L, operand);
         self.use_address(origin, operand);
         let count = load_bytes(op);
+        self.use_block(origin, address, count);
         self.look(place, access(Action::Load(op), origin, address, count))?;
         Ok(self.memory.load(address, count, class))
     }
@@ -171,6 +172,7 @@ impl<'c, A: Allocator + Copy> Shadow<'c, A> {
         let origin = self.origin_of(code, place, Reading::Second, Class::L, address);
         self.use_address(origin, address);
         let count = byte_count(width);
+        self.use_block(origin, target, count);
         self.look(place, access(Action::Store(width), origin, target, count))?;
         let class = class_stored(width);
         let stored = self.origin_of(code, place, Reading::First, class, number);
@@ -201,6 +203,7 @@ impl<'c, A: Allocator + Copy> Shadow<'c, A> {
         }
         let origin = self.origin_of(code, place, Reading::First, Class::L, source);
         self.use_address(origin, source);
+        self.use_block(origin, source_address, count);
         self.look(
             place,
             access(Action::CopyFrom, origin, source_address, count),
@@ -210,6 +213,7 @@ impl<'c, A: Allocator + Copy> Shadow<'c, A> {
         }
         let origin = self.origin_of(code, place, Reading::Second, Class::L, target);
         self.use_address(origin, target);
+        self.use_block(origin, target_address, count);
         self.look(place, access(Action::CopyTo, origin, target_address, count))?;
         self.memory.copy(source_address, target_address, count);
         self.open.memory.copy(source_address, target_address, count);
@@ -247,7 +251,7 @@ impl<'c, A: Allocator + Copy> Shadow<'c, A> {
         };
         self.use_callee(callee, address);
         match code.image().function_at(address) {
-            Some(Callee::Defined(func)) => self.call_function(code, place, func, to, args),
+            Some(Callee::Defined(func)) => self.call_function(code, place, slots, func, to, args),
             Some(callee) => {
                 self.call_built_in(code, place, slots, callee, args);
                 if let Some(to) = to {
@@ -294,6 +298,7 @@ impl<'c, A: Allocator + Copy> Shadow<'c, A> {
         &mut self,
         code: &Code<'c, A>,
         place: Place,
+        slots: &[Option<u64>],
         func: FuncId,
         to: Option<Receiver>,
         args: &[NumberedArgument],
@@ -309,6 +314,7 @@ impl<'c, A: Allocator + Copy> Shadow<'c, A> {
                 self.pass_open(arg.abi_type, arg.source, *slot, *wanted)?;
             }
         }
+        self.enter_heap(code, place, slots, func, args);
         if self.calls.depth() >= MOST_CALLS {
             return Ok(());
         }
@@ -339,10 +345,7 @@ impl<'c, A: Allocator + Copy> Shadow<'c, A> {
                 }
                 None => Ok(()),
             },
-            NumberedJump::Ret(operand) => {
-                self.leave_function(code, place, *operand);
-                Ok(())
-            }
+            NumberedJump::Ret(operand) => self.leave_function(code, place, slots, *operand),
             NumberedJump::Hlt => Ok(()),
         }
     }
@@ -352,15 +355,21 @@ impl<'c, A: Allocator + Copy> Shadow<'c, A> {
         &mut self,
         code: &Code<'c, A>,
         place: Place,
+        slots: &[Option<u64>],
         operand: Option<NumberedOperand>,
-    ) {
+    ) -> Result<(), AllocError> {
         let class = class_returned(code.returns(place.func));
         let origin = match operand {
             Some(operand) => self.origin_of(code, place, Reading::Returned, class, operand),
             None => Origin::Number,
         };
+        let made = self.leave_heap(slots, place.func, operand)?;
         self.return_open(code.returns(place.func), operand);
-        self.give_back(origin);
+        self.give_back(match made {
+            Some(block) => Origin::Address(block),
+            None => origin,
+        });
+        Ok(())
     }
 
     /// Goes along an edge.

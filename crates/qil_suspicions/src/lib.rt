@@ -7,6 +7,6 @@ mod pass;
 pub use notes::{Note, Notes};
 pub use pass::Pass;
 pub use qil_shadow::{
-    Access, Action, BuiltIn, Doubt, Hit, Kind, Object, ObjectId, ObjectKind, Origin, Place,
-    Suspicion,
+    Access, Action, BuiltIn, Doubt, HeapRole, Hit, Kind, Object, ObjectId, ObjectKind, Origin,
+    Place, Suspicion,
 };

@@ -11,7 +11,7 @@ use qil_code::Code;
 use qil_flatmachine::FlatMachine;
 use qil_layout::FuncId;
 use qil_memory::CAPACITY;
-use qil_shadow::{Place, Shadow};
+use qil_shadow::{HeapRole, Place, Shadow};
 use qil_state::Status;
 use std::alloc::{AllocError, Allocator};
 use std::hash::RandomState;
@@ -91,8 +91,19 @@ fn look_at_text<A: Allocator + Copy>(machine: &FlatMachine<'_, A>, shadow: &mut 
     }
 }
 
+/// Gives functions their parts in a heap.
+fn know_heap<A: Allocator + Copy>(
+    shadow: &mut Shadow<'_, A>,
+    heap: &[(FuncId, HeapRole)],
+) -> Result<(), AllocError> {
+    for (func, role) in heap {
+        shadow.know_heap(*func, *role)?;
+    }
+    Ok(())
+}
+
 impl<'c, A: Allocator + Copy> Pass<'c, A> {
-    /// A pass from a machine at the start of a function.
+    /// A pass from a machine at the start of a function, with the functions of a heap.
     ///
     /// # Errors
     ///
@@ -102,11 +113,13 @@ impl<'c, A: Allocator + Copy> Pass<'c, A> {
         keys: RandomState,
         machine: FlatMachine<'c, A>,
         func: FuncId,
+        heap: &[(FuncId, HeapRole)],
     ) -> Result<Pass<'c, A>, AllocError>
         ensures machine { IfOk result (λ p. p.whole ≡ machine.entry.whole) }
         ensures none { IfOk result (λ p. p.moves ≡ 0) }
     {
-        let shadow = Shadow::start(alloc, keys, machine.code(), func)?;
+        let mut shadow = Shadow::start(alloc, keys, machine.code(), func)?;
+        know_heap(&mut shadow, heap)?;
         Ok(Pass {
             machine,
             shadow,
@@ -184,8 +197,8 @@ impl<'c, A: Allocator + Copy> Pass<'c, A> {
         self.notes.all()
     }
 
-    /// The first move of which more may be suspicious than its accesses, by any kind that is on by default and isn't about the heap
-    /// or sections.
+    /// The first move of which more may be suspicious than its accesses, by any kind that is on by default, except a store into a
+    /// section that is only read. Of a heap whose functions it doesn't know it knows nothing either.
     pub fn first_unsure(&self) -> Option<u64> {
         self.shadow.first_unsure()
     }

@@ -1,12 +1,14 @@
-//! `qrev_check FILE [ARGS..]`: runs a program, and reports what no right compiler's output does.
+//! `qrev_check FILE [ARGS..] [--heap ROLES]`: runs a program, and reports what no right compiler's output does.
 #![tactic(auto)]
 
+mod heap;
 mod line;
 mod report;
 mod telling;
 
+use heap::take_heap;
 use qil_options::{Failure, Given, read_given, read_words};
-use report::{Outcome, report};
+use report::{Outcome, Request, report};
 use std::alloc::Global;
 use std::hash::RandomState;
 use std::io;
@@ -20,6 +22,7 @@ fn report_given<R: Print + RandomSource>(
     rt: &R,
     alloc: Global,
     given: &Given<'_>,
+    heap: &str,
 ) -> Result<Outcome, Failure> {
     let Ok(keys) = RandomState::new(rt) else {
         return Err(Failure::NoKeys);
@@ -27,11 +30,15 @@ fn report_given<R: Print + RandomSource>(
     let Ok(mut writer) = LineWriter::new(alloc, io::writer(rt)) else {
         return Err(Failure::OutOfMemory);
     };
+    let request = Request {
+        keys,
+        entry: given.run.entry.as_bytes(),
+        args: given.run.args.as_slice(),
+        limit: u64::from(given.run.limit),
+        heap: heap.as_bytes(),
+    };
     let text = given.program.as_slice();
-    let entry = given.run.entry.as_bytes();
-    let args = given.run.args.as_slice();
-    let limit = u64::from(given.run.limit);
-    Ok(report(alloc, keys, text, entry, args, limit, &mut writer))
+    Ok(report(alloc, text, &request, &mut writer))
 }
 
 /// The command line first, then the file, then the run.
@@ -39,9 +46,14 @@ fn run<R: Files + Input + Print + Eprint + Env + RandomSource + AllocGlobal>(
     rt: &R,
     alloc: Global,
 ) -> Result<Outcome, Failure> {
-    let words = read_words(rt, alloc)?;
+    let mut words = read_words(rt, alloc)?;
+    let said = take_heap(&mut words);
     let given = read_given(rt, alloc, words.as_slice())?;
-    report_given(rt, alloc, &given)
+    let heap = match &said {
+        Some(roles) => roles.as_str(),
+        None => "",
+    };
+    report_given(rt, alloc, &given, heap)
 }
 
 /// The status after a run.

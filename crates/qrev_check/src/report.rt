@@ -2,6 +2,7 @@
 
 ghost use Rattle.std.specs.Prelude.{◌≡◌};
 
+use crate::heap::{NoHeap, heap_of};
 use crate::line::Line;
 use crate::telling::put_note;
 use qil_code::Code;
@@ -33,13 +34,14 @@ pub enum Outcome {
     Limit,
 }
 
-/// What is run of a text, and how far.
+/// What is run of a text, how far, and which functions of it are those of a heap.
 #[derive(Clone, Copy)]
-struct Request<'r> {
-    keys: RandomState,
-    entry: &'r [u8],
-    args: &'r [u64],
-    limit: u64,
+pub struct Request<'r> {
+    pub keys: RandomState,
+    pub entry: &'r [u8],
+    pub args: &'r [u64],
+    pub limit: u64,
+    pub heap: &'r [u8],
 }
 
 /// From which move on there may be suspicions of other kinds, if there may be some.
@@ -113,8 +115,13 @@ fn report_flat<A: Allocator + Copy, W: Write>(
     let Some(func) = code.code().func_named(request.entry) else {
         return Outcome::Refused;
     };
+    let heap = match heap_of(alloc, code.code(), request.heap) {
+        Ok(heap) => heap,
+        Err(NoHeap::Unknown) => return Outcome::Refused,
+        Err(NoHeap::Memory) => return Outcome::Memory,
+    };
     match FlatMachine::start(alloc, code, request.entry, request.args) {
-        Ok(machine) => match Pass::new(alloc, request.keys, machine, func) {
+        Ok(machine) => match Pass::new(alloc, request.keys, machine, func, heap.as_slice()) {
             Ok(pass) => make_pass(alloc, pass, request.limit, out),
             Err(_) => Outcome::Memory,
         },
@@ -164,21 +171,12 @@ fn report_checked<A: Allocator + Copy, W: Write>(
 /// Runs a text, and writes what was suspicious.
 pub fn report<A: Allocator + Copy, W: Write>(
     alloc: A,
-    keys: RandomState,
     text: &[u8],
-    entry: &[u8],
-    args: &[u64],
-    limit: u64,
+    request: &Request<'_>,
     out: &mut W,
 ) -> Outcome {
-    let request = Request {
-        keys,
-        entry,
-        args,
-        limit,
-    };
-    match check_text(alloc, keys, text) {
-        Ok(checked) => report_checked(alloc, &checked, &request, out),
+    match check_text(alloc, request.keys, text) {
+        Ok(checked) => report_checked(alloc, &checked, request, out),
         Err(_) => Outcome::Refused,
     }
 }
