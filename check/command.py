@@ -21,7 +21,6 @@ from .ends import fault_error, lowering_error, refusal_error
 from .following import Excepted, Follower
 from .heap import WrongHeap, roles_of
 from .kinds import ALL, DEFAULT, WrongKind, chosen
-from .objects import READ_ONLY
 from .states import TooLong, table_of
 from .telling import Error, Suspicion, as_gnu, as_sarif, at_own_places, summary
 
@@ -227,8 +226,8 @@ def found_fully(programs: Programs, launch: Launch, table: Table, asked: Asked) 
     """All kinds in the first moves; and after them, if the run goes on, what the fast pass finds. A run that the fast
     pass finds clear isn't followed."""
     heap, lowered = roles_of(table.program, asked.heap, asked.has_no_heap), lowered_of(asked.file)
-    if programs.full is None and knows_all(asked, table, heap):
-        clear = clear_outcome(programs, launch, table, asked)
+    if programs.full is None and knows_all(asked, table):
+        clear = clear_outcome(programs, launch, table, asked, heap)
         if clear:
             return clear
     full, checker = programs.full or LIMIT, None
@@ -252,18 +251,16 @@ def found_fully(programs: Programs, launch: Launch, table: Table, asked: Asked) 
     return gone_on(outcome, checker, launch, table, asked) if checker else outcome
 
 
-def knows_all(asked: Asked, table: Table, heap: dict[str, str]) -> bool:
-    """Whether the fast pass can find a run clear of all kinds that are asked for: without a heap and read-only data,
-    of which it knows nothing, and where no number is called."""
-    return not heap and asked.kinds <= DEFAULT and \
-        not any(data.section.startswith(READ_ONLY) for data in table.program.data) and \
-        not any(place[3].operation == "call" and place[3].operands[0].text[0] not in "$%" for place in table.places)
+def knows_all(asked: Asked, table: Table) -> bool:
+    """Whether the fast pass can find a run clear of all kinds that are asked for."""
+    return asked.kinds <= DEFAULT and fast.knows_all(table)
 
 
-def clear_outcome(programs: Programs, launch: Launch, table: Table, asked: Asked) -> Outcome | None:
+def clear_outcome(programs: Programs, launch: Launch, table: Table, asked: Asked,
+                  heap: dict[str, str]) -> Outcome | None:
     """The outcome of a run without a suspicion, if the fast pass finds it clear."""
     checker, launch = programs.fast(False), replace(launch, limit=asked.limit or fast.LIMIT)
-    if not checker or not fast.is_clear(checker, launch):
+    if not checker or not fast.is_clear(checker, launch, heap):
         return None
     end = fast.end_of(launch)
     return Outcome([], end.moves, end.told, end.is_over, place_number(end, table))
@@ -277,17 +274,7 @@ def place_number(end: fast.End, table: Table) -> int | None:
 def gone_on(outcome: Outcome, checker: str, launch: Launch, table: Table, asked: Asked) -> Outcome:
     """Adds what the fast pass finds later in the same run: other places, and the counts at known ones."""
     further = fast_outcome(checker, launch, table, asked)
-    known: dict[tuple[str, str, int, str], list[Suspicion]] = {}
-    for each in outcome.found:
-        known.setdefault(each.at, []).append(each)
-    for each in further.found:
-        same = known.get(each.at, [])
-        if not same:
-            outcome.found.append(each)
-        elif len(same) == 1:
-            # At a place in a runtime to which several calls led the fast pass counts them all together.
-            same[0].count = max(same[0].count, each.count)
-    outcome.found.sort(key=lambda each: (each.position, each.kind))
+    fast.add_further(outcome.found, further.found)
     return Outcome(outcome.found, further.moves, further.end, further.is_over, further.last, outcome.moves)
 
 

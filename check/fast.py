@@ -8,13 +8,14 @@ import pathlib
 import re
 import subprocess
 from dataclasses import dataclass
-from typing import Iterator
+from typing import Callable, Iterator, Mapping
 
 from page.table import Table
 from terminal.answers import Place, read_moved
 from terminal.pipe import Pipe
 from terminal.scratch import Launch
 
+from .objects import READ_ONLY
 from .telling import Suspicion
 
 TOP = pathlib.Path(__file__).resolve().parent.parent
@@ -22,6 +23,8 @@ TOP = pathlib.Path(__file__).resolve().parent.parent
 KINDS = frozenset(("bounds", "stale", "cut", "stray"))
 # How many moves are looked at if nothing is said: some seconds.
 LIMIT = 100_000_000
+# How often a pulse comes, in seconds.
+PULSE = 0.1
 TOLD = re.compile(r"#(\d+) (\S+) (\S+) (\d+)  (\w+): (.*?)(?:  \((\d+) times\))?")
 # The last line of a run with nothing that another pass should look at.
 CLEAR = re.compile(r"0 suspicions in \d+ moves?, no other kinds")
@@ -43,26 +46,55 @@ def program(is_built: bool, may_build: bool) -> str | None:
     return None if found.returncode else found.stdout.strip()
 
 
-def lines_of(checker: str, launch: Launch) -> list[str]:
-    """What the program writes of a run up to the limit of its launch."""
+def lines_of(checker: str, launch: Launch, heap: Mapping[str, str] | None = None,
+             pulse: Callable[[], None] | None = None) -> list[str]:
+    """What the program writes of a run up to the limit of its launch. The heap is the role of each of its functions.
+    The pulse comes now and then while it is waited for, and may break it off."""
     words = [checker, launch.file, *launch.words, "--limit", str(launch.limit)]
-    ran = subprocess.run(words, stdin=subprocess.DEVNULL, capture_output=True, text=True, check=False)
-    lines = ran.stdout.splitlines()
-    if ran.returncode not in (0, 3, 4, 5) or not lines:
-        memory = ran.returncode == 2
-        raise Failed("the fast pass has run out of memory" if memory else ran.stderr.strip() or "the fast pass failed")
+    if heap:
+        # The program takes these as the last words alone.
+        words += ["--heap", ",".join(f"{role}={name.removeprefix('$')}" for name, role in heap.items())]
+    with subprocess.Popen(words, stdin=subprocess.DEVNULL, stdout=subprocess.PIPE, stderr=subprocess.PIPE,
+                          text=True) as process:
+        try:
+            told, errors = written(process, pulse)
+        except BaseException:
+            process.kill()
+            raise
+    lines = told.splitlines()
+    if process.returncode not in (0, 3, 4, 5) or not lines:
+        memory = process.returncode == 2
+        raise Failed("the fast pass has run out of memory" if memory else errors.strip() or "the fast pass failed")
     return lines
 
 
-def suspicions(checker: str, launch: Launch, table: Table) -> list[Suspicion]:
+def written(process: subprocess.Popen[str], pulse: Callable[[], None] | None) -> tuple[str, str]:
+    """What a process writes up to its end, to each of its outputs."""
+    while True:
+        try:
+            return process.communicate(timeout=PULSE if pulse else None)
+        except subprocess.TimeoutExpired:
+            if pulse:
+                pulse()
+
+
+def suspicions(checker: str, launch: Launch, table: Table,
+               pulse: Callable[[], None] | None = None) -> list[Suspicion]:
     """Those of a run, in the order in which the first of each came."""
-    return list(read(lines_of(checker, launch)[:-1], table))
+    return list(read(lines_of(checker, launch, pulse=pulse)[:-1], table))
 
 
-def is_clear(checker: str, launch: Launch) -> bool:
-    """Whether a run has no suspicion of any kind that is on by default, except those of the heap and of sections, of
-    which the program knows nothing. It may say no of a run that has none."""
-    return CLEAR.fullmatch(lines_of(checker, launch)[-1]) is not None
+def knows_all(table: Table) -> bool:
+    """Whether it can find a run clear of all kinds that are on by default: without read-only data, of which it knows
+    nothing, and where no number is called."""
+    return not any(data.section.startswith(READ_ONLY) for data in table.program.data) and \
+        not any(place[3].operation == "call" and place[3].operands[0].text[0] not in "$%" for place in table.places)
+
+
+def is_clear(checker: str, launch: Launch, heap: Mapping[str, str]) -> bool:
+    """Whether a run has no suspicion of any kind that is on by default, except those of sections, of which the program
+    knows nothing. It may say no of a run that has none."""
+    return CLEAR.fullmatch(lines_of(checker, launch, heap)[-1]) is not None
 
 
 def read(lines: list[str], table: Table) -> Iterator[Suspicion]:
@@ -79,6 +111,22 @@ def meant_by(told: Suspicion) -> str | None:
     """The name of the object that was meant, or of the function that made it."""
     found = MEANT.search(told.text)
     return (found[1] or found[2]) if found else None
+
+
+def add_further(found: list[Suspicion], further: list[Suspicion]) -> None:
+    """Adds to suspicions of the first moves what the fast pass finds in all: other places, and the counts at known
+    ones."""
+    known: dict[tuple[str, str, int, str], list[Suspicion]] = {}
+    for each in found:
+        known.setdefault(each.at, []).append(each)
+    for each in further:
+        same = known.get(each.at, [])
+        if not same:
+            found.append(each)
+        elif len(same) == 1:
+            # At a place in a runtime to which several calls led the fast pass counts them all together.
+            same[0].count = max(same[0].count, each.count)
+    found.sort(key=lambda each: (each.position, each.kind))
 
 
 @dataclass

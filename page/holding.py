@@ -9,6 +9,7 @@ import pathlib
 import re
 import shlex
 import threading
+import time
 from dataclasses import replace
 from typing import Any, Sequence
 
@@ -21,9 +22,10 @@ from terminal.timeline import Poke, Timeline
 from terminal.waiting import Waiting
 
 from .gathering import Gathering, length_of
-from .suspecting import suspicions_of
 from .lowering import Lowering
+from .suspecting import far_suspicions_of, suspicions_of
 from .table import Origins, Table
+from .windows import MOST_MOVES as LAST_MOVE
 from .windows import Long
 
 # A run of at most so many moves is shown whole; of a longer one an overview, and windows.
@@ -34,6 +36,10 @@ MOST_OBJECTS, MOST_BYTES = 64, 256
 PATIENCE = 3
 STOP = re.compile(r"break \$[\w.$]+ @[\w.$]+ \d{1,9}|watch [bhwl] (\d{1,20}|\$[\w.$]+(\+\d{1,20})?)|"
                   r"watch \$[\w.$]+ %[\w.$]+|delete \d{1,19}", re.ASCII)
+# Why the session stands, if it is a stop.
+STOPPED = re.compile(r"(?:break|watch) (\d+)")
+# How often the overview is looked at that isn't as far as the session, in seconds.
+PULSE = 0.02
 POKE = re.compile(r"set %[\w.$]+ -?\d{1,20}|poke [bhwl] (\d{1,20}|\$[\w.$]+(\+\d{1,20})?) -?\d{1,20}", re.ASCII)
 
 
@@ -48,6 +54,9 @@ class Held:
         self.named, self.texts = list(named), [] if texts is None else ["--", *texts]
         # One request at a time leads the session, and one looks at another window.
         self.leading, self.looking, self.is_closed = threading.Lock(), threading.Lock(), False
+        # What the fast pass finds in a long run, once it has looked.
+        self.searching, self.has_searched = threading.Lock(), False
+        self.far: dict[str, Any] | None = None
         self.asked = 0
         # Which page leads the session: the one that was opened last.
         self.page = 0
@@ -78,9 +87,14 @@ class Held:
     def gathered(self, pokes: tuple[Poke, ...]) -> Gathering:
         return Gathering(self.launch, self.table, self.most, None if pokes else self.total, pokes).begin()
 
-    def suspicions(self) -> list[dict[str, Any]] | None:
-        """Those of the run as it is now; of a run that is too long for arrays none are looked for."""
-        return None if self.long else suspicions_of(self.gathering.wait())
+    def suspicions(self) -> dict[str, Any] | None:
+        """Those of the run as it is now."""
+        if not self.long:
+            return suspicions_of(self.gathering.wait())
+        with self.searching:
+            if not self.has_searched:
+                self.far, self.has_searched = far_suspicions_of(self.launch, self.table), True
+        return self.far
 
     def told(self) -> dict[str, Any]:
         """The program as the page reads it, and the command that plays its script."""
@@ -179,6 +193,25 @@ class Held:
         else:
             self.stops[int(number)] = answer
         return {"told": answer}
+
+    def seek(self, position: int, way: Any) -> dict[str, Any]:
+        """Leads the session of a long run to the next stop from a position on, or back to the last one before it; where
+        it stands then, and the number of the stop if it is one."""
+        if not self.long:
+            raise Refused("all of this run is shown")
+        if way not in ("continue", "reverse"):
+            raise Refused("`continue` or `reverse` was expected")
+        self.session.go(Timeline(position))
+        moved = self.session.move(way)
+        while moved.reason == "limit" and self.session.place.position < LAST_MOVE:
+            self.waiting.stop_if_pressed()
+            moved = self.session.move(way)
+        reached = self.session.place.position
+        while not self.long.overview.has_come(reached):
+            self.waiting.stop_if_pressed()
+            time.sleep(PULSE)
+        number = STOPPED.fullmatch(moved.reason)
+        return {"position": min(reached, self.long.overview.moves), "number": int(number[1]) if number else None}
 
     def reach(self, position: int) -> dict[str, Any]:
         """Another window of a long run, with a position in it."""

@@ -183,7 +183,7 @@ class Handler(http.server.BaseHTTPRequestHandler):
 
     def acted(self, held: Held, path: str, asked: dict[str, Any]) -> Any:
         """What a request of the page that leads the session is answered; None for an unknown one."""
-        if path not in ("api/go", "api/poke", "api/unpoke", "api/stop", "api/window"):
+        if path not in ("api/go", "api/poke", "api/unpoke", "api/stop", "api/window", "api/seek"):
             return None
         if asked.get("page") != held.page:
             raise Refused("another page leads this session now; reload this one to lead it again")
@@ -195,6 +195,9 @@ class Handler(http.server.BaseHTTPRequestHandler):
         if path == "api/stop":
             with held.leading:
                 return held.open().stop(asked.get("line"))
+        if path == "api/seek":
+            with held.leading:
+                return held.open().seek(position, asked.get("way"))
         held.asked += 1
         number = held.asked
         with held.leading:

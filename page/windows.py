@@ -89,6 +89,10 @@ class Overview:
         for where in answers:
             self.stacks.append([self.functions[line.split(" ")[0]] for line in reversed(where[-MOST_DEPTH:])])
 
+    def has_come(self, position: int) -> bool:
+        """Whether it is as far as a position, or at its end."""
+        return self.is_done or self.moves >= position
+
     def told(self) -> dict[str, Any]:
         return {"stride": self.stride, "stacks": self.stacks, "moves": self.moves, "end": self.end,
                 "isDone": self.is_done, "most": MOST_MOVES,

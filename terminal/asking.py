@@ -113,6 +113,7 @@ def counted(number: int, what: str) -> str:
 
 
 def accesses(shell: Shell, rest: str, is_write: bool) -> None:
+    rest = as_bytes(rest)
     words = rest.split()
     width = words[0] if len(words) > 1 and (words[0] in BITS or words[0].isdigit()) else ""
     address = shell.number(rest.partition(width)[2] if width else rest)

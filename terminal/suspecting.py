@@ -1,12 +1,16 @@
 """What the run does that no correct compiler's output does, and what values are made of: docs/CHECKING.md."""
 from __future__ import annotations
 
+from dataclasses import replace
+
+from check import fast
+from check.fast import add_further
 from check.following import Follower
 from check.heap import roles_of
 from check.kinds import WrongKind, chosen
 from check.shadow import Object, Part
 from check.states import TooLong, table_of
-from check.telling import bits_told, object_told, origin_told, summary
+from check.telling import Suspicion, bits_told, object_told, origin_told, summary
 from page.gathering import Gathering
 
 from .expressions import Wrong
@@ -64,6 +68,21 @@ def followed(shell: Shell, at: Timeline, most: int, kinds: frozenset[str]) -> tu
     return follower, gathered, follower.follow(list(gathered.places), iter(gathered.values))
 
 
+def gone_on(shell: Shell, follower: Follower, kinds: frozenset[str]) -> tuple[list[Suspicion], int, str] | None:
+    """What the fast pass finds in a long run: suspicions of the kinds that it knows, of how many moves, and how the run
+    stands then. Nothing if there is no such program here."""
+    checker = fast.program(False, False)
+    if not checker or not kinds & fast.KINDS:
+        return None
+    launch = replace(shell.launch, limit=fast.LIMIT)
+    try:
+        found = fast.suspicions(checker, launch, follower.table, shell.waiting.stop_if_pressed)
+        end = fast.end_of(launch)
+    except fast.Failed:
+        return None
+    return [each for each in found if each.kind in kinds], end.moves, end.told
+
+
 class Suspicions:
     """The suspicious moves of the session's run, which are found out once for each list of pokes."""
 
@@ -108,7 +127,8 @@ def add_suspicion_stop(shell: Shell, rest: str) -> None:
 @command("suspects suspicions", "suspects [strict | KIND,..] [N]", is_repeated=False)
 def suspects(shell: Shell, rest: str) -> None:
     """Lists what the whole run does that no correct compiler's output does: up to here, and on to its end; or in its
-    first N moves. `goto suspect N` goes to the N-th. docs/CHECKING.md says what each kind means."""
+    first N moves. After 1,000,000 moves the fast pass looks at the rest. `goto suspect N` goes to the N-th.
+    docs/CHECKING.md says what each kind means."""
     words = rest.split()
     most = min(int(words.pop()), MOST) if words and words[-1].isdecimal() else MOST
     try:
@@ -117,13 +137,17 @@ def suspects(shell: Shell, rest: str) -> None:
         raise Wrong(str(error)) from None
     at = shell.session.timeline
     follower, gathered, moves = followed(shell, at, most, kinds)
-    found = follower.suspicions()
+    found, end, full = follower.suspicions(), gathered.end or "and the run goes on", None
+    if not gathered.end and words == rest.split() and not at.pokes and (gone := gone_on(shell, follower, kinds)):
+        further, moves, end = gone
+        add_further(found, further)
+        full = most
     shell.suspects = [at.at(each.position) for each in found]
     source, runtime = shell.screen.map.place, shell.lowered.runtime | shell.lowered.outside
     for number, each in enumerate(found, 1):
         first, *others = [*each.lines(source(each.instruction.line)), *each.call_lines(runtime, source)]
         shell.say(f"[{number}] {first}", *(f"    {line}" for line in others))
-    shell.say(summary(found, moves, gathered.end or "and the run goes on"))
+    shell.say(summary(found, moves, end, full))
 
 
 @command("made", "made %x", "expression", is_repeated=False)

@@ -9,11 +9,16 @@ from harness.shrinking import smaller_text
 from robustness_tests.programs import random_program
 
 
-def random_files(place: pathlib.Path, word: str, count: int) -> Iterator[tuple[int, pathlib.Path, bytes, list[str]]]:
+# What makes a random program: its text, and the arguments of its entry.
+Maker = Callable[[random.Random], tuple[bytes, list[int]]]
+
+
+def random_files(place: pathlib.Path, word: str, count: int,
+                 make: Maker = random_program) -> Iterator[tuple[int, pathlib.Path, bytes, list[str]]]:
     """The number of each, its file (which exists until the next one is asked for), its text, and the arguments of its
     entry."""
     for number in range(count):
-        text, arguments = random_program(random.Random(f"{word} {number}"))
+        text, arguments = make(random.Random(f"{word} {number}"))
         file = place / f"{word}-{number}.ssa"
         file.write_bytes(text)
         yield number, file, text, list(map(str, arguments))

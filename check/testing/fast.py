@@ -6,13 +6,18 @@ import subprocess
 import sys
 import tempfile
 from functools import partial
+from random import Random
 from typing import Callable, Iterator
 
 from check.fast import KINDS, is_clear
 from check.fast import program as fast_program
+from check.heap import roles_of
+from robustness_tests.programs import random_program
 from terminal.scratch import Launch
+from terminal.text import Program
 
-from .chance import random_files, small_fault
+from .chance import Maker, random_files, small_fault
+from .heaps import Heaps, heap_program
 from .rows import ROWS, text_of
 from .texts import CHECKER, MAIN, SECONDS, TEXTS, run
 
@@ -91,24 +96,40 @@ def row_fault(program: str, fault: Callable[[str, pathlib.Path], str | None], be
 
 
 def cleared_fault(program: str) -> str | None:
-    """The right texts that the fast pass finds clear are most of those without a heap. If it found none clear, each
-    check would take as long as before, and nothing would be told otherwise."""
+    """The right texts that the fast pass finds clear are most of them. If it found none clear, each check would take as
+    long as before, and nothing would be told otherwise."""
+    right = [file for file in sorted(TEXTS.glob("*.ssa")) if file.with_suffix(".expect").read_text().startswith("end ")]
+    return few_fault(program, right)
+
+
+def few_fault(program: str, right: list[pathlib.Path]) -> str | None:
+    """Why too few of some right programs are found clear, or None."""
     checker = CHECKER[1] if CHECKER else fast_program(False, False)
     if not checker:
         return "there is no fast pass"
-    right = [file for file in sorted(TEXTS.glob("*.ssa")) if file.with_suffix(".expect").read_text().startswith("end ")
-             and "malloc" not in file.read_text()]
-    clear = [file.stem for file in right if is_clear(checker, Launch(program, str(file), (), MOST))]
+    clear = [file.stem for file in right if is_clear(
+        checker, Launch(program, str(file), (), MOST), roles_of(Program(file.read_bytes()), None))]
     return None if 3 * len(clear) > 2 * len(right) > 0 else f"{len(clear)} of {len(right)}: {clear}"
 
 
-def random_clear_fault(program: str) -> str | None:
+def random_clear_fault(program: str, word: str, make: Maker) -> str | None:
     """The same of random programs."""
     with tempfile.TemporaryDirectory(prefix="check-") as place:
-        for number, file, source, words in random_files(pathlib.Path(place), "clear", RANDOM):
+        for number, file, source, words in random_files(pathlib.Path(place), word, RANDOM, make):
             if clear_fault(program, file, *words):
                 return small_fault(number, file, source, lambda text: clear_fault(program, file, *words))
     return None
+
+
+def right_heaps_fault(program: str) -> str | None:
+    """Random programs with a heap and without a mistake: most are found clear, and none is suspicious."""
+    with tempfile.TemporaryDirectory(prefix="check-") as place:
+        files = [pathlib.Path(place) / f"heap-{number}.ssa" for number in range(RANDOM)]
+        for number, file in enumerate(files):
+            file.write_text(Heaps(Random(f"right {number}"), 0).text(40))
+        found = [run(program, str(file), *LIMIT).stdout for file in files]
+        wrong = [told for told in found if not told.startswith("no suspicion in ")]
+        return f"{wrong[0]!r}" if wrong else few_fault(program, files)
 
 
 def going_on_fault(program: str, before: list[str], behind: list[str], rounds: int, told: str,
@@ -129,6 +150,8 @@ def cases(program: str) -> Iterator[Case]:
         yield f"fast row {name}", partial(row_fault, program, same_fault, *row[:2])
         yield f"clear row {name}", partial(row_fault, program, clear_fault, *row[:2])
     yield "clear right texts", partial(cleared_fault, program)
-    yield "clear random programs", partial(random_clear_fault, program)
+    yield "clear random programs", partial(random_clear_fault, program, "clear", random_program)
+    yield "clear random heaps", partial(random_clear_fault, program, "heap", heap_program)
+    yield "clear right heaps", partial(right_heaps_fault, program)
     for name, *case in GOING_ON:
         yield f"fast {name}", partial(going_on_fault, program, *case)

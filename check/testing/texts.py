@@ -14,7 +14,7 @@ from .rows import ROWS, text_of
 MAIN = pathlib.Path(__file__).resolve().parent.parent / "main"
 TEXTS = pathlib.Path(__file__).resolve().parent / "texts"
 PLACE = re.compile(r"(#\d+ \S+ \S+ \d+)  line (\d+): ")
-SECONDS = 60
+SECONDS = 600
 # The program of the fast pass, if it isn't the one that runs here.
 CHECKER: list[str] = []
 Case = tuple[str, Callable[[], str | None]]

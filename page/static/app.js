@@ -109,9 +109,10 @@ class App {
 
   /** Asks for the suspicions of a run, and shows them, unless another run is shown by then. */
   async suspect(run) {
-    const found = this.long ? null : await this.source.suspicions();
+    const told = await this.source.suspicions();
     if (this.run !== run) return;
-    this.suspected(found ?? [], found ? "" : "no suspicion is looked for in a run as long as this one: ./qrev --check does that");
+    this.suspected(told?.found ?? [], !told ? "no suspicion is looked for in a run as long as this one: ./qrev --check does that"
+      : told.all ? "" : "no address in this run is suspected; ./qrev --check looks for other kinds too");
     this.timeline.draw();
   }
 
@@ -129,7 +130,7 @@ class App {
   toSuspicion() {
     const found = this.suspicions;
     if (!found.length) return this.say(this.unlooked || "nothing in this run is suspected");
-    const next = found.find(each => each.position > this.cursor) ?? found[0];
+    const here = this.cursor + this.run.base, next = found.find(each => each.position > here) ?? found[0];
     this.goTo(next.position);
     this.say(`${next.kind}: ${next.text}${next.count > 1 ? ` (${next.count} times)` : ""}`);
   }
@@ -219,7 +220,8 @@ class App {
   /** To a position of the whole run. */
   goTo(position) {
     const here = position - this.run.base;
-    if (this.long && (here < 0 || here > this.run.moves)) this.reach(position); else this.go(here);
+    if (this.long && (here < 0 || here > this.run.moves)) return this.reach(position);
+    return this.go(here);
   }
 
   // Where things are.

@@ -20,6 +20,8 @@ export class Marks {
     // The places where the cursor has rested, in the order of time, and which of them it stands at.
     this.trail = [];
     this.at = -1;
+    // The debugger looks for a stop.
+    this.isSeeking = false;
     box.addEventListener("click", event => {
       const mark = event.target.closest("[data-from]");
       if (mark) this.goThrough(Number(mark.dataset.from), Number(mark.dataset.to));
@@ -48,11 +50,12 @@ export class Marks {
   of(kind) {
     const {app} = this, {run} = app;
     if (this.kept?.version !== this.version || this.kept.run !== run || this.kept.suspicions !== app.suspicions) {
+      const shown = list => list.map(each => each - run.base).filter(each => each >= 0 && each <= run.moves);
       const met = this.stops.flatMap(({moves}) => [...(this.stops.length > 1 ? moves : [])]);
       this.kept = {version: this.version, run, suspicions: app.suspicions,
-        suspicion: Int32Array.from(app.suspicions, each => each.position), hand: Int32Array.from(Object.keys(run.pokes), Number),
+        suspicion: Int32Array.from(shown(app.suspicions.map(each => each.position))), hand: Int32Array.from(Object.keys(run.pokes), Number),
         stop: this.stops.length === 1 ? this.stops[0].moves : Int32Array.from(new Set(met)).sort(),
-        rest: Int32Array.from(this.rests.map(each => each - run.base).filter(each => each >= 0 && each <= run.moves))};
+        rest: Int32Array.from(shown(this.rests))};
     }
     return this.kept[kind];
   }
@@ -61,7 +64,7 @@ export class Marks {
   told(kind, position) {
     const {app} = this, at = `#${position + app.run.base}`;
     if (kind === "suspicion") {
-      const found = app.suspicions.find(each => each.position === position);
+      const found = app.suspicions.find(each => each.position === position + app.run.base);
       return `${at} suspicion, ${found.kind}: ${found.text}${found.count > 1 ? ` (${found.count} times)` : ""}`;
     }
     if (kind === "hand") return `${at} by hand: ${app.run.pokes[position]}`;
@@ -148,8 +151,32 @@ export class Marks {
     const {app} = this;
     if (!this.stops.length) return app.say("there is no stop: b sets a breakpoint here, v watches what is asked about");
     const found = nextStop(this.stops, app, direction), [way, end] = direction > 0 ? ["behind", "end"] : ["before", "start"];
-    if (found) app.go(found.position); else if (!app.long) app.go(direction > 0 ? app.run.moves : 0);
-    return app.say(found?.stop.told ?? `no stop is met ${way} there${app.long ? " in this window" : `: this is the ${end}`}`);
+    if (!found && app.long && !this.isAtEdge(direction)) return this.seek(direction);
+    app.go(found ? found.position : direction > 0 ? app.run.moves : 0);
+    return app.say(found?.stop.told ?? `no stop is met ${way} there: this is the ${end}`);
+  }
+
+  /** Whether the window that is shown goes to the start or to the end of a long run. */
+  isAtEdge(direction) {
+    return direction > 0 ? this.app.run.isOver : this.app.run.base === 0;
+  }
+
+  /** To the next stop of a long run that isn't in the window: the debugger itself finds it. */
+  async seek(direction) {
+    const {app} = this, [way, end] = direction > 0 ? ["behind", "end"] : ["before", "start"];
+    if (this.isSeeking) return;
+    this.isSeeking = true;
+    app.say(`on the way to the ${direction > 0 ? "next" : "last"} stop`);
+    try {
+      const asked = {position: app.cursor + app.run.base, way: direction > 0 ? "continue" : "reverse"};
+      const {position, number} = await (await app.source.ask("api/seek", asked)).json();
+      app.long.moves = Math.max(app.long.moves, position);
+      await app.goTo(position);
+      app.say(this.stops.find(stop => stop.number === number)?.told ?? `no stop is met ${way} there: this is the ${end}`);
+    } catch (error) {
+      app.say(error.message);
+    }
+    this.isSeeking = false;
   }
 
   // Where the cursor has been.
@@ -296,7 +323,7 @@ export class Marks {
       kept.positions = kept.positions.concat(more.positions);
       found.get(line).set(key, kept);
     };
-    for (const {line, kind, position} of app.suspicions) add(line, "suspicion", {text: kind, positions: [position]});
+    for (const {line, kind, position} of app.suspicions) add(line, "suspicion", {text: kind, positions: [position - run.base]});
     for (const [position, line] of Object.entries(run.pokes)) add(at(Number(position)), "hand", {text: line, positions: [Number(position)]});
     for (const stop of this.stops.filter(({isWatch}) => isWatch)) {
       const lines = new Map();

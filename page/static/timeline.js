@@ -218,6 +218,8 @@ export class Timeline {
           Math.max(1, row - (row > 3 ? .5 : 0)));
       }
     }
+    context.fillStyle = this.color("fault");
+    for (const {position} of app.suspicions) context.fillRect(SIDE + position / moves * this.span - 1, tall - 6, 3, 8);
     const left = SIDE + app.run.base / moves * this.span,
       right = SIDE + (app.run.base + app.run.moves) / moves * this.span;
     context.fillStyle = this.color("now");

@@ -9,7 +9,7 @@ import sys
 import tempfile
 import time
 from contextlib import contextmanager
-from typing import Any, Iterator
+from typing import Any, Iterator, Sequence
 
 from terminal.answers import read_place
 from terminal.pipe import Pipe
@@ -23,18 +23,21 @@ SQUARES, DIGITS, QUEENS = (str(EXAMPLES / f"{name}.ssa") for name in ("squares",
 STATE = "[app.cursor, app.walk.chosen?.question.label ?? '', document.getElementById('place').textContent]"
 
 
-# A load past the end of $d behind 400,000 moves, more than suspicions are looked for in.
+# A load past the end of $d behind 400,000 moves, more than are looked at for all kinds: each of 133,334 rounds has
+# three, and one comes before them and one behind.
+BAD_LOAD = 400_004
 TURNS = ("data $d = { w 5, w 6 }\ndata $e = { w 7 }\nexport function w $main() {\n@start\n\tjmp @loop\n@loop\n"
          "\t%i =l phi @start 0, @loop %n\n\t%n =l add %i, 1\n\t%c =w cultl %n, 133334\n\tjnz %c, @loop, @end\n@end\n"
          "\t%p =l add $d, 8\n\t%x =w loadw %p\n\tret %x\n}\n")
 
 
 @contextmanager
-def opened(program: str, *words: str, width: int = 1440, height: int = 900) -> Iterator[Browser]:
+def opened(program: str, *words: str, width: int = 1440, height: int = 900,
+           options: Sequence[str] = ()) -> Iterator[Browser]:
     """The page of a program in a browser; what went wrong in it is raised at the end."""
     browser = Browser(width, height)
     try:
-        with Serving(program, *words) as serving:
+        with Serving(program, *words, options=options) as serving:
             browser.open(serving.address)
             yield browser
             if browser.errors():
@@ -126,8 +129,8 @@ def typed_position(program: str) -> str | None:
 
 
 def unlooked(program: str) -> str | None:
-    """Before it is known whether something is suspicious, and where a run isn't looked at, no key says that nothing is;
-    and no mark is left of a run that was changed by hand."""
+    """Before it is known whether something is suspicious no key says that nothing is; and no mark is left of a run that
+    was changed by hand."""
     said, marks = "document.getElementById('said').textContent", "app.suspicions.map(each => each.position)"
     with opened(program, SQUARES) as browser:
         waited(browser, marks, [44])
@@ -139,7 +142,7 @@ def unlooked(program: str) -> str | None:
         given = [browser.run(each) for each in (said, marks, lines, "document.getElementById('suspects').hidden")]
         if given != ["the run is still being looked at", [], 0, True]:
             return f"while it is looked at: {given}"
-        browser.run("app.come([])")
+        browser.run("app.come({found: [], all: true})")
         waited(browser, "app.unlooked", "")
         browser.key("x")
         if browser.run(said) != "nothing in this run is suspected":
@@ -150,15 +153,34 @@ def unlooked(program: str) -> str | None:
         shown = browser.run(f"(app.suspected({kinds}, ''), {beside})")
         if shown != ["bounds, stray"]:
             return f"beside a line of two kinds stands {shown}"
+    return None
+
+
+def far_suspected(program: str) -> str | None:
+    """In a run that is too long to be looked at for all kinds the fast pass finds a suspicion, in one that is shown by
+    windows too; and it knows where there is none."""
+    said, marks = "document.getElementById('said').textContent", "app.suspicions.map(each => each.position)"
+    names = ("[...document.querySelectorAll('#marks .is-suspicion')].map(each => "
+             "each.getAttribute('aria-label').split('\\n')[0])")
+    told = "bounds: loadsw at the end of $d (8 bytes), between objects"
     with tempfile.TemporaryDirectory(prefix="page-") as place:
         text = pathlib.Path(place, "turns.ssa")
-        text.write_text(TURNS)
-        with opened(program, str(text)) as browser:
-            waited(browser, "app.unlooked.includes('as long as this')", True)
-            browser.key("x")
-            told = browser.run(said)
-            wanted = "no suspicion is looked for in a run as long as this one: ./qrev --check does that"
-            return None if told == wanted else f"of a run of 400,000 moves it says {told!r}"
+        for is_wrong, options in ((True, ()), (True, ("--most", "20000")), (False, ())):
+            text.write_text(TURNS if is_wrong else TURNS.replace("add $d, 8", "add $d, 4"))
+            with opened(program, str(text), options=options) as browser:
+                if not is_wrong:
+                    waited(browser, "app.unlooked", "")
+                    browser.key("x")
+                    if browser.run(said) != "nothing in this run is suspected":
+                        return f"of a right run it says {browser.run(said)!r}"
+                    continue
+                waited(browser, marks, [BAD_LOAD])
+                browser.key("x")
+                given = [waited(browser, "app.cursor + app.run.base", BAD_LOAD), waited(browser, said, told)]
+                given += [waited(browser, names, [f"#{BAD_LOAD} suspicion, {told}"])]
+                if given != [BAD_LOAD, told, [f"#{BAD_LOAD} suspicion, {told}"]]:
+                    return f"with {options} it gives {given}"
+    return None
 
 
 def pointer(program: str) -> str | None:
@@ -201,7 +223,7 @@ def pointer(program: str) -> str | None:
         return f"{', '.join(wrong)}: not what was wanted" if wrong else None
 
 
-def waited(browser: Browser, script: str, wanted: object, seconds: float = 10) -> object:
+def waited(browser: Browser, script: str, wanted: object, seconds: float = 60) -> object:
     """The value of an expression, once it is the expected one, or the time is over."""
     end = time.monotonic() + seconds
     while (given := browser.run(script)) != wanted and time.monotonic() < end:
@@ -288,7 +310,7 @@ def other_way(program: str) -> str | None:
 
 def played(program: str, file: str, script: str) -> str:
     """The place to which a script leads the debugger alone."""
-    run = subprocess.run([program, file], input=script, capture_output=True, text=True, timeout=30)
+    run = subprocess.run([program, file], input=script, capture_output=True, text=True, timeout=600)
     return str(read_place(run.stdout.strip().split("\n")[-1]))
 
 
@@ -533,7 +555,8 @@ def lowered_text(program: str) -> str | None:
 
 
 CASES = {"keys": keys, "a lowered text": lowered_text, "pointer": pointer, "a position that is typed": typed_position,
-         "suspicions that aren't known": unlooked, "a value by hand and the script": by_hand,
+         "suspicions that aren't known": unlooked, "suspicions of a long run": far_suspected,
+         "a value by hand and the script": by_hand,
          "another way by hand": other_way, "export": export, "export's size": size,
          "hostile texts": hostile, "the server ends": ended,
          "side by side": side_by_side}

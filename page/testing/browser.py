@@ -107,7 +107,7 @@ class Browser:
             raise Broken(told["exceptionDetails"].get("exception", {}).get("description", str(told)))
         return told["result"].get("value")
 
-    def open(self, address: str, wanted: str = READY, seconds: float = 30) -> None:
+    def open(self, address: str, wanted: str = READY, seconds: float = 180) -> None:
         # What the page before still asks for, of a server that has ended, is no error of this one.
         self.send("Page.navigate", url="about:blank")
         self.run("1")

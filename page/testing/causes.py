@@ -223,7 +223,7 @@ def answered_in_node(cases: list[Case]) -> list[list[Any]]:
         script = pathlib.Path(folder) / "causes.mjs"
         script.write_text(joined(CORE) + (HERE / "causes.js").read_text() + IN_NODE)
         run = subprocess.run(["node", str(script)], input=json.dumps([case.given() for case in cases]).encode(),
-                             capture_output=True, timeout=300)
+                             capture_output=True, timeout=900)
     if run.returncode:
         raise RuntimeError(run.stderr.decode()[-1500:])
     return list(json.loads(run.stdout))
@@ -340,7 +340,7 @@ def evaluated(call: str, given: Any, modules: tuple[str, ...] = CORE) -> Any:
         script.write_text(joined(modules) + "import {readFileSync} from 'node:fs';\n"
                           f"const given = JSON.parse(readFileSync(0, 'utf8'));\nconsole.log(JSON.stringify({call}));\n")
         run = subprocess.run(["node", str(script)], input=json.dumps(given), capture_output=True, text=True,
-                             timeout=120)
+                             timeout=600)
     if run.returncode:
         raise RuntimeError(run.stderr[-1500:])
     return json.loads(run.stdout)

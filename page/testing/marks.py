@@ -10,6 +10,7 @@ from terminal.text import Program
 
 from .acts import EXAMPLES, SQUARES, opened, played, waited
 from .browser import Browser
+from .serving import Serving
 
 SAID = "document.getElementById('said').textContent"
 # The stops of each example: lines of the debugger, and what sets them on the page.
@@ -26,6 +27,18 @@ WALKED = """((direction, most) => { const found = [], {draw} = app;
   }
   app.draw = draw;
   return found; })"""
+# The same of a run that is shown by windows.
+WALKED_FAR = """(async (direction, most) => { const found = [];
+  await app.reach(direction > 0 ? 0 : app.long.moves);
+  app.move(direction > 0 ? 0 : app.run.moves);
+  while (found.length < most) {
+    await app.marks.go(direction);
+    if (document.getElementById("said").textContent.startsWith("no stop")) break;
+    found.push(app.cursor + app.run.base);
+  }
+  return found; })"""
+# How many moves of a run a page shows whole that is to show a window.
+FEW = "20000"
 # The elements of the timeline's marks: kind, name and sign.
 ELEMENTS = ("[...document.querySelectorAll('#marks .mark')].map(each => "
             "[each.className, each.getAttribute('aria-label'), each.textContent])")
@@ -82,14 +95,37 @@ def stops(program: str) -> str | None:
     return None
 
 
-def stops_fault(browser: Browser, program: str, file: str, acts: Sequence[tuple[str, str]]) -> str | None:
+def far_stops(program: str) -> str | None:
+    """In a long run too, where the debugger finds the stops that aren't in the window."""
+    chosen, file = random.Random(4), str(EXAMPLES / "queens.ssa")
+    with open(file, "rb") as source:
+        text = Program(source.read())
+    # These are met now and then, and are far apart.
+    rare = [(f"break $main {label} 0", f"app.marks.toggle(app.marks.breakpoint('$main', '{label}', 0))")
+            for label in text.functions["$main"].blocks]
+    acts, browser = list(acts_of(text, chosen)), Browser()
+    try:
+        with Serving(program, file, options=("--most", FEW)) as serving:
+            browser.open(serving.address)
+            browser.run("(async () => { while (!app.long.isDone) await new Promise(done => setTimeout(done, 20)); })()")
+            for some in [*([each] for each in rare + acts), acts]:
+                fault = stops_fault(browser, program, file, some, WALKED_FAR)
+                if fault:
+                    return fault
+            return f"{browser.errors()}" if browser.errors() else None
+    finally:
+        browser.close()
+
+
+def stops_fault(browser: Browser, program: str, file: str, acts: Sequence[tuple[str, str]],
+                walked_by: str = WALKED) -> str | None:
     """Sets stops, goes from one to the next as the debugger does, and takes them away."""
     lines = list(dict(acts))
     for line in lines:
         browser.run(dict(acts)[line])
     found = None
     for word, direction in (("continue", 1), ("reverse", -1)):
-        given, wanted = browser.run(f"{WALKED}({direction}, {MOST_STOPS})"), stopped(program, file, lines, word)
+        given, wanted = browser.run(f"{walked_by}({direction}, {MOST_STOPS})"), stopped(program, file, lines, word)
         if given != wanted:
             found = f"{lines}, {word}: {given} and not {wanted}"
     for line in lines:
@@ -183,4 +219,4 @@ def again(browser: Browser, program: str) -> str | None:
         f"a press on the breakpoint says {told!r}"
 
 
-CASES = {"stops as the debugger has them": stops, "elements with names": elements}
+CASES = {"stops as the debugger has them": stops, "stops of a long run": far_stops, "elements with names": elements}

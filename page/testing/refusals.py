@@ -24,7 +24,7 @@ POKED = '{"page": 1, "position": 45, "line": "%s"}'
 def asked(port: int, method: str, path: str, headers: list[tuple[str, str]],
           body: bytes | None = None) -> tuple[int, bytes]:
     """The status and the body that a request is answered with, which is sent as it stands."""
-    connection = http.client.HTTPConnection("127.0.0.1", port, timeout=10)
+    connection = http.client.HTTPConnection("127.0.0.1", port, timeout=60)
     connection.putrequest(method, path, skip_host=True, skip_accept_encoding=True)
     for name, value in headers:
         connection.putheader(name, value)
@@ -112,6 +112,8 @@ def wanted_statuses(ask: Asking) -> Iterator[tuple[str, int, Callable[[], int]]]
                  "delete all", "continue", ""):
         yield f"the stop {line!r}", 400, partial(ask.status, "api/stop", (POKED % line).encode())
     yield "a stop that is a number", 400, lambda: ask.post("api/stop", b'{"page": 1, "position": 4, "line": 7}')[0]
+    yield "a way to a stop in a run that is shown whole", 400, lambda: ask.post(
+        "api/seek", b'{"page": 1, "position": 4, "way": "continue"}')[0]
     yield "a poke at the end", 400, lambda: ask.post("api/poke",
                                                      b'{"page": 1, "position": 88, "line": "poke w $bias 0"}')[0]
     yield "another page", 400, lambda: ask.post("api/go", b'{"page": 7, "position": 1}')[0]

@@ -5,6 +5,7 @@ import pathlib
 import signal
 import subprocess
 import sys
+from typing import Sequence
 
 MAIN = pathlib.Path(__file__).resolve().parent.parent / "main"
 
@@ -25,7 +26,7 @@ def alive(pids: list[str]) -> list[str]:
 class Serving:
     """page/main on a program; `address` is what it prints."""
 
-    def __init__(self, program: str, *words: str, options: tuple[str, ...] = ()):
+    def __init__(self, program: str, *words: str, options: Sequence[str] = ()):
         self.process = subprocess.Popen([sys.executable, "-B", str(MAIN), "--debugger", program, *options, "--",
                                          *words],
                                         stdout=subprocess.PIPE, text=True, preexec_fn=heard)

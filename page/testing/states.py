@@ -133,7 +133,7 @@ def run_faults(program: str, browser: Browser, name: str, file: str, words: Sequ
             shown = browser.run(f"{SHOWN}({position})")
             found += [f"{name} at #{position}: {fault}" for fault in state_faults(answers, shown, position)]
         browser.run("agreed.className = ''; app.go(Math.floor(app.run.moves / 2))")
-        end = time.monotonic() + 30
+        end = time.monotonic() + 180
         while browser.run("agreed.className") != "is-right" and time.monotonic() < end:
             time.sleep(.05)
         agreed = browser.run("[agreed.className, agreed.textContent]")

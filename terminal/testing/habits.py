@@ -17,7 +17,7 @@ from types import SimpleNamespace
 from typing import Any, Callable
 
 from terminal import tui
-from terminal.lookout import PATIENCE, Lookout
+from terminal.lookout import PATIENCE, Check, Lookout
 from terminal.scratch import Launch
 from terminal.shell import FAULT, Shell
 from terminal.timeline import Timeline
@@ -248,7 +248,7 @@ def refused(program: str) -> str | None:
         for more in (["--limit", "0"], ["--history", "x"], ["--memory", "0"], ["--memory", "1", "--history", "9"],
                      ["--replay", "0"], ["--replay", "--history", "9"], ["--nothing"],
                      [str(SQUARES), "7", "8"]):
-            run = subprocess.run([*words, *more], capture_output=True, text=True, stdin=subprocess.DEVNULL, timeout=20)
+            run = subprocess.run([*words, *more], capture_output=True, text=True, stdin=subprocess.DEVNULL, timeout=600)
             if run.returncode not in (1, 64) or "Traceback" in run.stderr:
                 return f"{more}: {run}"
     return None
@@ -325,12 +325,12 @@ def wrapped(program: str) -> str | None:
     with tempfile.TemporaryDirectory(prefix="python-") as folder:
         os.chmod(written(folder, "python3", "#!/bin/sh\nexit 1\n"), 0o755)
         run = subprocess.run([wrapper, "--prompt", str(SQUARES)], input="continue\n", capture_output=True, text=True,
-                             timeout=60, env={**os.environ, "PATH": f"{folder}:{os.environ['PATH']}"})
+                             timeout=600, env={**os.environ, "PATH": f"{folder}:{os.environ['PATH']}"})
     fault = missing(run.stderr, "lines are read plainly") or missing(run.stdout, "stop: end\n#88 done 30")
     if fault:
         return fault
     run = subprocess.run([wrapper, "--prompt", str(SQUARES)], input="c\nwhy\n", capture_output=True, text=True,
-                         timeout=60)
+                         timeout=600)
     return missing(run.stdout, "#88 done 30", "[1] %total = 30") or \
         ("a prompt at a pipe" if PROMPT in run.stdout else None)
 
@@ -390,7 +390,7 @@ def followed(program: str) -> str | None:
     with tempfile.TemporaryDirectory(prefix="long-") as folder:
         file = written(folder, "long.ssa", LONG.format(rounds=10_000_000))
         run = subprocess.run([sys.executable, str(TOP / "terminal" / "main"), "--debugger", program, "--", file],
-                             input="\n".join(lines), capture_output=True, text=True, timeout=100)
+                             input="\n".join(lines), capture_output=True, text=True, timeout=600)
         session = Held(program, file)
         try:
             told = session.do(lines[0])
@@ -577,9 +577,10 @@ def long_named(program: str) -> str | None:
 def patient(_program: str) -> str | None:
     """A check that takes long is waited for once, and not at each cause."""
     lookout = object.__new__(Lookout)
-    lookout.process = subprocess.Popen([sys.executable, "-c", "import time; time.sleep(60)"], stdout=subprocess.PIPE,
-                                       text=True)
-    lookout.found, lookout.patience = None, PATIENCE
+    lookout.near, lookout.far, lookout.patience = object.__new__(Check), None, PATIENCE
+    lookout.near.process = subprocess.Popen([sys.executable, "-c", "import time; time.sleep(60)"],
+                                            stdout=subprocess.PIPE, text=True)
+    lookout.near.found = None
     begun = time.monotonic()
     try:
         found = [lookout.suspicions(Timeline(1)) for _ in range(10)]
@@ -711,7 +712,7 @@ def played(folder: str, words: list[str], lines: str, shown: str, place: str) ->
     finally:
         session.close()
     wanted = f"./qrev {shlex.join(['--lower', *words])} < {script}"
-    run = subprocess.run(["bash", "-c", told], text=True, capture_output=True, cwd=TOP, timeout=60)
+    run = subprocess.run(["bash", "-c", told], text=True, capture_output=True, cwd=TOP, timeout=600)
     left_over = list(scratch.iterdir())
     return missing(run.stdout, place) or (f"{told!r} in place of {wanted!r}" if told != wanted else None) or \
         (f"status {status}, and {left_over} are left" if status or left_over else None)

@@ -41,7 +41,7 @@ class NoTerminal(Exception):
 class Terminal:
     """A command at a terminal of its own."""
 
-    def __init__(self, words: list[str], columns: int = 200, seconds: float = 30, folder: str = ".", rows: int = 40,
+    def __init__(self, words: list[str], columns: int = 200, seconds: float = 300, folder: str = ".", rows: int = 40,
                  environment: Mapping[str, str] | None = None):
         self.seconds, self.shown = seconds, ""
         self.home = tempfile.TemporaryDirectory(prefix="terminal-")

@@ -332,7 +332,7 @@ def session_fault(program: str, text: str, lines: Lines) -> str | None:
         file = pathlib.Path(folder) / "a.ssa"
         file.write_text(text)
         (pathlib.Path(folder) / "p.c").write_text(SOURCE)
-        subprocess.run([sys.executable, str(LOWER), "--link", "--output", "out.ssa", "a.ssa"], cwd=folder, timeout=60,
+        subprocess.run([sys.executable, str(LOWER), "--link", "--output", "out.ssa", "a.ssa"], cwd=folder, timeout=600,
                        stderr=subprocess.DEVNULL)
         # An entry that takes a number is given 1.
         words = ["1"] if "$main(w %n)" in text else []

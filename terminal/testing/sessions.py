@@ -192,6 +192,7 @@ ASKED: Lines = [
                             "#39 $pay @start 3  line 19: storew %t2=300, $balance",
                             "6 writes in the run from #0 to #47 done 300"]),
     ("readers $balance", ["#32 $pay @start 0", "#45 $main @end 0", "7 reads in the run from #0 to #47 done 300"]),
+    ("readers w[$balance]", ["#32 $pay @start 0", "#45 $main @end 0", "7 reads in the run from #0 to #47 done 300"]),
     ("goto 38", ["#38 $pay @start 2"]), ("when %amount == 100", ["3 times in the run from #0 to #47 done 300"]),
     ("when w[$balance] == 199", ["holds from #37, no longer from #40", "1 time in the run"]), ("p %t1", ["%t1 = 200"]),
     ("why", ["$pay was called by", "line 31: call $pay(w 100)"]), ("why call", ["$pay was called by"]),

@@ -116,7 +116,7 @@ def state_fault(shell: Shell) -> str | None:
     launch = shell.session.launch
     words = launch.command(launch.history)
     script = "".join(line + "\n" for line in [*shell.session.lines, *asked])
-    run = subprocess.run(words, input=script, capture_output=True, text=True, timeout=60)
+    run = subprocess.run(words, input=script, capture_output=True, text=True, timeout=600)
     wanted = [line for question in asked for line in shell.session.send(question)]
     told = run.stdout.split("\n")[:-1]
     if told[len(told) - len(wanted):] != wanted:
