@@ -20,7 +20,7 @@ from .sessions import FOLDER, Case, Message, is_changing
 RELAY = TOP / "editors" / "console" / "main"
 BUILT = "crates/"
 # Seconds within which an adapter ends when nobody is there any more.
-GONE = 10.0
+GONE = 60.0
 
 # A line of the console, and what is answered; behind all of them the run stands at #45.
 SQUARES = [
