@@ -224,12 +224,12 @@ def checked(programs: Programs, asked: Asked, place: pathlib.Path, out: TextIO) 
 
 def found_fully(programs: Programs, launch: Launch, table: Table, asked: Asked) -> Outcome:
     """All kinds in the first moves; and after them, if the run goes on, what the fast pass finds. A run that the fast
-    pass finds clear isn't followed."""
+    pass finds clear for as long isn't followed."""
     heap, lowered = roles_of(table.program, asked.heap, asked.has_no_heap), lowered_of(asked.file)
     if programs.full is None and knows_all(asked, table):
-        clear = clear_outcome(programs, launch, table, asked, heap)
-        if clear:
-            return clear
+        early = early_outcome(programs, launch, table, asked, heap)
+        if early:
+            return early
     full, checker = programs.full or LIMIT, None
     limit = asked.limit or full
     if limit > full and asked.may_go_on:
@@ -256,14 +256,19 @@ def knows_all(asked: Asked, table: Table) -> bool:
     return asked.kinds <= DEFAULT and fast.knows_all(table)
 
 
-def clear_outcome(programs: Programs, launch: Launch, table: Table, asked: Asked,
+def early_outcome(programs: Programs, launch: Launch, table: Table, asked: Asked,
                   heap: dict[str, str]) -> Outcome | None:
-    """The outcome of a run without a suspicion, if the fast pass finds it clear."""
-    checker, launch = programs.fast(False), replace(launch, limit=asked.limit or fast.LIMIT)
-    if not checker or not fast.is_clear(checker, launch, heap):
+    """The outcome of a run that the fast pass finds clear, or clear for longer than it would be followed."""
+    checker, there = programs.fast(False), replace(launch, limit=asked.limit or fast.LIMIT)
+    if not checker:
         return None
-    end = fast.end_of(launch)
-    return Outcome([], end.moves, end.told, end.is_over, place_number(end, table))
+    count, unsure = fast.known(checker, there, heap)
+    if count or unsure is not None and (unsure <= LIMIT or asked.has_kinds):
+        return None
+    if unsure is None:
+        end = fast.end_of(there)
+        return Outcome([], end.moves, end.told, end.is_over, place_number(end, table))
+    return replace(fast_outcome(checker, launch, table, asked), full=unsure)
 
 
 def place_number(end: fast.End, table: Table) -> int | None:

@@ -26,8 +26,8 @@ LIMIT = 100_000_000
 # How often a pulse comes, in seconds.
 PULSE = 0.1
 TOLD = re.compile(r"#(\d+) (\S+) (\S+) (\d+)  (\w+): (.*?)(?:  \((\d+) times\))?")
-# The last line of a run with nothing that another pass should look at.
-CLEAR = re.compile(r"0 suspicions in \d+ moves?, no other kinds")
+# The last line: how many suspicions there are, and at which move another pass should look, if at any.
+LAST = re.compile(r"(\d+) suspicions? in \d+ moves?, (?:no other kinds|other kinds not before #(\d+))")
 # The object that was meant: behind the distance to it, and before its size or what it is.
 MEANT = re.compile(r"(?:\bof|\bbefore|\bin) (\$\S+?)(?: %\S+)? \(|(?:\bof|\bbefore|\bin) (\$\S+), a function")
 
@@ -61,7 +61,7 @@ def lines_of(checker: str, launch: Launch, heap: Mapping[str, str] | None = None
         except BaseException:
             process.kill()
             raise
-    lines = told.splitlines()
+    lines = (launch.renaming.told(told) if launch.renaming else told).splitlines()
     if process.returncode not in (0, 3, 4, 5) or not lines:
         memory = process.returncode == 2
         raise Failed("the fast pass has run out of memory" if memory else errors.strip() or "the fast pass failed")
@@ -91,10 +91,20 @@ def knows_all(table: Table) -> bool:
         not any(place[3].operation == "call" and place[3].operands[0].text[0] not in "$%" for place in table.places)
 
 
+def known(checker: str, launch: Launch, heap: Mapping[str, str],
+          pulse: Callable[[], None] | None = None) -> tuple[int, int | None]:
+    """How many suspicions it finds in a run, and the first move that may be suspicious by another kind that is on by
+    default, if there is one. Of sections the program knows nothing."""
+    line = lines_of(checker, launch, heap, pulse)[-1]
+    last = LAST.fullmatch(line)
+    if not last:
+        raise Failed(f"the fast pass told {line!r}")
+    return int(last[1]), int(last[2]) if last[2] else None
+
+
 def is_clear(checker: str, launch: Launch, heap: Mapping[str, str]) -> bool:
-    """Whether a run has no suspicion of any kind that is on by default, except those of sections, of which the program
-    knows nothing. It may say no of a run that has none."""
-    return CLEAR.fullmatch(lines_of(checker, launch, heap)[-1]) is not None
+    """Whether a run has no suspicion of any kind that is on by default. It may say no of a run that has none."""
+    return known(checker, launch, heap) == (0, None)
 
 
 def read(lines: list[str], table: Table) -> Iterator[Suspicion]:
@@ -145,7 +155,7 @@ class End:
 
 def end_of(launch: Launch) -> End:
     """The end of a run, as the debugger prints it."""
-    pipe = Pipe(launch.command(None))
+    pipe = Pipe(launch.command(None), renaming=launch.renaming)
     try:
         moved, before = (read_moved(lines) for lines in pipe.ask("continue", "back"))
     finally:

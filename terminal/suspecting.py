@@ -2,12 +2,13 @@
 from __future__ import annotations
 
 from dataclasses import replace
+from functools import partial
 
 from check import fast
 from check.fast import add_further
 from check.following import Follower
 from check.heap import roles_of
-from check.kinds import WrongKind, chosen
+from check.kinds import DEFAULT, WrongKind, chosen
 from check.shadow import Object, Part
 from check.states import TooLong, table_of
 from check.telling import Suspicion, bits_told, object_told, origin_told, summary
@@ -22,8 +23,8 @@ from .stops import SuspicionStop
 from .timeline import Timeline
 from .waiting import Waiting
 
-# How many moves are looked at.
-MOST = 1_000_000
+# How many moves are looked at, and up to which one a run is followed if that may be suspicious.
+MOST, FARTHEST = 1_000_000, 5_000_000
 
 
 class Watched(Follower):
@@ -68,19 +69,52 @@ def followed(shell: Shell, at: Timeline, most: int, kinds: frozenset[str]) -> tu
     return follower, gathered, follower.follow(list(gathered.places), iter(gathered.values))
 
 
-def gone_on(shell: Shell, follower: Follower, kinds: frozenset[str]) -> tuple[list[Suspicion], int, str] | None:
-    """What the fast pass finds in a long run: suspicions of the kinds that it knows, of how many moves, and how the run
-    stands then. Nothing if there is no such program here."""
-    checker = fast.program(False, False)
-    if not checker or not kinds & fast.KINDS:
-        return None
+def looked_for(shell: Shell, at: Timeline, kinds: frozenset[str],
+               most: int | None) -> tuple[list[Suspicion], int, str, int | None]:
+    """The suspicions of a run, or of its first moves; of how many moves, how it stands then, and how many of these were
+    looked at for all kinds, if not all were. The fast pass says first how far it need be followed."""
+    checker = None if at.pokes or most is not None else fast.program(False, False)
+    unsure = first_unsure(shell, checker, kinds) if checker else 0
+    if checker and (unsure is None or unsure > FARTHEST):
+        return gone_on(shell, checker, kinds, [], unsure)
+    most = most or (unsure + 1 if unsure and unsure >= MOST else MOST)
+    follower, gathered, moves = followed(shell, at, most, kinds)
+    if gathered.end or not checker or not kinds & fast.KINDS:
+        return follower.suspicions(), moves, gathered.end or "and the run goes on", None
+    return gone_on(shell, checker, kinds, follower.suspicions(), most)
+
+
+def first_unsure(shell: Shell, checker: str, kinds: frozenset[str]) -> int | None:
+    """The move from which on the run has to be followed; None if it has no suspicion of the kinds that are on by
+    default, and 0 if it isn't known."""
+    try:
+        table = table_of(shell.session.program)
+        if not kinds <= DEFAULT or not fast.knows_all(table):
+            return 0
+        count, unsure = fast.known(checker, replace(shell.launch, limit=fast.LIMIT), roles_of(table.program, None),
+                                   partial(tell_far, shell.waiting))
+    except (TooLong, fast.Failed):
+        return 0
+    return 0 if count else unsure
+
+
+def gone_on(shell: Shell, checker: str, kinds: frozenset[str], found: list[Suspicion],
+            full: int | None) -> tuple[list[Suspicion], int, str, int | None]:
+    """Adds what the fast pass finds in a long run to the suspicions of its first moves, of the kinds that it knows."""
     launch = replace(shell.launch, limit=fast.LIMIT)
     try:
-        found = fast.suspicions(checker, launch, follower.table, shell.waiting.stop_if_pressed)
+        further = fast.suspicions(checker, launch, table_of(shell.session.program), partial(tell_far, shell.waiting))
         end = fast.end_of(launch)
-    except fast.Failed:
-        return None
-    return [each for each in found if each.kind in kinds], end.moves, end.told
+    except fast.Failed as error:
+        raise Refused(str(error)) from None
+    add_further(found, [each for each in further if each.kind in kinds])
+    return found, end.moves, end.told if end.is_over else "and the run goes on", full
+
+
+def tell_far(waiting: Waiting) -> None:
+    """Shows that the fast pass is at work, which can be broken off."""
+    waiting.stop_if_pressed()
+    waiting.say(f"looking at up to #{fast.LIMIT}")
 
 
 class Suspicions:
@@ -136,12 +170,7 @@ def suspects(shell: Shell, rest: str) -> None:
     except WrongKind as error:
         raise Wrong(str(error)) from None
     at = shell.session.timeline
-    follower, gathered, moves = followed(shell, at, most, kinds)
-    found, end, full = follower.suspicions(), gathered.end or "and the run goes on", None
-    if not gathered.end and words == rest.split() and not at.pokes and (gone := gone_on(shell, follower, kinds)):
-        further, moves, end = gone
-        add_further(found, further)
-        full = most
+    found, moves, end, full = looked_for(shell, at, kinds, most if words != rest.split() else None)
     shell.suspects = [at.at(each.position) for each in found]
     source, runtime = shell.screen.map.place, shell.lowered.runtime | shell.lowered.outside
     for number, each in enumerate(found, 1):

@@ -90,6 +90,13 @@ class Waiting:
             share = f" of #{target} ({100 * made // (made + left)} %, {left / rate:.0f} s left)"
         self.show(f"{what}#{position}{share}, {rate / 1e6:.1f} million moves a second; Ctrl-C stops")
 
+    def say(self, text: str) -> None:
+        """Shows what a command is at that takes over a second."""
+        now = time.monotonic()
+        if now - self.begun >= SHOWN_AFTER and now - self.shown_at >= SHOWN_EVERY and sys.stdout.isatty():
+            self.shown_at = now
+            self.show(f"{text}; Ctrl-C stops")
+
     def show(self, text: str) -> None:
         if self.told:
             self.told(text)

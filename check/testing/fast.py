@@ -45,6 +45,21 @@ export function w $main() {
 	ret 0
 }
 """
+CLEAR_FOR_LONG = """export function w $main() {
+@start
+@loop
+	%i =l phi @start 0, @loop %j
+	%j =l add %i, 1
+	%c =w csltl %j, 1700000
+	jnz %c, @loop, @end
+@end
+	%p =l alloc4 4
+	%v =w loadw %p
+	jnz %v, @other, @other
+@other
+	ret 0
+}
+"""
 STORE = ("#63 $main @loop 2  line 9: storew 1, %q\n  bounds: storew at the end of $a (40 bytes), into $b+0\n")
 # The words before the program and behind it, how many rounds there are, what is told, and the status.
 GOING_ON: list[tuple[str, list[str], list[str], int, str, int]] = [
@@ -132,6 +147,17 @@ def right_heaps_fault(program: str) -> str | None:
         return f"{wrong[0]!r}" if wrong else few_fault(program, files)
 
 
+def clear_for_long_fault(program: str) -> str | None:
+    """A run that is found clear for longer than it would be followed isn't followed: 1,700,000 rounds have three moves
+    each, one comes before, and two behind them a test of bits that nothing set."""
+    with tempfile.TemporaryDirectory(prefix="check-") as place:
+        file = pathlib.Path(place) / "long.ssa"
+        file.write_text(CLEAR_FOR_LONG)
+        ran = run(program, str(file))
+    told = "no suspicion in 5100005 moves, 5100003 of them for all kinds, done 0\n"
+    return None if (ran.returncode, ran.stdout) == (0, told) else f"{ran}"
+
+
 def going_on_fault(program: str, before: list[str], behind: list[str], rounds: int, told: str,
                    status: int) -> str | None:
     with tempfile.TemporaryDirectory(prefix="check-") as place:
@@ -153,5 +179,6 @@ def cases(program: str) -> Iterator[Case]:
     yield "clear random programs", partial(random_clear_fault, program, "clear", random_program)
     yield "clear random heaps", partial(random_clear_fault, program, "heap", heap_program)
     yield "clear right heaps", partial(right_heaps_fault, program)
+    yield "clear for long", partial(clear_for_long_fault, program)
     for name, *case in GOING_ON:
         yield f"fast {name}", partial(going_on_fault, program, *case)

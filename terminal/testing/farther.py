@@ -30,13 +30,41 @@ export function w $main() {
 """
 STORE, END = 2 + 3 * ROUNDS, 4 + 3 * ROUNDS
 TEXT = "bounds: storel at the end of $a (8 bytes), into $b+0"
+# The same with a test of bits that nothing set in the place of the store, which the fast pass doesn't report: it says
+# from where on the run should be followed.
+BEHIND = "\t%p =l add $a, 8\n\tstorel 1, %p\n\tret 0\n"
+UNSET = "\t%p =l alloc8 8\n\t%v =w loadw %p\n\tjnz %v, @other, @other\n@other\n\tret 0\n"
 
 
-def in_late(program: str, tried: Callable[[str, str], str | None]) -> str | None:
+def in_late(program: str, tried: Callable[[str, str], str | None], behind: str = BEHIND) -> str | None:
     with tempfile.TemporaryDirectory(prefix="farther-") as folder:
         file = pathlib.Path(folder) / "late.ssa"
-        file.write_text(LATE.replace("ROUNDS", str(ROUNDS)))
+        file.write_text(LATE.replace("ROUNDS", str(ROUNDS)).replace(BEHIND, behind))
         return tried(program, str(file))
+
+
+def listed_of_bits(program: str, file: str) -> str | None:
+    """A use of bits that nothing set is listed too: the run is followed up to there."""
+    session = Held(program, file)
+    try:
+        told = session.do("suspects").split("\n")[:-1]
+        wanted = [f"[1] #{STORE + 1} $main @end 2  line 13: jnz %v, @other, @other",
+                  f"1 suspicion in {END + 1} moves, {STORE + 2} of them for all kinds, done 0"]
+        return None if [told[-3], told[-1]] == wanted and "  undef: jnz of %v" in told[-2] \
+            else f"{told} in place of {wanted}"
+    finally:
+        session.close()
+
+
+def cleared(program: str, file: str) -> str | None:
+    """A long run without a suspicion is known to have none, of all kinds."""
+    session = Held(program, file)
+    try:
+        told = session.do("suspects").split("\n")[-2]
+        wanted = f"no suspicion in {END} moves, done 0"
+        return None if told == wanted else f"{told!r} in place of {wanted!r}"
+    finally:
+        session.close()
 
 
 def listed(program: str, file: str) -> str | None:
@@ -70,4 +98,6 @@ def looked_out_for(program: str, file: str) -> str | None:
 
 
 FARTHER = {"lists a late suspicion": lambda program: in_late(program, listed),
+           "lists a late use of unset bits": lambda program: in_late(program, listed_of_bits, UNSET),
+           "knows that there is none": lambda program: in_late(program, cleared, BEHIND.replace("$a, 8", "$a, 0")),
            "knows a late suspicion at the end": lambda program: in_late(program, looked_out_for)}

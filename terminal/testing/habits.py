@@ -462,10 +462,11 @@ def looked_at(program: str) -> str | None:
         session = Held(program, written(folder, "endless.ssa", ENDLESS))
         try:
             session.do("goto 900000")
-            for line in ("suspects", "break suspect", "made %i"):
+            for line, told in (("suspects", "looking at up to "), ("break suspect", "gathered up to "),
+                               ("made %i", "gathered up to ")):
                 session.type(f"{line}\n")
-                # Some of the run is gathered by then, and all of it isn't.
-                session.wait_for("gathered up to ")
+                # Some of the run is gathered or looked at by then, and all of it isn't.
+                session.wait_for(told)
                 session.type("\x03")
                 fault = missing(session.wait_for(PROMPT), "stopped by Ctrl-C")
                 if fault:
