@@ -14,7 +14,7 @@ from .sessions import FOLDER, Message
 
 LIMIT = 1_000_000
 # A run is paused within so many seconds, on a machine that does much else.
-PATIENCE = 5.0
+PATIENCE = 30.0
 # The copies of states may take 64 MiB, and the rest of the adapter not so much.
 LITTLE = 128 << 20
 
@@ -84,12 +84,24 @@ def runs_on(adapter: Copied) -> None:
     expect(adapter.is_silent(1), "it doesn't go on")
 
 
+def past_limit(adapter: Copied) -> int:
+    """Runs past the limit of moves in one go, and gives where the run is paused. A busy machine gets more time."""
+    at = 0
+    for seconds in (1, 4, 16, 64):
+        adapter.answer("continue", {"threadId": 1})
+        expect(adapter.is_silent(seconds), "it doesn't go on")
+        at = position(pause(adapter))
+        if at > LIMIT:
+            return at
+        adapter.answer("reverseContinue", {"threadId": 1})
+        expect(position(adapter.event("stopped")) == 0, f"it doesn't go back to the start from #{at}")
+    raise Wrong(f"it came to #{at} alone")
+
+
 def paused_and_back(adapter: Copied, folder: pathlib.Path, arguments: Message | None = None) -> None:
     """It goes past the limit of moves, stands where it is paused, goes back from there, and on."""
     begin(adapter, arguments)
-    runs_on(adapter)
-    at = position(pause(adapter))
-    expect(at > LIMIT, f"it came to #{at} alone")
+    at = past_limit(adapter)
     adapter.answer("stepBack", {"threadId": 1, "granularity": "instruction"})
     expect(position(adapter.event("stopped")) == at - 1, "one move back is elsewhere")
     runs_on(adapter)
@@ -156,9 +168,7 @@ def moved_while_it_runs(adapter: Copied, folder: pathlib.Path) -> None:
 def back_to_the_oldest(adapter: Copied, folder: pathlib.Path) -> None:
     """A run back goes to the oldest state that is kept."""
     begin(adapter, {"history": 1_000_000})
-    adapter.answer("continue", {"threadId": 1})
-    time.sleep(2)
-    at = position(pause(adapter))
+    at = past_limit(adapter)
     adapter.answer("reverseContinue", {"threadId": 1})
     stopped = adapter.event("stopped")
     expect(position(stopped) == at - 1_000_000 and stopped["text"].startswith("the oldest state"),
@@ -169,10 +179,7 @@ def back_to_the_oldest(adapter: Copied, folder: pathlib.Path) -> None:
 def back_to_the_start(adapter: Copied, folder: pathlib.Path) -> None:
     """If nothing is said, a run back goes to the start from wherever the run is, in little memory."""
     begin(adapter)
-    adapter.answer("continue", {"threadId": 1})
-    time.sleep(2)
-    at = position(pause(adapter))
-    expect(at > LIMIT, f"it came to #{at} alone")
+    at = past_limit(adapter)
     used = resident(adapter)
     expect(used < LITTLE, f"{used >> 20} MiB after {at} moves")
     adapter.answer("reverseContinue", {"threadId": 1})

@@ -15,8 +15,8 @@ from .sessions import FOLDER, Case
 
 ORACLE = TOP / "tests" / "oracle"
 PROGRAM = TOP / "tests" / "dap_tests" / "oracle_adapter"
-# An adapter that keeps a message back is waited for no longer.
-SECONDS = 5
+# An adapter that keeps a message back is waited for no longer; and one that has nothing planted, on a busy machine.
+SECONDS, PATIENCE = 5, 300
 
 
 class Plant(NamedTuple):
@@ -129,14 +129,14 @@ PLANTS = {
 }
 
 
-def fault_with(folder: pathlib.Path, session: str) -> str | None:
+def fault_with(folder: pathlib.Path, session: str, seconds: float) -> str | None:
     """How an adapter in a folder differs from what a session says, or None."""
     run = pathlib.Path(folder) / "run"
     run.mkdir()
     for program in [*FOLDER.glob("*.ssa"), *(TOP / "examples").glob("*.ssa")]:
         shutil.copy(program, run)
     return play(str(folder / "dap_tests" / PROGRAM.name), session, (FOLDER / f"{session}.dap").read_text(), run,
-                SECONDS)[0]
+                seconds)[0]
 
 
 def copy_into(folder: pathlib.Path) -> None:
@@ -157,7 +157,7 @@ def plant_fault(program: str, seconds: float, plant: Plant) -> str | None:
         if text.count(plant.old) != 1:
             return f"{plant.file} has {plant.old!r} {text.count(plant.old)} times"
         path.write_text(text.replace(plant.old, plant.new))
-        fault = fault_with(folder, plant.session)
+        fault = fault_with(folder, plant.session, SECONDS)
     return None if fault else f"{plant.session}.dap doesn't see it"
 
 
@@ -166,7 +166,7 @@ def sound_fault(program: str, seconds: float, session: str) -> str | None:
     with tempfile.TemporaryDirectory(prefix="dap-") as place:
         folder = pathlib.Path(place).resolve()
         copy_into(folder)
-        return fault_with(folder, session)
+        return fault_with(folder, session, PATIENCE)
 
 
 def cases() -> Iterator[Case]:

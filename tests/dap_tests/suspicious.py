@@ -45,7 +45,7 @@ NEAR = ("data $d = { w 5, w 6 }\ndata $e = { w 7 }\nexport function w $main() {\
         "\t%i =l phi @start 0, @loop %n\n\t%n =l add %i, 1\n\t%c =w cultl %n, 30000\n\tjnz %c, @loop, @end\n@end\n"
         "\t%p =l add $d, 8\n\t%x =w loadw %p\n\tjmp @on\n@on\n\tjmp @on\n}\n")
 # Seconds that a run without an end goes on before it is paused.
-WHILE = 1.0
+WHILE = 4.0
 
 
 def checked(program: str, folder: pathlib.Path, text: str, kinds: str = "default") -> list[tuple[str, str]]:
