@@ -147,6 +147,23 @@ def right_heaps_fault(program: str) -> str | None:
         return f"{wrong[0]!r}" if wrong else few_fault(program, files)
 
 
+def wrong_heap_fault(program: str) -> str | None:
+    """The program of the fast pass refuses a text whose heap has a role or a function that it doesn't know; of two
+    functions both count."""
+    checker = CHECKER[1] if CHECKER else fast_program(False, False)
+    if not checker:
+        return "there is no fast pass"
+    with tempfile.TemporaryDirectory(prefix="check-") as place:
+        file = pathlib.Path(place) / "heap.ssa"
+        file.write_text(Heaps(Random("wrong"), 0).text(10))
+        for heap, status in (("take=malloc", 0), ("take=malloc,give=free", 0), ("make=malloc", 1), ("take=nothing", 1),
+                             ("take=malloc,give", 1), ("take", 1), ("", 0)):
+            ran = subprocess.run([checker, str(file), "--heap", heap], capture_output=True, text=True, check=False)
+            if ran.returncode != status:
+                return f"{heap!r}: {ran}"
+    return None
+
+
 def clear_for_long_fault(program: str) -> str | None:
     """A run that is found clear for longer than it would be followed isn't followed: 1,700,000 rounds have three moves
     each, one comes before, and two behind them a test of bits that nothing set."""
@@ -180,5 +197,6 @@ def cases(program: str) -> Iterator[Case]:
     yield "clear random heaps", partial(random_clear_fault, program, "heap", heap_program)
     yield "clear right heaps", partial(right_heaps_fault, program)
     yield "clear for long", partial(clear_for_long_fault, program)
+    yield "fast of a wrong heap", partial(wrong_heap_fault, program)
     for name, *case in GOING_ON:
         yield f"fast {name}", partial(going_on_fault, program, *case)
