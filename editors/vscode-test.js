@@ -329,10 +329,10 @@ const tests = {
     assert.strictEqual(told.informed.pop(), "qrev: no suspicion");
     await listeners.saved(written("whole.ssa", WHOLE.replace("w dtosi", "q dtosi")));
     assert.deepStrictEqual(shown(whole.uri.fsPath).map((each) => each.slice(0, 2)), [[3, 0]]);
-    await listeners.saved(written("whole.ssa", CALLS.replace("strlen", "fopen")));
+    await listeners.saved(written("whole.ssa", CALLS.replace("strlen", "popen")));
     const [[line, severity, , said]] = shown(whole.uri.fsPath);
     assert.deepStrictEqual([line, severity], [3, 1]);
-    assert.match(said, /^\$fopen is defined nowhere/);
+    assert.match(said, /^\$popen is defined nowhere/);
     await listeners.saved(written("whole.ssa", CALLS));
     assert.deepStrictEqual(shown(whole.uri.fsPath), []);
   },
@@ -360,11 +360,13 @@ const tests = {
       assert.match(told.lists.pop().options.title, /^done 3, at #\d+, comes of$/);
       await registered.commands["qrev.prompt"]();
       assert.deepStrictEqual(told.terminals.pop().shellArgs, ["--prompt", "--lower", whole.uri.fsPath]);
-      const all = { ...launch, lower: ["other.ssa"], input: "/given", entry: "f", argv: ["a", "b"] };
+      const all = { ...launch, lower: ["other.ssa"], input: "/given", files: ["/found"], entry: "f",
+        argv: ["a", "b"] };
       vscode.debug.activeDebugSession = { ...session, configuration: all };
       await registered.commands["qrev.prompt"]();
       assert.deepStrictEqual(told.terminals.pop().shellArgs,
-        ["--prompt", "--lower", "--input", "/given", whole.uri.fsPath, "other.ssa", "--entry", "f", "--", "a", "b"]);
+        ["--prompt", "--lower", "--input", "/given", "--file", "/found", whole.uri.fsPath, "other.ssa", "--entry", "f",
+          "--", "a", "b"]);
     } finally {
       adapter.process.kill();
       follower.onExit();

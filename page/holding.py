@@ -14,6 +14,7 @@ from dataclasses import replace
 from typing import Any, Sequence
 
 from terminal.answers import read_value
+from terminal.launching import texts_of
 from terminal.lowered import lowered_of
 from terminal.scratch import KEEPING, Launch, Refused
 from terminal.session import Session
@@ -104,7 +105,8 @@ class Held:
     @property
     def title(self) -> str:
         """The program's file, or the texts that it was lowered from."""
-        return " ".join(pathlib.Path(name).name for name in self.named if name != "--lower")
+        names = texts_of(self.named[1:]) if self.named[0] == "--lower" else self.named
+        return " ".join(pathlib.Path(name).name for name in names)
 
     def command(self) -> str:
         return f"./qrev {shlex.join([*self.named, *self.launch.words, *self.texts])}"

@@ -57,9 +57,16 @@ def refusal(loaded: str, file: str, source: bytes, lowered: Sequence[str] = ()) 
     return f"{first_text(lowered) or file}: {words[1]}: {meaning_of(words[1], '')}"
 
 
+def texts_of(lowered: Sequence[str]) -> list[str]:
+    """The texts that a program was lowered from, which stand behind the files that it reads and finds."""
+    texts = list(lowered)
+    while texts[:1] in (["--input"], ["--file"]):
+        del texts[:2]
+    return texts
+
+
 def first_text(lowered: Sequence[str]) -> str:
-    """The first of the texts that a program was lowered from, perhaps after the file that it reads."""
-    return next(iter(lowered[2:] if lowered[:1] == ["--input"] else lowered), "")
+    return next(iter(texts_of(lowered)), "")
 
 
 def has_streams() -> bool:

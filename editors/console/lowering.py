@@ -18,7 +18,7 @@ LOWER = TOP / "lower" / "qrev-lower"
 # Where texts of the runtime stand in a map, and where they are.
 RUNTIME = "lower/runtime/"
 # The members of a launch that are for what stands between an editor and the adapter. A map is that of the text before.
-OWN = frozenset(("lower", "input", "argv", "check"))
+OWN = frozenset(("lower", "input", "files", "argv", "check"))
 # Makes a folder and tells its path; takes it away when the end of the input comes, also where nobody asks for that.
 KEEPS = """trap '' HUP INT TERM
 folder=$(mktemp -d "${TMPDIR:-/tmp}/qrev-XXXXXX") || exit
@@ -48,6 +48,7 @@ class Wanted:
     is_asked: bool | None = None
     files: tuple[str, ...] = ()
     input: str | None = None
+    found: tuple[str, ...] = ()
     texts: tuple[str, ...] | None = None
     has_numbers: bool = False
     map: str | None = None
@@ -66,6 +67,7 @@ class Wanted:
         """The words of qrev-lower, which runs in the folder."""
         return ["--link", f"--entry={self.entry}", f"--output={output}",
                 *([] if self.input is None else [f"--input={self.input}"]),
+                *(f"--file={file}" for file in self.found),
                 *([] if self.has_numbers else [f"--argv={self.name}"]),
                 *map(as_file, (os.path.basename(self.program), *self.files)),
                 *([] if self.texts is None else ["--arguments", *self.texts])]
@@ -73,7 +75,8 @@ class Wanted:
     def command_line(self) -> tuple[str, str]:
         """The words with which `qrev` lowers the same: those instead of the program, and those after all others."""
         files = (self.program, *(self.path(file) for file in self.files))
-        words = ["--lower", *([] if self.input is None else ["--input", self.path(self.input)]), *files]
+        given = [*([] if self.input is None else [("--input", self.input)]), *(("--file", file) for file in self.found)]
+        words = ["--lower", *(word for name, file in given for word in (name, self.path(file))), *files]
         return shlex.join(words), "" if self.texts is None else " " + shlex.join(["--", *self.texts])
 
     def path(self, file: str) -> str:
@@ -94,12 +97,15 @@ def wanted_of(launch: dict[str, Any]) -> Wanted | None:
         raise BadLaunch("lower: no flag and no list of paths")
     if "input" in launch and not (isinstance(given, str) and given):
         raise BadLaunch("input: no path")
+    found = launch.get("files", [])
+    if not (isinstance(found, list) and are_texts(found)):
+        raise BadLaunch("files: no list of paths")
     texts = launch.get("argv")
     if "argv" in launch and not (isinstance(texts, list) and are_texts(texts, may_be_empty=True)):
         raise BadLaunch("argv: no list of texts")
     if "check" in launch and not isinstance(launch["check"], bool) and launch["check"] != "strict":
         raise BadLaunch('check: no flag and no "strict"')
-    implied = [name for name in ("input", "argv") if name in launch]
+    implied = [name for name in ("input", "files", "argv") if name in launch]
     if implied and lower is False:
         raise BadLaunch(f"{implied[0]}: not without lowering")
     if texts is not None and launch.get("args"):
@@ -108,7 +114,7 @@ def wanted_of(launch: dict[str, Any]) -> Wanted | None:
     if not isinstance(program, str) or not isinstance(entry, str) or "map" in launch and not isinstance(named, str):
         return None
     is_asked = True if implied or isinstance(lower, list) else lower
-    return Wanted(program, entry, is_asked, tuple(files), given, None if texts is None else tuple(texts),
+    return Wanted(program, entry, is_asked, tuple(files), given, tuple(found), None if texts is None else tuple(texts),
                   bool(launch.get("args")), named)
 
 
@@ -183,7 +189,7 @@ class Lowering:
 
     def __init__(self, wanted: Wanted) -> None:
         for file in (wanted.program, *map(wanted.path, wanted.files),
-                     *([] if wanted.input is None else [wanted.path(wanted.input)])):
+                     *([] if wanted.input is None else [wanted.path(wanted.input)]), *map(wanted.path, wanted.found)):
             if "\0" in file or os.path.isdir(file) or not os.access(file, os.R_OK):
                 raise BadLaunch(f"cannot read {file}")
         self.wanted, self.folder, self.is_over = wanted, Folder(), False

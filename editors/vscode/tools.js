@@ -202,9 +202,10 @@ async function needsLowering(context, file) {
 // The words of `qrev` for a text, and for what a launch says of it.
 async function wordsOf(context, file, launch) {
   const files = Array.isArray(launch.lower) ? launch.lower : [];
-  const isAsked = launch.lower || launch.input || launch.argv;
+  const isAsked = launch.lower || launch.input || launch.files || launch.argv;
   const lower = launch.lower !== false && (isAsked || await needsLowering(context, file)) ? ["--lower"] : [];
-  return [...lower, ...(launch.input ? ["--input", launch.input] : []), file, ...files, ...(launch.args || []).map(String),
+  return [...lower, ...(launch.input ? ["--input", launch.input] : []),
+    ...(launch.files || []).flatMap((name) => ["--file", name]), file, ...files, ...(launch.args || []).map(String),
     ...(launch.entry ? ["--entry", launch.entry] : []), ...(launch.argv ? ["--", ...launch.argv] : [])];
 }
 

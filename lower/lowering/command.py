@@ -12,6 +12,7 @@ from terminal.reading.tree import Text
 
 from .arguments import give_arguments, give_input, takes_texts
 from .ends import has_ends, is_named, wrapped
+from .files import files_found, give_files
 from .linking import Program
 from .meanings import meanings_of
 from .reader import TextReader
@@ -41,6 +42,9 @@ def options() -> Parser:
     parser.add_argument("--output", "-o", metavar="FILE", help="write the text there, and the map beside it")
     parser.add_argument("--map", metavar="FILE", help="write the map there")
     parser.add_argument("--input", metavar="FILE", help="what the program reads")
+    parser.add_argument("--file", metavar="FILE", action="append", default=[],
+                        help="a file that the program finds by this name; those that its words or its texts name, it "
+                        "finds anyway")
     parser.add_argument("--argv", metavar="NAME", help="the name of the program in argv, which an entry of argc and "
                         "argv is given without --arguments, too")
     parser.add_argument("--arguments", metavar="WORD", nargs=argparse.REMAINDER,
@@ -72,12 +76,14 @@ class Lowering:
     """One run: the texts in, the text and its map out."""
 
     def __init__(self, texts: list[Text], entry: str, is_linked: bool, words: list[str] | None = None,
-                 input_bytes: bytes = b"", name: str | None = None):
+                 input_bytes: bytes = b"", name: str | None = None, files: list[str] | None = None):
         """`words` are the arguments of the entry as texts, without the name of the program. If that is given and they
-        aren't, an entry that takes texts has no other."""
+        aren't, an entry that takes texts has no other. `files` are those that it was given."""
         self.report, self.is_linked = Report(), is_linked
         self.program = Program(texts, self.report)
         give_input(self.program.runtime, input_bytes)
+        if self.program.opens_files:
+            give_files(self.program.runtime, files_found(texts, words or [], files or [], self.report))
         self.entry = self.entry_symbol("$" + entry)
         if is_linked and self.entry is None:
             raise Refused(texts[0].path, 1, f"no text exports a function ${entry}")
@@ -179,7 +185,7 @@ def main(words: list[str]) -> int:
     try:
         input_bytes = pathlib.Path(given.input).read_bytes() if given.input is not None else b""
         lowering = Lowering([read_text(path) for path in given.files], given.entry, given.link, given.arguments,
-                            input_bytes, given.argv)
+                            input_bytes, given.argv, given.file)
         write_all(lowering, given.output, given.map)
     except Refused as refused:
         print(refused, file=sys.stderr)

@@ -11,6 +11,7 @@ from terminal.reading.tree import Block, Call, Data, Definition, Function, Text,
 from .calls_of_system import ANSWERED, CALLERS, told
 from .ends import EXIT, FINALIZED, Ends, uses_finalizers
 from .families import HEAP_NAMES, Families, calls_of, constant, stored_data
+from .files import ANSWERED_WITH_FILES, opens_files
 from .names import Names
 from .report import Report, Weight
 from .runtime import Runtime
@@ -27,7 +28,8 @@ class Program:
 
     def __init__(self, texts: list[Text], report: Report):
         self.report = report
-        self.runtime = Runtime()
+        self.opens_files = opens_files(texts)
+        self.runtime = Runtime(self.opens_files)
         self.names = Names()
         self.kept: dict[Symbol, None] = {}
         self.exported: dict[str, Symbol] = {}
@@ -66,7 +68,8 @@ class Program:
         symbol = unit.scope.get(raw)
         if symbol is None:
             symbol = self.exported.get(raw) if unit.is_runtime and raw in HEAP_NAMES else None
-            symbol = symbol or unit.own.get(raw) or self.resolve_beyond(unit, raw)
+            is_covered = unit.is_runtime and self.runtime.is_covered(raw)
+            symbol = symbol or (None if is_covered else unit.own.get(raw)) or self.resolve_beyond(unit, raw)
             symbol = self.replaced.get(symbol, symbol)
             unit.scope[raw] = symbol
         return symbol
@@ -191,6 +194,7 @@ class Program:
 
     def note_calls_of_system(self) -> None:
         """A note for each call of the system that can be reached, by a number that isn't answered."""
+        answered = ANSWERED_WITH_FILES if self.opens_files else ANSWERED
         for user in self.reached:
             if not isinstance(user.definition, Function) or user.is_of_runtime():
                 continue
@@ -200,7 +204,7 @@ class Program:
                 if isinstance(target, str) and target in CALLERS and call.arguments and \
                         self.resolve(unit, target).is_of_runtime():
                     number = constant(user.definition, call.arguments[0][1])
-                    if number is not None and number not in ANSWERED:
+                    if number is not None and number not in answered:
                         self.report.note(unit.text.path, call.line, told(number), Weight.OTHER)
 
     def weight_in(self, symbol: Symbol) -> Weight:

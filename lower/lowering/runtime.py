@@ -1,6 +1,9 @@
 """The runtime: texts of the language itself in the folder runtime/. Only the needed ones are read.
 
 A function whose last parameter is `%cells` takes variadic arguments: the address of their cells, of 8 bytes each.
+
+The texts of runtime/files/ are for programs that open files. They stand over the others: a name that both have is
+theirs, and `$plain.NAME` is that of the others.
 """
 import pathlib
 import re
@@ -12,6 +15,7 @@ from .reader import TextReader
 from .symbols import Signature, Symbol, Unit, signature_of
 
 FOLDER = pathlib.Path(__file__).resolve().parent.parent / "runtime"
+OF_FILES, PLAIN = FOLDER / "files", "$plain."
 EXPORTED = re.compile(rf"^export (?:function (?:[a-z]+ )?|data )(\${NAME})", re.MULTILINE)
 ENCODING = "latin-1"
 # What functions take and give that are about floats: in the runtime these are their bits. Each name has a sister for
@@ -46,17 +50,31 @@ def is_offered(name: str) -> bool:
 class Runtime:
     """Which text has which function, and the texts that were read."""
 
-    def __init__(self) -> None:
+    def __init__(self, has_files: bool) -> None:
         self.texts: dict[pathlib.Path, str] = {}
         self.places: dict[str, pathlib.Path] = {}
+        self.plain: dict[str, pathlib.Path] = {}
         self.units: dict[pathlib.Path, Unit] = {}
-        for path in sorted(FOLDER.glob("*.ssa")):
+        self.read(FOLDER)
+        if has_files:
+            self.plain = dict(self.places)
+            self.read(OF_FILES)
+
+    def read(self, folder: pathlib.Path) -> None:
+        for path in sorted(folder.glob("*.ssa")):
             self.texts[path] = path.read_bytes().decode(ENCODING)
             for name in EXPORTED.findall(self.texts[path]):
                 self.places[name] = path
 
     def symbol(self, name: str) -> Symbol:
+        if name.startswith(PLAIN):
+            name = "$" + name.removeprefix(PLAIN)
+            return self.unit(self.plain[name]).own[name]
         return self.unit(self.places[name]).own[name]
+
+    def is_covered(self, name: str) -> bool:
+        """Whether a text of the files has a name that another has, too."""
+        return name in self.plain and self.plain[name] != self.places[name]
 
     def offered(self, name: str) -> Symbol | None:
         """What texts are offered by a name: functions and data of C and of Hare's runtime. Other names with a dot are
@@ -65,7 +83,7 @@ class Runtime:
 
     def unit(self, path: pathlib.Path) -> Unit:
         if path not in self.units:
-            text = TextReader(self.texts[path], f"lower/runtime/{path.name}").read()
+            text = TextReader(self.texts[path], f"lower/runtime/{path.relative_to(FOLDER)}").read()
             unit = Unit(text, True)
             for definition in text.definitions:
                 signature = None

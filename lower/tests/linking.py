@@ -117,7 +117,7 @@ TWICE = """
 function w $idle() {
 @start
 	%a =w call $sprintf(l 0, l 0, ..., w 1)
-	%b =w call $fopen(l 0, l 0)
+	%b =w call $popen(l 0, l 0)
 	ret %a
 }
 export function w $main() {

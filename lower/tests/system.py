@@ -34,7 +34,7 @@ export function w $main() {
 	call $tell(l %r)
 	%t =l loadl $times
 	call $tell(l %t)
-	%r =l call $rt.syscall4(l 257, l -100, l $one, l 0, l 0)
+	%r =l call $rt.syscall3(l 41, l 2, l 1, l 0)
 	call $tell(l %r)
 	%r =l call $rt.syscall3(l 16, l 1, l 21505, l $times)
 	call $tell(l %r)
@@ -280,7 +280,7 @@ def families(running: Running) -> Results:
 def results(running: Running) -> Results:
     yield from families(running)
     yield "system/calls", fault(running, {"a.ssa": CALLS}, "exit 7", CALLS_OUTPUT,
-                                note="call 257 (openat) of the system isn't there: it answers -38 (ENOSYS)")
+                                note="call 41 (socket) of the system isn't there: it answers -38 (ENOSYS)")
     yield "system/calls of C", fault(running, {"a.ssa": CALLS}, "exit 7", CALLS_OUTPUT, note="call 318 (getrandom)")
     for seed in range(4):
         yield f"system/a heap of its own {seed}", own_heap_fault(running, seed)

@@ -23,7 +23,7 @@ data $n = { b "x.txt", b 0 }
 function l $open(l %name, w %k) {
 @start
 	%m =w add %k, 3
-	%f =l call $fopen(l %name, w %m)
+	%f =l call $popen(l %name, w %m)
 	ret %f
 }
 export function w $main() {
@@ -34,11 +34,11 @@ export function w $main() {
 }
 """
 ABSENT_LINES: Lines = [
-    ("c", ["stop: end\n#4 halted in $fopen, which isn't there\n  source: a.ssa:6\n"]),
+    ("c", ["stop: end\n#4 halted in $popen, which isn't there\n  source: a.ssa:6\n"]),
     ("why",
-     ["halted in $fopen, which isn't there, at #4, comes of\n  #2 $open @start 1", "[2] %m = 7  -> %a2 of $fopen"]),
-    ("why 2", ["%m = 7 was set by\n", "%m =w add %k, 3"]), ("back", ["#3 $fopen @is.not.there 0"]),
-    ("c", ["halted in $fopen, which isn't there"]), ("temps", ["%a2 = 7"]),
+     ["halted in $popen, which isn't there, at #4, comes of\n  #2 $open @start 1", "[2] %m = 7  -> %a2 of $popen"]),
+    ("why 2", ["%m = 7 was set by\n", "%m =w add %k, 3"]), ("back", ["#3 $popen @is.not.there 0"]),
+    ("c", ["halted in $popen, which isn't there"]), ("temps", ["%a2 = 7"]),
 ]
 
 FREED = """

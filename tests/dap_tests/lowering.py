@@ -40,6 +40,18 @@ function d $half(d %x) {
 	ret %z
 }
 """
+# Opens the file that its first word names, and gives its second byte.
+OPENS = """data $mode = { b "r", b 0 }
+export function w $main(w %argc, l %argv) {
+@start
+	%place =l add %argv, 8
+	%name =l loadl %place
+	%file =l call $fopen(l %name, l $mode)
+	%a =w call $fgetc(l %file)
+	%b =w call $fgetc(l %file)
+	ret %b
+}
+"""
 # Calls of the C library alone keep this from being a text of the debugger.
 LENGTH = """data $word = { b "four", b 0 }
 export function w $main() {
@@ -101,7 +113,7 @@ export function w $main() {
 }
 """
 TEXTS = {"floats": FLOATS, "length": LENGTH, "prints": PRINTS, "reads": READS, "echoes": ECHOES, "uses": USES,
-         "behind": BEHIND, "endless": ENDLESS, "wrong": FLOATS.replace("w dtosi", "q dtosi"),
+         "opens": OPENS, "behind": BEHIND, "endless": ENDLESS, "wrong": FLOATS.replace("w dtosi", "q dtosi"),
          "large": FLOATS.replace("\t%c", "\t%p =w loadw $big\n\t%c")
          + "\n# It is too large.\ndata $big = { z 2000000 }\n",
          # What is wrong here both refuse.
@@ -291,6 +303,18 @@ def reads(at: Lowering) -> None:
     expect(at.outputs("stdout") == ["ba"], "it writes otherwise")
 
 
+def finds(at: Lowering) -> None:
+    """A file that a launch gives, and one that a word of the program names."""
+    (at.folder / "found").write_bytes(b"x\377y")
+    at.begin("opens.ssa", files=["found"], argv=["found"])
+    at.goes("continue", "done 255")
+    (at.folder / "found").write_bytes(b"xz")
+    again = at.console.answer("restart", {"arguments": {"program": str(at.folder / "opens.ssa"), "argv": ["found"]}})
+    expect(again["success"], f"{again}")
+    at.configure()
+    at.goes("continue", "done 122")
+
+
 def words(at: Lowering) -> None:
     """The texts of a main with argc and argv, after the name of the program, as after `--` at the prompt."""
     at.begin("echoes.ssa", argv=["a", "", "b c", "--", "\u00e9"])
@@ -417,6 +441,9 @@ def wrong_members(at: Lowering) -> None:
         ({"lower": 1}, no_list), ({"lower": "yes"}, no_list), ({"lower": [1]}, no_list),
         ({"lower": [""]}, no_list),
         ({"lower": None}, no_list), ({"input": 1}, "input: no path"), ({"input": ""}, "input: no path"),
+        ({"files": "a"}, "files: no list of paths"), ({"files": [""]}, "files: no list of paths"),
+        ({"files": ["nowhere"]}, f"cannot read {nowhere}"),
+        ({"lower": False, "files": []}, "files: not without lowering"),
         ({"argv": "a"}, "argv: no list of texts"), ({"argv": [1]}, "argv: no list of texts"),
         ({"argv": ["a\0b"]}, "argv: no list of texts"), ({"check": "loose"}, 'check: no flag and no "strict"'),
         ({"check": 1}, 'check: no flag and no "strict"'),
@@ -458,18 +485,18 @@ def looked_at(at: Lowering) -> None:
 
 def outside(at: Lowering) -> None:
     """What the prompt writes on standard error before a session is shown in the console."""
-    (at.folder / "opens.ssa").write_text(LENGTH.replace("strlen", "fopen"))
-    at.launch("opens.ssa", client="vscode")
-    said = at.prompt("--lower", "opens.ssa").stderr
-    expect("opens.ssa:4: $fopen is defined nowhere" in said, f"the prompt says {said}")
-    expect(at.next_event("output")["output"] == LOWERED.format("opens.ssa"), "it isn't told that it was lowered")
+    (at.folder / "outside.ssa").write_text(LENGTH.replace("strlen", "popen"))
+    at.launch("outside.ssa", client="vscode")
+    said = at.prompt("--lower", "outside.ssa").stderr
+    expect("outside.ssa:4: $popen is defined nowhere" in said, f"the prompt says {said}")
+    expect(at.next_event("output")["output"] == LOWERED.format("outside.ssa"), "it isn't told that it was lowered")
     told = at.next_event("output")
-    path = str(at.folder / "opens.ssa")
-    expect(told == {"category": "console", "output": said, "line": 4, "source": {"name": "opens.ssa", "path": path}},
+    path = str(at.folder / "outside.ssa")
+    expect(told == {"category": "console", "output": said, "line": 4, "source": {"name": "outside.ssa", "path": path}},
            f"the console was told {told}")
     at.next_event("initialized")
     at.configure()
-    at.goes("continue", "halted in $fopen, which isn't there")
+    at.goes("continue", "halted in $popen, which isn't there")
 
 
 def sources(at: Lowering) -> None:
@@ -673,7 +700,7 @@ def by_the_definitions(at: Lowering) -> Fault:
 
 CASES: dict[str, Callable[[Lowering], Fault]] = {
     "floats": floats, "steps": steps, "relative paths": relative, "the C library": library,
-    "as at the prompt": as_at_the_prompt, "linked files": linked, "input": reads, "words": words,
+    "as at the prompt": as_at_the_prompt, "linked files": linked, "input": reads, "files": finds, "words": words,
     "a name of its own": own_name, "plain texts": plain, "restarted": restarted, "refused": refused,
     "wrong members": wrong_members, "looked at": looked_at, "functions from outside": outside,
     "sources": sources, "recorded": recorded, "checked": checked, "checked, with links": check_links,
