@@ -32,6 +32,8 @@ class Lowered:
     stores: dict[int, str] = field(default_factory=dict)
     # The old names of temporaries and labels that have new ones.
     renamed: dict[str, str] = field(default_factory=dict)
+    # The data with the table of files, and that with the address of its end.
+    files: dict[str, str] = field(default_factory=dict)
     # The classes of each function's parameters.
     parameters: dict[str, list[str]] = field(default_factory=dict)
 
@@ -51,6 +53,8 @@ class Lowered:
             self.stores[int(words[0])] = words[1]
         elif kind == "name":
             self.renamed[words[0]] = words[1]
+        elif kind == "files":
+            self.files[words[1]] = words[0]
 
     def halted_in(self, function: str) -> str | None:
         """How a run ended that was halted in a function which isn't the program's own."""

@@ -11,6 +11,7 @@ Each line is a kind and words, with tabulators between:
     data $x OFFSET C COUNT    floats in data, from an offset on
     stored LINE C             a line of the text, whose store writes a constant of a float
     name NEW OLD              a temporary or a label that is written by a shorter name, in all functions
+    files $x WHAT             of the files that a program opens: their table, or the address of its end
 """
 from collections.abc import Iterator
 from typing import TYPE_CHECKING
@@ -19,6 +20,7 @@ from terminal.reading.instructions import FLOATS, WITH_RESULT
 from terminal.reading.tree import Data, Function, Instruction
 
 from .data import size_of
+from .files import FILES, FILES_END
 from .functions import FLOAT_CALLS
 from .symbols import Symbol
 
@@ -51,6 +53,8 @@ def told_data(symbol: Symbol, data: Data) -> Iterator[str]:
     """The floats of an object, those of one class on end together."""
     if symbol.is_of_runtime():
         yield line("runtime", symbol.name)
+        if symbol.raw in (FILES, FILES_END):
+            yield line("files", symbol.name, "table" if symbol.raw == FILES else "end")
     at = 0
     runs: list[tuple[int, str, int]] = []
     for item in data.items:

@@ -41,6 +41,31 @@ ABSENT_LINES: Lines = [
     ("c", ["halted in $popen, which isn't there"]), ("temps", ["%a2 = 7"]),
 ]
 
+# `no.txt` is looked for in vain; `out.txt` is written, and read again.
+WRITES = """
+data $none = { b "no.txt", b 0 }
+data $n = { b "out.txt", b 0 }
+data $w = { b "w", b 0 }
+data $r = { b "r", b 0 }
+data $t = { b "one\\ntwo \\377", b 0 }
+export function w $main() {
+@start
+	%no =l call $fopen(l $none, l $r)
+	%f =l call $fopen(l $n, l $w)
+	%x =w call $fputs(l $t, l %f)
+	%x =w call $fclose(l %f)
+	%g =l call $fopen(l $n, l $r)
+	%c =w call $fgetc(l %g)
+	ret %c
+}
+"""
+WRITES_LINES: Lines = [
+    ("files", ["no files"]), ("c", ["done 111"]), ("files", ["out.txt: 9 bytes at ", ", 1 stream open"]),
+    ("files ./out.txt", ['9 bytes\n0  "one\\n"\n4  "two \\377"']), ("files no.txt", ["no.txt: no such file here"]),
+    ("files out.txt /nowhere/x", ["/nowhere/x: No such file or directory"]),
+    ("files 'a", ["files: No closing quotation"]),
+    ("files out.txt /dev/null", ["9 bytes are in /dev/null"]), ("goto 0", ["#0 $main"]), ("files", ["no files"]),
+]
 FREED = """
 export function w $main() {
 @start
@@ -369,7 +394,8 @@ CONSTANTS_LINES: Lines = [
     ("why 1", ["%v =d loadd %p"]), ("why 1", ["stored d_2.5, %p"]), ("back", []), ("why w %q", ["stores s_0.1, %q"]),
 ]
 
-SESSIONS = {"constants": (CONSTANTS, CONSTANTS_LINES), "absent": (ABSENT, ABSENT_LINES), "freed": (FREED, FREED_LINES),
+SESSIONS = {"constants": (CONSTANTS, CONSTANTS_LINES), "absent": (ABSENT, ABSENT_LINES),
+            "writes": (WRITES, WRITES_LINES), "freed": (FREED, FREED_LINES),
             "nowhere": (NOWHERE, NOWHERE_LINES), "signal": (SIGNAL, SIGNAL_LINES),
             "floats": (FLOATS, FLOATS_LINES), "singles": (SINGLES, SINGLES_LINES), "called": (CALLED, CALLED_LINES),
             "chain of floats": (chain(OPERATIONS), CHAIN_LINES), "short names": (large(), LARGE_LINES),
