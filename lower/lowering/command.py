@@ -13,6 +13,7 @@ from terminal.reading.tree import Text
 from .arguments import give_arguments, give_input, takes_texts
 from .ends import has_ends, is_named, wrapped
 from .files import files_found, give_files
+from .jumps import Jumps
 from .linking import Program
 from .meanings import meanings_of
 from .reader import TextReader
@@ -98,6 +99,7 @@ class Lowering:
             self.program.keep_from(self.entry)
         else:
             self.keep_all()
+        Jumps(self.program).write(self.entry)
         self.program.give_names()
         self.report.count("functions that are called before the entry", len(self.program.ends.first))
         self.count_dropped(texts)

@@ -70,6 +70,175 @@ export function w $main() {
 STRINGS_OUTPUT = "5 -1 0 1 0 -1 2 0 5 hello\n6 0 1 AAAAAAAAAAA\nhell4 0 A65 "
 
 
+# What no other test calls: variadic functions by their lists, and functions of the system.
+OTHERS = """
+data $f = { b "%d-%s|", b 0 }
+data $n = { b "%ld ", b 0 }
+data $sf = { b "%d %4s", b 0 }
+data $in = { b "42 word", b 0 }
+data $to = { z 64 }
+data $word = { z 16 }
+data $num = { z 8 }
+data $place = { z 8 }
+data $a = { b "abcdef", b 0 }
+data $b = { b "abd", b 0 }
+data $dig = { b " -900000000000x", b 0 }
+data $vec = { l $a 3 $b 2 }
+data $tv = { l 5 5 }
+data $line = { z 8 }
+data $size = { z 8 }
+function $tell(l %x) {
+@start
+	%c =w call $printf(l $n, ..., l %x)
+	ret
+}
+function w $say(l %fmt, ...) {
+@start
+	%ap =l alloc8 24
+	vastart %ap
+	%c =w call $vprintf(l %fmt, l %ap)
+	%out =l loadl $stdout
+	%ap2 =l alloc8 24
+	vastart %ap2
+	%c =w call $vfprintf(l %out, l %fmt, l %ap2)
+	%ap3 =l alloc8 24
+	vastart %ap3
+	%d =w call $vsprintf(l $to, l %fmt, l %ap3)
+	%x =w call $puts(l $to)
+	%ap4 =l alloc8 24
+	vastart %ap4
+	%d =w call $vsnprintf(l $to, l 4, l %fmt, l %ap4)
+	%dl =l extsw %d
+	call $tell(l %dl)
+	%x =w call $puts(l $to)
+	%ap5 =l alloc8 24
+	vastart %ap5
+	%e =w call $vasprintf(l $place, l %fmt, l %ap5)
+	%p =l loadl $place
+	%x =w call $puts(l %p)
+	call $free(l %p)
+	ret %c
+}
+function w $take(l %text, l %fmt, ...) {
+@start
+	%ap =l alloc8 24
+	vastart %ap
+	%c =w call $vsscanf(l %text, l %fmt, l %ap)
+	ret %c
+}
+function w $take.input(l %fmt, ...) {
+@start
+	%ap =l alloc8 24
+	vastart %ap
+	%c =w call $vscanf(l %fmt, l %ap)
+	ret %c
+}
+function w $take.stream(l %fmt, ...) {
+@start
+	%ap =l alloc8 24
+	vastart %ap
+	%in =l loadl $stdin
+	%c =w call $vfscanf(l %in, l %fmt, l %ap)
+	ret %c
+}
+export function w $main() {
+@start
+	%c =w call $say(l $f, ..., w 7, l $b)
+	%x =w call $take(l $in, l $sf, ..., l $num, l $word)
+	%v =w loadw $num
+	%vl =l extsw %v
+	call $tell(l %vl)
+	%x =w call $puts(l $word)
+	%x =w call $take.input(l $sf, ..., l $num, l $word)
+	%v =w loadw $num
+	%vl =l extsw %v
+	call $tell(l %vl)
+	%x =w call $puts(l $word)
+	%x =w call $take.stream(l $sf, ..., l $num, l $word)
+	%v =w loadw $num
+	%vl =l extsw %v
+	call $tell(l %vl)
+	%x =w call $puts(l $word)
+	%in =l loadl $stdin
+	%g =w call $getc(l %in)
+	%gl =l extsw %g
+	call $tell(l %gl)
+	%d =l call $getdelim(l $line, l $size, w 59, l %in)
+	call $tell(l %d)
+	%p =l loadl $line
+	%x =w call $puts(l %p)
+	%x =w call $dprintf(w 1, l $f, ..., w 9, l $a)
+	%q =l call $atoll(l $dig)
+	call $tell(l %q)
+	%p =l call $strndup(l $a, l 3)
+	%x =w call $puts(l %p)
+	%o =w call $strcoll(l $a, l $b)
+	%o =w csltw %o, 0
+	%ol =l extsw %o
+	call $tell(l %ol)
+	%w =l call $writev(w 1, l $vec, w 2)
+	call $tell(l %w)
+	%w =l call $syscall(l 1, ..., l 1, l $b, l 2)
+	call $tell(l %w)
+	%w =l call $syscall(l 20, ..., l 2, l $vec, l 1)
+	call $tell(l %w)
+	%i =w call $isatty(w 0)
+	%il =l extsw %i
+	call $tell(l %il)
+	%i =w call $getpid()
+	%il =l extsw %i
+	call $tell(l %il)
+	%i =w call $getppid()
+	%il =l extsw %i
+	call $tell(l %il)
+	%t =w call $gettimeofday(l $tv, l 0)
+	%t1 =l loadl $tv
+	call $tell(l %t1)
+	%t =w call $clock_gettime(w 0, l $tv)
+	%t1 =l loadl $tv
+	call $tell(l %t1)
+	%k =l call $clock()
+	call $tell(l %k)
+	call $srandom(w 5)
+	%k =l call $random()
+	call $tell(l %k)
+	%tab =l call $__ctype_b_loc()
+	%tab1 =l loadl %tab
+	%at =l add %tab1, 130
+	%bits =w loaduh %at
+	%bl =l extuw %bits
+	call $tell(l %bl)
+	%i =w call $kill(w 1, w 0)
+	%il =l extsw %i
+	call $tell(l %il)
+	%i =w call $mprotect(l $a, l 1, w 0)
+	%out =l loadl $stdout
+	call $setbuf(l %out, l 0)
+	%br =l call $sbrk(l 0)
+	%more =l add %br, 100
+	%i =w call $brk(l %more)
+	%il =l extsw %i
+	call $tell(l %il)
+	storel 5, %br
+	call $_Exit(w 3)
+	hlt
+}
+"""
+OTHERS_INPUT = "11 abcdefg 22 xyz!bytes;rest"
+# The number of `random` is that of the GNU C library behind srandom(5), and 54536 is what its table of characters says
+# of `A`.
+OTHERS_OUTPUT = "7-abd|7-abd|7-abd|\n6 7-a\n7-abd|\n42 word\n11 abcd\n11 abcd\n101 16 fg 22 xyz!bytes;\n" \
+    "9-abcdef|-900000000000 abc\n1 abcab5 ab2 abc3 0 1 0 0 0 0 590011675 54536 0 0 "
+
+
+def others_fault(running: Running) -> str | None:
+    lowered = running.lower({"a.ssa": OTHERS}, "--link", "--input", "in", beside={"in": OTHERS_INPUT})
+    if lowered.status or lowered.errors:
+        return f"status {lowered.status}: {lowered.errors!r}"
+    run = running.run(lowered.text)
+    return differ("end", "exit 3", run.end) or differ("output", OTHERS_OUTPUT, run.output)
+
+
 # The calls that Hare's compiler makes of its own runtime; a slice of two words grows to three.
 HARE = """
 data $text = { b "hello" }
@@ -318,6 +487,7 @@ def texts_fault(running: Running) -> str | None:
 
 def results(running: Running) -> Results:
     yield "runtime/texts", texts_fault(running)
+    yield "runtime/others", others_fault(running)
     lowered = running.lower_here(STRINGS)
     if isinstance(lowered, str):
         yield "runtime/strings", lowered
