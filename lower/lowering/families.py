@@ -23,6 +23,8 @@ HEAP = (
     "$malloc $calloc $realloc $free $reallocarray $aligned_alloc $posix_memalign $memalign $malloc_usable_size".split(),
     "$rt.malloc $rt.calloc $rt.realloc $rt.free".split())
 HEAP_NAMES = frozenset(HEAP[0] + HEAP[1])
+# What the runtime makes of its own heap alone, so that it isn't there beside a malloc of the text's own.
+OF_ONE_HEAP = frozenset("$aligned_alloc $posix_memalign $memalign $malloc_usable_size".split())
 # What gives memory of the system.
 MAPPING = frozenset(("$mmap", "$brk", "$sbrk", "$syscall", "$rt.syscall1", "$rt.syscall6"))
 # A mapping of more bytes isn't given twice, and a number above the other is no size.

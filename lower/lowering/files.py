@@ -27,13 +27,22 @@ MOST_FOUND = 1 << 18
 NAME = re.compile(r"[\x20-\x7e]{1,255}")
 
 
+def named_outside(texts: list[Text]) -> set[str]:
+    """What the texts name and none of them defines."""
+    own = {definition.name for text in texts for definition in text.definitions}
+    return {raw for text in texts for definition in text.definitions for raw in references(definition)} - own
+
+
+def sets_signals(texts: list[Text]) -> bool:
+    return "$signal" in named_outside(texts)
+
+
 def opens_files(texts: list[Text]) -> bool:
     """Whether a program names what opens files, and has no such function of its own."""
-    own = {definition.name for text in texts for definition in text.definitions}
-    named = {raw for text in texts for definition in text.definitions for raw in references(definition)}
-    if OPENING & named - own:
+    named = named_outside(texts)
+    if OPENING & named:
         return True
-    return not own & CALLERS and any(calls_to_open(definition) for text in texts for definition in text.definitions)
+    return bool(CALLERS & named) and any(calls_to_open(definition) for text in texts for definition in text.definitions)
 
 
 def calls_to_open(definition: Data | Function) -> bool:

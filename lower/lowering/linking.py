@@ -10,8 +10,8 @@ from terminal.reading.tree import Block, Call, Data, Definition, Function, Text,
 
 from .calls_of_system import ANSWERED, CALLERS, told
 from .ends import EXIT, FINALIZED, Ends, uses_finalizers
-from .families import HEAP_NAMES, Families, calls_of, constant, stored_data
-from .files import ANSWERED_WITH_FILES, opens_files
+from .families import HEAP_NAMES, OF_ONE_HEAP, Families, calls_of, constant, stored_data
+from .files import ANSWERED_WITH_FILES, opens_files, sets_signals
 from .names import Names
 from .report import Report, Weight
 from .runtime import Runtime
@@ -29,14 +29,14 @@ class Program:
     def __init__(self, texts: list[Text], report: Report):
         self.report = report
         self.opens_files = opens_files(texts)
-        self.runtime = Runtime(self.opens_files)
+        self.runtime = Runtime(["files"] * self.opens_files + ["signals"] * sets_signals(texts))
         self.names = Names()
         self.kept: dict[Symbol, None] = {}
         self.exported: dict[str, Symbol] = {}
         self.outside: dict[str, Symbol] = {}
         self.built_in = {raw: Symbol(raw, None, None, signature, True, raw) for raw, signature in BUILT_IN.items()}
-        self.units = [self.unit_of(text) for text in texts]
         self.replaced: dict[Symbol, Symbol] = {}
+        self.units = [self.unit_of(text) for text in texts]
         # The data of a text that is stored to by its name.
         self.stored: dict[Unit, set[str]] = {}
         # What can be reached from the entry; without an entry all.
@@ -77,12 +77,19 @@ class Program:
     def resolve_beyond(self, unit: Unit, raw: str) -> Symbol:
         if unit.is_runtime:
             return self.built_in.get(raw) or self.runtime.symbol(raw)
-        found = self.exported.get(raw) or self.runtime.offered(raw) or self.built_in.get(raw)
+        found = self.exported.get(raw)
+        if found is None and not (raw in OF_ONE_HEAP and self.has_own_heap()):
+            found = self.runtime.offered(raw) or self.built_in.get(raw)
         if raw == EXIT and found is self.built_in[EXIT] and self.uses_finalizers:
             found = self.runtime.symbol(FINALIZED)
         if found is None:
             found = self.outside.setdefault(raw, Symbol(raw, None, None, None))
         return found
+
+    def has_own_heap(self) -> bool:
+        """Whether the blocks are those of a malloc of the texts."""
+        own = self.exported.get("$malloc")
+        return own is not None and own not in self.replaced
 
     def refer(self, unit: Unit, raw: str, as_address: bool) -> Symbol:
         """What a name stands for where it isn't called for its effect alone."""

@@ -2,8 +2,8 @@
 
 A function whose last parameter is `%cells` takes variadic arguments: the address of their cells, of 8 bytes each.
 
-The texts of runtime/files/ are for programs that open files. They stand over the others: a name that both have is
-theirs, and `$plain.NAME` is that of the others.
+The texts of its folders are for programs that open files, or that set what a signal calls. They stand over the others:
+a name that both have is theirs, and `$plain.NAME` is that of the others.
 """
 import pathlib
 import re
@@ -15,7 +15,7 @@ from .reader import TextReader
 from .symbols import Signature, Symbol, Unit, signature_of
 
 FOLDER = pathlib.Path(__file__).resolve().parent.parent / "runtime"
-OF_FILES, PLAIN = FOLDER / "files", "$plain."
+PLAIN = "$plain."
 EXPORTED = re.compile(rf"^export (?:function (?:[a-z]+ )?|data )(\${NAME})", re.MULTILINE)
 ENCODING = "latin-1"
 # What functions take and give that are about floats: in the runtime these are their bits. Each name has a sister for
@@ -50,15 +50,15 @@ def is_offered(name: str) -> bool:
 class Runtime:
     """Which text has which function, and the texts that were read."""
 
-    def __init__(self, has_files: bool) -> None:
+    def __init__(self, folders: list[str]) -> None:
         self.texts: dict[pathlib.Path, str] = {}
         self.places: dict[str, pathlib.Path] = {}
         self.plain: dict[str, pathlib.Path] = {}
         self.units: dict[pathlib.Path, Unit] = {}
         self.read(FOLDER)
-        if has_files:
-            self.plain = dict(self.places)
-            self.read(OF_FILES)
+        self.plain = dict(self.places)
+        for folder in folders:
+            self.read(FOLDER / folder)
 
     def read(self, folder: pathlib.Path) -> None:
         for path in sorted(folder.glob("*.ssa")):
@@ -73,7 +73,7 @@ class Runtime:
         return self.unit(self.places[name]).own[name]
 
     def is_covered(self, name: str) -> bool:
-        """Whether a text of the files has a name that another has, too."""
+        """Whether a text of a folder has a name that another has, too."""
         return name in self.plain and self.plain[name] != self.places[name]
 
     def offered(self, name: str) -> Symbol | None:

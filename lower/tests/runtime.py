@@ -239,6 +239,142 @@ def others_fault(running: Running) -> str | None:
     return differ("end", "exit 3", run.end) or differ("output", OTHERS_OUTPUT, run.output)
 
 
+# Functions that other C libraries have, by their manuals; the numbers of rand_r are those of the GNU C library.
+SMALL = """
+data $f = { b "%ld ", b 0 }
+data $a = { b "abcdef", b 0 }
+data $to = { z 32 }
+data $p = { z 8 }
+data $seed = { w 7 }
+function $tell(l %x) {
+@start
+	%c =w call $printf(l $f, ..., l %x)
+	ret
+}
+function $tell.w(w %x) {
+@start
+	%y =l extsw %x
+	call $tell(l %y)
+	ret
+}
+function $handler(w %s) {
+@start
+	call $tell.w(w %s)
+	ret
+}
+export function w $main() {
+@start
+	%b =l call $signal(w 10, l $handler)
+	call $tell(l %b)
+	%r =w call $raise(w 10)
+	call $tell.w(w %r)
+	%b =l call $signal(w 10, l 1)
+	%is =w ceql %b, $handler
+	call $tell.w(w %is)
+	%r =w call $raise(w 10)
+	%r =w call $raise(w 17)
+	%b =l call $signal(w 9, l 1)
+	call $tell(l %b)
+	%q =l call $memalign(l 64, l 10)
+	%rest =l and %q, 63
+	call $tell(l %rest)
+	%u =l call $malloc_usable_size(l %q)
+	call $tell(l %u)
+	call $free(l %q)
+	%e =w call $posix_memalign(l $p, l 24, l 5)
+	call $tell.w(w %e)
+	%e =w call $posix_memalign(l $p, l 4096, l 8)
+	call $tell.w(w %e)
+	%q =l loadl $p
+	%rest =l and %q, 4095
+	call $tell(l %rest)
+	storel 77, %q
+	%q =l call $reallocarray(l %q, l 10, l 10)
+	%v =l loadl %q
+	call $tell(l %v)
+	%z =l call $reallocarray(l %q, l 4294967296, l 4294967296)
+	call $tell(l %z)
+	%n =l call $strlcpy(l $to, l $a, l 4)
+	call $tell(l %n)
+	%x =w call $puts(l $to)
+	%n =l call $strlcat(l $to, l $a, l 6)
+	call $tell(l %n)
+	%x =w call $puts(l $to)
+	%n =l call $strlcat(l $to, l $a, l 3)
+	call $tell(l %n)
+	%n =l call $strlcpy(l $to, l $a, l 0)
+	call $tell(l %n)
+	%n =l call $memccpy(l $to, l $a, w 99, l 6)
+	%o =l sub %n, $to
+	call $tell(l %o)
+	%n =l call $memccpy(l $to, l $a, w 122, l 6)
+	call $tell(l %n)
+	%w =w call $ffs(w 48)
+	call $tell.w(w %w)
+	%w =w call $ffsl(l 0)
+	call $tell.w(w %w)
+	%w =w call $ffsll(l -9223372036854775808)
+	call $tell.w(w %w)
+	%w =w call $isascii(w 200)
+	call $tell.w(w %w)
+	%w =w call $toascii(w 200)
+	call $tell.w(w %w)
+	%w =w call $rand_r(l $seed)
+	call $tell.w(w %w)
+	%w =w call $rand_r(l $seed)
+	call $tell.w(w %w)
+	%n =l call $sysconf(w 30)
+	call $tell(l %n)
+	%n =l call $sysconf(w 5000)
+	call $tell(l %n)
+	%w =w call $nanosleep(l 0, l 0)
+	call $tell.w(w %w)
+	%n =l call $rindex(l $a, w 99)
+	%o =l sub %n, $a
+	call $tell(l %o)
+	%r =w call $raise(w 15)
+	ret 0
+}
+"""
+SMALL_OUTPUT = "0 10 0 1 -1 0 16 22 0 0 77 0 6 abc\n9 abcab\n9 6 3 0 5 0 64 0 72 1187592820 153898277 4096 -1 0 2 "
+# A text's own heap, whose blocks the runtime's functions don't know.
+OWN_HEAP = """
+data $next = { l $room }
+data $room = { z 400 }
+export function l $malloc(l %size) {
+@start
+	%block =l loadl $next
+	%behind =l add %block, %size
+	storel %behind, $next
+	ret %block
+}
+export function $free(l %block) {
+@start
+	ret
+}
+export function w $main() {
+@start
+	%a =l call $malloc(l 8)
+	%b =l call $aligned_alloc(l 64, l 8)
+	call $free(l %b)
+	ret 0
+}
+"""
+
+
+def small_faults(running: Running) -> Results:
+    for name, text, end, output in (("small", SMALL, "fault halted", SMALL_OUTPUT),
+                                    ("a text's own heap", OWN_HEAP, "fault halted", "")):
+        lowered = running.lower_here(text)
+        if isinstance(lowered, str):
+            yield f"runtime/{name}", lowered
+        else:
+            run = running.run(lowered.text)
+            yield f"runtime/{name}", differ("end", end, run.end) or differ("output", output, run.output)
+    quiet = SMALL.replace("\t%r =w call $raise(w 15)\n", "")
+    yield "runtime/no suspicion in small ones", running.suspicion(quiet)
+
+
 # The calls that Hare's compiler makes of its own runtime; a slice of two words grows to three.
 HARE = """
 data $text = { b "hello" }
@@ -488,6 +624,7 @@ def texts_fault(running: Running) -> str | None:
 def results(running: Running) -> Results:
     yield "runtime/texts", texts_fault(running)
     yield "runtime/others", others_fault(running)
+    yield from small_faults(running)
     lowered = running.lower_here(STRINGS)
     if isinstance(lowered, str):
         yield "runtime/strings", lowered
