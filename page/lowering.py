@@ -39,5 +39,6 @@ class Lowering:
         floats = {table.temporaries[place]: cls for place, cls in lowered.floats.items() if place in table.temporaries}
         return {"others": others, "halted": {name: lowered.halted_in(name) for name in others}, "floats": floats,
                 "stores": lowered.stores,
+                "cells": {" ".join(map(str, place)): cls for place, cls in lowered.cells.items()},
                 "data": {data.name: lowered.data[data.name] for data in program.data if data.name in lowered.data},
                 "copying": [name for name in others if name.split(".")[-1].lstrip("$") in COPYING]}

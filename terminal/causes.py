@@ -225,7 +225,9 @@ class Causes:
             return []
         begin = self.operand_value(name, at)
         count = min(allocations_of(self.program, place.function).get(name, 0) // 8, MOST_CELLS)
-        return [] if begin is None else [self.memory(begin + 8 * index, 8, at) for index in range(count)]
+        return [] if begin is None else [
+            self.memory(begin + 8 * index, 8, at, self.lowered.cells.get((place.function, name, index), ""))
+            for index in range(count)]
 
     # Functions of the runtime, which count as instructions.
 

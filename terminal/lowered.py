@@ -28,6 +28,8 @@ class Lowered:
     floats: dict[tuple[str, str], str] = field(default_factory=dict)
     # The floats of an object: where they begin, their class and their number.
     data: dict[str, list[tuple[int, str, int]]] = field(default_factory=dict)
+    # The floats among the cells for arguments behind dots: by function, the address of its cells, and number.
+    cells: dict[tuple[str, str, int], str] = field(default_factory=dict)
     # The lines of the text whose stores write constants of floats, with their classes.
     stores: dict[int, str] = field(default_factory=dict)
     # The old names of temporaries and labels that have new ones.
@@ -49,6 +51,8 @@ class Lowered:
             self.floats[words[0], words[1]] = words[2]
         elif kind == "data":
             self.data.setdefault(words[0], []).append((int(words[1]), words[2], int(words[3])))
+        elif kind == "cell":
+            self.cells[words[0], words[1], int(words[2])] = words[3]
         elif kind == "stored":
             self.stores[int(words[0])] = words[1]
         elif kind == "name":

@@ -23,6 +23,8 @@ class CallWriter:
         self.origin: tuple[int, Place | None] = (self.function.line, None)
         # Parameters that are copied: the name, the type, and the parameter that it came by.
         self.copies: list[tuple[str, str, str]] = []
+        # The cells with doubles: the name of all cells of a call, and the number of one.
+        self.doubles: list[tuple[str, int]] = []
         # Memory that the function takes once: the name, the instruction, and the bytes.
         self.slots: list[tuple[str, str, int]] = []
         self.made = 0
@@ -231,6 +233,8 @@ class CallWriter:
                 self.note("an aggregate behind dots: its bytes lie in cells", Weight.OTHER)
                 at += -(-size // 8) * 8
                 continue
+            if kind == "d":
+                self.doubles.append((cells, at // 8))
             whole = self.operand(value) if carried_class(kind) == "l" else self.extended(kind, value)
             self.emit(f"\tstorel {whole}, {place}")
             at += 8

@@ -23,6 +23,8 @@ FIND_FILE, FILES, FILES_END = "$file.named", "$files", "$files.end"
 RECORD, FREE_RECORDS = 40, 32
 # Files that nobody gave by name are taken up to so many bytes.
 MOST_FOUND = 1 << 18
+# No text has more bytes, nor has its data.
+MOST_BYTES = 1 << 20
 # What may be the name of a file, in the data of a text.
 NAME = re.compile(r"[\x20-\x7e]{1,255}")
 
@@ -73,8 +75,8 @@ def files_found(texts: list[Text], words: list[str], given: list[str], report: R
             continue
         size = os.path.getsize(name)
         if size > left:
-            report.note(texts[0].path, 1, f"{name} has {size} bytes, so the program doesn't find it: --file {name} "
-                        "gives it all the same", Weight.APART)
+            way = f": --file {name} gives it all the same" if size < MOST_BYTES // 2 else ""
+            report.note(texts[0].path, 1, f"{name} has {size} bytes, so the program doesn't find it{way}", Weight.APART)
             continue
         found[name] = pathlib.Path(name).read_bytes()
         left -= size

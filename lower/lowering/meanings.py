@@ -9,6 +9,7 @@ Each line is a kind and words, with tabulators between:
     result $f C               a function that gives a float: s or d
     float $f %x C             a temporary that holds a float
     data $x OFFSET C COUNT    floats in data, from an offset on
+    cell $f %x N C            a float in a cell of memory for arguments behind dots, by the address of the first cell
     stored LINE C             a line of the text, whose store writes a constant of a float
     name NEW OLD              a temporary or a label that is written by a shorter name, in all functions
     files $x WHAT             of the files that a program opens: their table, or the address of its end
@@ -89,7 +90,9 @@ def meanings_of(chunks: list["Chunk"], renamed: dict[str, str]) -> str:
             told.append(line("outside", chunk.symbol.name))
         elif isinstance(definition, Function):
             told += told_function(chunk.symbol, definition)
-            told += told_stores(chunk, definition, before) if not chunk.symbol.is_of_runtime() else ()
+            if not chunk.symbol.is_of_runtime():
+                told += told_stores(chunk, definition, before)
+                told += (line("cell", chunk.symbol.name, cells, number, "d") for cells, number in chunk.doubles)
         else:
             told += told_data(chunk.symbol, definition)
         before += len(chunk.texts)

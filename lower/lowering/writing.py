@@ -1,6 +1,6 @@
 """Writes a program: the text that qrev runs, and beside it the map that says where each line comes from."""
 import os
-from dataclasses import dataclass
+from dataclasses import dataclass, field
 
 from terminal.reading.tree import Data, Item, Place
 
@@ -25,12 +25,14 @@ PAGE = 4096
 
 @dataclass(slots=True)
 class Chunk:
-    """The lines of a definition, and of each the line and the place that it comes from; its path."""
+    """The lines of a definition, and of each the line and the place that it comes from; its path; its cells with
+    doubles."""
 
     symbol: Symbol
     texts: list[str]
     origins: list[tuple[int, Place | None]]
     path: str
+    doubles: list[tuple[str, int]] = field(default_factory=list)
 
 
 class ProgramWriter:
@@ -91,7 +93,7 @@ class ProgramWriter:
     def write_function(self, symbol: Symbol, report: Report) -> None:
         writer = FunctionWriter(self.program, self.adapters, symbol, report)
         writer.write(self.program.ends if symbol is self.entry else None)
-        self.chunks.append(Chunk(symbol, writer.texts, writer.origins, symbol.home().text.path))
+        self.chunks.append(Chunk(symbol, writer.texts, writer.origins, symbol.home().text.path, writer.doubles))
 
     def write_outside(self, symbol: Symbol) -> None:
         """A function that halts, of the shape of its first call."""

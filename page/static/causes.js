@@ -105,7 +105,8 @@ export class Causes {
     if (begin === null) return [];
     const made = this.program.table.slice(func.entry, func.last).find(({instruction}) => instruction.result === name);
     const count = Math.min(Math.floor(Number(made.instruction.operands[0][0]) / 8), MOST_CELLS);
-    return Array.from({length: count}, (_, index) => this.bytes(Number(begin) + 8 * index, 8, move));
+    return Array.from({length: count}, (_, index) => this.bytes(Number(begin) + 8 * index, 8, move, undefined,
+      this.program.floatCells[`${func.name} ${name} ${index}`]));
   }
 
   /** Where the innermost frame belongs to the runtime: the move by which the program calls it, and the function that it calls;

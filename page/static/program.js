@@ -93,6 +93,7 @@ export class Program {
     for (const [id, cls] of Object.entries(lowered?.floats ?? {})) this.widths[id] = cls;
     this.copying = new Set(lowered?.copying ?? []);
     this.floatStores = lowered?.stores ?? {};
+    this.floatCells = lowered?.cells ?? {};
   }
 
   /** Whether a function, or data, isn't the program's own. */

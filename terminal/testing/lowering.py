@@ -179,7 +179,7 @@ FLOATS_LINES: Lines = [
     ("p %r", ["%r = 3.0"]), ("back", []), ("poke s $table+16 2.5", []), ("p s[$table+16]", ["= 2.5"]), ("back", []),
     ("c", ["done 1"]), ("why w $to", ["stored by $memcpy, called at\n", "[1] w $text+0 = "]),
     ("why 1", ["so since the start: line 2, $text"]), ("why --inside w $to", ["$copy.up"]),
-    ("why out 2", ["was written by $printf, called at\n", "[2] l frame 0 $main alloc %.cells.1+0"]),
+    ("why out 2", ["was written by $printf, called at\n", "[2] d frame 0 $main alloc %.cells.1+0 = "]),
     ("why 2", ["stored %r, %.cells.1"]), ("goto why", []), ("bt", ["stored %r, %.cells.1"]),
     ("when %r > 1.3", ["1 time"]), ("writers l $table", [f"%r={SUM!r}"]),
 ]
