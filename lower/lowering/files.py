@@ -8,6 +8,7 @@ import re
 
 from terminal.reading.tree import Call, Data, Function, Item, Text
 
+from .aliases import OTHERS
 from .calls_of_system import ANSWERED, CALLERS
 from .report import Report, Weight
 from .runtime import ENCODING, Runtime
@@ -32,7 +33,8 @@ NAME = re.compile(r"[\x20-\x7e]{1,255}")
 def named_outside(texts: list[Text]) -> set[str]:
     """What the texts name and none of them defines."""
     own = {definition.name for text in texts for definition in text.definitions}
-    return {raw for text in texts for definition in text.definitions for raw in references(definition)} - own
+    named = {raw for text in texts for definition in text.definitions for raw in references(definition)} - own
+    return {OTHERS.get(raw, raw) for raw in named}
 
 
 def sets_signals(texts: list[Text]) -> bool:

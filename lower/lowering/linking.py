@@ -8,6 +8,7 @@ from collections.abc import Iterable
 from terminal.reading.refusals import Refused
 from terminal.reading.tree import Block, Call, Data, Definition, Function, Text, Value
 
+from .aliases import OTHERS
 from .calls_of_system import ANSWERED, CALLERS, told
 from .ends import EXIT, FINALIZED, Ends, uses_finalizers
 from .families import HEAP_NAMES, OF_ONE_HEAP, Families, calls_of, constant, stored_data
@@ -78,6 +79,8 @@ class Program:
         if unit.is_runtime:
             return self.built_in.get(raw) or self.runtime.symbol(raw)
         found = self.exported.get(raw)
+        if found is None and raw in OTHERS:
+            return self.resolve_beyond(unit, OTHERS[raw])
         if found is None and not (raw in OF_ONE_HEAP and self.has_own_heap()):
             found = self.runtime.offered(raw) or self.built_in.get(raw)
         if raw == EXIT and found is self.built_in[EXIT] and self.uses_finalizers:

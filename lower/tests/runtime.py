@@ -337,6 +337,56 @@ export function w $main() {
 }
 """
 SMALL_OUTPUT = "0 10 0 1 -1 0 16 22 0 0 77 0 6 abc\n9 abcab\n9 6 3 0 5 0 64 0 72 1187592820 153898277 4096 -1 0 2 "
+# By the names that headers of C libraries give them, and the tables behind tolower and toupper.
+ALIASES = """
+data $f = { b "%ld ", b 0 }
+data $t = { b "12 0x1f z", b 0 }
+data $sf = { b "%d %i %c", b 0 }
+data $a = { z 8 }
+data $b = { z 8 }
+data $c = { z 8 }
+data $x = { b "ab", b 0 }
+data $y = { b "ac", b 0 }
+function $tell(w %x) {
+@start
+	%y =l extsw %x
+	%c =w call $printf(l $f, ..., l %y)
+	ret
+}
+export function w $main() {
+@start
+	%n =w call $__isoc99_sscanf(l $t, l $sf, ..., l $a, l $b, l $c)
+	call $tell(w %n)
+	%v =w loadw $b
+	call $tell(w %v)
+	%v =l call $__isoc23_strtol(l $t, l $a, w 0)
+	%w =w copy %v
+	call $tell(w %w)
+	%o =l loadl $stdout
+	%r =w call $putc_unlocked(w 65, l %o)
+	%r =w call $putchar_unlocked(w 66)
+	%r =w call $bcmp(l $x, l $y, l 2)
+	%s =w csltw %r, 0
+	call $tell(w %s)
+	%tab =l call $__ctype_toupper_loc()
+	%p =l loadl %tab
+	%at =l add %p, 388
+	%v =w loadw %at
+	call $tell(w %v)
+	%tab =l call $__ctype_tolower_loc()
+	%p =l loadl %tab
+	%at =l add %p, 260
+	%v =w loadw %at
+	call $tell(w %v)
+	%at =l sub %p, 4
+	%v =w loadw %at
+	call $tell(w %v)
+	%at =l sub %p, 512
+	%v =w loadw %at
+	call $tell(w %v)
+	ret 0
+}
+"""
 # A text's own heap, whose blocks the runtime's functions don't know.
 OWN_HEAP = """
 data $next = { l $room }
@@ -364,6 +414,7 @@ export function w $main() {
 
 def small_faults(running: Running) -> Results:
     for name, text, end, output in (("small", SMALL, "fault halted", SMALL_OUTPUT),
+                                    ("other names", ALIASES, "done 0", "3 31 12 AB1 65 97 -1 128 "),
                                     ("a text's own heap", OWN_HEAP, "fault halted", "")):
         lowered = running.lower_here(text)
         if isinstance(lowered, str):
