@@ -83,7 +83,8 @@ class Wrapper:
         self.top, self.running = pathlib.Path(place), running
         shutil.copy(TOP / "qrev", self.top / "qrev")
         (self.top / "lower").symlink_to(FOLDER)
-        (self.top / "check").symlink_to(TOP / "check")
+        for name in ("check", "terminal", "page"):
+            (self.top / name).symlink_to(TOP / name)
         (self.top / "release").mkdir()
         shutil.copy(TOP / "release" / "program", self.top / "release" / "program")
         (self.top / "release" / "qrev-x86_64-linux").symlink_to(running.program)
@@ -96,6 +97,44 @@ class Wrapper:
         return subprocess.run([str(self.top / "qrev"), *words], input=script, capture_output=True, text=True,
                               cwd=self.top,
                               timeout=self.running.seconds, env=os.environ | {"TMPDIR": str(self.top / "tmp")})
+
+
+# 1.5 + 2 is 3.5, of which 3 is left.
+WHOLE = """export function w $main() {
+@start
+	%a =d add d_1.5, d_2
+	%c =w dtosi %a
+	ret %c
+}
+"""
+
+
+def unasked_faults(wrapper: Wrapper) -> Results:
+    """What is lowered without --lower: at the prompt, for a check and for a page, and not for a script."""
+    (wrapper.top / "whole.ssa").write_text(WHOLE)
+    (wrapper.top / "half.ssa").write_text(WHOLE.replace("%c\n}", "%d\n}"))
+    (wrapper.top / "wrong.q.ssa").write_text(WHOLE.replace("=d add", "=q add"))
+    run = wrapper.run("--check", "whole.ssa")
+    yield "command/a check lowers", differ("end", (0, ", done 3\n", ""),
+                                           (run.returncode, run.stdout[-9:], run.stderr))
+    run = wrapper.run("--prompt", "whole.ssa", script="c\n")
+    yield "command/the prompt lowers", differ(
+        "end", (True, "whole.ssa is of whole QBE: it was lowered, and is shown by its own lines\n"),
+        (" done 3\n" in run.stdout, run.stderr))
+    run = wrapper.run("--page", "--export", "out.html", "whole.ssa")
+    yield "command/a page lowers", differ("status", (0, True), (run.returncode, (wrapper.top / "out.html").exists()))
+    run = wrapper.run("whole.ssa")
+    yield "command/a script doesn't lower", differ("run", (1, "refused: P2 line 3\n"), (run.returncode, run.stdout))
+    for words in (["echo.ssa", "--", "a"], ["a.ssa", "b.ssa", "42"]):
+        run = wrapper.run("--check", *words)
+        yield f"command/a check lowers {words}", None if run.returncode == 0 and " done " in run.stdout else \
+            f"{run.stdout!r}, {run.stderr!r}"
+    run = wrapper.run("--check", "half.ssa")
+    yield "command/a check of what neither takes", differ(
+        "run", (1, "half.ssa:5: %d is used in `ret`, and nothing defines it\n"), (run.returncode, run.stderr))
+    run = wrapper.run("--prompt", "wrong.q.ssa")
+    yield "command/the prompt of what is no QBE", differ(
+        "run", (1, True, ""), (run.returncode, run.stdout.startswith("wrong.q.ssa:3: P1: "), run.stderr))
 
 
 def wrapper_faults(running: Running) -> Results:
@@ -133,6 +172,7 @@ def wrapper_faults(running: Running) -> Results:
             run = wrapper.run(*words)
             told = f"qrev: {words[-1]} comes before the program and all other words: ./qrev {words[-1]} FILE\n"
             yield f"command/{words}", differ("run", (64, "", told), (run.returncode, run.stdout, run.stderr))
+        yield from unasked_faults(wrapper)
         (wrapper.top / "read.ssa").write_text(READ)
         (wrapper.top / "given").write_bytes(b"Q\xff")
         for words in (["--input", "given", "read.ssa"], ["read.ssa", "--input=given", "--report"]):
@@ -220,7 +260,6 @@ def compared_faults(running: Running) -> Results:
 
 def page_fault(wrapper: Wrapper) -> str | None:
     """Both texts are shown by their own names, until the server is ended."""
-    (wrapper.top / "page").symlink_to(TOP / "page")
     words = [str(wrapper.top / "qrev-compare"), "--page", "--lower", "good.ssa", "bad.ssa"]
     environment = os.environ | {"TMPDIR": str(wrapper.top / "tmp")}
     for name in ("DISPLAY", "WAYLAND_DISPLAY", "BROWSER", "WSL_DISTRO_NAME"):
