@@ -254,13 +254,14 @@ def compared_faults(running: Running) -> Results:
             written = "".join(f"{word}|" for word in ["echo", *texts.split()[1:]]) + "\n"
             yield f"command/compare --lower with texts for main {texts}", differ(
                 "told", (0, f"same {len(written)} events\n"), (told.returncode, told.stdout))
-        yield "command/compare --page --lower", page_fault(wrapper)
+        for words in (["--lower"], []):
+            yield f"command/compare --page {' '.join(words)}", page_fault(wrapper, words)
         yield "command/compare --lower leaves nothing", differ("files", [], list((wrapper.top / "tmp").iterdir()))
 
 
-def page_fault(wrapper: Wrapper) -> str | None:
+def page_fault(wrapper: Wrapper, before: list[str]) -> str | None:
     """Both texts are shown by their own names, until the server is ended."""
-    words = [str(wrapper.top / "qrev-compare"), "--page", "--lower", "good.ssa", "bad.ssa"]
+    words = [str(wrapper.top / "qrev-compare"), "--page", *before, "good.ssa", "bad.ssa"]
     environment = os.environ | {"TMPDIR": str(wrapper.top / "tmp")}
     for name in ("DISPLAY", "WAYLAND_DISPLAY", "BROWSER", "WSL_DISTRO_NAME"):
         environment.pop(name, None)
