@@ -254,8 +254,8 @@ def compared_faults(running: Running) -> Results:
             written = "".join(f"{word}|" for word in ["echo", *texts.split()[1:]]) + "\n"
             yield f"command/compare --lower with texts for main {texts}", differ(
                 "told", (0, f"same {len(written)} events\n"), (told.returncode, told.stdout))
-        for words in (["--lower"], []):
-            yield f"command/compare --page {' '.join(words)}", page_fault(wrapper, words)
+        for before in ("--lower", ""):
+            yield f"command/compare --page {before}", page_fault(wrapper, before.split())
         yield "command/compare --lower leaves nothing", differ("files", [], list((wrapper.top / "tmp").iterdir()))
 
 
