@@ -46,7 +46,7 @@ place_front (n ∷ ns) ms x k e = front_step (bytes_eq n x) (place_of ns x) (pla
 
 -- ---- data lie high, functions low
 
-start_high : {A : Type 0} (at : ℕ) (d : Data A) (ds : List (Data A)) → fault_from at (d ∷ ds) ≡ None → (at ≤ start_of at d) × (fault_from (end_of at d) ds ≡ None)
+pub start_high : {A : Type 0} (at : ℕ) (d : Data A) (ds : List (Data A)) → fault_from at (d ∷ ds) ≡ None → (at ≤ start_of at d) × (fault_from (end_of at d) ds ≡ None)
 start_high at d ds none =
     let both = unreported d (object_fault at d) (fault_from (end_of at d) ds) none in
     let fits = neither (is_alignment (align_of d)) (nat_lt data_limit (end_of at d)) both.0 in

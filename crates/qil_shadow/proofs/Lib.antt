@@ -1,6 +1,12 @@
 -- Lemmas.
 pub mod WordLemmas
 pub mod ByNameLemmas
+pub mod StartLemmas
+pub mod ParamLemmas
+pub mod ReadLemmas
+pub mod StartObjects
+pub mod KeptLemmas
+pub mod TwiceLemmas
 pub mod StoreLemmas
 mod Rows
 pub mod MemoryLemmas

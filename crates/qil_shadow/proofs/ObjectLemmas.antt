@@ -12,7 +12,7 @@ use Rattle.std.specs.Option.{option_or}
 use Rattle.std.proofs.lemmas.List.Elements.{recursion_from_All, All-from_recursion}
 use Rattle.qil_shadow.specs.declared.object.Object.{Object}
 use Rattle.qil_shadow.specs.Numbered.{has_bytes}
-use Rattle.qil_shadow.specs.Table.{ObjectTable, is_living, has_one, has_byte, object_at, ends_with, IsFixed, IsBelow, IsWithin, IsStacked, living_from, IsTable, Lacks, HasFound}
+use Rattle.qil_shadow.specs.Table.{ObjectTable, is_living, has_one, has_byte, object_at, ends_with, IsFixed, IsLow, IsBelow, IsWithin, IsStacked, living_from, IsTable, Lacks, HasFound}
 
 -- ---- lists
 
@@ -161,9 +161,9 @@ living-push (o ∷ os) n x lives =
 
 -- ---- the table
 
-pub table_object : (all : List Object) (fixed : ℕ) (living starts : List ℕ) (apart : Bool) (x : Object) → IsTable all fixed living starts apart → x.ended ≡ None
+pub table_object : (all : List Object) (fixed : ℕ) (living starts : List ℕ) (apart : Bool) (x : Object) → IsTable all fixed living starts apart → x.ended ≡ None → IsLow x
     → All (λ o. IsBelow o x) (drop fixed all) → IsTable (all ++ x ∷ []) fixed (living ++ length all ∷ []) starts apart
-table_object all fixed living starts apart x table lives above =
+table_object all fixed living starts apart x table lives low above =
     let more : drop fixed (all ++ x ∷ []) ≡ drop fixed all ++ x ∷ [] = drop-append-le fixed all (x ∷ []) table.within in
     let front : take fixed (all ++ x ∷ []) ≡ take fixed all = take-append-le fixed all (x ∷ []) table.within in
     let is : is_living x ≡ true = ap is_none lives in
@@ -174,6 +174,7 @@ table_object all fixed living starts apart x table lives above =
       numbers = ap (λ ns. ns ++ length all ∷ []) table.numbers ∙ ap (λ m. living_from fixed (drop fixed all) ++ m ∷ []) (sym at) ∙ sym (living-push (drop fixed all) fixed x is) ∙ ap (living_from fixed) (sym more);
       stacked = subst IsStacked (sym more) (stacked-push (drop fixed all) x table.stacked (recursion_from_All (λ o. IsBelow o x) (drop fixed all) above));
       apart = table.apart;
+      low = each_push IsLow all x table.low low;
     }
 
 -- ---- what ends
@@ -208,6 +209,7 @@ last_of all fixed before starts apart last d p one table is within =
         numbers = sym (r.gone x dead) ∙ ap (living_from fixed) (sym moved);
         stacked = subst IsStacked (sym moved) (stacked-set (drop fixed all) r.at x dead table.stacked);
         apart = table.apart;
+        low = each_set IsLow all last x (each_at IsLow all last one table.low is) table.low;
       };
       within = subst (AllByRecursion (IsWithin d)) (sym moved) (each_set (IsWithin d) (drop fixed all) r.at x (λ living. absurd (false≢true living)) within);
     }

@@ -1,8 +1,12 @@
 -- What is suspicious of an access, by the objects as they are kept by number; and what it stands for by names.
-use Rattle.std.specs.Prelude.{ℕ, ◌+◌, ◌-◌, ◌^◌, min, Bool, false, not, ◌&&◌, ◌||◌, nat_le, if◌then◌else◌, List, [], ◌∷◌, Option, Some, None, option_map, slice_get}
+use Rattle.std.specs.Prelude.{◌≡◌, ℕ, ◌+◌, ◌-◌, ◌^◌, min, Bool, false, not, ◌&&◌, ◌||◌, nat_le, if◌then◌else◌, List, [], ◌∷◌, ◌++◌, map, Option, Some, None, option_map, slice_get}
+use Rattle.qil_tree.specs.declared.tree.Block.{Block}
 use Rattle.qil_tree.specs.declared.tree.Program.{Program}
 use Rattle.qil_memory.specs.qil_layout.Layout.{data_base}
 use Rattle.qil_memory.specs.Buffers.{stack_base}
+use Rattle.qil_semantics.specs.State.{Name, Frame, State}
+use Rattle.qil_semantics.specs.Stops as stops
+use Rattle.qil_code.specs.Numbered.{func_at, block_at}
 use Rattle.qil_shadow.specs.declared.origin.Origin.{Origin}
 use Rattle.qil_shadow.specs.declared.origin.Origin.TheVariants as origins
 use Rattle.qil_shadow.specs.declared.access.Kind.{Kind}
@@ -14,9 +18,10 @@ use Rattle.qil_shadow.specs.declared.suspicion.Place.{Place}
 use Rattle.qil_shadow.specs.declared.suspicion.Suspicion.{Suspicion}
 use Rattle.qil_shadow.specs.declared.suspicion.Hit.{Hit}
 use Rattle.qil_shadow.specs.declared.suspicion.Hit.TheVariants.{Into, Between, Dead}
+use Rattle.qil_shadow.specs.Shadow.{Shadow}
 use Rattle.qil_shadow.specs.Accesses as accesses
 use Rattle.qil_shadow.specs.Suspicions as by_names
-use Rattle.qil_shadow.specs.Numbered.{kind_named, object_named, has_bytes, is_function}
+use Rattle.qil_shadow.specs.Numbered.{function_name, kind_named, object_named, has_bytes, is_function}
 use Rattle.qil_shadow.specs.Table.{is_living, object_at}
 
 -- ---- what is suspicious
@@ -88,3 +93,31 @@ abbrev pub hit_named : {A : Type 0} → Program A → Hit → by_names.Hit
 hit_named p (Into k n) = by_names.into (kind_named p k) n
 hit_named p Between = by_names.between
 hit_named p Dead = by_names.dead
+
+abbrev pub label_name : {A : Type 0} → Option (Block A) → Name
+label_name None = []
+label_name (Some b) = b.label
+
+abbrev pub place_named : {A : Type 0} → Program A → Place → stops.Place
+place_named p place = record { func = function_name (func_at p place.func.index); label = label_name (block_at p place.func.index place.block.index); index = place.index }
+
+abbrev pub suspicion_named : {A : Type 0} → Program A → Suspicion → by_names.Suspicion
+suspicion_named p s = record {
+  position = s.position;
+  place = place_named p s.place;
+  kind = s.doubt.kind;
+  access = access_named s.access;
+  object = option_map (object_named p) s.doubt.object;
+  hit = hit_named p s.hit;
+}
+
+-- a shadow by number stands for the one by names of a state whose innermost frame is at a place
+pub record StandsFor {A : Type 0} (p : Program A) (s : State) (sh : Shadow) (f : Frame) (os : List Object) (top position : ℕ) (place : Place) : Type 0 where
+  pub objects_are : sh.objects ≡ map (object_named p) os
+  pub position_is : sh.position ≡ position
+  pub place_is : stops.place_of f ≡ place_named p place
+  pub top_is : top ≡ s.top
+
+-- what is suspicious of an access is found, behind what was found before
+abbrev pub Reports : {A : Type 0} → Program A → State → Shadow → Frame → accesses.Access → List Suspicion → List Suspicion → Type 0
+Reports p s sh f a was now = map (suspicion_named p) now ≡ map (suspicion_named p) was ++ by_names.suspicion p s sh f a (by_names.doubted sh.objects a a.origin)

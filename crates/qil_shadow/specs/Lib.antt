@@ -10,8 +10,11 @@ pub mod Suspicions
 pub mod Spots
 pub mod Words
 pub mod Stack
+pub mod Starting
+pub mod Reads
 pub mod Numbered
 pub mod Table
 pub mod Calls
 pub mod ObjectNumbers
 pub mod Doubts
+pub mod Kept

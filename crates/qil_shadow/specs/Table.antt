@@ -1,5 +1,5 @@
 -- All objects as the code keeps them: by number, those that are there from the start on before those of the stack.
-use Rattle.std.specs.Prelude.{◌≡◌, ℕ, suc, ◌+◌, ◌<◌, ◌≤◌, Bool, true, false, ◌&&◌, ◌==◌, if◌then◌else◌, List, [], ◌∷◌, ◌++◌, length, take, drop, find, get_or, slice_get, AllPairs, ⊤, Option, Some, None, is_none}
+use Rattle.std.specs.Prelude.{◌≡◌, ℕ, suc, ◌+◌, ◌^◌, ◌<◌, ◌≤◌, Bool, true, false, ◌&&◌, ◌==◌, if◌then◌else◌, List, [], ◌∷◌, ◌++◌, length, take, drop, find, get_or, slice_get, AllPairs, ⊤, Option, Some, None, is_none}
 use Rattle.std.specs.List.{AllByRecursion}
 use Rattle.qil_shadow.specs.declared.object.Object.{Object}
 use Rattle.qil_shadow.specs.Numbered.{has_bytes}
@@ -48,6 +48,10 @@ with_data t o = record { objects = t.objects ++ o ∷ []; fixed = t.fixed + 1; s
 abbrev pub IsFixed : Object → Type 0
 IsFixed o = (o.ended ≡ None) × (o.depth ≡ 0)
 
+-- one that ends below 2^64
+abbrev pub IsLow : Object → Type 0
+IsLow o = o.address + o.size < 2 ^ 64
+
 -- ---- the order of those of the stack
 
 -- of two that are living the first lies below, and was made in no deeper call
@@ -86,6 +90,7 @@ pub record IsTable (all : List Object) (fixed : ℕ) (living starts : List ℕ) 
   pub numbers : living ≡ living_from fixed (drop fixed all)
   pub stacked : IsStacked (drop fixed all)
   pub apart : are_apart ≡ true → IsAscending starts
+  pub low : AllByRecursion IsLow all
 
 -- ---- what was found
 

@@ -1,10 +1,10 @@
 //! The calls that are not over, and the objects that there are. An object of the stack ends with its call.
 
-ghost use Rattle.std.specs.Prelude.{◌≡◌, ◌+◌, ◌<◌, ◌≤◌, ◌^◌, [], None, length, slice_get, IfSome, MatchResult};
+ghost use Rattle.std.specs.Prelude.{◌≡◌, ◌+◌, ◌<◌, ◌≤◌, ◌^◌, [], None, length, slice_get, All, IfSome, MatchResult};
 ghost use Rattle.std.specs.Option.{option_copied};
 ghost use Rattle.qil_memory.specs.Buffers.{stack_base};
 ghost use Rattle.qil_shadow.specs.Stack.{held_origin};
-ghost use Rattle.qil_shadow.specs.Table.{of_stack, object_at, IsOnlyAt};
+ghost use Rattle.qil_shadow.specs.Table.{of_stack, object_at, IsLow, IsOnlyAt};
 ghost use Rattle.qil_shadow.specs.Calls.{with_set, with_call, with_made, with_return, taken, left_calls, left_top};
 
 use crate::object::{Object, ObjectKind, Objects};
@@ -102,6 +102,14 @@ impl<A: Allocator> Calls<A> {
         ensures { self.new ≡ with_set self.old slot origin }
     {
         self.origins.set(slot, origin);
+    }
+
+    /// What is so of all objects, with nothing to run: each ends below 2^64.
+    #[inline(always)]
+    pub fn are_low(&self)
+        ensures { All IsLow self.now.objects.objects }
+    {
+        self.objects.are_low();
     }
 
     /// The object of a number.

@@ -2,9 +2,15 @@
 //! is looked at only if the value can be an address.
 
 ghost use Rattle.std.specs.Prelude.{◌≡◌, Some};
+ghost use Rattle.std.specs.Option.{option_copied};
+ghost use Rattle.qil_tree.specs.declared.tree.Operand.{Operand};
 ghost use Rattle.qil_memory.specs.qil_layout.Layout.{address_of};
 ghost use Rattle.qil_shadow.specs.Objects.{object_named};
 ghost use Rattle.qil_shadow.specs.ObjectNumbers.{AreStarts};
+ghost use Rattle.qil_shadow.specs.Shadow.{none_set};
+ghost use Rattle.qil_shadow.specs.Shadowed.{operand_origin};
+ghost use Rattle.qil_shadow.specs.Starting.{IsOf};
+ghost use Rattle.qil_shadow.specs.Reads.{first_operand, second_operand, operand_in, of_two, returned_in, operand_at, read_at, HasValue, IsRead, innermost, HasSlots, is_sure};
 
 use crate::origin::{ObjectId, Origin};
 use crate::shadow::Shadow;
@@ -28,7 +34,9 @@ pub(crate) enum Reading {
 }
 
 /// The operand of an expression of one, and the first of two.
-fn first_operand<'t, 'a>(expr: &'t Expr<'a>) -> &'t Operand<'a> {
+fn first_operand<'t, 'a>(expr: &'t Expr<'a>) -> &'t Operand<'a>
+    ensures { result.now ≡ first_operand expr.now }
+{
     match expr {
         Expr::Unary(_, first) => first,
         Expr::Binary(_, first, _) => first,
@@ -39,7 +47,9 @@ fn first_operand<'t, 'a>(expr: &'t Expr<'a>) -> &'t Operand<'a> {
 }
 
 /// The second operand of two, or the only one.
-fn second_operand<'t, 'a>(expr: &'t Expr<'a>) -> &'t Operand<'a> {
+fn second_operand<'t, 'a>(expr: &'t Expr<'a>) -> &'t Operand<'a>
+    ensures { result.now ≡ second_operand expr.now }
+{
     match expr {
         Expr::Unary(_, only) => only,
         Expr::Binary(_, _, second) => second,
@@ -53,7 +63,9 @@ fn second_operand<'t, 'a>(expr: &'t Expr<'a>) -> &'t Operand<'a> {
 fn operand_in<'t, 'a, A: Allocator>(
     kind: &'t InstKind<'a, A>,
     reading: Reading,
-) -> Option<&'t Operand<'a>> {
+) -> Option<&'t Operand<'a>>
+    ensures { option_copied result ≡ operand_in kind.now reading }
+{
     match kind {
         InstKind::Assign(_, expr) => match reading {
             Reading::First => Some(first_operand(expr)),
@@ -78,7 +90,9 @@ fn of_two<'t, 'a>(
     first: &'t Operand<'a>,
     second: &'t Operand<'a>,
     reading: Reading,
-) -> Option<&'t Operand<'a>> {
+) -> Option<&'t Operand<'a>>
+    ensures { option_copied result ≡ of_two first.now second.now reading }
+{
     match reading {
         Reading::First => Some(first),
         Reading::Second => Some(second),
@@ -87,10 +101,12 @@ fn of_two<'t, 'a>(
 }
 
 /// What a block returns.
-fn returned_in<'t, 'a, A: Allocator>(block: &'t Block<'a, A>) -> Option<&'t Operand<'a>> {
+fn returned_in<'t, 'a, A: Allocator>(block: &'t Block<'a, A>) -> Option<&'t Operand<'a>>
+    ensures { option_copied result ≡ returned_in block.now.jump.kind }
+{
     match &block.jump.kind {
-        JumpKind::Ret(Some(operand)) => Some(operand),
-        _ => None,
+        JumpKind::Ret(operand) => operand.as_ref(),
+        JumpKind::Jmp(_) | JumpKind::Jnz(_, _, _) | JumpKind::Hlt => None,
     }
 }
 
@@ -99,7 +115,9 @@ fn operand_at<'t, 'a, A: Allocator>(
     block: &'t Block<'a, A>,
     index: u32,
     reading: Reading,
-) -> Option<&'t Operand<'a>> {
+) -> Option<&'t Operand<'a>>
+    ensures { option_copied result ≡ operand_at block.now index reading }
+{
     match block.insts.as_slice().get(index as usize) {
         Some(inst) => operand_in(&inst.kind, reading),
         None => returned_in(block),
@@ -131,7 +149,10 @@ impl<'c, A: Allocator + Copy> Shadow<'c, A> {
         reading: Reading,
         class: Class,
         operand: NumberedOperand,
-    ) -> Origin {
+    ) -> Origin
+        ensures { (a : Operand) → IsOf code.now self.now.names self.now.calls.objects.starts self.now.data_end → HasSlots code.now place.func.index self.now.calls.calls → IsRead code.now place reading a operand
+            → result ≡ operand_origin code.now (innermost code.now place.func.index self.now.calls.calls) class a }
+    {
         match operand {
             NumberedOperand::Slot(slot) => self.calls.origin(slot).in_class(class),
             NumberedOperand::Constant(value) => {
@@ -146,7 +167,9 @@ impl<'c, A: Allocator + Copy> Shadow<'c, A> {
 
     /// Whether an operand is surely a number: a constant that can't be an address, or a temporary that is made of none.
     #[inline(always)]
-    pub(crate) fn is_number(&self, operand: NumberedOperand) -> bool {
+    pub(crate) fn is_number(&self, operand: NumberedOperand) -> bool
+        ensures { result ≡ is_sure self.now.calls.calls operand }
+    {
         match operand {
             NumberedOperand::Slot(slot) => self.calls.origin(slot).is_number(),
             NumberedOperand::Constant(value) => value < LEAST_ADDRESS,
@@ -162,7 +185,10 @@ impl<'c, A: Allocator + Copy> Shadow<'c, A> {
         reading: Reading,
         class: Class,
         value: u64,
-    ) -> Origin {
+    ) -> Origin
+        ensures { (a : Operand) → IsOf code.now self.now.names self.now.calls.objects.starts self.now.data_end → read_at code.now place reading ≡ Some a → HasValue code.now a value
+            → result ≡ operand_origin code.now none_set class a }
+    {
         match code.source(place.func, place.block) {
             Some(block) => match operand_at(block, place.index, reading) {
                 Some(operand) => self.written_origin(operand, class, value),
@@ -218,7 +244,9 @@ impl<'c, A: Allocator + Copy> Shadow<'c, A> {
     }
 
     /// What a written constant of a value is made of: the address of a name, or a number.
-    fn written_origin(&self, written: &Operand<'_>, class: Class, value: u64) -> Origin {
+    fn written_origin(&self, written: &Operand<'_>, class: Class, value: u64) -> Origin
+        ensures { AreStarts self.now.names self.now.calls.objects.starts → HasValue self.now.names written.now value → result ≡ operand_origin self.now.names none_set class written.now }
+    {
         match written {
             Operand::Global(name) => {
                 Origin::Address(self.object_of(name.bytes(), value)).in_class(class)

@@ -1,6 +1,8 @@
 //! The blocks of a heap, by the functions that make and free them. Nothing is suspicious here: it says where another pass should
 //! look.
 
+ghost use Rattle.std.specs.Prelude.{◌≡◌, [], None};
+
 use crate::origin::ObjectId;
 use qil_layout::FuncId;
 use std::alloc::{AllocError, Allocator};
@@ -104,7 +106,9 @@ pub(crate) struct Heap<A: Allocator> {
 
 impl<A: Allocator + Copy> Heap<A> {
     /// No function is one of the heap.
-    pub(crate) fn new(alloc: A) -> Heap<A> {
+    pub(crate) fn new(alloc: A) -> Heap<A>
+        ensures { result.roles.items ≡ [] }
+    {
         Heap {
             roles: Vec::new(alloc),
             blocks: Vec::new(alloc),
@@ -139,7 +143,9 @@ impl<A: Allocator> Heap<A> {
     }
 
     /// What a function does.
-    pub(crate) fn role(&self, func: FuncId) -> Option<HeapRole> {
+    pub(crate) fn role(&self, func: FuncId) -> Option<HeapRole>
+        ensures { self.now.roles.items ≡ [] → result ≡ None }
+    {
         match self.roles.as_slice().get(usize::from(func.index)) {
             Some(role) => *role,
             None => None,

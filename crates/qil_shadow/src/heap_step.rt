@@ -1,6 +1,9 @@
 //! What calls of the functions of a heap do to the shadow, and which accesses to blocks and calls aren't right for sure. None is a
 //! suspicion here: it is where another pass should look.
 
+ghost use Rattle.std.specs.Prelude.{◌≡◌, [], None, IfOk};
+ghost use Rattle.qil_shadow.specs.Kept.{KeepsAll};
+
 use crate::constants::Reading;
 use crate::heap::{HeapCall, HeapRole};
 use crate::object::ObjectKind;
@@ -29,7 +32,9 @@ impl<'c, A: Allocator + Copy> Shadow<'c, A> {
         self.heap.know(func, role)
     }
 
-    fn note_unsure(&mut self) {
+    fn note_unsure(&mut self)
+        ensures { KeepsAll self.old self.new }
+    {
         self.open.note(self.position);
     }
 
@@ -69,14 +74,18 @@ impl<'c, A: Allocator + Copy> Shadow<'c, A> {
 
     /// Looks at an access to a block.
     #[inline(always)]
-    pub(crate) fn use_block(&mut self, origin: Origin, address: u64, count: u64) {
+    pub(crate) fn use_block(&mut self, origin: Origin, address: u64, count: u64)
+        ensures { KeepsAll self.old self.new }
+    {
         if self.heap.is_known() {
             self.look_at_block(origin, address, count);
         }
     }
 
     #[inline(never)]
-    fn look_at_block(&mut self, origin: Origin, address: u64, count: u64) {
+    fn look_at_block(&mut self, origin: Origin, address: u64, count: u64)
+        ensures { KeepsAll self.old self.new }
+    {
         let is_right = match origin {
             Origin::Address(object) => {
                 self.calls.object(object).is_some() || self.is_block_right(object, address, count)
@@ -150,7 +159,10 @@ impl<'c, A: Allocator + Copy> Shadow<'c, A> {
         slots: &[Option<u64>],
         func: FuncId,
         operand: Option<NumberedOperand>,
-    ) -> Result<Option<ObjectId>, AllocError> {
+    ) -> Result<Option<ObjectId>, AllocError>
+        ensures none { self.old.heap.roles.items ≡ [] → IfOk result (λ block. block ≡ None) }
+        ensures rest { self.old.heap.roles.items ≡ [] → KeepsAll self.old self.new }
+    {
         if self.heap.role(func).is_none() {
             return Ok(None);
         }

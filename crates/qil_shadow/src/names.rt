@@ -18,7 +18,7 @@ use std::marker::Model;
 /// # Errors
 ///
 /// Where it would be 2^32.
-fn number_after(number: u32) -> Result<u32, AllocError>
+pub(crate) fn number_after(number: u32) -> Result<u32, AllocError>
     ensures { IfOk result (λ n. n ≡ number + 1) }
 {
     if number >= 4_294_967_295 {

@@ -3,7 +3,7 @@
 ghost use Rattle.std.specs.Prelude.{◌≡◌, ◌<◌, true, None, [], ◌∷◌, ◌++◌, length, map, find, slice_get, All, IfSome, OnOk, MatchResult};
 ghost use Rattle.std.specs.Option.{option_copied};
 ghost use Rattle.qil_shadow.specs.Numbered.{has_bytes, is_function};
-ghost use Rattle.qil_shadow.specs.Table.{no_objects, of_stack, object_at, ends_with, with_object, with_fixed, with_data, has_one, IsFixed, IsBelow, IsWithin, IsAscending, IsOnlyAt, HasFound};
+ghost use Rattle.qil_shadow.specs.Table.{no_objects, of_stack, object_at, ends_with, with_object, with_fixed, with_data, has_one, IsFixed, IsLow, IsBelow, IsWithin, IsAscending, IsOnlyAt, HasFound};
 
 use crate::origin::ObjectId;
 use qil_code::Slot;
@@ -150,6 +150,7 @@ impl<A: Allocator> Objects<A> {
     pub fn add_data(&mut self, object: Object) -> Result<(), AllocError>
         requires first { self.old.fixed ≡ length self.old.objects }
         requires stays { IsFixed object }
+        requires low { IsLow object }
         ensures { MatchResult result (λ _. self.new ≡ with_data self.old object) (λ _. self.new ≡ self.old) }
     {
         self.starts.reserve(1)?;
@@ -188,6 +189,7 @@ impl<A: Allocator> Objects<A> {
     pub fn add_fixed(&mut self, object: Object) -> Result<(), AllocError>
         requires first { self.old.fixed ≡ length self.old.objects }
         requires stays { IsFixed object }
+        requires low { IsLow object }
         ensures { MatchResult result (λ _. self.new ≡ with_fixed self.old object) (λ _. self.new ≡ self.old) }
     {
         self.all.push(object)?;
@@ -202,6 +204,7 @@ impl<A: Allocator> Objects<A> {
     /// Out of memory, and where there would be 2^32.
     pub fn add(&mut self, object: Object) -> Result<ObjectId, AllocError>
         requires lives { object.ended ≡ None }
+        requires low { IsLow object }
         requires above { All (λ o. IsBelow o object) (of_stack self.old) }
         ensures made { MatchResult result (λ id. (self.new ≡ with_object self.old object) × (id.index ≡ length self.old.objects)) (λ _. self.new ≡ self.old) }
         ensures top { OnOk result (of_stack self.new ≡ of_stack self.old ++ object ∷ []) }
@@ -215,6 +218,14 @@ impl<A: Allocator> Objects<A> {
         self.all.push(object)?;
         self.living.push_reserved(index);
         Ok(ObjectId { index })
+    }
+
+    /// What is so of all, with nothing to run: each ends below 2^64.
+    #[inline(always)]
+    pub fn are_low(&self)
+        ensures { All IsLow self.now.objects }
+    {
+        let _ = &self.all;
     }
 
     /// The object of a number.

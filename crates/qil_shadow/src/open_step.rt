@@ -1,5 +1,7 @@
 //! What a step does to open bits, and where it uses them. A use is no suspicion here: it is where another pass should look.
 
+ghost use Rattle.qil_shadow.specs.Kept.{KeepsAll};
+
 use crate::bytes::load_bytes;
 use crate::open_rules::{
     Operand, counted_bits, is_all_ones, is_decided_by_open, low, open_binary, open_compared,
@@ -31,7 +33,9 @@ impl<'c, A: Allocator + Copy> Shadow<'c, A> {
 
     /// Notes that open bits are used, if there are some.
     #[inline(always)]
-    pub(crate) fn use_bits(&mut self, open: u64) {
+    pub(crate) fn use_bits(&mut self, open: u64)
+        ensures { KeepsAll self.old self.new }
+    {
         if open != 0 {
             self.open.note(self.position);
         }
@@ -39,7 +43,9 @@ impl<'c, A: Allocator + Copy> Shadow<'c, A> {
 
     /// Looks at the address of an access besides what it is made of.
     #[inline(always)]
-    pub(crate) fn use_address(&mut self, origin: Origin, operand: NumberedOperand) {
+    pub(crate) fn use_address(&mut self, origin: Origin, operand: NumberedOperand)
+        ensures { KeepsAll self.old self.new }
+    {
         if origin.is_number() || self.open_of(Class::L, operand) != 0 {
             self.open.note(self.position);
         }
@@ -180,11 +186,9 @@ impl<'c, A: Allocator + Copy> Shadow<'c, A> {
     }
 
     /// Returns the open bits of an operand from a function with this type.
-    pub(crate) fn return_open(
-        &mut self,
-        returns: Option<AbiType>,
-        source: Option<NumberedOperand>,
-    ) {
+    pub(crate) fn return_open(&mut self, returns: Option<AbiType>, source: Option<NumberedOperand>)
+        ensures { KeepsAll self.old self.new }
+    {
         let open = match source {
             Some(source) => self.open_of(class_returned(returns), source),
             None => 0,

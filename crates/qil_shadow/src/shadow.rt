@@ -1,10 +1,21 @@
 //! The shadow of a run, and what is suspicious of its next step.
 
-ghost use Rattle.std.specs.Prelude.{◌≡◌, ◌<◌, ◌≤◌, [], ◌∷◌, ◌++◌, slice_get, OnOk};
+ghost use Rattle.std.specs.Prelude.{◌≡◌, ◌+◌, ◌-◌, ◌<◌, ◌≤◌, None, [], ◌∷◌, ◌++◌, length, replicate, slice_get, OnOk};
 ghost use Rattle.std.specs.Option.{option_copied};
+ghost use Rattle.qil_tree.specs.declared.tree.Program.{Program};
+ghost use Rattle.qil_memory.specs.qil_layout.Layout.{rounded};
+ghost use Rattle.qil_memory.specs.Buffers.{stack_base, stack_end};
+ghost use Rattle.qil_semantics.specs.State.{Frame, State};
+ghost use Rattle.qil_shadow.specs.Bytes.{laid_origins};
+ghost use Rattle.qil_shadow.specs.Spots.{origins_in};
+ghost use Rattle.qil_shadow.specs.Calls.{with_made, with_return};
+ghost use Rattle.qil_shadow.specs.Shadow as by_names;
 ghost use Rattle.qil_shadow.specs.Numbered.{value_in, is_twice};
+ghost use Rattle.qil_shadow.specs.Starting.{IsOf};
+ghost use Rattle.qil_shadow.specs.Accesses as accesses;
+ghost use Rattle.qil_shadow.specs.Kept.{Keeps, KeepsAll, KeepsRest};
 ghost use Rattle.qil_shadow.specs.Table.{object_at};
-ghost use Rattle.qil_shadow.specs.Doubts.{doubt_through, through_found, is_all_in, doubt_mixed, doubt_by, live_between, hit_by, outside_by, told_by, noted_by, suspicion_by};
+ghost use Rattle.qil_shadow.specs.Doubts.{doubt_through, through_found, is_all_in, doubt_mixed, doubt_by, live_between, hit_by, outside_by, told_by, noted_by, suspicion_by, access_named, StandsFor, Reports};
 
 use crate::access::{Action, Kind};
 use crate::calls::Calls;
@@ -13,7 +24,7 @@ use crate::memory::OriginMemory;
 use crate::names::ObjectNames;
 use crate::object::{Object, ObjectKind};
 use crate::open_bits::OpenBits;
-use crate::origin::{ObjectId, Origin};
+use crate::origin::{ByteOrigin, ObjectId, Origin};
 use crate::suspicion::{Access, Doubt, Hit, Place, Suspicion};
 use qil_code::{NumberedOperand, Slot};
 use qil_layout::{DATA_BASE, rounded_up};
@@ -139,7 +150,8 @@ impl<'c, A: Allocator + Copy> Shadow<'c, A> {
         }
     }
 
-    /// Looks at an access, and notes what is suspicious of it.
+    /// Looks at an access, and notes what is suspicious of it: what the definition says by names, of a state with a frame at the
+    /// place.
     ///
     /// # Errors
     ///
@@ -147,7 +159,53 @@ impl<'c, A: Allocator + Copy> Shadow<'c, A> {
     #[inline(always)]
     pub(crate) fn look(&mut self, place: Place, access: Access) -> Result<(), AllocError>
         ensures noted { OnOk result (self.new.found.items ≡ self.old.found.items ++ suspicion_by self.old.calls.objects.objects self.old.data_end self.old.calls.top self.old.position place access (doubt_by self.old.calls.objects.objects access access.origin)) }
-        ensures rest { OnOk result ((self.new.calls ≡ self.old.calls) × (self.new.memory ≡ self.old.memory) × (self.new.position ≡ self.old.position)) }
+        ensures named { OnOk result ((p : Program A) (s : State) (sh : by_names.Shadow) (f : Frame) → IsOf p self.old.names self.old.calls.objects.starts self.old.data_end
+            → StandsFor p s sh f self.old.calls.objects.objects self.old.calls.top self.old.position place
+            → Reports p s sh f (access_named access) self.old.found.items self.new.found.items) }
+        ensures rest { OnOk result (Keeps self.old self.new) }
+    {
+        self.calls.are_low();
+        self.look_at(place, access)?;
+        Ok(())
+    }
+
+    /// Looks at an access through an operand whose origin this is: besides, for open bits and blocks.
+    ///
+    /// # Errors
+    ///
+    /// Out of memory.
+    #[inline(always)]
+    pub(crate) fn look_through(
+        &mut self,
+        place: Place,
+        action: Action,
+        origin: Origin,
+        operand: NumberedOperand,
+        address: u64,
+        count: u64,
+    ) -> Result<(), AllocError>
+        ensures named { OnOk result ((p : Program A) (s : State) (sh : by_names.Shadow) (f : Frame) → IsOf p self.old.names self.old.calls.objects.starts self.old.data_end
+            → StandsFor p s sh f self.old.calls.objects.objects self.old.calls.top self.old.position place
+            → Reports p s sh f (accesses.access action origin address count) self.old.found.items self.new.found.items) }
+        ensures rest { OnOk result (Keeps self.old self.new) }
+    {
+        self.use_access(origin, operand, address, count);
+        self.look(place, access(action, origin, address, count))?;
+        Ok(())
+    }
+
+    #[inline(always)]
+    fn use_access(&mut self, origin: Origin, operand: NumberedOperand, address: u64, count: u64)
+        ensures { KeepsAll self.old self.new }
+    {
+        self.use_address(origin, operand);
+        self.use_block(origin, address, count);
+    }
+
+    #[inline(always)]
+    fn look_at(&mut self, place: Place, access: Access) -> Result<(), AllocError>
+        ensures noted { OnOk result (self.new.found.items ≡ self.old.found.items ++ suspicion_by self.old.calls.objects.objects self.old.data_end self.old.calls.top self.old.position place access (doubt_by self.old.calls.objects.objects access access.origin)) }
+        ensures rest { OnOk result (Keeps self.old self.new) }
     {
         match self.doubt(&access) {
             None => Ok(()),
@@ -157,7 +215,7 @@ impl<'c, A: Allocator + Copy> Shadow<'c, A> {
 
     fn note(&mut self, place: Place, access: Access, doubt: Doubt) -> Result<(), AllocError>
         ensures noted { OnOk result (self.new.found.items ≡ self.old.found.items ++ noted_by self.old.calls.objects.objects self.old.data_end self.old.calls.top self.old.position place access doubt (told_by access doubt.kind doubt.object) ∷ []) }
-        ensures rest { OnOk result ((self.new.calls ≡ self.old.calls) × (self.new.memory ≡ self.old.memory) × (self.new.position ≡ self.old.position)) }
+        ensures rest { OnOk result (Keeps self.old self.new) }
     {
         let hit = self.hit_at(told_address(&access, &doubt));
         self.found.push(Suspicion {
@@ -184,13 +242,21 @@ impl<'c, A: Allocator + Copy> Shadow<'c, A> {
     ) -> Result<(), AllocError>
         requires some { 0 < align }
         requires few { align ≤ 16 }
+        ensures made { rounded align self.old.calls.top + count ≤ stack_end
+            → OnOk result (self.new.calls ≡ with_made self.old.calls slot (record { kind = ObjectKind.Slot place.func slot; address = rounded align self.old.calls.top; size = count; made = self.old.position; depth = length self.old.calls.calls; ended = None })) }
+        ensures cleared { stack_base ≤ self.old.calls.top → rounded align self.old.calls.top + count ≤ stack_end
+            → OnOk result (origins_in self.new.memory ≡ laid_origins (origins_in self.old.memory) self.old.calls.top (replicate (rounded align self.old.calls.top + count - self.old.calls.top) ByteOrigin.Number)) }
+        ensures rest { KeepsRest self.old self.new }
     {
         let top = self.calls.top();
         if top > STACK_END {
             return Ok(());
         }
         let address = rounded_up(align, top);
-        if address > STACK_END || count > STACK_END - address {
+        if address > STACK_END {
+            return Ok(());
+        }
+        if count > STACK_END - address {
             return Ok(());
         }
         let kind = ObjectKind::Slot(place.func, slot);
@@ -202,7 +268,9 @@ impl<'c, A: Allocator + Copy> Shadow<'c, A> {
     }
 
     /// Ends the innermost call, with what the value that it returns is made of.
-    pub(crate) fn give_back(&mut self, origin: Origin) {
+    pub(crate) fn give_back(&mut self, origin: Origin)
+        ensures { self.new ≡ record self.old { calls = with_return self.old.calls self.old.position origin } }
+    {
         self.calls.give_back(self.position, origin);
     }
 
@@ -281,7 +349,9 @@ fn told_address(access: &Access, doubt: &Doubt) -> u64
 
 /// An access of so many bytes.
 #[inline(always)]
-pub(crate) fn access(action: Action, origin: Origin, address: u64, count: u64) -> Access {
+pub(crate) fn access(action: Action, origin: Origin, address: u64, count: u64) -> Access
+    ensures { result ≡ record { action = action; origin = origin; address = address; count = count } }
+{
     Access {
         action,
         origin,

@@ -1,13 +1,32 @@
 //! A step of the shadow: it looks at what comes next, and becomes the shadow of the state behind it. A step that ends the run
 //! asks nothing of it.
 
+ghost use Rattle.std.specs.Prelude.{◌≡◌, ℕ, Some, None, [], unwrap_or, IfOk, OnOk};
+ghost use Rattle.qil_tree.specs.declared.ops.Class.TheVariants.{L};
+ghost use Rattle.qil_tree.specs.declared.tree.Operand.{Operand};
+ghost use Rattle.qil_memory.specs.qil_rules.Operands.{right_class, stored_class};
+ghost use Rattle.qil_memory.specs.qil_layout.Layout.{width_bytes};
+ghost use Rattle.qil_semantics.specs.State.{Frame, State};
+ghost use Rattle.qil_shadow.specs.Origins.{binary_origin};
+ghost use Rattle.qil_shadow.specs.Bytes.{laid_origins, origins_at, stored_origins, joined, load_bytes};
+ghost use Rattle.qil_shadow.specs.Shadow as by_names;
+ghost use Rattle.qil_shadow.specs.Shadowed.{operand_origin, is_twice};
+ghost use Rattle.qil_shadow.specs.Accesses as accesses;
+ghost use Rattle.qil_shadow.specs.Spots.{HasSpot, origins_in};
+ghost use Rattle.qil_shadow.specs.Numbered.{value_in};
+ghost use Rattle.qil_shadow.specs.Doubts.{StandsFor, Reports};
+ghost use Rattle.qil_shadow.specs.Starting.{IsOf};
+ghost use Rattle.qil_shadow.specs.Calls.{with_return};
+ghost use Rattle.qil_shadow.specs.Reads.{IsRead, IsReturned, innermost, HasSlots};
+ghost use Rattle.qil_shadow.specs.Kept.{Keeps, KeepsButCalls, KeepsButMemory};
+
 use crate::access::Action;
 use crate::bytes::load_bytes;
 use crate::constants::Reading;
 use crate::open_rules::open_passed;
 use crate::operations::{binary_origin, extended_origin, unary_origin};
-use crate::origin::Origin;
-use crate::shadow::{Shadow, access, are_one_temporary, value_of};
+use crate::origin::{ObjectId, Origin};
+use crate::shadow::{Shadow, are_one_temporary, value_of};
 use crate::suspicion::Place;
 use crate::widths::class_right;
 use qil_code::{
@@ -20,6 +39,17 @@ use std::alloc::{AllocError, Allocator};
 
 /// How many calls there may be.
 const MOST_CALLS: u32 = 1_000;
+
+/// The address of a block that was made, or else what was returned.
+#[inline(always)]
+fn made_or(made: Option<ObjectId>, origin: Origin) -> Origin
+    ensures { made ≡ None → result ≡ origin }
+{
+    match made {
+        Some(block) => Origin::Address(block),
+        None => origin,
+    }
+}
 
 impl<'c, A: Allocator + Copy> Shadow<'c, A> {
     /// Makes the step of the innermost frame at a place, which holds these values.
@@ -120,16 +150,19 @@ impl<'c, A: Allocator + Copy> Shadow<'c, A> {
         op: BinaryOp,
         left: NumberedOperand,
         right: NumberedOperand,
-    ) -> Origin {
-        binary_origin(
-            op,
-            class,
-            are_one_temporary(left, right),
-            self.origin_of(code, place, Reading::First, class, left),
-            value_of(slots, left).unwrap_or(0),
-            self.origin_of(code, place, Reading::Second, class_right(op, class), right),
-            value_of(slots, right).unwrap_or(0),
-        )
+    ) -> Origin
+        ensures { (a b : Operand) → IsOf code.now self.now.names self.now.calls.objects.starts self.now.data_end → HasSlots code.now place.func.index self.now.calls.calls
+            → IsRead code.now place Reading.First a left → IsRead code.now place Reading.Second b right
+            → result ≡ binary_origin op class (is_twice a b) (operand_origin code.now (innermost code.now place.func.index self.now.calls.calls) class a) (unwrap_or (value_in slots.now left) 0)
+            (operand_origin code.now (innermost code.now place.func.index self.now.calls.calls) (right_class op class) b) (unwrap_or (value_in slots.now right) 0) }
+    {
+        let wanted = class_right(op, class);
+        let one = self.origin_of(code, place, Reading::First, class, left);
+        let other = self.origin_of(code, place, Reading::Second, wanted, right);
+        let value = value_of(slots, left).unwrap_or(0);
+        let second = value_of(slots, right).unwrap_or(0);
+        let is_twice = are_one_temporary(left, right);
+        binary_origin(op, class, is_twice, one, value, other, second)
     }
 
     /// What a load gives.
@@ -141,15 +174,21 @@ impl<'c, A: Allocator + Copy> Shadow<'c, A> {
         class: Class,
         op: LoadOp,
         operand: NumberedOperand,
-    ) -> Result<Origin, AllocError> {
+    ) -> Result<Origin, AllocError>
+        ensures origin { IfOk result (λ o. (v : ℕ) → value_in slots.now operand ≡ Some v → HasSpot v (load_bytes op)
+            → o ≡ joined class (origins_at (origins_in self.old.memory) v (load_bytes op))) }
+        ensures found { OnOk result ((a : Operand) (v : ℕ) (s : State) (sh : by_names.Shadow) (f : Frame) → value_in slots.now operand ≡ Some v
+            → IsOf code.now self.old.names self.old.calls.objects.starts self.old.data_end → HasSlots code.now place.func.index self.old.calls.calls → IsRead code.now place Reading.First a operand
+            → StandsFor code.now s sh f self.old.calls.objects.objects self.old.calls.top self.old.position place
+            → Reports code.now s sh f (accesses.access (Action.Load op) (operand_origin code.now (innermost code.now place.func.index self.old.calls.calls) L a) v (load_bytes op)) self.old.found.items self.new.found.items) }
+        ensures rest { OnOk result (Keeps self.old self.new) }
+    {
         let Some(address) = value_of(slots, operand) else {
             return Ok(Origin::Number);
         };
         let origin = self.origin_of(code, place, Reading::First, Class::L, operand);
-        self.use_address(origin, operand);
         let count = load_bytes(op);
-        self.use_block(origin, address, count);
-        self.look(place, access(Action::Load(op), origin, address, count))?;
+        self.look_through(place, Action::Load(op), origin, operand, address, count)?;
         Ok(self.memory.load(address, count, class))
     }
 
@@ -162,7 +201,16 @@ impl<'c, A: Allocator + Copy> Shadow<'c, A> {
         width: Width,
         number: NumberedOperand,
         address: NumberedOperand,
-    ) -> Result<(), AllocError> {
+    ) -> Result<(), AllocError>
+        ensures memory { OnOk result ((a : Operand) (v t : ℕ) → value_in slots.now number ≡ Some v → value_in slots.now address ≡ Some t → HasSpot t (width_bytes width)
+            → IsOf code.now self.old.names self.old.calls.objects.starts self.old.data_end → HasSlots code.now place.func.index self.old.calls.calls → IsRead code.now place Reading.First a number
+            → origins_in self.new.memory ≡ laid_origins (origins_in self.old.memory) t (stored_origins (width_bytes width) (operand_origin code.now (innermost code.now place.func.index self.old.calls.calls) (stored_class width) a))) }
+        ensures found { OnOk result ((b : Operand) (v t : ℕ) (s : State) (sh : by_names.Shadow) (f : Frame) → value_in slots.now number ≡ Some v → value_in slots.now address ≡ Some t
+            → IsOf code.now self.old.names self.old.calls.objects.starts self.old.data_end → HasSlots code.now place.func.index self.old.calls.calls → IsRead code.now place Reading.Second b address
+            → StandsFor code.now s sh f self.old.calls.objects.objects self.old.calls.top self.old.position place
+            → Reports code.now s sh f (accesses.access (Action.Store width) (operand_origin code.now (innermost code.now place.func.index self.old.calls.calls) L b) t (width_bytes width)) self.old.found.items self.new.found.items) }
+        ensures rest { OnOk result (KeepsButMemory self.old self.new) }
+    {
         if value_of(slots, number).is_none() {
             return Ok(());
         }
@@ -170,10 +218,8 @@ impl<'c, A: Allocator + Copy> Shadow<'c, A> {
             return Ok(());
         };
         let origin = self.origin_of(code, place, Reading::Second, Class::L, address);
-        self.use_address(origin, address);
         let count = byte_count(width);
-        self.use_block(origin, target, count);
-        self.look(place, access(Action::Store(width), origin, target, count))?;
+        self.look_through(place, Action::Store(width), origin, address, target, count)?;
         let class = class_stored(width);
         let stored = self.origin_of(code, place, Reading::First, class, number);
         self.memory.store(target, count, stored);
@@ -202,19 +248,19 @@ impl<'c, A: Allocator + Copy> Shadow<'c, A> {
             return Ok(());
         }
         let origin = self.origin_of(code, place, Reading::First, Class::L, source);
-        self.use_address(origin, source);
-        self.use_block(origin, source_address, count);
-        self.look(
+        self.look_through(
             place,
-            access(Action::CopyFrom, origin, source_address, count),
+            Action::CopyFrom,
+            origin,
+            source,
+            source_address,
+            count,
         )?;
         if !self.is_live(source_address, count) {
             return Ok(());
         }
-        let origin = self.origin_of(code, place, Reading::Second, Class::L, target);
-        self.use_address(origin, target);
-        self.use_block(origin, target_address, count);
-        self.look(place, access(Action::CopyTo, origin, target_address, count))?;
+        let other = self.origin_of(code, place, Reading::Second, Class::L, target);
+        self.look_through(place, Action::CopyTo, other, target, target_address, count)?;
         self.memory.copy(source_address, target_address, count);
         self.open.memory.copy(source_address, target_address, count);
         Ok(())
@@ -357,19 +403,35 @@ impl<'c, A: Allocator + Copy> Shadow<'c, A> {
         place: Place,
         slots: &[Option<u64>],
         operand: Option<NumberedOperand>,
-    ) -> Result<(), AllocError> {
-        let class = class_returned(code.returns(place.func));
-        let origin = match operand {
-            Some(operand) => self.origin_of(code, place, Reading::Returned, class, operand),
-            None => Origin::Number,
-        };
+    ) -> Result<(), AllocError>
+        ensures calls { OnOk result ((m : Origin) → self.old.heap.roles.items ≡ [] → IsReturned code.now self.old.names self.old.calls self.old.data_end place operand m
+            → self.new.calls ≡ with_return self.old.calls self.old.position m) }
+        ensures rest { OnOk result (self.old.heap.roles.items ≡ [] → KeepsButCalls self.old self.new) }
+    {
+        let origin = self.returned_origin(code, place, operand);
         let made = self.leave_heap(slots, place.func, operand)?;
         self.return_open(code.returns(place.func), operand);
-        self.give_back(match made {
-            Some(block) => Origin::Address(block),
-            None => origin,
-        });
+        self.give_back(made_or(made, origin));
         Ok(())
+    }
+
+    /// What a function returns is made of.
+    #[inline(always)]
+    fn returned_origin(
+        &self,
+        code: &Code<'c, A>,
+        place: Place,
+        operand: Option<NumberedOperand>,
+    ) -> Origin
+        ensures { (m : Origin) → IsReturned code.now self.now.names self.now.calls self.now.data_end place operand m → result ≡ m }
+    {
+        match operand {
+            Some(operand) => {
+                let class = class_returned(code.returns(place.func));
+                self.origin_of(code, place, Reading::Returned, class, operand)
+            }
+            None => Origin::Number,
+        }
     }
 
     /// Goes along an edge.

@@ -1,0 +1,18 @@
+-- The access is looked at, and then the value is stored.
+use Rattle.std.proofs.Common.{◌∙◌, sym, ap}
+use Rattle.qil_shadow.specs.Shadowed.{operand_origin}
+use Rattle.qil_shadow.specs.Reads.{innermost}
+use Rattle.qil_shadow.proofs.KeptLemmas.{own_kept, slots_behind, stored_is, reported_as, same_value}
+use Rattle.qil_shadow.proofs.shadow.Shadow.store.Goals as goal
+
+pub returns-clause-found : goal.returns-clause-found
+returns-clause-found g c = λ b v t s sh f holds is own slots read stands.
+    reported_as c.args.code.now s sh f _ _ _ _ _ _ _ _ _ (c.origin_of-origin.ensures b own slots read) (same_value _ _ t (sym c.in-Some.is ∙ c.value_of-2.ensures) is) c.byte_count-count.ensures.value
+    (c.in_ok-look_through.ensures.named c.args.code.now s sh f own stands)
+
+pub returns-clause-memory : goal.returns-clause-memory
+returns-clause-memory g c = λ a v t holds is spot own slots read.
+    stored_is _ _ _ _ _ t _ _ _ _ (sym c.in-Some.is ∙ c.value_of-2.ensures) is c.byte_count-count.ensures.value c.in_ok-look_through.ensures.rest.memory_is
+    (c.origin_of-stored.ensures a (own_kept _ _ _ c.in_ok-look_through.ensures.rest own) (slots_behind _ _ _ _ c.in_ok-look_through.ensures.rest slots) read
+    ∙ (λ i. operand_origin c.args.code.now (innermost c.args.code.now c.args.place.func.index (c.in_ok-look_through.ensures.rest.calls_are i).calls) (c.class_stored-class.ensures i) a))
+    c.store.ensures spot
