@@ -359,7 +359,7 @@ const tests = {
       await registered.commands["qrev.why"]();
       assert.match(told.lists.pop().options.title, /^done 3, at #\d+, comes of$/);
       await registered.commands["qrev.prompt"]();
-      assert.deepStrictEqual(told.terminals.pop().shellArgs, ["--prompt", "--lower", whole.uri.fsPath]);
+      assert.deepStrictEqual(told.terminals.pop().shellArgs, ["--prompt", whole.uri.fsPath]);
       const all = { ...launch, lower: ["other.ssa"], input: "/given", files: ["/found"], entry: "f",
         argv: ["a", "b"] };
       vscode.debug.activeDebugSession = { ...session, configuration: all };
@@ -379,7 +379,7 @@ const tests = {
     assert.deepStrictEqual([page.shellPath, page.shellArgs], [path.join(folder, "qrev", "qrev"), ["--page", text]]);
     const whole = written("whole.ssa", WHOLE);
     await registered.commands["qrev.prompt"](whole.uri);
-    assert.deepStrictEqual([told.terminals[1].shellArgs, told.terminals[1].sent], [["--prompt", "--lower", whole.uri.fsPath], []]);
+    assert.deepStrictEqual([told.terminals[1].shellArgs, told.terminals[1].sent], [["--prompt", whole.uri.fsPath], []]);
     const follower = registered.trackers.factory.createDebugAdapterTracker(session);
     vscode.debug.activeDebugSession = { ...session, configuration: { program: text } };
     follower.onDidSendMessage({ type: "event", event: "stopped", body: { description: "#44 $fill @body 4" } });

@@ -14,9 +14,8 @@ const LANGUAGE = "qbe";
 const REFUSED = /^(.*?):(\d+): (.*)$/;
 // What a refusal says of a text of whole QBE.
 const LEFT_OUT = "`./qrev --lower`";
-// The status of a check whose text is refused, and those of one that was made.
+// The status of a check whose text is refused.
 const REFUSED_STATUS = 1;
-const CHECKED = [0, 3, 4, 5];
 // Up to this a check of a text that was saved runs, so that it ends in about a second.
 const MOVES_AT_SAVE = 100000;
 const ENDS = { 0: "no suspicion", 4: "no suspicion, but the run ends by a fault", 5: "no suspicion up to the limit of moves" };
@@ -193,17 +192,11 @@ async function textOf(given) {
   return file;
 }
 
-// Whether a text is of whole QBE, so that it has to be lowered first.
-async function needsLowering(context, file) {
-  const ask = (before) => run(scriptOf(context), ["--check", ...before, file, "--limit", "1"], path.dirname(file));
-  return (await ask([])).status === REFUSED_STATUS && CHECKED.includes((await ask(["--lower"])).status);
-}
-
-// The words of `qrev` for a text, and for what a launch says of it.
-async function wordsOf(context, file, launch) {
+// The words of `qrev` for a text, and for what a launch says of it. A text of whole QBE is lowered without a word.
+function wordsOf(file, launch) {
   const files = Array.isArray(launch.lower) ? launch.lower : [];
   const isAsked = launch.lower || launch.input || launch.files || launch.argv;
-  const lower = launch.lower !== false && (isAsked || await needsLowering(context, file)) ? ["--lower"] : [];
+  const lower = launch.lower !== false && isAsked ? ["--lower"] : [];
   return [...lower, ...(launch.input ? ["--input", launch.input] : []),
     ...(launch.files || []).flatMap((name) => ["--file", name]), file, ...files, ...(launch.args || []).map(String),
     ...(launch.entry ? ["--entry", launch.entry] : []), ...(launch.argv ? ["--", ...launch.argv] : [])];
@@ -214,7 +207,7 @@ async function inTerminal(context, name, before, given, lines, launch = {}) {
   const file = await textOf(given);
   if (!file) return;
   const terminal = vscode.window.createTerminal({ name, cwd: path.dirname(file), shellPath: scriptOf(context),
-    shellArgs: [...before, ...await wordsOf(context, file, launch)] });
+    shellArgs: [...before, ...wordsOf(file, launch)] });
   terminal.show();
   lines.forEach((line) => terminal.sendText(line));
 }
