@@ -19,3 +19,14 @@ pub mod CallLemmas
 pub mod NumberedNames
 pub mod DataPlaces
 pub mod DoubtsByName
+pub mod InstLemmas
+pub mod ExprLemmas
+pub mod AssignLemmas
+pub mod BlitLemmas
+pub mod AllocLemmas
+pub mod StoreInstLemmas
+pub mod ReturnLemmas
+pub mod PutLemmas
+pub mod PassLemmas
+pub mod CallInstLemmas
+pub mod EnterLemmas

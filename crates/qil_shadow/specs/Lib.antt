@@ -18,3 +18,8 @@ pub mod Calls
 pub mod ObjectNumbers
 pub mod Doubts
 pub mod Kept
+pub mod Instructions
+pub mod Returns
+pub mod Moves
+pub mod Passing
+pub mod Entering

@@ -158,20 +158,28 @@ impl<A: Allocator> Heap<A> {
     }
 
     /// Adds a call of a function of the heap.
-    pub(crate) fn enter(&mut self, role: HeapRole, first: u64, second: u64) {
-        if self.depth == 0 {
-            let block = match role {
-                HeapRole::Give | HeapRole::Realloc => self.beginning_at(first),
-                _ => None,
-            };
-            self.call = Some(HeapCall {
-                role,
-                first,
-                second,
-                block,
-            });
-        }
+    pub(crate) fn enter(&mut self, role: HeapRole, first: u64, second: u64)
+        ensures { self.new.roles.items ≡ self.old.roles.items }
+    {
+        self.call = self.outermost(role, first, second);
         self.depth = self.depth.saturating_add(1);
+    }
+
+    /// The outermost call of the heap that is not over, with one more: that one, if there is no other.
+    fn outermost(&self, role: HeapRole, first: u64, second: u64) -> Option<HeapCall> {
+        if self.depth > 0 {
+            return self.call;
+        }
+        let block = match role {
+            HeapRole::Give | HeapRole::Realloc => self.beginning_at(first),
+            _ => None,
+        };
+        Some(HeapCall {
+            role,
+            first,
+            second,
+            block,
+        })
     }
 
     /// Ends the innermost call of a function of the heap. If no other one has made it this is what was called.

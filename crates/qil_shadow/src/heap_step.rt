@@ -118,7 +118,9 @@ impl<'c, A: Allocator + Copy> Shadow<'c, A> {
         slots: &[Option<u64>],
         func: FuncId,
         args: &[NumberedArgument],
-    ) {
+    )
+        ensures { KeepsAll self.old self.new }
+    {
         if let Some(role) = self.heap.role(func) {
             let origin = self.given_origin(code, place, args);
             self.enter_role(role, given(slots, args, 0), given(slots, args, 1), origin);
@@ -137,7 +139,17 @@ impl<'c, A: Allocator + Copy> Shadow<'c, A> {
     }
 
     #[inline(never)]
-    fn enter_role(&mut self, role: HeapRole, first: u64, second: u64, origin: Origin) {
+    fn enter_role(&mut self, role: HeapRole, first: u64, second: u64, origin: Origin)
+        ensures { KeepsAll self.old self.new }
+    {
+        self.look_at_freed(role, first, origin);
+        self.heap.enter(role, first, second);
+    }
+
+    /// Looks at the address that a call of a function of the heap frees, if it frees one.
+    fn look_at_freed(&mut self, role: HeapRole, first: u64, origin: Origin)
+        ensures { KeepsAll self.old self.new }
+    {
         let frees = match role {
             HeapRole::Give | HeapRole::Realloc => first != 0 && !self.heap.is_inside(),
             _ => false,
@@ -145,7 +157,6 @@ impl<'c, A: Allocator + Copy> Shadow<'c, A> {
         if frees && !self.is_given_right(origin, first) {
             self.note_unsure();
         }
-        self.heap.enter(role, first, second);
     }
 
     /// Leaves a function, and gives the block that it has made if it is one of the heap.

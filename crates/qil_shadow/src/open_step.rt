@@ -1,5 +1,6 @@
 //! What a step does to open bits, and where it uses them. A use is no suspicion here: it is where another pass should look.
 
+ghost use Rattle.std.specs.Prelude.{◌≡◌};
 ghost use Rattle.qil_shadow.specs.Kept.{KeepsAll};
 
 use crate::bytes::load_bytes;
@@ -59,8 +60,19 @@ impl<'c, A: Allocator + Copy> Shadow<'c, A> {
         class: Class,
         to: Slot,
         expr: NumberedExpr,
-    ) {
-        let open = match expr {
+    )
+        ensures { KeepsAll self.old self.new }
+    {
+        let open = self.open_expr(slots, class, expr);
+        self.open.set(to, open);
+    }
+
+    /// The open bits of what an expression gives.
+    #[inline(always)]
+    fn open_expr(&mut self, slots: &[Option<u64>], class: Class, expr: NumberedExpr) -> u64
+        ensures { KeepsAll self.old self.new }
+    {
+        match expr {
             NumberedExpr::Unary(op, operand) => {
                 if self.open_of(class, operand) == 0 {
                     0
@@ -86,8 +98,7 @@ impl<'c, A: Allocator + Copy> Shadow<'c, A> {
                 open_extended(op, class, self.open_of(Class::W, operand))
             }
             NumberedExpr::Load(op, address) => self.open_loaded(slots, class, op, address),
-        };
-        self.open.set(to, open);
+        }
     }
 
     #[inline(never)]
@@ -98,20 +109,34 @@ impl<'c, A: Allocator + Copy> Shadow<'c, A> {
         op: BinaryOp,
         left: NumberedOperand,
         right: NumberedOperand,
-    ) -> u64 {
+    ) -> u64
+        ensures { KeepsAll self.old self.new }
+    {
         let one = self.operand(slots, class, left);
         let other = self.operand(slots, class_right(op, class), right);
+        self.use_divided(op, class, one, other);
+        open_binary(op, class, are_one_temporary(left, right), one, other)
+    }
+
+    /// Looks at what a division uses of its operands.
+    fn use_divided(&mut self, op: BinaryOp, class: Class, one: Operand, other: Operand)
+        ensures { KeepsAll self.old self.new }
+    {
         match op {
-            BinaryOp::Div | BinaryOp::Rem => {
-                self.use_bits(other.open);
-                if is_all_ones(class, other.value) {
-                    self.use_bits(one.open);
-                }
-            }
+            BinaryOp::Div | BinaryOp::Rem => self.use_signed(class, one, other),
             BinaryOp::Udiv | BinaryOp::Urem => self.use_bits(other.open),
             _ => {}
         }
-        open_binary(op, class, are_one_temporary(left, right), one, other)
+    }
+
+    /// A division with signs overflows by some dividends where its divisor is -1.
+    fn use_signed(&mut self, class: Class, one: Operand, other: Operand)
+        ensures { KeepsAll self.old self.new }
+    {
+        self.use_bits(other.open);
+        if is_all_ones(class, other.value) {
+            self.use_bits(one.open);
+        }
     }
 
     #[inline(never)]
@@ -156,7 +181,9 @@ impl<'c, A: Allocator + Copy> Shadow<'c, A> {
     }
 
     /// Looks at what is called.
-    pub(crate) fn use_callee(&mut self, callee: NumberedOperand, address: u64) {
+    pub(crate) fn use_callee(&mut self, callee: NumberedOperand, address: u64)
+        ensures { KeepsAll self.old self.new }
+    {
         if let NumberedOperand::Slot(slot) = callee {
             if !self.is_function_at(slot, address) || self.open.get(slot) != 0 {
                 self.open.note(self.position);
@@ -180,7 +207,10 @@ impl<'c, A: Allocator + Copy> Shadow<'c, A> {
         source: NumberedOperand,
         slot: Slot,
         wanted: AbiType,
-    ) -> Result<(), AllocError> {
+    ) -> Result<(), AllocError>
+        ensures all { KeepsAll self.old self.new }
+        ensures moved { self.new.moved.items ≡ self.old.moved.items }
+    {
         let passed = open_passed(given, self.open_of(given.class(), source));
         self.open.gather(slot, open_passed(wanted, passed))
     }

@@ -13,7 +13,8 @@ ghost use Rattle.qil_shadow.specs.Shadow as by_names;
 ghost use Rattle.qil_shadow.specs.Numbered.{value_in, is_twice};
 ghost use Rattle.qil_shadow.specs.Starting.{IsOf};
 ghost use Rattle.qil_shadow.specs.Accesses as accesses;
-ghost use Rattle.qil_shadow.specs.Kept.{Keeps, KeepsAll, KeepsRest};
+ghost use Rattle.qil_shadow.specs.Kept.{Keeps, KeepsAll, KeepsRest, KeepsButCalls};
+ghost use Rattle.qil_shadow.specs.Moves.{with_all};
 ghost use Rattle.qil_shadow.specs.Table.{object_at};
 ghost use Rattle.qil_shadow.specs.Doubts.{doubt_through, through_found, is_all_in, doubt_mixed, doubt_by, live_between, hit_by, outside_by, told_by, noted_by, suspicion_by, access_named, StandsFor, Reports};
 
@@ -275,10 +276,11 @@ impl<'c, A: Allocator + Copy> Shadow<'c, A> {
     }
 
     /// Gives parameters or phis what was gathered for them.
-    pub(crate) fn put_moved(&mut self) {
-        for (slot, origin) in self.moved.as_slice() {
-            self.calls.set(*slot, *origin);
-        }
+    pub(crate) fn put_moved(&mut self)
+        ensures calls { self.new.calls ≡ with_all self.old.moved.items self.old.calls }
+        ensures rest { KeepsButCalls self.old self.new }
+    {
+        put(&mut self.calls, self.moved.as_slice());
         self.moved.truncate(0);
         self.open.put_gathered();
     }
@@ -291,6 +293,16 @@ impl<'c, A: Allocator + Copy> Shadow<'c, A> {
     /// Forgets what was suspicious.
     pub fn forget_found(&mut self) {
         self.found.truncate(0);
+    }
+}
+
+/// Sets temporaries of the innermost call, one after the other.
+fn put<A: Allocator>(calls: &mut Calls<A>, moved: &[(Slot, Origin)])
+    ensures { calls.new ≡ with_all moved.now calls.old }
+{
+    for one in moved {
+        let (slot, origin) = *one;
+        calls.set(slot, origin);
     }
 }
 

@@ -1,24 +1,34 @@
 //! A step of the shadow: it looks at what comes next, and becomes the shadow of the state behind it. A step that ends the run
 //! asks nothing of it.
 
-ghost use Rattle.std.specs.Prelude.{◌≡◌, ℕ, Some, None, [], unwrap_or, IfOk, OnOk};
+ghost use Rattle.std.specs.Prelude.{◌≡◌, ℕ, List, Some, None, ◌<◌, [], ◌∷◌, ◌++◌, length, unwrap_or, slice_get, IfOk, OnOk};
+ghost use Rattle.std.specs.Option.{option_copied};
 ghost use Rattle.qil_tree.specs.declared.ops.Class.TheVariants.{L};
 ghost use Rattle.qil_tree.specs.declared.tree.Operand.{Operand};
+ghost use Rattle.qil_tree.specs.declared.tree.Argument.{Argument};
+ghost use Rattle.qil_tree.specs.declared.tree.Func.{Func};
+ghost use Rattle.qil_tree.specs.declared.tree.Program.{Program};
 ghost use Rattle.qil_memory.specs.qil_rules.Operands.{right_class, stored_class};
 ghost use Rattle.qil_memory.specs.qil_layout.Layout.{width_bytes};
 ghost use Rattle.qil_semantics.specs.State.{Frame, State};
+ghost use Rattle.qil_code.specs.Numbered.{func_at, names_of};
 ghost use Rattle.qil_shadow.specs.Origins.{binary_origin};
 ghost use Rattle.qil_shadow.specs.Bytes.{laid_origins, origins_at, stored_origins, joined, load_bytes};
 ghost use Rattle.qil_shadow.specs.Shadow as by_names;
-ghost use Rattle.qil_shadow.specs.Shadowed.{operand_origin, is_twice};
+ghost use Rattle.qil_shadow.specs.Shadowed.{operand_origin, is_twice, enters, returns};
 ghost use Rattle.qil_shadow.specs.Accesses as accesses;
 ghost use Rattle.qil_shadow.specs.Spots.{HasSpot, origins_in};
-ghost use Rattle.qil_shadow.specs.Numbered.{value_in};
+ghost use Rattle.qil_shadow.specs.Numbered.{value_in, frames_by};
 ghost use Rattle.qil_shadow.specs.Doubts.{StandsFor, Reports};
 ghost use Rattle.qil_shadow.specs.Starting.{IsOf};
-ghost use Rattle.qil_shadow.specs.Calls.{with_return};
+ghost use Rattle.qil_shadow.specs.Calls.{taken, with_return};
 ghost use Rattle.qil_shadow.specs.Reads.{IsRead, IsReturned, innermost, HasSlots};
-ghost use Rattle.qil_shadow.specs.Kept.{Keeps, KeepsButCalls, KeepsButMemory};
+ghost use Rattle.qil_shadow.specs.Kept.{Keeps, KeepsAll, KeepsButCalls, KeepsButMemory, KeepsRest};
+ghost use Rattle.qil_shadow.specs.Instructions.{named, AreCalls, IsAt, KeepsButSlot, HasGiven, HasDone};
+ghost use Rattle.qil_shadow.specs.Passing.{AreArguments, one_passed, passed_by};
+ghost use Rattle.qil_shadow.specs.Entering.{IsEntered};
+ghost use Rattle.qil_shadow.specs.Returns.{IsCalled};
+ghost use Rattle.qil_shadow.specs.Stack.{callers_of};
 
 use crate::access::Action;
 use crate::bytes::load_bytes;
@@ -51,6 +61,13 @@ fn made_or(made: Option<ObjectId>, origin: Origin) -> Origin
     }
 }
 
+/// The argument of a number, if there is one.
+fn argument_at(args: &[NumberedArgument], index: usize) -> Option<&NumberedArgument>
+    ensures { option_copied result ≡ slice_get args.now index }
+{
+    args.get(index)
+}
+
 impl<'c, A: Allocator + Copy> Shadow<'c, A> {
     /// Makes the step of the innermost frame at a place, which holds these values.
     ///
@@ -81,22 +98,29 @@ impl<'c, A: Allocator + Copy> Shadow<'c, A> {
         place: Place,
         slots: &[Option<u64>],
         inst: &NumberedInst<A>,
-    ) -> Result<(), AllocError> {
+    ) -> Result<(), AllocError>
+        ensures { OnOk result (HasDone code.now place slots.now inst.now self.old self.new) }
+    {
         match inst {
             NumberedInst::Assign(class, to, expr) => {
-                self.assign(code, place, slots, *class, *to, *expr)
+                self.assign(code, place, slots, *class, *to, *expr)?;
+                Ok(())
             }
             NumberedInst::Store(width, number, address) => {
-                self.store(code, place, slots, *width, *number, *address)
+                self.store(code, place, slots, *width, *number, *address)?;
+                Ok(())
             }
             NumberedInst::Alloc(_, to, op, count) => {
-                self.alloc_slot(place, slots, *to, *op, *count)
+                self.alloc_slot(place, slots, *to, *op, *count)?;
+                Ok(())
             }
             NumberedInst::Blit(source, target, count) => {
-                self.blit(code, place, slots, *source, *target, *count)
+                self.blit(code, place, slots, *source, *target, *count)?;
+                Ok(())
             }
             NumberedInst::Call(to, callee, args) => {
-                self.call(code, place, slots, *to, *callee, args.as_slice())
+                self.call(code, place, slots, *to, *callee, args.as_slice())?;
+                Ok(())
             }
         }
     }
@@ -111,32 +135,71 @@ impl<'c, A: Allocator + Copy> Shadow<'c, A> {
         class: Class,
         to: Slot,
         expr: NumberedExpr,
-    ) -> Result<(), AllocError> {
-        let origin = match expr {
-            NumberedExpr::Unary(op, operand) => unary_origin(
-                op,
-                class,
-                self.origin_of(code, place, Reading::First, class, operand),
-            ),
-            NumberedExpr::Binary(op, left, right) => {
-                if self.is_number(left) && self.is_number(right) {
-                    Origin::Number
-                } else {
-                    self.binary(code, place, slots, class, op, left, right)
-                }
-            }
-            NumberedExpr::Compare(_, _, _, _) => Origin::Number,
-            NumberedExpr::Extend(op, operand) => extended_origin(
-                op,
-                self.origin_of(code, place, Reading::First, Class::W, operand),
-            ),
-            NumberedExpr::Load(op, operand) => {
-                self.load(code, place, slots, class, op, operand)?
-            }
-        };
+    ) -> Result<(), AllocError>
+        ensures done { OnOk result (HasDone code.now place slots.now (NumberedInst.Assign class to expr) self.old self.new) }
+        ensures rest { OnOk result (KeepsButSlot to self.old self.new) }
+    {
+        let origin = self.expr_origin(code, place, slots, class, expr)?;
         self.calls.set(to, origin);
         self.assign_open(slots, class, to, expr);
         Ok(())
+    }
+
+    /// What an expression gives.
+    #[inline(always)]
+    fn expr_origin(
+        &mut self,
+        code: &Code<'c, A>,
+        place: Place,
+        slots: &[Option<u64>],
+        class: Class,
+        expr: NumberedExpr,
+    ) -> Result<Origin, AllocError>
+        ensures { IfOk result (λ origin. HasGiven code.now place slots.now class expr self.old self.new origin) }
+    {
+        match expr {
+            NumberedExpr::Unary(op, operand) => {
+                let origin = self.origin_of(code, place, Reading::First, class, operand);
+                Ok(unary_origin(op, class, origin))
+            }
+            NumberedExpr::Binary(op, left, right) => {
+                Ok(self.two_origin(code, place, slots, class, op, left, right))
+            }
+            NumberedExpr::Compare(_, _, _, _) => Ok(Origin::Number),
+            NumberedExpr::Extend(op, operand) => {
+                let origin = self.origin_of(code, place, Reading::First, Class::W, operand);
+                Ok(extended_origin(op, origin))
+            }
+            NumberedExpr::Load(op, operand) => {
+                let origin = self.load(code, place, slots, class, op, operand)?;
+                Ok(origin)
+            }
+        }
+    }
+
+    /// What an operation gives of two operands: of two numbers a number.
+    #[inline(always)]
+    fn two_origin(
+        &self,
+        code: &Code<'c, A>,
+        place: Place,
+        slots: &[Option<u64>],
+        class: Class,
+        op: BinaryOp,
+        left: NumberedOperand,
+        right: NumberedOperand,
+    ) -> Origin
+        ensures { (a b : Operand) → IsOf code.now self.now.names self.now.calls.objects.starts self.now.data_end → HasSlots code.now place.func.index self.now.calls.calls
+            → IsRead code.now place Reading.First a left → IsRead code.now place Reading.Second b right
+            → result ≡ binary_origin op class (is_twice a b) (operand_origin code.now (innermost code.now place.func.index self.now.calls.calls) class a) (unwrap_or (value_in slots.now left) 0)
+            (operand_origin code.now (innermost code.now place.func.index self.now.calls.calls) (right_class op class) b) (unwrap_or (value_in slots.now right) 0) }
+    {
+        if self.is_number(left) {
+            if self.is_number(right) {
+                return Origin::Number;
+            }
+        }
+        self.binary(code, place, slots, class, op, left, right)
     }
 
     /// What an operation gives, one of whose operands may be made of an address. Most have numbers alone.
@@ -209,6 +272,7 @@ impl<'c, A: Allocator + Copy> Shadow<'c, A> {
             → IsOf code.now self.old.names self.old.calls.objects.starts self.old.data_end → HasSlots code.now place.func.index self.old.calls.calls → IsRead code.now place Reading.Second b address
             → StandsFor code.now s sh f self.old.calls.objects.objects self.old.calls.top self.old.position place
             → Reports code.now s sh f (accesses.access (Action.Store width) (operand_origin code.now (innermost code.now place.func.index self.old.calls.calls) L b) t (width_bytes width)) self.old.found.items self.new.found.items) }
+        ensures done { OnOk result (HasDone code.now place slots.now (NumberedInst.Store width number address) self.old self.new) }
         ensures rest { OnOk result (KeepsButMemory self.old self.new) }
     {
         if value_of(slots, number).is_none() {
@@ -237,7 +301,10 @@ impl<'c, A: Allocator + Copy> Shadow<'c, A> {
         source: NumberedOperand,
         target: NumberedOperand,
         count: u64,
-    ) -> Result<(), AllocError> {
+    ) -> Result<(), AllocError>
+        ensures done { OnOk result (HasDone code.now place slots.now (NumberedInst.Blit source target count) self.old self.new) }
+        ensures rest { OnOk result (KeepsButMemory self.old self.new) }
+    {
         let Some(source_address) = value_of(slots, source) else {
             return Ok(());
         };
@@ -274,10 +341,16 @@ impl<'c, A: Allocator + Copy> Shadow<'c, A> {
         to: Slot,
         op: AllocOp,
         count: NumberedOperand,
-    ) -> Result<(), AllocError> {
+    ) -> Result<(), AllocError>
+        ensures done { OnOk result ((p : Program A) (class : Class) → HasDone p place slots.now (NumberedInst.Alloc class to op count) self.old self.new) }
+        ensures rest { KeepsRest self.old self.new }
+    {
         self.use_bits(self.open_of(Class::L, count));
         match value_of(slots, count) {
-            Some(count) => self.grow(place, to, alignment(op), count),
+            Some(size) => {
+                self.grow(place, to, alignment(op), size)?;
+                Ok(())
+            }
             None => Ok(()),
         }
     }
@@ -291,25 +364,62 @@ impl<'c, A: Allocator + Copy> Shadow<'c, A> {
         to: Option<Receiver>,
         callee: NumberedOperand,
         args: &[NumberedArgument],
-    ) -> Result<(), AllocError> {
+    ) -> Result<(), AllocError>
+        ensures { OnOk result (HasDone code.now place slots.now (NumberedInst.Call to callee args.now) self.old self.new) }
+    {
         let Some(address) = value_of(slots, callee) else {
             return Ok(());
         };
         self.use_callee(callee, address);
-        match code.image().function_at(address) {
-            Some(Callee::Defined(func)) => self.call_function(code, place, slots, func, to, args),
-            Some(callee) => {
-                self.call_built_in(code, place, slots, callee, args);
-                if let Some(to) = to {
-                    self.calls.set(to.slot, Origin::Number);
-                    self.open.set(to.slot, open_passed(to.abi_type, 0));
-                }
+        let Some(found) = code.image().function_at(address) else {
+            self.open.note(self.position);
+            return Ok(());
+        };
+        match found {
+            Callee::Defined(func) => {
+                self.call_function(code, place, slots, func, to, args)?;
                 Ok(())
             }
-            None => {
-                self.open.note(self.position);
+            Callee::PutChar => {
+                self.call_given(code, place, slots, found, to, args);
                 Ok(())
             }
+            Callee::Puts => {
+                self.call_given(code, place, slots, found, to, args);
+                Ok(())
+            }
+            Callee::Exit => {
+                self.call_given(code, place, slots, found, to, args);
+                Ok(())
+            }
+        }
+    }
+
+    /// Calls a function that every program has, which gives a number.
+    fn call_given(
+        &mut self,
+        code: &Code<'c, A>,
+        place: Place,
+        slots: &[Option<u64>],
+        callee: Callee,
+        to: Option<Receiver>,
+        args: &[NumberedArgument],
+    )
+        ensures calls { self.new.calls ≡ record self.old.calls { calls = taken to Origin.Number self.old.calls.calls } }
+        ensures rest { KeepsButCalls self.old self.new }
+    {
+        self.call_built_in(code, place, slots, callee, args);
+        self.give_number(to);
+    }
+
+    /// Gives the temporary that takes the result of a call, if one does, a number.
+    fn give_number(&mut self, to: Option<Receiver>)
+        ensures calls { self.new.calls ≡ record self.old.calls { calls = taken to Origin.Number self.old.calls.calls } }
+        ensures rest { KeepsButCalls self.old self.new }
+    {
+        if let Some(to) = to {
+            self.calls.set(to.slot, Origin::Number);
+            self.open.set(to.slot, open_passed(to.abi_type, 0));
         }
     }
 
@@ -321,7 +431,9 @@ impl<'c, A: Allocator + Copy> Shadow<'c, A> {
         slots: &[Option<u64>],
         callee: Callee,
         args: &[NumberedArgument],
-    ) {
+    )
+        ensures { KeepsAll self.old self.new }
+    {
         let Some(given) = args.first() else {
             return;
         };
@@ -330,13 +442,24 @@ impl<'c, A: Allocator + Copy> Shadow<'c, A> {
             Callee::Defined(_) => {}
             Callee::PutChar => self.use_bits(open % 256),
             Callee::Exit => self.use_bits(open),
-            Callee::Puts => {
-                let reading = Reading::Argument(0);
-                let origin = self.origin_of(code, place, reading, Class::L, given.source);
-                self.use_bits(open);
-                self.text = value_of(slots, given.source).map(|address| (address, origin));
-            }
+            Callee::Puts => self.use_text(code, place, slots, given.source, open),
         }
+    }
+
+    /// Looks at the address of a text that is written.
+    fn use_text(
+        &mut self,
+        code: &Code<'c, A>,
+        place: Place,
+        slots: &[Option<u64>],
+        source: NumberedOperand,
+        open: u64,
+    )
+        ensures { KeepsAll self.old self.new }
+    {
+        let origin = self.origin_of(code, place, Reading::Argument(0), Class::L, source);
+        self.use_bits(open);
+        self.text = value_of(slots, source).map(|address| (address, origin));
     }
 
     /// Adds a call of a function of the program.
@@ -348,19 +471,16 @@ impl<'c, A: Allocator + Copy> Shadow<'c, A> {
         func: FuncId,
         to: Option<Receiver>,
         args: &[NumberedArgument],
-    ) -> Result<(), AllocError> {
-        self.moved.truncate(0);
-        let params: &[(Slot, AbiType)] = code.params(func);
-        for (index, (slot, wanted)) in params.iter().enumerate() {
-            if let Some(arg) = args.get(index) {
-                let class = arg.abi_type.class();
-                let reading = Reading::Argument(index);
-                let origin = self.origin_of(code, place, reading, class, arg.source);
-                self.moved.push((*slot, origin))?;
-                self.pass_open(arg.abi_type, arg.source, *slot, *wanted)?;
-            }
-        }
+    ) -> Result<(), AllocError>
+        ensures named { OnOk result ((given : List Argument) (callee : Func A) (fs : List ℕ) → IsAt code.now place self.old → AreCalls code.now (place.func.index ∷ fs) self.old.calls.calls
+            → AreArguments code.now place args.now given → func_at code.now func.index ≡ Some callee → length self.old.calls.calls < 1000
+            → named code.now (func.index ∷ (place.func.index ∷ fs)) self.new
+            ≡ enters code.now (named code.now (place.func.index ∷ fs) self.old) (innermost code.now place.func.index self.old.calls.calls) (frames_by code.now fs (callers_of self.old.calls.calls)) given (Some callee)) }
+        ensures calls { OnOk result (length self.old.calls.calls < 1000 → IsEntered (length (names_of code.now func.index)) to self.old.calls self.new.calls) }
+        ensures rest { OnOk result (KeepsButCalls self.old self.new) }
+    {
         self.enter_heap(code, place, slots, func, args);
+        self.gather(code, place, code.params(func), args)?;
         if self.calls.depth() >= MOST_CALLS {
             return Ok(());
         }
@@ -368,6 +488,57 @@ impl<'c, A: Allocator + Copy> Shadow<'c, A> {
         self.open.push(code.slot_count(func), to)?;
         self.put_moved();
         Ok(())
+    }
+
+    /// Gathers what parameters get of the arguments next to them.
+    fn gather(
+        &mut self,
+        code: &Code<'c, A>,
+        place: Place,
+        params: &[(Slot, AbiType)],
+        args: &[NumberedArgument],
+    ) -> Result<(), AllocError>
+        ensures moved { OnOk result ((given : List Argument) → IsAt code.now place self.old → AreArguments code.now place args.now given
+            → self.new.moved.items ≡ passed_by code.now (innermost code.now place.func.index self.old.calls.calls) params.now given) }
+        ensures rest { OnOk result (KeepsAll self.old self.new) }
+    {
+        self.moved.truncate(0);
+        for index in 0..params.len() {
+            self.gather_one(code, place, index, params[index], args)?;
+        }
+        Ok(())
+    }
+
+    /// Gathers what a parameter gets, if there is an argument of its number.
+    fn gather_one(
+        &mut self,
+        code: &Code<'c, A>,
+        place: Place,
+        index: usize,
+        param: (Slot, AbiType),
+        args: &[NumberedArgument],
+    ) -> Result<(), AllocError>
+        ensures moved { OnOk result ((given : List Argument) → IsAt code.now place self.old → AreArguments code.now place args.now given
+            → self.new.moved.items ≡ self.old.moved.items ++ one_passed code.now (innermost code.now place.func.index self.old.calls.calls) param (slice_get given index)) }
+        ensures rest { OnOk result (KeepsAll self.old self.new) }
+    {
+        match argument_at(args, index) {
+            Some(arg) => {
+                let (slot, wanted) = param;
+                let class = arg.abi_type.class();
+                let origin = self.origin_of(
+                    code,
+                    place,
+                    Reading::Argument(index),
+                    class,
+                    arg.source,
+                );
+                self.moved.push((slot, origin))?;
+                self.pass_open(arg.abi_type, arg.source, slot, wanted)?;
+                Ok(())
+            }
+            None => Ok(()),
+        }
     }
 
     /// What a jump does.
@@ -406,6 +577,9 @@ impl<'c, A: Allocator + Copy> Shadow<'c, A> {
     ) -> Result<(), AllocError>
         ensures calls { OnOk result ((m : Origin) → self.old.heap.roles.items ≡ [] → IsReturned code.now self.old.names self.old.calls self.old.data_end place operand m
             → self.new.calls ≡ with_return self.old.calls self.old.position m) }
+        ensures named { OnOk result ((f : Frame) (j : ℕ) (fs : List ℕ) (m : Origin) → self.old.heap.roles.items ≡ [] → IsReturned code.now self.old.names self.old.calls self.old.data_end place operand m
+            → AreCalls code.now (place.func.index ∷ (j ∷ fs)) self.old.calls.calls → IsCalled code.now j f self.old.calls.calls
+            → named code.now (j ∷ fs) self.new ≡ returns f (named code.now (place.func.index ∷ (j ∷ fs)) self.old) (innermost code.now place.func.index self.old.calls.calls) (frames_by code.now (j ∷ fs) (callers_of self.old.calls.calls)) m) }
         ensures rest { OnOk result (self.old.heap.roles.items ≡ [] → KeepsButCalls self.old self.new) }
     {
         let origin = self.returned_origin(code, place, operand);

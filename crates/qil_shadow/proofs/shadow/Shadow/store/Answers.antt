@@ -1,8 +1,9 @@
 -- The access is looked at, and then the value is stored.
-use Rattle.std.proofs.Common.{◌∙◌, sym, ap}
+use Rattle.std.proofs.Common.{◌∙◌, sym}
 use Rattle.qil_shadow.specs.Shadowed.{operand_origin}
 use Rattle.qil_shadow.specs.Reads.{innermost}
 use Rattle.qil_shadow.proofs.KeptLemmas.{own_kept, slots_behind, stored_is, reported_as, same_value}
+use Rattle.qil_shadow.proofs.StoreInstLemmas.{store_done}
 use Rattle.qil_shadow.proofs.shadow.Shadow.store.Goals as goal
 
 pub returns-clause-found : goal.returns-clause-found
@@ -16,3 +17,10 @@ returns-clause-memory g c = λ a v t holds is spot own slots read.
     (c.origin_of-stored.ensures a (own_kept _ _ _ c.in_ok-look_through.ensures.rest own) (slots_behind _ _ _ _ c.in_ok-look_through.ensures.rest slots) read
     ∙ (λ i. operand_origin c.args.code.now (innermost c.args.code.now c.args.place.func.index (c.in_ok-look_through.ensures.rest.calls_are i).calls) (c.class_stored-class.ensures i) a))
     c.store.ensures spot
+
+pub returns-clause-done : goal.returns-clause-done
+returns-clause-done g c =
+    let kept = c.in_ok-look_through.ensures.rest in
+    store_done c.args.code.now c.args.place c.args.slots.now c.args.width c.args.number c.args.address c.args.self.now _
+    (λ a v t holds is spot own slots read. returns-clause-memory g c a v t holds is spot own slots read) (λ b v t s sh f holds is own slots read stands. returns-clause-found g c b v t s sh f holds is own slots read stands)
+    (record { calls_are = kept.calls_are; names_are = kept.names_are; end_is = kept.end_is; position_is = kept.position_is; roles_are = kept.roles_are })
