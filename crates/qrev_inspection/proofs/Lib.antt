@@ -1,1 +1,3 @@
--- No lemmas: answers stand beside their functions.
+-- The lemmas of this crate.
+pub mod Lifting
+pub mod Reading

@@ -1,2 +1,4 @@
 -- The words of this crate's contracts.
 pub mod Shown
+pub mod Requested
+pub mod ReadBytes

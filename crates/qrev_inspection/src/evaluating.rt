@@ -118,6 +118,7 @@ fn is_move(line: &[u8]) -> bool {
         read_command(line),
         Ok(Some(
             Command::Step(_)
+                | Command::Accesses(..)
                 | Command::Back(_)
                 | Command::Continue
                 | Command::Reverse

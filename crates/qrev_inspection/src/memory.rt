@@ -1,6 +1,14 @@
 //! `readMemory` and `writeMemory`: bytes in base64, at an address in decimal.
 
-ghost use Rattle.std.specs.Prelude.{◌<◌, ◌≤◌};
+ghost use Rattle.std.specs.Prelude.{◌≡◌, ◌<◌, ◌≤◌, [], ◌∷◌, ◌++◌, ℕ, List, Some, codes, decimal, min, IfErr, IfOk, IfSome};
+ghost use Rattle.base64.specs.GeneralPurpose.{encode_of};
+ghost use Rattle.base64.specs.Engines.{standard};
+ghost use Rattle.json.specs.Token.{key, string, number};
+ghost use Rattle.qil_memory.specs.Live.{live};
+ghost use Rattle.qrev_protocol.specs.Outgoing.{Adds};
+ghost use Rattle.qrev_requests.specs.Members.{json_of, IsNumberIn};
+ghost use Rattle.qrev_debuggee.specs.declared.failure.Failure.TheVariants.{OutOfMemory};
+ghost use Rattle.qrev_inspection.specs.ReadBytes.{AreRead, IsMovedBy, SaysAddress, SaysOffset, ShowsBytes, memory_members, read_limit, unreadable_member};
 
 use base64::engine::general_purpose::STANDARD;
 use qil_fragments::Fragment;
@@ -9,12 +17,15 @@ use qrev_debuggee::{Body, Cause, Debuggee, Failure, HasMachine};
 use qrev_requests::Arguments;
 use qrev_views::{Readers, byte_at, number_text};
 use std::alloc::{AllocError, Allocator};
+use std::num::{wrapping_add_u64, wrapping_sub_u64};
 
 /// The most bytes that one request reads.
 const READ_LIMIT: u64 = 65_536;
 
 /// The offset that is said: none is 0.
-fn offset_said<A: Allocator + Copy>(asked: Arguments<'_, '_, A>) -> Option<i64> {
+fn offset_said<A: Allocator + Copy>(asked: Arguments<'_, '_, A>) -> Option<i64>
+    ensures { IfSome result (SaysOffset (json_of asked.entry)) }
+{
     match asked.get("offset") {
         Some(_) => asked.signed("offset"),
         None => Some(0),
@@ -22,18 +33,26 @@ fn offset_said<A: Allocator + Copy>(asked: Arguments<'_, '_, A>) -> Option<i64> 
 }
 
 /// The address at an offset from another.
-fn address_at(start: u64, offset: i64) -> u64 {
+fn address_at(start: u64, offset: i64) -> u64
+    ensures { IsMovedBy start offset result }
+{
     if offset < 0 {
-        start.wrapping_sub(offset.unsigned_abs())
+        wrapping_sub_u64(start, offset.unsigned_abs())
     } else {
-        start.wrapping_add(offset.unsigned_abs())
+        wrapping_add_u64(start, offset.unsigned_abs())
     }
 }
 
 /// The address that a reference and an offset say.
-fn address_said<A: Allocator + Copy>(asked: Arguments<'_, '_, A>) -> Option<u64> {
-    let start = asked.text("memoryReference")?.parse::<u64>().ok()?;
-    Some(address_at(start, offset_said(asked)?))
+fn address_said<A: Allocator + Copy>(asked: Arguments<'_, '_, A>) -> Option<u64>
+    ensures { IfSome result (SaysAddress (json_of asked.entry)) }
+{
+    let text = asked.text("memoryReference")?;
+    let Ok(start) = text.parse::<u64>() else {
+        return None;
+    };
+    let offset = offset_said(asked)?;
+    Some(address_at(start, offset))
 }
 
 /// The widest poke that fits into so many bytes: its letter, and its width.
@@ -60,21 +79,32 @@ fn number_of(bytes: &[u8]) -> u64 {
     number
 }
 
+/// Adds a byte.
+fn add_byte<A: Allocator>(bytes: &mut Vec<u8, A>, byte: u8) -> Result<(), Failure>
+    ensures added { IfOk result (λ done. bytes.new.items ≡ bytes.old.items ++ byte ∷ []) }
+    ensures fails { IfErr result (λ why. why ≡ OutOfMemory) }
+{
+    match bytes.push(byte) {
+        Ok(()) => Ok(()),
+        Err(_) => Err(Failure::OutOfMemory),
+    }
+}
+
 /// The live bytes from an address on, up to the first dead one, and at most so many.
 fn live_bytes<'c, A: Allocator + Copy + 'c, M: Readers<A, Code<'c, A>>>(
     alloc: A,
     machine: &M,
     start: u64,
     most: u64,
-) -> Result<Vec<u8, A>, Failure> {
+) -> Result<Vec<u8, A>, Failure>
+    ensures read { IfOk result (λ bytes. AreRead (live (M.whole machine.now).memory) start most bytes.items) }
+    ensures fails { IfErr result (λ why. why ≡ OutOfMemory) }
+{
     let mut bytes = Vec::new(alloc);
     for offset in 0..most {
         match byte_at(machine, start.wrapping_add(offset)) {
-            Some(byte) => match bytes.push(byte) {
-                Ok(()) => {}
-                Err(_) => return Err(Failure::OutOfMemory),
-            },
-            None => break,
+            Some(byte) => add_byte(&mut bytes, byte)?,
+            None => return Ok(bytes),
         }
     }
     Ok(bytes)
@@ -85,9 +115,12 @@ fn put_address<A: Allocator + Copy>(
     alloc: A,
     body: Body<A>,
     start: u64,
-) -> Result<Body<A>, AllocError> {
+) -> Result<Body<A>, AllocError>
+    ensures { IfOk result (λ o. Adds body.out o.out (key (codes "address") ∷ string (decimal start) ∷ [])) }
+{
     let address = number_text(alloc, start)?;
-    body.text("address", address.as_str())
+    let body = body.text("address", address.as_str())?;
+    Ok(body)
 }
 
 /// Adds bytes.
@@ -95,49 +128,60 @@ fn put_bytes<A: Allocator + Copy>(
     alloc: A,
     body: Body<A>,
     bytes: &[u8],
-) -> Result<Body<A>, AllocError> {
-    let data = STANDARD.encode(alloc, bytes)?;
-    body.text("data", data.as_str())
+) -> Result<Body<A>, AllocError>
+    ensures { IfOk result (λ o. Adds body.out o.out (key (codes "data") ∷ string (encode_of standard bytes.now) ∷ [])) }
+{
+    let text = STANDARD.encode(alloc, bytes)?;
+    let body = body.text("data", text.as_str())?;
+    Ok(body)
 }
 
 /// Adds how many of the bytes that were asked for weren't read, if the first of them is dead.
-fn put_unreadable<A: Allocator>(
-    body: Body<A>,
-    count: u64,
-    read: u64,
-) -> Result<Body<A>, AllocError> {
-    if read < count.min(READ_LIMIT) {
-        body.number("unreadableBytes", count.saturating_sub(read))
-    } else {
-        Ok(body)
+fn put_unreadable<A: Allocator>(body: Body<A>, count: u64, read: u64) -> Result<Body<A>, AllocError>
+    ensures { IfOk result (λ o. Adds body.out o.out (unreadable_member count read)) }
+{
+    if read >= count.min(READ_LIMIT) {
+        return Ok(body);
     }
+    let body = body.number("unreadableBytes", count.saturating_sub(read))?;
+    Ok(body)
 }
 
 /// Adds bytes that were read from an address on, of so many that were asked for.
 fn put_read<A: Allocator + Copy>(
     alloc: A,
     body: Body<A>,
-    (start, count): (u64, u64),
+    start: u64,
+    count: u64,
     bytes: &[u8],
-) -> Result<Body<A>, AllocError> {
+) -> Result<Body<A>, AllocError>
+    ensures { IfOk result (λ o. Adds body.out o.out (memory_members start count bytes.now)) }
+{
     let body = put_address(alloc, body, start)?;
     let body = put_bytes(alloc, body, bytes)?;
-    put_unreadable(body, count, bytes.len() as u64)
+    let body = put_unreadable(body, count, bytes.len() as u64)?;
+    Ok(body)
 }
 
 /// Adds so many bytes from an address on.
 fn put_memory<'c, A: Allocator + Copy + 'c, M: Readers<A, Code<'c, A>>>(
     alloc: A,
     machine: &M,
-    (start, count): (u64, u64),
+    start: u64,
+    count: u64,
     body: Body<A>,
-) -> Result<Body<A>, Failure> {
+) -> Result<Body<A>, Failure>
+    ensures { IfOk result (λ o. (bytes : List ℕ) × AreRead (live (M.whole machine.now).memory) start (min count read_limit) bytes × Adds body.out o.out (memory_members start count bytes)) }
+{
     let bytes = live_bytes(alloc, machine, start, count.min(READ_LIMIT))?;
-    Ok(put_read(alloc, body, (start, count), bytes.as_slice())?)
+    let body = put_read(alloc, body, start, count, bytes.as_slice())?;
+    Ok(body)
 }
 
 /// The address from which on bytes are asked for, and how many.
-fn span_said<A: Allocator + Copy>(asked: Arguments<'_, '_, A>) -> Result<(u64, u64), Failure> {
+fn span_said<A: Allocator + Copy>(asked: Arguments<'_, '_, A>) -> Result<(u64, u64), Failure>
+    ensures { IfOk result (λ span. SaysAddress (json_of asked.entry) span.0 × IsNumberIn (codes "count") (json_of asked.entry) (Some span.1)) }
+{
     let Some(start) = address_said(asked) else {
         return Err(Failure::Because(Cause::NoAddress));
     };
@@ -152,9 +196,13 @@ pub fn read_memory<'c, A: Allocator + Copy + 'c, L: HasMachine<A, Code<'c, A>>>(
     debuggee: &Debuggee<'c, A, L>,
     asked: Arguments<'_, '_, A>,
     body: Body<A>,
-) -> Result<Body<A>, Failure> {
+) -> Result<Body<A>, Failure>
+    ensures { IfOk result (λ o. ShowsBytes (L.state debuggee.now.recorder.live).timeline.now.memory (json_of asked.entry) body.out o.out) }
+{
     let span = span_said(asked)?;
-    put_memory(debuggee.alloc, debuggee.machine(), span, body)
+    let machine = debuggee.machine();
+    let body = put_memory(debuggee.alloc, machine, span.0, span.1, body)?;
+    Ok(body)
 }
 
 /// Whether so many bytes from an address on are live.
