@@ -1,7 +1,8 @@
 """Which instructions of a run touched some bytes of memory.
 
-The debugger has no watch for reads, and none for a write of the same value. So breakpoints at all loads, or all stores,
-give the positions at which these ran, many at a time. Then the addresses are asked for, along these positions.
+The debugger's `accesses` tells them along a run, and then the places are asked for, from the last one back. `why`
+begins with the latest: for it breakpoints at all stores give the positions at which these ran, many at a time, and then
+the addresses are asked for along these.
 """
 from __future__ import annotations
 
@@ -9,11 +10,11 @@ from dataclasses import dataclass
 from itertools import islice
 from typing import Iterator
 
-from .answers import read_bytes, read_value
+from .answers import Place, Touched, read_accesses, read_bytes, read_value
 from .frames import steps_begun
-from .scratch import MOST_BYTES, Scratch
+from .scratch import MOST_BYTES, SLICE, Scratch
 from .text import BUILT_IN, LOADED, STORED, Instruction, Operand, Program
-from .timeline import Poke, Timeline
+from .timeline import Poke, Timeline, lines_between
 from .values import BYTES
 
 MOST_STOPS = 60
@@ -37,9 +38,6 @@ class Access:
     address: int
     count: int
 
-    def meets(self, address: int, count: int) -> bool:
-        return self.address < address + count and address < self.address + self.count
-
 
 class Accesses:
     def __init__(self, program: Program, scratch: Scratch):
@@ -59,11 +57,56 @@ class Accesses:
         return found
 
     def touching(self, is_write: bool, high: Timeline, low: int, address: int, count: int) -> Iterator[Access]:
-        """What touched these bytes by moves from `low` on and before `high`; the latest first for sixty places each."""
-        sites = [site for site in self.sites(is_write) if self.may_touch(site, is_write, address, count)]
-        for first in range(0, len(sites), MOST_STOPS):
-            for block in self.blocks(sites[first:first + MOST_STOPS], high, low):
-                yield from (access for access in self.looked_at(block, is_write, high) if access.meets(address, count))
+        """What touched these bytes by moves from `low` on and before `high`; the latest first."""
+        sites = {(site.function, site.label, site.index): site for site in self.sites(is_write)}
+        if not any(self.may_touch(site, is_write, address, count) for site in sites.values()):
+            return
+        found = [one for one in self.told(high, low, address, count) if one.is_write == is_write]
+        found.reverse()
+        for first in range(0, len(found), MOST_BLOCK):
+            block = found[first:first + MOST_BLOCK]
+            for one, place in zip(block, self.places([one.position for one in block], high)):
+                # What an alloc makes isn't written by one of these.
+                site = sites.get((place.function, place.label, place.index))
+                if site:
+                    yield Access(one.position, site, one.address, one.count)
+
+    def told(self, high: Timeline, low: int, address: int, count: int) -> list[Touched]:
+        """The reads and writes of these bytes, as `accesses` tells them."""
+        found: list[Touched] = []
+        scratch = self.scratch.go(high.at(low))
+        for line in lines_between(scratch.timeline, high):
+            word, _, number = line.partition(" ")
+            left = int(number) if word == "step" else 0
+            if not left:
+                scratch.after(scratch.ask(line)[0], line)
+            while left:
+                before = scratch.timeline.position
+                answer = scratch.ask(f"accesses {min(left, SLICE)} {address} {count}")[0]
+                found += read_accesses(answer)
+                made = scratch.after(answer, "step") - before
+                if not made:
+                    return found
+                scratch.waiting.stop_if_pressed()
+                scratch.waiting.tell(scratch.timeline.position)
+                left -= made
+        return found
+
+    def places(self, positions: list[int], run: Timeline) -> list[Place]:
+        """The places at positions of a run, from the last one back."""
+        at = positions[0]
+        first = self.scratch.go(run.at(at)).place
+        ways = [before - position for before, position in zip(positions, positions[1:])]
+        answers = iter(self.scratch.ask(*(f"back {way}" for way in ways if way)))
+        places = [first]
+        for way in ways:
+            if way:
+                answer = next(answers)
+                self.scratch.after(answer, "back")
+                places.append(self.scratch.place)
+            else:
+                places.append(places[-1])
+        return places
 
     def may_touch(self, site: Site, is_write: bool, address: int, count: int) -> bool:
         """False where the text alone says that an instruction touches other bytes."""

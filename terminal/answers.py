@@ -4,8 +4,8 @@ from __future__ import annotations
 import re
 from dataclasses import dataclass
 
-COMMANDS = ("step", "back", "continue", "reverse", "break", "watch", "delete", "stops", "set", "poke", "print", "temps",
-            "mem", "where", "list", "out", "quit")
+COMMANDS = ("step", "accesses", "back", "continue", "reverse", "break", "watch", "delete", "stops", "set", "poke",
+            "print", "temps", "mem", "where", "list", "out", "quit")
 
 
 @dataclass(frozen=True)
@@ -45,9 +45,29 @@ class Moved:
 def read_moved(lines: list[str]) -> Moved:
     if len(lines) == 1 and lines[0].startswith("no: "):
         return Moved(refusal=lines[0][4:])
-    if lines[0].startswith("stop: "):
-        return Moved(read_place(lines[1]), lines[0][6:])
-    return Moved(read_place(lines[0]))
+    if len(lines) > 1 and lines[-2].startswith("stop: "):
+        return Moved(read_place(lines[-1]), lines[-2][6:])
+    return Moved(read_place(lines[-1]))
+
+
+@dataclass(frozen=True)
+class Touched:
+    """What a move from a position read or wrote: how many bytes from an address on."""
+    is_write: bool
+    position: int
+    address: int
+    count: int
+
+
+def read_accesses(lines: list[str]) -> list[Touched]:
+    """The accesses in the answer of `accesses`."""
+    found = []
+    for line in lines:
+        word, _, rest = line.partition(" #")
+        if word in ("read", "write"):
+            position, address, count = rest.split(" ")
+            found.append(Touched(word == "write", int(position), int(address), int(count)))
+    return found
 
 
 def read_value(line: str) -> int | None:

@@ -87,6 +87,17 @@ def distance(number: int, begin: int, size: int) -> int:
     return max(begin - number, number - (begin + size), 0)
 
 
+def pieces_of(offsets: set[int]) -> list[tuple[int, int]]:
+    """Bytes in pieces that have a width, each by its first byte and its size."""
+    found, left = [], sorted(offsets, reverse=True)
+    while left:
+        first = left[-1]
+        count = next(count for count in sorted(WIDTHS, reverse=True) if offsets.issuperset(range(first, first + count)))
+        found.append((first, count))
+        del left[-count:]
+    return found
+
+
 class Causes:
     def __init__(self, program: Program, names: Names, frames: Frames, scratch: Scratch,
                  source: Callable[[int], str] = lambda line: "",
@@ -558,7 +569,11 @@ class Causes:
         return writers, left, is_sure
 
     def last_change(self, address: int, left: set[int], at: Timeline) -> int | None:
-        stops = [f"watch b {address + offset}" for offset in sorted(left)]
+        known = self.scratch.go(at).memory(address, max(left) + 1)
+        # Of bytes that are all live one wide watch sees what one for each would see.
+        pieces = pieces_of({offset for offset in left if known[offset] is not None})
+        pieces += [(offset, 1) for offset in left if known[offset] is None]
+        stops = [f"watch {WIDTHS[count]} {address + offset}" for offset, count in pieces]
         hit = next(self.scratch.go(at).hits(False, stops, most=1), None)
         return hit.position if hit and hit.stop is not None else None
 

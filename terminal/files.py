@@ -9,7 +9,7 @@ from typing import Iterator, NamedTuple
 from .expressions import Wrong
 from .scratch import Refused
 from .shell import Shell, command
-from .values import shown_bytes
+from .values import numbered_lines
 
 # A record of the table, as lower/runtime/files/table.ssa has it: addresses of the name and of the first byte, the size,
 # the room, how many streams are open, and whether it has its name.
@@ -76,12 +76,8 @@ def files(shell: Shell, rest: str) -> None:
     content = bytes_at(shell, chosen.address, min(chosen.size, MOST_BYTES))
     if len(words) > 1:
         write(shell, words[1], content)
-        return
-    shell.say(f"{len(content)} bytes")
-    begin, digits = 0, len(str(len(content)))
-    for line in content.splitlines(keepends=True):
-        shell.say(f"{begin:{digits}}  {shown_bytes(line)}")
-        begin += len(line)
+    else:
+        shell.say(*numbered_lines(content))
 
 
 def write(shell: Shell, path: str, content: bytes) -> None:

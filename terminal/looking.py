@@ -10,7 +10,7 @@ from .habits import save_stops
 from .scratch import Refused
 from .shell import COMMANDS, Shell, check_format, command
 from .sources import list_source, source_told
-from .values import BYTES, FORMATS, formatted, shown_bytes
+from .values import BYTES, FORMATS, formatted, numbered_lines, shown_bytes
 
 MOST_UNITS = 4096
 SIZES = {"b": "b", "h": "h", "w": "w", "l": "l", "g": "l"}
@@ -258,12 +258,7 @@ def list_(shell: Shell, rest: str) -> None:
 def out(shell: Shell, rest: str) -> None:
     """Shows all that the program has written up to here, each line after the number of its first byte: `why out N` asks
     about a byte."""
-    written = read_output(shell.session.ask("out")[0])
-    shell.say(f"{len(written)} bytes")
-    begin, digits = 0, len(str(len(written)))
-    for line in written.splitlines(keepends=True):
-        shell.say(f"{begin:{digits}}  {shown_bytes(line)}")
-        begin += len(line)
+    shell.say(*numbered_lines(read_output(shell.session.ask("out")[0])))
 
 
 @command("info i",

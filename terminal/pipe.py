@@ -18,14 +18,19 @@ from .renaming import Renaming
 MARK = b"?\n"
 MARKED_LINE = "no: unknown command"
 MARKED = MARKED_LINE.encode() + b"\n"
-# Commands whose answers have as many lines as there are frames, temporaries, instructions or stops.
-UNBOUNDED = frozenset(("where", "temps", "list", "stops"))
+# Commands whose answers have as many lines as there are frames, temporaries, instructions, stops or accesses.
+UNBOUNDED = frozenset(("where", "temps", "list", "stops", "accesses"))
 # The debugger reads so many bytes of a script and no more (docs/DEBUGGER.md).
 MOST_SENT = 1 << 24
 PIECE = WIDE = 1 << 18
 PULSE = 0.1
 # Bytes that are sent with many commands, and how long their answers may gather, in seconds.
 PIECE_OF_MANY, MOMENT = 1 << 10, 0.0005
+
+
+def is_unbounded(line: str) -> bool:
+    words = line.split()
+    return bool(words) and words[0] in UNBOUNDED
 
 
 class Ended(Exception):
@@ -96,12 +101,12 @@ class Pipe:
         """
         if not lines:
             return []
-        sent = self.written("".join(line + ("\n?\n" if line in UNBOUNDED else "\n") for line in lines))
-        marks = 1 + sum(line in UNBOUNDED for line in lines)
+        sent = self.written("".join(line + ("\n?\n" if is_unbounded(line) else "\n") for line in lines))
+        marks = 1 + sum(map(is_unbounded, lines))
         told = self.told(self.exchange(sent + MARK, marks)).split("\n")
         answers, at = [], 0
         for line in lines:
-            if line in UNBOUNDED:
+            if is_unbounded(line):
                 behind = told.index(MARKED_LINE, at)
                 answers.append(told[at:behind])
                 at = behind + 1

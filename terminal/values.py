@@ -3,6 +3,7 @@ from __future__ import annotations
 
 import math
 import struct
+from collections.abc import Iterator
 
 from .text import DATA, STACK, STACK_BYTES, Program
 
@@ -35,6 +36,15 @@ def shown_bytes(text: bytes) -> str:
     """Bytes between quotes, those that aren't printable in octal."""
     return '"' + "".join(ESCAPES.get(byte) or (chr(byte) if 32 <= byte < 127 else f"\\{byte:03o}")
                          for byte in text) + '"'
+
+
+def numbered_lines(content: bytes) -> Iterator[str]:
+    """How many bytes there are, and each line of them behind the number of its first one."""
+    yield f"{len(content)} bytes"
+    begin, digits = 0, len(str(len(content)))
+    for line in content.splitlines(keepends=True):
+        yield f"{begin:{digits}}  {shown_bytes(line)}"
+        begin += len(line)
 
 
 def as_text(value: int) -> str | None:

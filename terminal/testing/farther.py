@@ -50,7 +50,7 @@ def listed_of_bits(program: str, file: str) -> str | None:
         told = session.do("suspects").split("\n")[:-1]
         wanted = [f"[1] #{STORE + 1} $main @end 2  line 13: jnz %v, @other, @other",
                   f"1 suspicion in {END + 1} moves, {STORE + 2} of them for all kinds, done 0"]
-        return None if [told[-3], told[-1]] == wanted and "  undef: jnz of %v" in told[-2] \
+        return None if told[-3::2] == wanted and "  undef: jnz of %v" in told[-2] \
             else f"{told} in place of {wanted}"
     finally:
         session.close()

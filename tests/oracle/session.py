@@ -6,14 +6,15 @@ from collections.abc import Callable, Iterable
 from typing import Literal, Optional, Union
 
 from .grammar import parse
-from .machine import Frame, Machine, State, low
-from .rules import check, form
+from .machine import LOADED, STORED, Frame, Machine, State, low
+from .rules import BUILT_INS, check, form
 from .tokens import Refused, cut
 from .tree import Inst, Jump
 
 GREATEST_SCRIPT = 2**24
 GREATEST_LINE = 256
 MOST_STOPS = 64
+MOST_LINES = 4096
 WIDTHS = {"b": 1, "h": 2, "w": 4, "l": 8}
 NAME = "[A-Za-z0-9._$]+"
 NUMBER = re.compile("[0-9]+")
@@ -90,7 +91,8 @@ GLOBAL, TEMP, LABEL = name_after("$"), name_after("%"), name_after("@")
 
 # The shapes of the words of each command, and how many of them it needs. The second word of `watch` hangs on the first.
 COMMANDS: dict[str, tuple[list[Shape | None], int]] = {
-    "step": ([COUNT], 0), "back": ([COUNT], 0), "continue": ([], 0), "reverse": ([], 0),
+    "step": ([COUNT], 0), "accesses": ([COUNT, address, COUNT], 3), "back": ([COUNT], 0), "continue": ([], 0),
+    "reverse": ([], 0),
     "break": ([GLOBAL, LABEL, WORD], 1), "watch": ([watched, None], 2), "delete": ([WORD], 1), "stops": ([], 0),
     "set": ([TEMP, value], 2), "poke": ([width, address, value], 3), "print": ([TEMP], 1), "temps": ([], 0),
     "mem": ([address, number(1, 256)], 2), "where": ([], 0), "list": ([], 0), "out": ([], 0), "quit": ([], 0),
@@ -186,6 +188,42 @@ class Session:
             self.add(self.machine.step(self.now))
             count -= 1
         return self.place()
+
+    def accesses_(self, count: int, where: tuple[Optional[str], int], size: int) -> str:
+        if self.now.is_over:
+            raise No("at end")
+        start = self.address_of(where)
+        lines: list[str] = []
+        # A copy has two lines, which belong together.
+        while count > 0 and not self.now.is_over and len(lines) + 2 <= MOST_LINES:
+            before, position = self.now, self.position
+            self.add(self.machine.step(before))
+            lines += [f"{action} #{position} {first} {length}\n" for action, first, length in self.accessed(before)
+                      if max(first, start) < min(first + length, start + size)]
+            count -= 1
+        return "".join(lines) + self.place()
+
+    def accessed(self, before: State) -> list[tuple[str, int, int]]:
+        """What the last move read and wrote: from which address on how many bytes."""
+        frame = before.frames[-1]
+        insts = self.machine.funcs[frame.func].blocks[frame.block].insts
+        if self.now.status[0] == "fault" or frame.at == len(insts):
+            return []
+        inst = insts[frame.at]
+        values = [self.machine.value(frame, operand) for operand in inst.operands]
+        if inst.op.startswith("load"):
+            return [("read", values[0], LOADED[inst.op[-1]])]
+        if inst.op in STORED:
+            return [("write", values[1], STORED[inst.op])]
+        if inst.op == "blit":
+            return [("read", values[0], inst.count), ("write", values[1], inst.count)]
+        if inst.op.startswith("alloc"):
+            assert inst.target is not None
+            return [("write", self.inner().temps[inst.target], values[0])]
+        if inst.op == "call" and values[0] == BUILT_INS["puts"] and "puts" not in self.machine.defined:
+            text = self.machine.value(frame, inst.arguments[0][1])
+            return [("read", text, before.live_from(text).index(0) + 1)]
+        return []
 
     def no_way_back(self) -> None:
         if len(self.states) == 1:

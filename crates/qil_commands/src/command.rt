@@ -39,6 +39,7 @@ impl<'a> LineName<'a> {
 #[derive(Clone, Copy)]
 pub enum Verb {
     Step,
+    Accesses,
     Back,
     Continue,
     Reverse,
@@ -85,6 +86,8 @@ pub struct BreakPlace<'a> {
 pub enum Command<'a> {
     /// Move forward up to this many times, 1 to 4,294,967,295.
     Step(u32),
+    /// Move forward up to this many times, and show what reads or writes one of so many bytes from an address on.
+    Accesses(u32, Address<'a>, u32),
     /// Move backward up to this many times, 1 to 4,294,967,295.
     Back(u32),
     /// Move forward to the first place with a reason to stop.

@@ -40,6 +40,14 @@ pub fn byte_count<'a>(words: &mut Words<'a>) -> Result<u32, Refused>
     byte_count_of(word).ok_or(Refused::BadWord)
 }
 
+/// A count, 1 to 4,294,967,295, that has to come.
+pub fn count_needed<'a>(words: &mut Words<'a>) -> Result<u32, Refused>
+    ensures { with_rest result (words_of words.new.rest.now) ≡ needed count_of (words_of words.old.rest.now) }
+{
+    let word = needed_word(words)?;
+    count_of(word).ok_or(Refused::BadWord)
+}
+
 /// A value, as 64 bits in two's complement.
 pub fn value<'a>(words: &mut Words<'a>) -> Result<u64, Refused>
     ensures { with_rest result (words_of words.new.rest.now) ≡ needed value_of (words_of words.old.rest.now) }

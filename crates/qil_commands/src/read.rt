@@ -7,7 +7,8 @@ ghost use Rattle.qil_commands.specs.declared.command.Verb.TheVariants as verbs;
 
 use crate::command::{BreakPlace, Command, Refused, Verb, WatchTarget};
 use crate::next::{
-    address, byte_count, count, global, index, label, number, temporary, value, watch_target, width,
+    address, byte_count, count, count_needed, global, index, label, number, temporary, value,
+    watch_target, width,
 };
 use crate::words::Words;
 
@@ -38,6 +39,9 @@ fn moving_verb(word: &[u8]) -> Option<Verb>
     }
     if word == b"quit".as_slice() {
         return Some(Verb::Quit);
+    }
+    if word == b"accesses".as_slice() {
+        return Some(Verb::Accesses);
     }
     None
 }
@@ -115,6 +119,15 @@ fn step<'a>(words: &mut Words<'a>) -> Result<Command<'a>, Refused>
 {
     let count = count(words)?;
     alone(Command::Step(count), words)
+}
+
+fn accesses<'a>(words: &mut Words<'a>) -> Result<Command<'a>, Refused>
+    ensures { result ≡ spelled verbs.Accesses (words_of words.old.rest.now) }
+{
+    let moves = count_needed(words)?;
+    let address = address(words)?;
+    let count = count_needed(words)?;
+    alone(Command::Accesses(moves, address, count), words)
 }
 
 fn back<'a>(words: &mut Words<'a>) -> Result<Command<'a>, Refused>
@@ -200,6 +213,7 @@ fn spelled<'a>(verb: Verb, words: &mut Words<'a>) -> Result<Command<'a>, Refused
 {
     match verb {
         Verb::Step => step(words),
+        Verb::Accesses => accesses(words),
         Verb::Back => back(words),
         Verb::Continue => alone(Command::Continue, words),
         Verb::Reverse => alone(Command::Reverse, words),

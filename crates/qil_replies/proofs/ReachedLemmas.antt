@@ -17,8 +17,8 @@ use Rattle.qil_semantics.specs.Poke.{PokeFault}
 use Rattle.qil_semantics.specs.Timeline.{position, at_end}
 use Rattle.qil_stops.specs.Listed.{is_listed}
 use Rattle.qil_stops.specs.declared.stop.StopKind.{StopKind}
-use Rattle.qil_replies.specs.SessionState.{SessionState, has_kind, is_full}
-use Rattle.qil_replies.specs.Answers.{Answer, answer, answer_text, AreValid, IsValid, IsAnsweredTo, is_quit, if_back, poke_answer, poke_at, stop_answer}
+use Rattle.qil_replies.specs.SessionState.{SessionState, has_kind, is_full, resolved_address}
+use Rattle.qil_replies.specs.Answers.{Answer, answer, answer_text, AreValid, IsValid, IsAnsweredTo, is_quit, if_back, accesses_answer, poke_answer, poke_at, stop_answer}
 use Rattle.qil_replies.specs.Reached.{Reported, Reached}
 
 pub Reported-nil : {A : Type 0} (first : SessionState A) → Reported first [] [] [] first
@@ -43,11 +43,17 @@ stop_answer-goes : {A : Type 0} (s : SessionState A) (kind : Option StopKind) �
 stop_answer-goes s None = refl
 stop_answer-goes s (Some kind) = cond_goes (has_kind s.program kind) _ _ (cond_goes (is_full s.stops) _ _ refl refl) refl
 
+accesses_answer-goes : {A : Type 0} (s : SessionState A) (n m : ℕ) (a shortage : Option ℕ) → (accesses_answer s n m a shortage).goes ≡ true
+accesses_answer-goes s n m None shortage = refl
+accesses_answer-goes s n m (Some a) None = refl
+accesses_answer-goes s n m (Some a) (Some k) = refl
+
 -- only `quit` ends a session
 pub answer_goes : {A : Type 0} (s : SessionState A) (said : Result (Option Command) Refused) (shortage : Option ℕ) → is_quit said ≡ false → (answer s said shortage).goes ≡ true
 unfolding answer
 answer_goes s (Ok (Some (commands.Step n))) None h = cond_goes (at_end s.timeline) _ _ refl refl
 answer_goes s (Ok (Some (commands.Step n))) (Some k) h = refl
+answer_goes s (Ok (Some (commands.Accesses n at m))) shortage h = cond_goes (at_end s.timeline) _ _ refl (accesses_answer-goes s n m (resolved_address s.program at) shortage)
 answer_goes s (Ok (Some (commands.Back n))) shortage h = if_back-goes s _ refl
 answer_goes s (Ok (Some commands.Continue)) None h = cond_goes (at_end s.timeline) _ _ refl refl
 answer_goes s (Ok (Some commands.Continue)) (Some k) h = refl

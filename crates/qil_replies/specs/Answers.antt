@@ -1,5 +1,5 @@
 -- What a session answers: the reply to each command, and the session that it leaves.
-use Rattle.std.specs.Prelude.{◌≡◌, ℕ, ◌+◌, ◌<◌, ◌==◌, cond, Bool, true, false, List, [], ◌∷◌, ◌++◌, length, Option, Some, None, option_map, Result, Ok, Err, IsOk}
+use Rattle.std.specs.Prelude.{◌≡◌, ◌⊎◌, ℕ, ◌+◌, ◌<◌, ◌==◌, ◌||◌, cond, Bool, true, false, List, [], ◌∷◌, ◌++◌, length, Option, Some, None, option_map, Result, Ok, Err, IsOk}
 use Rattle.std.specs.Bool.{MatchBool}
 use Rattle.std.specs.List.{list_any}
 use Rattle.qil_tree.specs.declared.ops.Width.{Width}
@@ -12,10 +12,11 @@ use Rattle.qil_streams.specs.Device.{Puts}
 use Rattle.qil_semantics.specs.State.{State}
 use Rattle.qil_semantics.specs.Poke.{PokeFault, no_frame, dead_bytes, unknown_temporary, poke_temp, poke_memory}
 use Rattle.qil_semantics.specs.Timeline.{Timeline, position, at_end, to, moved, gone}
-use Rattle.qil_semantics.specs.Moves.{forward_by, back_by}
+use Rattle.qil_semantics.specs.Moves.{least, forward_by, back_by}
 use Rattle.qil_semantics.specs.Runs.{stop_on, stop_back, within, target, IsLeast}
 use Rattle.qil_semantics.specs.declared.reason.Reason.{Reason}
 use Rattle.qil_semantics.specs.declared.reason.Reason.TheVariants.{Memory}
+use Rattle.qil_accesses.specs.Accesses.{accesses_by, is_filled}
 use Rattle.qil_stops.specs.declared.stop.Watched.TheVariants as watches
 use Rattle.qil_stops.specs.declared.stop.StopKind.{StopKind}
 use Rattle.qil_stops.specs.declared.stop.StopKind.TheVariants as kinds
@@ -31,7 +32,7 @@ use Rattle.qil_replies.specs.SessionState.{SessionState, resolved_address, resol
 
 -- what a line is replied, the session that it leaves, and whether more lines are read
 pub record Answer (A : Type 0) : Type 0 where
-  pub reply : Reply
+  pub reply : Reply A
   pub left : SessionState A
   pub goes : Bool
 
@@ -40,14 +41,14 @@ abbrev pub answer_text : {A : Type 0} → Answer A → List ℕ
 answer_text one = text_in one.left one.reply
 
 -- the session stays as it is
-abbrev pub says : {A : Type 0} → SessionState A → Reply → Answer A
+abbrev pub says : {A : Type 0} → SessionState A → Reply A → Answer A
 says s reply = record { reply = reply; left = s; goes = true }
 
 abbrev pub refuses : {A : Type 0} → SessionState A → CommandRefusal → Answer A
 refuses s refusal = says s (replies.Refused refusal)
 
 -- the session goes to that timeline
-abbrev pub goes_to : {A : Type 0} → SessionState A → Reply → Timeline → Answer A
+abbrev pub goes_to : {A : Type 0} → SessionState A → Reply A → Timeline → Answer A
 goes_to s reply t = record { reply = reply; left = record s { timeline = t }; goes = true }
 
 -- the same, where memory ran out for the next move
@@ -58,6 +59,23 @@ stops_at s t = goes_to s (replies.Stopped Memory) t
 
 abbrev pub step_answer : {A : Type 0} → SessionState A → ℕ → Answer A
 step_answer s n = cond (at_end s.timeline) (refuses s refusals.AtEnd) (goes_to s replies.Place (forward_by s.program n s.timeline))
+
+-- k moves forward are enough: to the end, or to a full list of accesses of the m bytes from a on
+abbrev pub is_enough : {A : Type 0} → SessionState A → ℕ → ℕ → ℕ → Bool
+is_enough s a m k = at_end (moved s.program k s.timeline) || is_filled (accesses_by s.program a m s.timeline k)
+
+-- the least number of moves that is enough, and n at most
+abbrev pub access_moves : {A : Type 0} → SessionState A → ℕ → ℕ → ℕ → ℕ
+access_moves s n a m = least (is_enough s a m) n
+
+-- k moves forward, and what they accessed of the m bytes from a on; and why no more were made, if that is said
+abbrev pub accessed : {A : Type 0} → SessionState A → ℕ → ℕ → ℕ → Option Reason → Answer A
+accessed s a m k reason = goes_to s (replies.Accesses (accesses_by s.program a m s.timeline k) reason) (moved s.program k s.timeline)
+
+abbrev pub accesses_answer : {A : Type 0} → SessionState A → ℕ → ℕ → Option ℕ → Option ℕ → Answer A
+accesses_answer s n m None shortage = refuses s refusals.UnknownPlace
+accesses_answer s n m (Some a) None = accessed s a m (access_moves s n a m) None
+accesses_answer s n m (Some a) (Some k) = accessed s a m k (Some Memory)
 
 -- back from the start, or from the oldest state that is kept, there is no way; else the answer is this
 abbrev pub if_back : {A : Type 0} → SessionState A → Answer A → Answer A
@@ -77,7 +95,7 @@ abbrev pub reason_back : {A : Type 0} → SessionState A → ℕ → Option Reas
 reason_back s k = within s.limit k (stop_back (named_stops s.program s.stops.kept) s.timeline k)
 
 -- a run came to a place, for a reason if there is one
-abbrev pub stopped_for : Option Reason → Reply
+abbrev pub stopped_for : {A : Type 0} → Option Reason → Reply A
 stopped_for None = replies.Place
 stopped_for (Some reason) = replies.Stopped reason
 
@@ -111,7 +129,7 @@ poke_at s w v None = refuses s refusals.UnknownPlace
 poke_at s w v (Some a) = poke_answer s (poke_memory s.timeline.now a (width_bytes w) v)
 
 -- so many bytes of memory, if the program has their address
-abbrev pub memory_reply : ℕ → Option ℕ → Reply
+abbrev pub memory_reply : {A : Type 0} → ℕ → Option ℕ → Reply A
 memory_reply n None = replies.Refused refusals.UnknownPlace
 memory_reply n (Some a) = replies.Bytes a n
 
@@ -126,7 +144,7 @@ stop_answer s (Some kind) =
     (refuses s refusals.UnknownPlace)
 
 -- the reply where code added a stop, or didn't
-abbrev pub made_reply : Result ℕ StopError → StopKind → Reply
+abbrev pub made_reply : {A : Type 0} → Result ℕ StopError → StopKind → Reply A
 made_reply (Ok n) kind = replies.Added n kind
 made_reply (Err stop_errors.UnknownPlace) kind = replies.Refused refusals.UnknownPlace
 made_reply (Err stop_errors.TooMany) kind = replies.Refused refusals.TooManyStops
@@ -144,6 +162,8 @@ delete_answer s n =
 abbrev pub command_answer : {A : Type 0} → SessionState A → Command → Option ℕ → Answer A
 command_answer s (commands.Step n) None = step_answer s n
 command_answer s (commands.Step n) (Some k) = stops_at s (forward_by s.program k s.timeline)
+command_answer s (commands.Accesses n at m) shortage =
+    cond (at_end s.timeline) (refuses s refusals.AtEnd) (accesses_answer s n m (resolved_address s.program at) shortage)
 command_answer s (commands.Back n) shortage = if_back s (goes_to s replies.Place (back_by n s.timeline))
 command_answer s commands.Continue None = continue_answer s
 command_answer s commands.Continue (Some k) = stops_at s (moved s.program k s.timeline)
@@ -174,10 +194,13 @@ answer s (Err refused) shortage = refuses s (refusals.Line refused)
 -- ---- out of memory
 
 -- Memory may run out, where a move may want some, after k moves of a `step` that were not all, and from which another move could
--- be made, and after k moves of a `continue`, none of which led to a stop; and for a poke that isn't refused.
+-- be made, and after k moves of a `continue`, none of which led to a stop; and for a poke that isn't refused. So it may after
+-- k moves of an `accesses` that were not all; and before the first of them, where there is none for the list.
 unfoldable pub IsValid : {A : Type 0} → SessionState A → Result (Option Command) Refused → Option ℕ → Type 0
 IsValid s said None = Unit {0}
 IsValid s (Ok (Some (commands.Step n))) (Some k) = (s.moves_want_memory ≡ true) × (k < n) × (at_end (forward_by s.program k s.timeline) ≡ false)
+IsValid s (Ok (Some (commands.Accesses n at m))) (Some k) =
+    (at_end s.timeline ≡ false) × (a : ℕ) × (resolved_address s.program at ≡ Some a) × ((k ≡ 0) ⊎ ((s.moves_want_memory ≡ true) × (k < access_moves s n a m)))
 IsValid s (Ok (Some commands.Continue)) (Some k) =
     (s.moves_want_memory ≡ true) × (k < s.limit) × IsLeast (stop_on s.program (named_stops s.program s.stops.kept) s.timeline) s.limit k Memory
 IsValid s (Ok (Some (commands.Set x v))) (Some k) = (k ≡ 0) × IsOk (poke_temp s.program s.timeline.now x v)
@@ -186,7 +209,7 @@ IsValid s (Ok (Some (commands.Poke w at v))) (Some k) =
 IsValid s _ (Some k) = ⊥
 
 -- From the old session what a line says was replied so, and the new session is left.
-pub record Replies {A : Type 0} (old new : SessionState A) (said : Result (Option Command) Refused) (reported : Reply) : Type 0 where
+pub record Replies {A : Type 0} (old new : SessionState A) (said : Result (Option Command) Refused) (reported : Reply A) : Type 0 where
   pub shortage : Option ℕ
   pub valid : IsValid old said shortage
   pub reply : reported ≡ (answer old said shortage).reply

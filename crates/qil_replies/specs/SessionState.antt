@@ -34,7 +34,7 @@ abbrev pub session_at : {A : Type 0} → Bool → Program A → Timeline → Lis
 session_at wants p t stops limit = record { program = p; timeline = t; stops = stops; limit = limit; moves_want_memory = wants }
 
 -- the text of a reply that leaves this situation
-abbrev pub text_in : {A : Type 0} → SessionState A → Reply → List ℕ
+abbrev pub text_in : {A : Type 0} → SessionState A → Reply A → List ℕ
 text_in s reply = reply_text s.program (position s.timeline) s.timeline.now s.stops.kept reply
 
 -- ---- what words name, if the program has it

@@ -1,8 +1,12 @@
 -- The texts of refusals, reasons and stops.
-use Rattle.std.specs.Prelude.{ℕ, ◌==◌, cond, List, [], ◌∷◌, map, codes, decimal}
+use Rattle.std.specs.Prelude.{ℕ, ◌==◌, cond, List, [], ◌∷◌, ◌++◌, map, codes, decimal, Option, Some, None}
 use Rattle.qil_tree.specs.declared.tree.Program.{Program}
 use Rattle.qil_commands.specs.declared.command.Refused.{Refused}
 use Rattle.qil_commands.specs.declared.command.Refused.TheVariants.{LineTooLong, UnknownCommand, MissingWord, BadWord, ExtraWord}
+use Rattle.qil_accesses.specs.declared.access.Action.{Action}
+use Rattle.qil_accesses.specs.declared.access.Action.TheVariants.{Read, Write}
+use Rattle.qil_accesses.specs.declared.access.Access.{Access}
+use Rattle.qil_semantics.specs.State.{State}
 use Rattle.qil_semantics.specs.declared.reason.Reason.{Reason}
 use Rattle.qil_semantics.specs.declared.reason.Reason.TheVariants as reasons
 use Rattle.qil_code.specs.Numbered.{func_at, block_at, names_of}
@@ -13,6 +17,7 @@ use Rattle.qil_stops.specs.declared.stop.StopKind.{StopKind}
 use Rattle.qil_stops.specs.declared.stop.StopKind.TheVariants as kinds
 use Rattle.qil_stops.specs.declared.stop.NumberedStop.{NumberedStop}
 use Rattle.qil_fragments.specs.Texts.{text_of}
+use Rattle.qil_render.specs.Texts.{state_line}
 use Rattle.qil_render.specs.Shown.{or_none}
 use Rattle.qil_replies.specs.declared.reply.CommandRefusal.{CommandRefusal}
 use Rattle.qil_replies.specs.declared.reply.CommandRefusal.TheVariants as refusals
@@ -50,6 +55,22 @@ reason_line (reasons.Watch n) = text_of (codes "stop: watch " ∷ decimal n ∷ 
 reason_line (reasons.Break n) = text_of (codes "stop: break " ∷ decimal n ∷ codes "\n" ∷ [])
 reason_line reasons.Limit = codes "stop: limit\n"
 reason_line reasons.Memory = codes "stop: memory\n"
+
+-- the place after n moves, and before it why no more were made, if that is said
+abbrev pub place_text : Option Reason → ℕ → State → List ℕ
+place_text None n s = state_line n s.frames s.status
+place_text (Some reason) n s = reason_line reason ++ state_line n s.frames s.status
+
+-- ---- accesses
+
+abbrev pub action_word : Action → List ℕ
+action_word Read = codes "read #"
+action_word Write = codes "write #"
+
+-- `read #P A N` or `write #P A N`
+abbrev pub access_line : Access → List ℕ
+access_line one =
+    text_of (action_word one.action ∷ decimal one.position ∷ codes " " ∷ decimal one.address ∷ codes " " ∷ decimal one.count ∷ codes "\n" ∷ [])
 
 -- ---- stops
 

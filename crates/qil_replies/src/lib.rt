@@ -4,6 +4,7 @@
 //! reply in the field's words, over the state that a machine represents and the stops.
 #![tactic(auto)]
 
+mod accesses;
 mod put;
 mod reply;
 mod script;

@@ -1,8 +1,11 @@
 //! The replies to commands.
 
+use qil_accesses::Access;
 use qil_commands::{LineName, Refused};
 use qil_semantics::Reason;
 use qil_stops::StopKind;
+use qil_tree::Items;
+use std::alloc::Allocator;
 
 /// Why a line changed nothing and shows nothing.
 #[derive(Clone, Copy)]
@@ -31,7 +34,7 @@ pub enum CommandRefusal {
 
 /// What a line is replied. Where it is shown what the run holds, that is read of the session that the reply leaves.
 #[derive(Drop)]
-pub enum Reply<'t> {
+pub enum Reply<'t, A: Allocator> {
     /// The line asked nothing.
     Nothing,
     /// The session is as it was.
@@ -40,6 +43,8 @@ pub enum Reply<'t> {
     Place,
     /// The session moved until there was this reason to stop: the reason, and the place now.
     Stopped(Reason),
+    /// The session moved: the accesses that were asked for, why it made no more moves, if that is said, and the place now.
+    Accesses(Items<Access, A>, Option<Reason>),
     /// A stop was added: its number, and what it looks for.
     Added(u64, StopKind),
     /// The stop of this number was deleted.

@@ -1,5 +1,6 @@
 -- The lemmas of this crate.
 pub mod MoveAnswers
+pub mod AccessAnswers
 pub mod PokeAnswers
 pub mod StopAnswers
 pub mod ShownAnswers

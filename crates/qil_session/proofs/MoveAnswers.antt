@@ -86,11 +86,11 @@ goes_back : {A : Type 0} (s : SessionState A) (one : Answer A) → no_way s.time
 goes_back s one e = goes_by s one (position s.timeline == 0) (length s.timeline.past == 0) e
 
 -- an answer after `if_back`, as it is or refused
-record IsSaid {A : Type 0} (after : SessionState A) (one : Answer A) (reported : Reply) : Type 0 where
+record IsSaid {A : Type 0} (after : SessionState A) (one : Answer A) (reported : Reply A) : Type 0 where
   reply : reported ≡ one.reply
   left : after ≡ one.left
 
-said_instead : {A : Type 0} (after : SessionState A) (one other : Answer A) (reported : Reply) → one ≡ other → IsSaid after other reported → IsSaid after one reported
+said_instead : {A : Type 0} (after : SessionState A) (one other : Answer A) (reported : Reply A) → one ≡ other → IsSaid after other reported → IsSaid after one reported
 said_instead {A} after one other reported e h = record {
   reply = h.reply ∙ sym (ap (λ (x : Answer A). x.reply) e);
   left = h.left ∙ sym (ap (λ (x : Answer A). x.left) e);

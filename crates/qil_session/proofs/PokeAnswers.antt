@@ -29,7 +29,7 @@ use Rattle.qil_replies.specs.Answers.{Replies, answer, IsValid, poke_answer, pok
 -- ---- what comes of a poke
 
 -- the reply and the session that is left are those of a poke with this outcome
-record IsPoke {A : Type 0} (wants : Bool) (p : Program A) (t u : Timeline) (stops : Listed) (limit : ℕ) (outcome : Result State PokeFault) (reported : Reply) : Type 0 where
+record IsPoke {A : Type 0} (wants : Bool) (p : Program A) (t u : Timeline) (stops : Listed) (limit : ℕ) (outcome : Result State PokeFault) (reported : Reply A) : Type 0 where
   reply : reported ≡ (poke_answer (session_at wants p t stops limit) outcome).reply
   left : session_at wants p u stops limit ≡ (poke_answer (session_at wants p t stops limit) outcome).left
 

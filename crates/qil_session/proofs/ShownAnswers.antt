@@ -24,7 +24,7 @@ pub replies_temps : {A : Type 0} (s : SessionState A) → Replies s s (Ok (Some 
 unfolding answer IsValid
 replies_temps s = record { shortage = None; valid = tt; reply = refl; left = refl }
 
-pub replies_mem : {A : Type 0} (s : SessionState A) (at : Address) (n : ℕ) (reported : Reply) → reported ≡ memory_reply n (resolved_address s.program at) → Replies s s (Ok (Some (commands.Mem at n))) reported
+pub replies_mem : {A : Type 0} (s : SessionState A) (at : Address) (n : ℕ) (reported : Reply A) → reported ≡ memory_reply n (resolved_address s.program at) → Replies s s (Ok (Some (commands.Mem at n))) reported
 unfolding answer IsValid
 replies_mem s at n reported is = record { shortage = None; valid = tt; reply = is; left = refl }
 
@@ -53,7 +53,7 @@ unfolding answer IsValid
 replies_refusal s refused = record { shortage = None; valid = tt; reply = refl; left = refl }
 
 -- what was put is the text of the reply, in the session that is left
-pub answers_by : {A T E : Type 0} (old new : SessionState A) (said : Result (Option Command) Refused) (reported : Reply) (r : Result T E) (a b : Option (List ℕ)) →
+pub answers_by : {A T E : Type 0} (old new : SessionState A) (said : Result (Option Command) Refused) (reported : Reply A) (r : Result T E) (a b : Option (List ℕ)) →
     Replies old new said reported → Puts r a b (text_in new reported) → Answers old new said r a b
 answers_by {A} old new said reported r a b is text =
     let one = answer old said is.shortage in
@@ -61,6 +61,6 @@ answers_by {A} old new said reported r a b is text =
     record {
       shortage = is.shortage;
       valid = is.valid;
-      text = subst (λ (x : Reply). Puts r a b (text_in one.left x)) is.reply there;
+      text = subst (λ (x : Reply A). Puts r a b (text_in one.left x)) is.reply there;
       left = is.left;
     }

@@ -51,7 +51,7 @@ pub record IsMade {A : Type 0} (p : Program A) (old new : Listed) (kind : StopKi
   pub err : OnErr made (new ≡ old)
 
 -- the reply and the session that is left are those of a stop that is wanted
-record IsAdded {A : Type 0} (wants : Bool) (p : Program A) (t : Timeline) (old new : Listed) (limit : ℕ) (kind : StopKind) (reported : Reply) : Type 0 where
+record IsAdded {A : Type 0} (wants : Bool) (p : Program A) (t : Timeline) (old new : Listed) (limit : ℕ) (kind : StopKind) (reported : Reply A) : Type 0 where
   reply : reported ≡ (stop_answer (session_at wants p t old limit) (Some kind)).reply
   left : session_at wants p t new limit ≡ (stop_answer (session_at wants p t old limit) (Some kind)).left
 
@@ -77,7 +77,7 @@ pub replies_no_place : {A : Type 0} {wants : Bool} (p : Program A) (t : Timeline
 unfolding answer IsValid
 replies_no_place p t old limit func at is = record { shortage = None; valid = tt; reply = rw is refl; left = rw is refl }
 
-pub replies_break : {A : Type 0} {wants : Bool} (p : Program A) (t : Timeline) (old new : Listed) (limit : ℕ) (func : Name) (at : Option BreakPlace) (place : Place) (made : Result ℕ StopError) (reported : Reply) →
+pub replies_break : {A : Type 0} {wants : Bool} (p : Program A) (t : Timeline) (old new : Listed) (limit : ℕ) (func : Name) (at : Option BreakPlace) (place : Place) (made : Result ℕ StopError) (reported : Reply A) →
     resolved_place p func at ≡ Some place → IsMade p old new (kinds.Break place) made → reported ≡ made_reply made (kinds.Break place) →
     Replies (session_at wants p t old limit) (session_at wants p t new limit) (Ok (Some (Break func at))) reported
 unfolding answer IsValid
@@ -92,7 +92,7 @@ pub replies_no_bytes : {A : Type 0} {wants : Bool} (p : Program A) (t : Timeline
 unfolding answer IsValid
 replies_no_bytes p t old limit w at is = record { shortage = None; valid = tt; reply = rw is refl; left = rw is refl }
 
-pub replies_watch_bytes : {A : Type 0} {wants : Bool} (p : Program A) (t : Timeline) (old new : Listed) (limit : ℕ) (w : Width) (at : Address) (start n : ℕ) (made : Result ℕ StopError) (reported : Reply) →
+pub replies_watch_bytes : {A : Type 0} {wants : Bool} (p : Program A) (t : Timeline) (old new : Listed) (limit : ℕ) (w : Width) (at : Address) (start n : ℕ) (made : Result ℕ StopError) (reported : Reply A) →
     resolved_address p at ≡ Some start → n ≡ width_bytes w → IsMade p old new (kinds.Watch (watches.Bytes start n)) made → reported ≡ made_reply made (kinds.Watch (watches.Bytes start n)) →
     Replies (session_at wants p t old limit) (session_at wants p t new limit) (Ok (Some (WatchBytes w at))) reported
 unfolding answer IsValid
@@ -109,7 +109,7 @@ pub replies_no_temp : {A : Type 0} {wants : Bool} (p : Program A) (t : Timeline)
 unfolding answer IsValid
 replies_no_temp p t old limit func x is = record { shortage = None; valid = tt; reply = rw is refl; left = rw is refl }
 
-pub replies_watch_temp : {A : Type 0} {wants : Bool} (p : Program A) (t : Timeline) (old new : Listed) (limit : ℕ) (func x : Name) (watched : Watched) (made : Result ℕ StopError) (reported : Reply) →
+pub replies_watch_temp : {A : Type 0} {wants : Bool} (p : Program A) (t : Timeline) (old new : Listed) (limit : ℕ) (func x : Name) (watched : Watched) (made : Result ℕ StopError) (reported : Reply A) →
     resolved_temp p func x ≡ Some watched → IsMade p old new (kinds.Watch watched) made → reported ≡ made_reply made (kinds.Watch watched) →
     Replies (session_at wants p t old limit) (session_at wants p t new limit) (Ok (Some (WatchTemp func x))) reported
 unfolding answer IsValid

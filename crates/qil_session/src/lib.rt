@@ -5,6 +5,7 @@
 //! the reply as a value, and `Session::answer` puts its text.
 #![tactic(auto)]
 
+mod accessing;
 mod answer;
 mod moves;
 mod poking;

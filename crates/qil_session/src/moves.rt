@@ -17,7 +17,7 @@ use qil_undo_log::Runs;
 use std::alloc::Allocator;
 
 /// Whether the run is over.
-fn is_over<'c, A: Allocator + Copy + 'c, M: Readers<A, Code<'c, A>>>(machine: &M) -> bool
+pub fn is_over<'c, A: Allocator + Copy + 'c, M: Readers<A, Code<'c, A>>>(machine: &M) -> bool
     ensures { result ≡ is_final (state_of (M.whole machine.now)).status }
 {
     qil_replies::is_final(machine)
@@ -27,7 +27,7 @@ fn is_over<'c, A: Allocator + Copy + 'c, M: Readers<A, Code<'c, A>>>(machine: &M
 pub fn step<'c, 'r, A: Allocator + Copy + 'c, H: Runs<A, Code<'c, A>>>(
     history: &mut H,
     count: u32,
-) -> Reply<'r>
+) -> Reply<'r, A>
     requires { position (H.timeline history.old) < 2 ^ 61 }
     ensures program { H.program history.new ≡ H.program history.old }
     ensures near { position (H.timeline history.new) < position (H.timeline history.old) + 2 ^ 32 }
@@ -60,7 +60,7 @@ fn no_way_back(position: u64, oldest: u64) -> Option<CommandRefusal>
 pub fn back<'c, 'r, A: Allocator + Copy + 'c, H: Runs<A, Code<'c, A>>>(
     history: &mut H,
     count: u32,
-) -> Reply<'r>
+) -> Reply<'r, A>
     ensures program { H.program history.new ≡ H.program history.old }
     ensures near { position (H.timeline history.new) < position (H.timeline history.old) + 2 ^ 32 }
     ensures replied { (stops : Listed) (limit : ℕ) → Replies (session_at H.wants_memory (H.program history.old) (H.timeline history.old) stops limit) (session_at H.wants_memory (H.program history.old) (H.timeline history.new) stops limit)
@@ -78,7 +78,7 @@ pub fn answer_continue<'c, 'r, A: Allocator + Copy + 'c, H: Runs<A, Code<'c, A>>
     history: &mut H,
     stops: &Stops<A>,
     limit: u64,
-) -> Reply<'r>
+) -> Reply<'r, A>
     requires before { position (H.timeline history.old) < 2 ^ 61 }
     requires limit { limit ≤ 4294967295 }
     ensures program { H.program history.new ≡ H.program history.old }
@@ -98,7 +98,7 @@ pub fn answer_reverse<'c, 'r, A: Allocator + Copy + 'c, H: Runs<A, Code<'c, A>>>
     history: &mut H,
     stops: &Stops<A>,
     limit: u64,
-) -> Reply<'r>
+) -> Reply<'r, A>
     ensures program { H.program history.new ≡ H.program history.old }
     ensures near { position (H.timeline history.new) < position (H.timeline history.old) + 2 ^ 32 }
     ensures replied { Replies (session_at H.wants_memory (H.program history.old) (H.timeline history.old) stops.now limit) (session_at H.wants_memory (H.program history.old) (H.timeline history.new) stops.now limit)

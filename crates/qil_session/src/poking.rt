@@ -22,7 +22,7 @@ pub fn set<'c, 'r, A: Allocator + Copy + 'c, H: Runs<A, Code<'c, A>>>(
     history: &mut H,
     name: &[u8],
     value: u64,
-) -> Reply<'r>
+) -> Reply<'r, A>
     requires { position (H.timeline history.old) < 2 ^ 61 }
     ensures program { H.program history.new ≡ H.program history.old }
     ensures near { position (H.timeline history.new) < position (H.timeline history.old) + 2 ^ 32 }
@@ -38,9 +38,9 @@ pub fn set<'c, 'r, A: Allocator + Copy + 'c, H: Runs<A, Code<'c, A>>>(
     }
 }
 
-/// Where the bytes begin that are set, if that is known.
+/// The address that a word says, if the program of a history has its global.
 // Only the history's bound names the machine's lifetime. Here it is the second, as it is for what reads the code.
-fn start_of<'s, 'c, A: Allocator + Copy + 'c, H: Runs<A, Code<'c, A>>>(
+pub fn start_of<'s, 'c, A: Allocator + Copy + 'c, H: Runs<A, Code<'c, A>>>(
     history: &'s H,
     address: &'s Address<'s>,
 ) -> Option<u64>
@@ -55,7 +55,7 @@ pub fn poke<'c, 'r, A: Allocator + Copy + 'c, H: Runs<A, Code<'c, A>>>(
     width: Width,
     address: Address<'_>,
     value: u64,
-) -> Reply<'r>
+) -> Reply<'r, A>
     requires { position (H.timeline history.old) < 2 ^ 61 }
     ensures program { H.program history.new ≡ H.program history.old }
     ensures near { position (H.timeline history.new) < position (H.timeline history.old) + 2 ^ 32 }

@@ -10,6 +10,7 @@ ghost use Rattle.qil_session.specs.Kept.{session_state};
 ghost use Rattle.qil_stops.specs.Named.{named_stops};
 ghost use Rattle.qil_stops.specs.Depths.{RunsToDepth, RunsBackToDepth};
 
+use crate::accessing::accesses;
 use crate::moves::{answer_continue, answer_reverse, back, step};
 use crate::poking::{poke, set};
 use crate::showing::show_bytes;
@@ -36,6 +37,7 @@ pub struct Session<A: Allocator, H> {
     history: H,
     stops: Stops<A>,
     limit: u64,
+    alloc: A,
 }
 
 impl<A: Allocator, H> Model for Session<A, H> {
@@ -46,7 +48,7 @@ impl<A: Allocator, H> Model for Session<A, H> {
     ghost view = { λ s. record { history = s.history; stops = s.stops; limit = s.limit } };
 }
 
-impl<A: Allocator, H: Drop> Session<A, H> {
+impl<A: Allocator + Copy, H: Drop> Session<A, H> {
     /// A session without stops. Where there is no memory for their room, the history is handed back.
     pub fn new(alloc: A, history: H, limit: u64) -> Result<Session<A, H>, (H, AllocError)>
         ensures ok { IfOk result (λ s. s ≡ record { history = history; stops = record { given = 0; kept = [] }; limit = limit }) }
@@ -57,6 +59,7 @@ impl<A: Allocator, H: Drop> Session<A, H> {
                 history,
                 stops,
                 limit,
+                alloc,
             }),
             Err(refused) => Err((history, refused)),
         }
@@ -97,7 +100,7 @@ impl<'c, A: Allocator + Copy + 'c, H: Runs<A, Code<'c, A>>> Session<A, H> {
     }
 
     /// Replies to a command.
-    fn reply_command<'t>(&mut self, command: Command<'t>) -> Reply<'t>
+    fn reply_command<'t>(&mut self, command: Command<'t>) -> Reply<'t, A>
         requires before { position (H.timeline self.old.history) < 2 ^ 61 }
         requires limit { self.old.limit ≤ 4294967295 }
         ensures near { position (H.timeline self.new.history) < position (H.timeline self.old.history) + 2 ^ 32 }
@@ -106,6 +109,9 @@ impl<'c, A: Allocator + Copy + 'c, H: Runs<A, Code<'c, A>>> Session<A, H> {
     {
         match command {
             Command::Step(count) => step(&mut self.history, count),
+            Command::Accesses(moves, address, count) => {
+                accesses(&mut self.history, self.alloc, moves, address, count)
+            }
             Command::Back(count) => back(&mut self.history, count),
             Command::Continue => answer_continue(&mut self.history, &self.stops, self.limit),
             Command::Reverse => answer_reverse(&mut self.history, &self.stops, self.limit),
@@ -140,7 +146,7 @@ impl<'c, A: Allocator + Copy + 'c, H: Runs<A, Code<'c, A>>> Session<A, H> {
     }
 
     /// Replies to what a line says. `quit` is replied nothing: that the session ends is for the caller to see.
-    pub fn reply<'t>(&mut self, said: Result<Option<Command<'t>>, Refused>) -> Reply<'t>
+    pub fn reply<'t>(&mut self, said: Result<Option<Command<'t>>, Refused>) -> Reply<'t, A>
         requires before { position (H.timeline self.old.history) < 2 ^ 61 }
         requires limit { self.old.limit ≤ 4294967295 }
         ensures near { position (H.timeline self.new.history) < position (H.timeline self.old.history) + 2 ^ 32 }
@@ -159,9 +165,9 @@ impl<'c, A: Allocator + Copy + 'c, H: Runs<A, Code<'c, A>>> Session<A, H> {
     /// # Errors
     ///
     /// `PutError` where `out` stopped. Then a prefix of the text was put.
-    pub fn put_reply<P: Put>(&self, reply: Reply<'_>, out: &mut P) -> Result<(), PutError>
+    pub fn put_reply<P: Put>(&self, reply: &Reply<'_, A>, out: &mut P) -> Result<(), PutError>
         requires { P.stops out.old < 2 ^ 64 - 1 }
-        ensures { HasPut P.written P.stops P.device result out.old out.new (text_in (session_state H.wants_memory H.program H.timeline self.now) reply.entry) }
+        ensures { HasPut P.written P.stops P.device result out.old out.new (text_in (session_state H.wants_memory H.program H.timeline self.now) reply.now) }
     {
         let position = self.history.position();
         let machine = self.history.machine();
@@ -185,7 +191,7 @@ impl<'c, A: Allocator + Copy + 'c, H: Runs<A, Code<'c, A>>> Session<A, H> {
         ensures device { P.device out.new ≡ P.device out.old }
     {
         let reply = self.reply(said);
-        self.put_reply(reply, out)
+        self.put_reply(&reply, out)
     }
 }
 

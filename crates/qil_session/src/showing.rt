@@ -15,7 +15,7 @@ pub fn show_bytes<'r, A: Allocator + Copy>(
     code: &Code<'_, A>,
     address: &Address<'_>,
     count: u32,
-) -> Reply<'r>
+) -> Reply<'r, A>
     ensures { result ≡ memory_reply count (resolved_address code.now address.now) }
 {
     match resolved_address(code, address) {

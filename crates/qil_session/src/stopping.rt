@@ -16,7 +16,7 @@ use qil_tree::Width;
 use std::alloc::Allocator;
 
 /// The reply where a stop was added, or wasn't.
-fn made_reply<'r>(made: Result<u64, StopError>, kind: StopKind) -> Reply<'r>
+fn made_reply<'r, A: Allocator>(made: Result<u64, StopError>, kind: StopKind) -> Reply<'r, A>
     ensures { result ≡ made_reply made kind }
 {
     match made {
@@ -33,7 +33,7 @@ pub fn add_break<'c, 'r, A: Allocator + Copy>(
     code: &Code<'c, A>,
     func: &[u8],
     at: Option<BreakPlace<'_>>,
-) -> Reply<'r>
+) -> Reply<'r, A>
     ensures { (wants : Bool) (t : Timeline) (limit : ℕ) → Replies (session_at wants code.now t stops.old limit) (session_at wants code.now t stops.new limit)
         (Ok (Some (commands.Break func.now at.entry))) result }
 {
@@ -50,7 +50,7 @@ pub fn watch_bytes<'c, 'r, A: Allocator + Copy>(
     code: &Code<'c, A>,
     width: Width,
     address: Address<'_>,
-) -> Reply<'r>
+) -> Reply<'r, A>
     ensures { (wants : Bool) (t : Timeline) (limit : ℕ) → Replies (session_at wants code.now t stops.old limit) (session_at wants code.now t stops.new limit)
         (Ok (Some (commands.WatchBytes width address.entry))) result }
 {
@@ -69,7 +69,7 @@ pub fn watch_temp<'c, 'r, A: Allocator + Copy>(
     code: &Code<'c, A>,
     func: &[u8],
     name: &[u8],
-) -> Reply<'r>
+) -> Reply<'r, A>
     ensures { (wants : Bool) (t : Timeline) (limit : ℕ) → Replies (session_at wants code.now t stops.old limit) (session_at wants code.now t stops.new limit)
         (Ok (Some (commands.WatchTemp func.now name.now))) result }
 {
@@ -81,7 +81,7 @@ pub fn watch_temp<'c, 'r, A: Allocator + Copy>(
 }
 
 /// Replies to `delete N`.
-pub fn delete<'r, A: Allocator + Copy>(stops: &mut Stops<A>, number: u64) -> Reply<'r>
+pub fn delete<'r, A: Allocator + Copy>(stops: &mut Stops<A>, number: u64) -> Reply<'r, A>
     ensures { (wants : Bool) (p : Program A) (t : Timeline) (limit : ℕ) → Replies (session_at wants p t stops.old limit) (session_at wants p t stops.new limit)
         (Ok (Some (commands.Delete number))) result }
 {

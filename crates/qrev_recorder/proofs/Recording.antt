@@ -23,14 +23,14 @@ use Rattle.qil_replies.specs.Reached.{Reached}
 use Rattle.qil_replies.proofs.ReachedLemmas.{Reached-nil, Reached-line, Reported-answered}
 use Rattle.qrev_recorder.specs.Record.{IsBeginning, IsRecording, KeepsMoves}
 
-reply_text_is : {A : Type 0} (old new : SessionState A) (line : List ℕ) (reply : Reply) (r : Replies old new (command_of line) reply)
+reply_text_is : {A : Type 0} (old new : SessionState A) (line : List ℕ) (reply : Reply A) (r : Replies old new (command_of line) reply)
     → text_in new reply ≡ answer_text (answer old (command_of line) r.shortage)
 reply_text_is {A} old new line reply r =
-    ap (λ (said : Reply). text_in new said) r.reply
+    ap (λ (said : Reply A). text_in new said) r.reply
     ∙ ap (λ (s : SessionState A). text_in s (answer old (command_of line) r.shortage).reply) r.left
 
 -- a line was answered
-pub line_more : {A : Type 0} (s : Setup) (old new : SessionState A) (line : List ℕ) (reply : Reply) (script script' transcript transcript' : List ℕ)
+pub line_more : {A : Type 0} (s : Setup) (old new : SessionState A) (line : List ℕ) (reply : Reply A) (script script' transcript transcript' : List ℕ)
     → IsRecording s old script transcript → IsLine line → is_quit (command_of line) ≡ false → Replies old new (command_of line) reply
     → script' ≡ script ++ (line ++ 10 ∷ []) → transcript' ≡ transcript ++ text_in new reply → IsRecording s new script' transcript'
 line_more s old new line reply script script' transcript transcript' r is_line no_quit replies kept told = record {

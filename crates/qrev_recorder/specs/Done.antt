@@ -1,10 +1,11 @@
 -- What a recorder's calls did: a line was answered, or a run over calls was made; or why neither was.
-use Rattle.std.specs.Prelude.{◌≡◌, ◌⊎◌, ℕ, zero, suc, ◌+◌, ◌^◌, ◌≤◌, true, List, [], ◌++◌, length, Option, Result}
+use Rattle.std.specs.Prelude.{◌≡◌, ◌⊎◌, ℕ, zero, suc, ◌+◌, ◌^◌, ◌≤◌, true, List, [], ◌++◌, length, Option, Some, None, Result}
 use Rattle.qil_commands.specs.Command.{command_of}
 use Rattle.qil_commands.specs.declared.command.Command.{Command}
 use Rattle.qil_commands.specs.declared.command.Refused.{Refused}
 use Rattle.qil_streams.specs.Reader.{IsLine}
 use Rattle.qil_semantics.specs.Timeline.{position}
+use Rattle.qil_semantics.specs.declared.reason.Reason.{Reason}
 use Rattle.qil_semantics.specs.Stops.{Numbered}
 use Rattle.qil_stops.specs.Named.{named_stops}
 use Rattle.qil_stops.specs.Depths.{RunsToDepth, RunsBackToDepth}
@@ -20,18 +21,24 @@ use Rattle.qrev_recorder.specs.declared.done.LineError.TheVariants as errors
 
 -- ---- a line
 
+-- what moves did, by why no more were made, if that is said
+abbrev pub moved_or_stopped : Option Reason → Done
+moved_or_stopped None = dones.Moved
+moved_or_stopped (Some reason) = dones.Stopped reason
+
 -- what a reply says that its line did
-abbrev pub done_of : Reply → Done
+abbrev pub done_of : {A : Type 0} → Reply A → Done
 done_of (replies.Refused refusal) = dones.Refused refusal
 done_of replies.Place = dones.Moved
 done_of (replies.Stopped reason) = dones.Stopped reason
+done_of (replies.Accesses list reason) = moved_or_stopped reason
 done_of (replies.Added number kind) = dones.Added number
 done_of reply = dones.Told
 
 -- What a line says was replied, which left the session so; the text of the reply was put behind the transcript, and this is what
 -- the line did.
 pub record IsDone {A : Type 0} (old new : SessionState A) (transcript transcript' : List ℕ) (said : Result (Option Command) Refused) (done : Done) : Type 0 where
-  pub reply : Reply
+  pub reply : Reply A
   pub replied : Replies old new said reply
   pub told : transcript' ≡ transcript ++ text_in new reply
   pub done_is : done ≡ done_of reply

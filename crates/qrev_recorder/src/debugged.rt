@@ -22,16 +22,16 @@ pub trait Debugged<A: Allocator> {
     ghost state: { Self → SessionState A };
 
     /// As `Session::reply`.
-    fn reply<'t>(&mut self, said: Result<Option<Command<'t>>, Refused>) -> Reply<'t>
+    fn reply<'t>(&mut self, said: Result<Option<Command<'t>>, Refused>) -> Reply<'t, A>
         requires before { position (state self.old).timeline < 2 ^ 61 }
         requires limit { (state self.old).limit ≤ 4294967295 }
         ensures limit { (state self.new).limit ≡ (state self.old).limit }
         ensures replied { Replies (state self.old) (state self.new) said.entry result };
 
     /// Puts the text of a reply that left the session so.
-    fn put_reply(&self, reply: Reply<'_>, out: &mut Buffer<A>) -> Result<(), PutError>
+    fn put_reply(&self, reply: &Reply<'_, A>, out: &mut Buffer<A>) -> Result<(), PutError>
         requires { ⟦<Buffer<A> as Put>⟧.stops out.old < 2 ^ 64 - 1 }
-        ensures text { Puts result (⟦<Buffer<A> as Put>⟧.written out.old) (⟦<Buffer<A> as Put>⟧.written out.new) (text_in (state self.now) reply.entry) };
+        ensures text { Puts result (⟦<Buffer<A> as Put>⟧.written out.old) (⟦<Buffer<A> as Put>⟧.written out.new) (text_in (state self.now) reply.now) };
 
     /// As `Session::run_to_depth`.
     fn run_to_depth(&mut self, most: usize) -> (DepthEnd, u64)

@@ -1,11 +1,11 @@
 //! What a line did, and why one isn't answered.
 
 ghost use Rattle.std.specs.Prelude.{◌≡◌};
-ghost use Rattle.qrev_recorder.specs.Done.{done_of};
+ghost use Rattle.qrev_recorder.specs.Done.{moved_or_stopped, done_of};
 
 use qil_replies::{CommandRefusal, Reply};
 use qil_semantics::Reason;
-use std::alloc::AllocError;
+use std::alloc::{AllocError, Allocator};
 
 /// What a line did.
 #[derive(Clone, Copy)]
@@ -46,14 +46,25 @@ impl From<AllocError> for LineError {
     }
 }
 
+/// What moves did, by why no more were made, if that is said.
+fn moved_or_stopped(reason: Option<Reason>) -> Done
+    ensures { result ≡ moved_or_stopped reason }
+{
+    match reason {
+        Some(reason) => Done::Stopped(reason),
+        None => Done::Moved,
+    }
+}
+
 /// What a reply says that its line did.
-pub fn done_by(reply: &Reply<'_>) -> Done
+pub fn done_by<A: Allocator>(reply: &Reply<'_, A>) -> Done
     ensures { result ≡ done_of reply.now }
 {
     match reply {
         Reply::Refused(refusal) => Done::Refused(*refusal),
         Reply::Place => Done::Moved,
         Reply::Stopped(reason) => Done::Stopped(*reason),
+        Reply::Accesses(_, reason) => moved_or_stopped(*reason),
         Reply::Added(number, _) => Done::Added(*number),
         _ => Done::Told,
     }

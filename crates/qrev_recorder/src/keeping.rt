@@ -34,7 +34,7 @@ pub fn loaded_text<A: Allocator + Copy, L: Debugged<A>>(
         Ok(()) => {}
         Err(PutError) => return Err(AllocError),
     }
-    match live.put_reply(Reply::Place, &mut text) {
+    match live.put_reply(&Reply::Place, &mut text) {
         Ok(()) => Ok(text),
         Err(PutError) => Err(AllocError),
     }
@@ -44,12 +44,12 @@ pub fn loaded_text<A: Allocator + Copy, L: Debugged<A>>(
 pub fn reply_text<A: Allocator + Copy, L: Debugged<A>>(
     alloc: A,
     live: &L,
-    reply: Reply<'_>,
+    reply: Reply<'_, A>,
 ) -> Result<Buffer<A>, AllocError>
     ensures { IfOk result (λ text. ⟦<Buffer<A> as Put>⟧.written text ≡ Some (text_in (L.state live.now) reply.entry)) }
 {
     let mut text = Buffer::new(alloc);
-    match live.put_reply(reply, &mut text) {
+    match live.put_reply(&reply, &mut text) {
         Ok(()) => Ok(text),
         Err(PutError) => Err(AllocError),
     }

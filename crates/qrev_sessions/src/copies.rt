@@ -64,7 +64,7 @@ fn reply_over<'c, 't, A: Allocator + Copy + 'c, H: Runs<A, Code<'c, A>>, K>(
     session: &mut Session<A, H>,
     _code: Option<&K>,
     said: Result<Option<Command<'t>>, Refused>,
-) -> Reply<'t>
+) -> Reply<'t, A>
     requires before { position (H.timeline session.old.history) < 2 ^ 61 }
     requires limit { session.old.limit ≤ 4294967295 }
     ensures limit { session.new.limit ≡ session.old.limit }
@@ -77,7 +77,7 @@ fn reply_in<'c, 't, A: Allocator + Copy + 'c, M: Restorable<A, Code<'c, A>>, K>(
     session: &mut Session<A, Checkpoints<A, M>>,
     _code: Option<&K>,
     said: Result<Option<Command<'t>>, Refused>,
-) -> Reply<'t>
+) -> Reply<'t, A>
     requires before { position (held_timeline M.present M.kept session.old.history) < 2 ^ 61 }
     requires limit { session.old.limit ≤ 4294967295 }
     ensures limit { session.new.limit ≡ session.old.limit }
@@ -91,7 +91,7 @@ fn reply_in<'c, 't, A: Allocator + Copy + 'c, M: Restorable<A, Code<'c, A>>, K>(
 pub fn reply<'c, 't, A: Allocator + Copy + 'c, M: CopiedMachine<A, FlatMachine<'c, A>>>(
     session: &mut Session<A, Checkpoints<A, Replaying<M>>>,
     said: Result<Option<Command<'t>>, Refused>,
-) -> Reply<'t>
+) -> Reply<'t, A>
     requires before { position (held_timeline (λ r. M.present r.machine) (λ r. M.kept r.machine) session.old.history) < 2 ^ 61 }
     requires limit { session.old.limit ≤ 4294967295 }
     ensures limit { session.new.limit ≡ session.old.limit }
@@ -106,11 +106,11 @@ pub fn reply<'c, 't, A: Allocator + Copy + 'c, M: CopiedMachine<A, FlatMachine<'
 fn put_reply_over<'c, A: Allocator + Copy + 'c, H: Runs<A, Code<'c, A>>, K>(
     session: &Session<A, H>,
     _code: Option<&K>,
-    reply: Reply<'_>,
+    reply: &Reply<'_, A>,
     out: &mut Buffer<A>,
 ) -> Result<(), PutError>
     requires { ⟦<Buffer<A> as Put>⟧.stops out.old < 2 ^ 64 - 1 }
-    ensures { Puts result (⟦<Buffer<A> as Put>⟧.written out.old) (⟦<Buffer<A> as Put>⟧.written out.new) (text_in (session_state H.wants_memory H.program H.timeline session.now) reply.entry) }
+    ensures { Puts result (⟦<Buffer<A> as Put>⟧.written out.old) (⟦<Buffer<A> as Put>⟧.written out.new) (text_in (session_state H.wants_memory H.program H.timeline session.now) reply.now) }
 {
     session.put_reply(reply, out)
 }
@@ -118,12 +118,12 @@ fn put_reply_over<'c, A: Allocator + Copy + 'c, H: Runs<A, Code<'c, A>>, K>(
 fn put_reply_in<'c, A: Allocator + Copy + 'c, M: Restorable<A, Code<'c, A>>, K>(
     session: &Session<A, Checkpoints<A, M>>,
     _code: Option<&K>,
-    reply: Reply<'_>,
+    reply: &Reply<'_, A>,
     out: &mut Buffer<A>,
 ) -> Result<(), PutError>
     requires { ⟦<Buffer<A> as Put>⟧.stops out.old < 2 ^ 64 - 1 }
     ensures { Puts result (⟦<Buffer<A> as Put>⟧.written out.old) (⟦<Buffer<A> as Put>⟧.written out.new)
-        (text_in (session_state false (λ h. (M.present h.machine).program) (λ h. held_timeline M.present M.kept h) session.now) reply.entry) }
+        (text_in (session_state false (λ h. (M.present h.machine).program) (λ h. held_timeline M.present M.kept h) session.now) reply.now) }
 {
     let code: Option<&'c Code<'c, A>> = None;
     put_reply_over(session, code, reply, out)
@@ -132,12 +132,12 @@ fn put_reply_in<'c, A: Allocator + Copy + 'c, M: Restorable<A, Code<'c, A>>, K>(
 /// As `Session::put_reply`.
 pub fn put_reply<'c, A: Allocator + Copy + 'c, M: CopiedMachine<A, FlatMachine<'c, A>>>(
     session: &Session<A, Checkpoints<A, Replaying<M>>>,
-    reply: Reply<'_>,
+    reply: &Reply<'_, A>,
     out: &mut Buffer<A>,
 ) -> Result<(), PutError>
     requires { ⟦<Buffer<A> as Put>⟧.stops out.old < 2 ^ 64 - 1 }
     ensures { Puts result (⟦<Buffer<A> as Put>⟧.written out.old) (⟦<Buffer<A> as Put>⟧.written out.new)
-        (text_in (session_state false (λ h. (M.present h.machine.machine).program) (λ h. held_timeline (λ r. M.present r.machine) (λ r. M.kept r.machine) h) session.now) reply.entry) }
+        (text_in (session_state false (λ h. (M.present h.machine.machine).program) (λ h. held_timeline (λ r. M.present r.machine) (λ r. M.kept r.machine) h) session.now) reply.now) }
 {
     let code: Option<&'c Code<'c, A>> = None;
     put_reply_in(session, code, reply, out)

@@ -47,11 +47,11 @@ impl<A: Allocator + Copy, M: HasCopies<A> + Drop> CopyingSession<A, M> {
 impl<A: Allocator + Copy, M: DrivenOver<A>> Debugged<A> for CopyingSession<A, M> {
     ghost state = { λ s. copied_state M.present M.kept s.session };
 
-    fn reply<'t>(&mut self, said: Result<Option<Command<'t>>, Refused>) -> Reply<'t> {
+    fn reply<'t>(&mut self, said: Result<Option<Command<'t>>, Refused>) -> Reply<'t, A> {
         M::reply(&mut self.session, said)
     }
 
-    fn put_reply(&self, reply: Reply<'_>, out: &mut Buffer<A>) -> Result<(), PutError> {
+    fn put_reply(&self, reply: &Reply<'_, A>, out: &mut Buffer<A>) -> Result<(), PutError> {
         M::put_reply(&self.session, reply, out)
     }
 

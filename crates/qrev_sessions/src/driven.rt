@@ -31,7 +31,7 @@ pub trait DrivenOver<A: Allocator>: HasCopies<A> {
     fn reply<'t>(
         session: &mut Session<A, Checkpoints<A, Replaying<Self>>>,
         said: Result<Option<Command<'t>>, Refused>,
-    ) -> Reply<'t>
+    ) -> Reply<'t, A>
         requires before { position (copied_state Self.present Self.kept session.old).timeline < 2 ^ 61 }
         requires limit { (copied_state Self.present Self.kept session.old).limit ≤ 4294967295 }
         ensures limit { (copied_state Self.present Self.kept session.new).limit ≡ (copied_state Self.present Self.kept session.old).limit }
@@ -40,11 +40,11 @@ pub trait DrivenOver<A: Allocator>: HasCopies<A> {
     /// As `Session::put_reply`.
     fn put_reply(
         session: &Session<A, Checkpoints<A, Replaying<Self>>>,
-        reply: Reply<'_>,
+        reply: &Reply<'_, A>,
         out: &mut Buffer<A>,
     ) -> Result<(), PutError>
         requires { ⟦<Buffer<A> as Put>⟧.stops out.old < 2 ^ 64 - 1 }
-        ensures { Puts result (⟦<Buffer<A> as Put>⟧.written out.old) (⟦<Buffer<A> as Put>⟧.written out.new) (text_in (copied_state Self.present Self.kept session.now) reply.entry) };
+        ensures { Puts result (⟦<Buffer<A> as Put>⟧.written out.old) (⟦<Buffer<A> as Put>⟧.written out.new) (text_in (copied_state Self.present Self.kept session.now) reply.now) };
 
     /// As `Session::run_to_depth`.
     fn run_to_depth(
@@ -105,13 +105,13 @@ impl<'c, A: Allocator + Copy + 'c> DrivenOver<A> for RestorableMachine<'c, A> {
     fn reply<'t>(
         session: &mut Session<A, Checkpoints<A, Replaying<Self>>>,
         said: Result<Option<Command<'t>>, Refused>,
-    ) -> Reply<'t> {
+    ) -> Reply<'t, A> {
         reply(session, said)
     }
 
     fn put_reply(
         session: &Session<A, Checkpoints<A, Replaying<Self>>>,
-        reply: Reply<'_>,
+        reply: &Reply<'_, A>,
         out: &mut Buffer<A>,
     ) -> Result<(), PutError> {
         put_reply(session, reply, out)

@@ -23,7 +23,7 @@ use std::alloc::Allocator;
 pub fn reply<'c, 't, A: Allocator + Copy + 'c, H: History<A, Machine<'c, A>> + Stepwise>(
     session: &mut Session<A, H>,
     said: Result<Option<Command<'t>>, Refused>,
-) -> Reply<'t>
+) -> Reply<'t, A>
     requires before { position (H.timeline session.old.history) < 2 ^ 61 }
     requires limit { session.old.limit ≤ 4294967295 }
     ensures limit { session.new.limit ≡ session.old.limit }
@@ -38,11 +38,11 @@ pub fn put_reply<'c, A: Allocator + Copy + 'c>(
     position: u64,
     machine: &Machine<'c, A>,
     stops: &Stops<A>,
-    reply: Reply<'_>,
+    reply: &Reply<'_, A>,
     out: &mut Buffer<A>,
 ) -> Result<(), PutError>
     requires { ⟦<Buffer<A> as Put>⟧.stops out.old < 2 ^ 64 - 1 }
-    ensures { Puts result (⟦<Buffer<A> as Put>⟧.written out.old) (⟦<Buffer<A> as Put>⟧.written out.new) (reply_text machine.now.program position (state_of machine.now) stops.now.kept reply.entry) }
+    ensures { Puts result (⟦<Buffer<A> as Put>⟧.written out.old) (⟦<Buffer<A> as Put>⟧.written out.new) (reply_text machine.now.program position (state_of machine.now) stops.now.kept reply.now) }
 {
     qil_session::put_reply(out, position, machine, stops.list(), reply)
 }

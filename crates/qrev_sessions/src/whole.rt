@@ -52,11 +52,11 @@ impl<'c, A: Allocator + Copy + 'c> WholeSession<'c, A> {
 impl<'c, A: Allocator + Copy + 'c> Debugged<A> for WholeSession<'c, A> {
     ghost state = { λ s. session_state true (λ h. h.machine.program) moved_timeline s.session };
 
-    fn reply<'t>(&mut self, said: Result<Option<Command<'t>>, Refused>) -> Reply<'t> {
+    fn reply<'t>(&mut self, said: Result<Option<Command<'t>>, Refused>) -> Reply<'t, A> {
         reply(&mut self.session, said)
     }
 
-    fn put_reply(&self, reply: Reply<'_>, out: &mut Buffer<A>) -> Result<(), PutError> {
+    fn put_reply(&self, reply: &Reply<'_, A>, out: &mut Buffer<A>) -> Result<(), PutError> {
         let history = self.session.history();
         let stops = self.session.stops();
         put_reply(history.position(), history.machine(), stops, reply, out)

@@ -1,5 +1,6 @@
 -- Each reply has its text, by the function that puts it.
-use Rattle.std.proofs.Common.{ℕ, List, ap, refl}
+use Rattle.std.proofs.Common.{ℕ, List, ap, refl, ◌++◌}
+use Rattle.std.specs.List.{flat_map}
 use Rattle.qil_tree.specs.declared.tree.Program.{Program}
 use Rattle.qil_streams.specs.Text.{line}
 use Rattle.qil_streams.proofs.DeviceLemmas.{Appends-nil}
@@ -8,7 +9,8 @@ use Rattle.qil_semantics.specs.State.{Name}
 use Rattle.qil_render.specs.qil_state.State.{state_of}
 use Rattle.qil_render.specs.Shown.{printed}
 use Rattle.qil_replies.specs.Reply.{reply_text}
-use Rattle.qil_replies.specs.Texts.{stop_line, stops_shown}
+use Rattle.qil_accesses.specs.declared.access.Access.{Access}
+use Rattle.qil_replies.specs.Texts.{stop_line, stops_shown, access_line, place_text}
 use Rattle.qil_replies.proofs.put.put_reply.Goals as goal
 
 pub returns-in-Nothing : goal.returns-in-Nothing
@@ -26,6 +28,11 @@ returns-in-Place g c = rw c.in-Place.is c.put_place.ensures
 pub returns-in-Stopped : goal.returns-in-Stopped
 unfolding reply_text
 returns-in-Stopped g c = rw c.in-Stopped.is c.put_stopped.ensures
+
+pub returns-in-Accesses : goal.returns-in-Accesses
+unfolding reply_text
+returns-in-Accesses g c =
+    rw c.in-Accesses.is (HasPut-as (ap (λ (list : List Access). flat_map access_line list ++ place_text c.in-Accesses.reason c.args.position (state_of (g.M.Readers.whole c.args.machine.now))) c.as_slice-list.ensures) c.put_accesses.ensures)
 
 pub returns-in-Added : goal.returns-in-Added
 unfolding reply_text

@@ -1,0 +1,3 @@
+-- The definitions.
+pub mod Accesses
+pub mod Ahead
