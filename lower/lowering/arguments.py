@@ -15,6 +15,8 @@ from .symbols import Signature, Symbol, Unit
 TABLE = "$arguments"
 # The runtime's function that gives the input, and its data.
 TAKE_INPUT, INPUT, INPUT_END = "$take.input", "$input", "$input.end"
+# The runtime's data with the name of the program, and with that without its folder.
+NAME, SHORT_NAME = "$program.name", "$program.short.name"
 
 
 def table_of(words: list[str]) -> Unit:
@@ -65,3 +67,12 @@ def give_input(runtime: Runtime, given: bytes) -> None:
         definition = unit.own[raw].definition
         if isinstance(definition, Data):
             definition.items = items
+
+
+def give_name(runtime: Runtime, name: str) -> None:
+    """Puts the name of the program into the runtime's data, if a program has that."""
+    unit = runtime.units.get(runtime.places[NAME])
+    for raw, text in ((NAME, name), (SHORT_NAME, name.rpartition("/")[2])):
+        definition = unit.own[raw].definition if unit else None
+        if isinstance(definition, Data):
+            definition.items = [Item(0, "b", os.fsencode(text).decode("latin-1")), Item(0, "b", 0)]

@@ -3,6 +3,8 @@
 # What lower/runtime/system.ssa answers.
 ANSWERED = frozenset((0, 1, 3, 9, 10, 11, 12, 13, 14, 16, 20, 24, 28, 39, 60, 62, 96, 102, 104, 107, 108, 110, 186, 200,
                       201, 228, 229, 231, 234))
+# The same, where there are files.
+ANSWERED_WITH_FILES = ANSWERED | {2, 4, 5, 6, 8, 21, 77, 82, 85, 87, 257, 262}
 NAMES = dict(enumerate((
     "read write open close stat fstat lstat poll lseek mmap mprotect munmap brk rt_sigaction rt_sigprocmask "
     "rt_sigreturn ioctl pread64 pwrite64 readv writev access pipe select sched_yield mremap msync mincore madvise "

@@ -10,7 +10,7 @@ from typing import NoReturn
 from terminal.reading.refusals import Refused
 from terminal.reading.tree import Text
 
-from .arguments import give_arguments, give_input, takes_texts
+from .arguments import give_arguments, give_input, give_name, takes_texts
 from .ends import has_ends, is_named, wrapped
 from .files import files_found, give_files
 from .jumps import Jumps
@@ -93,12 +93,14 @@ class Lowering:
         if self.entry is not None and (words is not None or has_ends(self.program)) \
                 and is_named(self.program, self.entry):
             self.entry = wrapped(self.program, self.entry)
+        own_name = name or pathlib.Path(texts[0].path).stem
         if words is not None and self.entry is not None:
-            give_arguments(self.entry, [name or pathlib.Path(texts[0].path).stem, *words])
+            give_arguments(self.entry, [own_name, *words])
         if is_linked and self.entry is not None:
             self.program.keep_from(self.entry)
         else:
             self.keep_all()
+        give_name(self.program.runtime, own_name)
         Jumps(self.program).write(self.entry)
         self.program.give_names()
         self.report.count("functions that are called before the entry", len(self.program.ends.first))

@@ -25,6 +25,9 @@ HEAP = (
 HEAP_NAMES = frozenset(HEAP[0] + HEAP[1])
 # What the runtime makes of its own heap alone, so that it isn't there beside a malloc of the text's own.
 OF_ONE_HEAP = frozenset("$aligned_alloc $posix_memalign $memalign $malloc_usable_size".split())
+# What programs name functions of their own that have nothing to do with the library's.
+NAMED_BY_PROGRAMS = frozenset(
+    "$error $err $errx $warn $warnx $verr $verrx $vwarn $vwarnx $basename $dirname $system $finite".split())
 # What gives memory of the system.
 MAPPING = frozenset(("$mmap", "$brk", "$sbrk", "$syscall", "$rt.syscall1", "$rt.syscall6"))
 # A mapping of more bytes isn't given twice, and a number above the other is no size.
@@ -44,7 +47,8 @@ class Families:
     def __init__(self, program: Program):
         self.program = program
         self.candidates = [symbol for symbol in program.exported.values()
-                           if symbol.raw in program.runtime.places and is_offered(symbol.raw) and symbol.is_function()]
+                           if symbol.raw in program.runtime.places and is_offered(symbol.raw) and symbol.is_function()
+                           and symbol.raw not in NAMED_BY_PROGRAMS]
         self.beside = set(self.candidates)
         self.named = {raw for unit in program.units for definition in unit.text.definitions
                       for raw in references(definition) if raw not in unit.own}

@@ -6,19 +6,12 @@ import os
 import pathlib
 import re
 
-from terminal.reading.tree import Call, Data, Function, Item, Text
+from terminal.reading.tree import Data, Item, Text
 
-from .aliases import OTHERS
-from .calls_of_system import ANSWERED, CALLERS
 from .report import Report, Weight
 from .runtime import ENCODING, Runtime
-from .symbols import Symbol, references
+from .symbols import Symbol
 
-# What opens files. A program that names none of these has no files, and its streams are the input and the output alone.
-OPENING = frozenset("$fopen $fopen64 $freopen $tmpfile $open $open64 $openat $creat".split())
-# The calls of the system that open files: open, creat, openat.
-OPENING_CALLS = frozenset((2, 85, 257))
-ANSWERED_WITH_FILES = ANSWERED | OPENING_CALLS | {4, 5, 6, 8, 21, 77, 82, 87, 262}
 FIND_FILE, FILES, FILES_END = "$file.named", "$files", "$files.end"
 # The bytes of a file's record, and how many files there may be beside those that are given.
 RECORD, FREE_RECORDS = 40, 32
@@ -28,32 +21,6 @@ MOST_FOUND = 1 << 18
 MOST_BYTES = 1 << 20
 # What may be the name of a file, in the data of a text.
 NAME = re.compile(r"[\x20-\x7e]{1,255}")
-
-
-def named_outside(texts: list[Text]) -> set[str]:
-    """What the texts name and none of them defines."""
-    own = {definition.name for text in texts for definition in text.definitions}
-    named = {raw for text in texts for definition in text.definitions for raw in references(definition)} - own
-    return {OTHERS.get(raw, raw) for raw in named}
-
-
-def sets_signals(texts: list[Text]) -> bool:
-    return "$signal" in named_outside(texts)
-
-
-def opens_files(texts: list[Text]) -> bool:
-    """Whether a program names what opens files, and has no such function of its own."""
-    named = named_outside(texts)
-    if OPENING & named:
-        return True
-    return bool(CALLERS & named) and any(calls_to_open(definition) for text in texts for definition in text.definitions)
-
-
-def calls_to_open(definition: Data | Function) -> bool:
-    if not isinstance(definition, Function) or not definition.callees & CALLERS:
-        return False
-    return any(isinstance(each, Call) and each.target in CALLERS and each.arguments
-               and each.arguments[0][1] in OPENING_CALLS for block in definition.blocks for each in block.instructions)
 
 
 def names_in(texts: list[Text]) -> list[str]:

@@ -11,6 +11,7 @@ from typing import TYPE_CHECKING
 
 from terminal.reading.tree import Block, Call, Function, Instruction, Item, Jump, Value
 
+from .names import free_name
 from .symbols import Symbol, Unit
 
 if TYPE_CHECKING:
@@ -94,18 +95,12 @@ class Writer:
         self.away = self.label("@jump.away")
 
     def label(self, front: str) -> str:
-        name, number = front, 1
-        while name in self.labels:
-            number += 1
-            name = f"{front}.{number}"
+        name = free_name(front, self.labels)
         self.labels.add(name)
         return name
 
     def temporary(self, front: str, cls: str) -> str:
-        name, number = f"%.{front}", 1
-        while name in self.function.classes:
-            number += 1
-            name = f"%.{front}.{number}"
+        name = free_name(f"%.{front}", self.function.classes)
         self.function.classes[name] = cls
         return name
 

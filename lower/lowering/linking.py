@@ -9,17 +9,17 @@ from terminal.reading.refusals import Refused
 from terminal.reading.tree import Block, Call, Data, Definition, Function, Text, Value
 
 from .aliases import OTHERS
-from .calls_of_system import ANSWERED, CALLERS, told
+from .calls_of_system import ANSWERED, ANSWERED_WITH_FILES, CALLERS, told
 from .ends import EXIT, FINALIZED, Ends, uses_finalizers
 from .families import HEAP_NAMES, OF_ONE_HEAP, Families, calls_of, constant, stored_data
-from .files import ANSWERED_WITH_FILES, opens_files, sets_signals
+from .folders import FILES, folders_of
 from .names import Names
 from .report import Report, Weight
 from .runtime import Runtime
 from .symbols import BUILT_IN, Symbol, Unit, references, signature_at, signature_of
 
 # What the mathematical library of C has beyond what is exact here.
-INEXACT = frozenset(f"${name}{end}" for end in ("", "f") for name in ("erf", "erfc"))
+INEXACT = frozenset(f"${name}{end}" for end in ("", "f") for name in "j0 j1 jn y0 y1 yn".split())
 # The runtime's own function in the place of the built-in one, where its result or its address is used.
 COUNTED_PUTS = "$puts.counted"
 
@@ -29,8 +29,9 @@ class Program:
 
     def __init__(self, texts: list[Text], report: Report):
         self.report = report
-        self.opens_files = opens_files(texts)
-        self.runtime = Runtime(["files"] * self.opens_files + ["signals"] * sets_signals(texts))
+        folders = folders_of(texts)
+        self.opens_files = FILES in folders
+        self.runtime = Runtime(folders)
         self.names = Names()
         self.kept: dict[Symbol, None] = {}
         self.exported: dict[str, Symbol] = {}

@@ -1,10 +1,20 @@
 """Accepted names for QBE's names: one for each, unchanged if possible."""
 import re
+from collections.abc import Container
 
 from terminal.reading.accepted import NAME
 
 LAWFUL = re.compile(rf"\${NAME}")
 OTHER = re.compile(r"[^A-Za-z0-9._$]")
+
+
+def free_name(front: str, taken: Container[str]) -> str:
+    """A name that isn't taken: the front, or with a number behind it."""
+    name, number = front, 1
+    while name in taken:
+        number += 1
+        name = f"{front}.{number}"
+    return name
 
 
 class Names:
@@ -18,9 +28,6 @@ class Names:
         number at its end."""
         name = raw if LAWFUL.fullmatch(raw) else \
             "$" + (OTHER.sub(lambda match: f".{ord(match.group()):02x}", raw[1:]) or ".")
-        given, number = name, 1
-        while given in self.taken:
-            number += 1
-            given = f"{name}.{number}"
+        given = free_name(name, self.taken)
         self.taken.add(given)
         return given

@@ -13,6 +13,7 @@ from typing import NamedTuple
 from .floats import string_of
 from .library import is_there
 from .running import LOWER, Results, Running, Skipped, differ
+from .telling import TELL
 
 NAMES = ("one", "two", "three")
 WORDS = ("alpha", "be", "", "g g", "12 x", "line\nnext\n", "7", "\n", "-3 word")
@@ -21,19 +22,13 @@ MODES = ("r", "w", "a", "r+", "w+", "a+", "rb", "wb+", "wx", "q")
 FLAGS = (0, 1, 2, 0x41, 0x42, 0x241, 0x242, 0x401, 0x442, 0xC1)
 ROOM = 60
 
-HEAD = """
-data $number = { b "%ld ", b 0 }
+HEAD = TELL + """
 data $text = { b "%s|", b 0 }
 data $to = { z 64 }
 data $value = { z 8 }
 data $state = { z 144 }
 data $print.format = { b "%d-%s;", b 0 }
 data $scan.format = { b "%d %9s", b 0 }
-function $tell(l %x) {
-@start
-	%c =w call $printf(l $number, ..., l %x)
-	ret
-}
 function $tell.text(l %count) {
 @start
 	%end =l add $to, %count

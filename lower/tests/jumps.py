@@ -4,31 +4,26 @@ from dataclasses import dataclass
 from typing import NamedTuple
 
 from .running import Results, Running, differ
+from .telling import TELL
 
-TELL = """
-data $number = { b "%d ", b 0 }
-function $tell(w %x) {
-@start
-	%c =w call $printf(l $number, ..., w %x)
-	ret
-}
+PLACES_TOLD = TELL + """
 data $place = { z 200 }
 data $other = { z 200 }
 """
 # Through three calls of one function, and past a phi; what a zero becomes; again and again.
-DEEP = TELL + """
+DEEP = PLACES_TOLD + """
 function w $deep(w %n) {
 @start
 	jnz %n, @more, @end
 @more
 	%m =w sub %n, 1
 	%r =w call $deep(w %m)
-	call $tell(w 99)
+	call $tell.w(w 99)
 	jmp @join
 @end
-	call $tell(w %n)
+	call $tell.w(w %n)
 	call $longjmp(l $place, w 0)
-	call $tell(w 98)
+	call $tell.w(w 98)
 @join
 	%s =w phi @more %r, @end 4
 	ret %s
@@ -38,7 +33,7 @@ export function w $main() {
 	%rounds =l alloc4 4
 	storew 0, %rounds
 	%v =w call $setjmp(l $place)
-	call $tell(w %v)
+	call $tell.w(w %v)
 	%k =w loadw %rounds
 	%k =w add %k, 1
 	storew %k, %rounds
@@ -46,7 +41,7 @@ export function w $main() {
 	jnz %is.last, @back, @go
 @go
 	%x =w call $deep(w 3)
-	call $tell(w 97)
+	call $tell.w(w 97)
 @back
 	%sum =w add %k, %v
 	ret %sum
@@ -54,13 +49,13 @@ export function w $main() {
 """
 # Out of the first comparison of qsort, by another name; a function between gives an aggregate. The inner setjmp isn't
 # gone to.
-SORTED = TELL + """
+SORTED = PLACES_TOLD + """
 type :pair = { l, w }
 data $numbers = { w 3 1 2 }
 function w $compare(l %a, l %b) {
 @start
 	%x =w loadw %a
-	call $tell(w %x)
+	call $tell.w(w %x)
 	call $siglongjmp(l $place, w 8)
 	ret 0
 }
@@ -68,7 +63,7 @@ function :pair $sorts(l %compare) {
 @start
 	%inner =w call $_setjmp(l $other)
 	call $qsort(l $numbers, l 3, l 4, l %compare)
-	call $tell(w 96)
+	call $tell.w(w 96)
 	%p =l alloc8 16
 	storel 1, %p
 	ret %p
@@ -79,13 +74,13 @@ export function w $main() {
 	jnz %v, @back, @go
 @go
 	%p =:pair call $sorts(l $compare)
-	call $tell(w 95)
+	call $tell.w(w 95)
 @back
 	ret %v
 }
 """
 # To a call that is over, and without a result.
-OVER = TELL + """
+OVER = PLACES_TOLD + """
 function $sets() {
 @start
 	%v =w call $setjmp(l $place)
@@ -99,11 +94,11 @@ export function w $main() {
 }
 """
 # No longjmp: 0, and no question behind any call.
-ALONE = TELL + """
+ALONE = PLACES_TOLD + """
 export function w $main() {
 @start
 	%v =w call $setjmp(l $place)
-	call $tell(w %v)
+	call $tell.w(w %v)
 	%w =w add %v, 3
 	ret %w
 }
@@ -223,7 +218,7 @@ class Text:
 
     def function(self, number: int, body: list[Act]) -> None:
         self.lines += [f"function $f{number}(w %d) {{", "@start", f"\t%deep =w csgtw %d, {MOST_DEPTH}",
-                       "\tjnz %deep, @over, @begin", "@begin", f"\tcall $tell(w {100 + number})", "\t%e =w add %d, 1"]
+                       "\tjnz %deep, @over, @begin", "@begin", f"\tcall $tell.w(w {100 + number})", "\t%e =w add %d, 1"]
         self.acts(body)
         self.lines += ["\tcall $end(w %d)", "@over", "\tret", "}"]
 
@@ -233,7 +228,7 @@ class Text:
             self.lines += [f"\t%b{label} =w call $budget()", f"\tjnz %b{label}, @do{label}, @done{label}",
                            f"@do{label}"]
             if act.kind == "tell":
-                self.lines.append(f"\tcall $tell(w {act.number})")
+                self.lines.append(f"\tcall $tell.w(w {act.number})")
             elif act.kind == "call":
                 self.lines.append(f"\tcall $f{act.number}(w %e)")
             elif act.kind == "by address":
@@ -242,10 +237,10 @@ class Text:
                 self.lines += [f"\t%h{label} =w loadw $held{act.number}",
                                f"\tjnz %h{label}, @go{label}, @done{label}",
                                f"@go{label}", f"\t%l{label} =w loadw $left", f"\t%v{label} =w rem %l{label}, 3",
-                               f"\tcall $longjmp(l $place{act.number}, w %v{label})", "\tcall $tell(w 90)"]
+                               f"\tcall $longjmp(l $place{act.number}, w %v{label})", "\tcall $tell.w(w 90)"]
             else:
                 self.lines += [f"\tstorew %d, $held{act.number}", f"\t%v{label} =w call $setjmp(l $place{act.number})",
-                               "\tcall $kept(w %d)", f"\tcall $tell(w %v{label})"]
+                               "\tcall $kept(w %d)", f"\tcall $tell.w(w %v{label})"]
                 self.acts(act.inside)
                 self.lines.append(f"\tstorew 0, $held{act.number}")
             self.lines.append(f"@done{label}")
@@ -283,7 +278,7 @@ export function w $main() {{
 	ret 0
 }}
 """
-        return TELL + "\n".join(data) + own + "\n".join(self.lines) + "\n"
+        return PLACES_TOLD + "\n".join(data) + own + "\n".join(self.lines) + "\n"
 
 
 def random_fault(running: Running, seed: int) -> str | None:

@@ -188,7 +188,8 @@ def shapes() -> list[Shape]:
         found += [texts(name + end, kind, kind, make)
                   for name in "fabs floor ceil trunc round rint nearbyint sqrt".split()]
         found += [texts(name + end, kind, kind * 2, make, make)
-                  for name in "fmod copysign fmin fmax fdim nextafter".split()]
+                  for name in "fmod copysign fmin fmax fdim nextafter remainder".split()]
+        found.append(texts("remquo" + end, kind, kind * 2 + "e", make, make, lambda choice: 0))
         found += [texts(name + end, "l", kind, make) for name in "lround lrint llround llrint".split()]
         found += [texts("ilogb" + end, "w", kind, make), texts("logb" + end, kind, kind, make),
                   texts("scalbln" + end, kind, kind + "l", make, power)]

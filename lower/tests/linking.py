@@ -333,10 +333,10 @@ def results(running: Running) -> Results:
     yield "linking/another entry", end_fault(running, {"a.ssa": OTHER.replace("$idle", "$main")}, "done 0")
     yield "linking/a function from outside", outside_fault(running)
     yield "linking/told without being asked", told_fault(running)
-    error = running.lower({"a.ssa": TWICE.replace("$missing", "$erf").replace("call $step()", "copy 0")}, "--link")
+    error = running.lower({"a.ssa": TWICE.replace("$missing", "$j0").replace("call $step()", "copy 0")}, "--link")
     yield "linking/what isn't exact", differ(
         "errors",
-        "a.ssa:11: $erf isn't exact, so that the runtime doesn't have it: a function that halts (would halt)\n",
+        "a.ssa:11: $j0 isn't exact, so that the runtime doesn't have it: a function that halts (would halt)\n",
         error.errors)
     yield "linking/not reached", unreached_fault(running)
     yield "linking/no entry", entry_fault(running)

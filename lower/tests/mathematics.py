@@ -173,6 +173,33 @@ def gamma(x: Decimal) -> Decimal:
     return -logarithm.exp() if is_negative else logarithm.exp()
 
 
+# From here on the function is 1 for all doubles, and its rest is 0.
+FAR = 28
+
+
+def error_function(x: Decimal, digits: int = DIGITS) -> Decimal:
+    """erf, by a series whose terms have one sign."""
+    if abs(x) > FAR:
+        return Decimal(1).copy_sign(x)
+    with localcontext(Context(prec=digits, Emax=99999999, Emin=-99999999)):
+        square = x * x
+        term = 2 * x / PI.sqrt() * (-square).exp()
+        total, divisor = Decimal(0), 1
+        while abs(term) > abs(total).scaleb(-digits):
+            total += term
+            divisor += 2
+            term = term * 2 * square / divisor
+        return total
+
+
+def rest_of_error_function(x: Decimal) -> Decimal:
+    """erfc, with as many more digits as it loses."""
+    if x > FAR:
+        return Decimal("1e-400")
+    with localcontext(Context(prec=DIGITS + 370, Emax=99999999, Emin=-99999999)):
+        return 1 - error_function(x, DIGITS + 370)
+
+
 ONE: dict[str, Callable[[Decimal], Decimal]] = {
     "exp": Decimal.exp, "exp2": lambda x: (x * Decimal(2).ln()).exp(), "expm1": less_one, "log": Decimal.ln,
     "log2": lambda x: x.ln() / Decimal(2).ln(), "log10": Decimal.log10, "log1p": more_than_one, "sin": sine,
@@ -180,7 +207,7 @@ ONE: dict[str, Callable[[Decimal], Decimal]] = {
     "sinh": hyperbolic_sine, "cosh": hyperbolic_cosine, "tanh": hyperbolic_tangent,
     "asinh": inverse_of_hyperbolic_sine, "acosh": inverse_of_hyperbolic_cosine,
     "atanh": inverse_of_hyperbolic_tangent, "cbrt": cube_root, "tgamma": gamma,
-    "lgamma": lambda x: gamma_logarithm(x)[0],
+    "lgamma": lambda x: gamma_logarithm(x)[0], "erf": error_function, "erfc": rest_of_error_function,
 }
 
 
@@ -255,6 +282,8 @@ SPECIAL = {
     "cbrt": "0 0, -0 -0, inf inf, -inf -inf, nan nan, 27 3, -8 -2",
     "tgamma": "0 inf, -0 -inf, -1 nan, -3 nan, -1e300 nan, -inf nan, inf inf, nan nan, 1 1, 2 1, 5 24, -200.5 -0, "
               "-201.5 0, 23 1124000727777607680000, 5e-324 inf",
+    "erf": "0 0, -0 -0, inf 1, -inf -1, nan nan, 30 1, -1e300 -1, 6 1",
+    "erfc": "0 1, -0 1, inf 0, -inf 2, nan nan, 30 0, -30 2, 1e300 0, 1e-300 1",
     "lgamma": "1 0, 2 0, 0 inf, -0 inf, -1 inf, -5 inf, -1e300 inf, -inf inf, inf inf, nan nan",
     "pow": "0 -1 inf, -0 -1 -inf, 0 -2 inf, -0 -2 inf, 0 -0.5 inf, -0 -0.5 inf, 0 -inf inf, -0 -inf inf, 0 3 0, "
            "-0 3 -0, 0 2 0, -0 2 0, -0 0.5 0, -1 inf 1, -1 -inf 1, 1 nan 1, 1 inf 1, 1 -3.5 1, nan 0 1, nan -0 1, "
@@ -291,6 +320,9 @@ HARD = {
     "tgamma": ("171.6243769563027", "171.62437695630274", "0x1.0000000000001p+0", "-183.5", "-184.5", "1e-308"),
     "lgamma": ("0x1.0000000000001p+0", "0x1.fffffffffffffp-1", "0x1.0000000000001p+1", "0x1.fffffffffffffp+0",
                "-2.4570247382208006", "-2.7476826467274127", "2.5e305", "2.6e305", "1e-320"),
+    "erf": ("0.5", "0x1.fffffffffffffp-2", "5.921587195794507", "5.9215871957945066", "0x1p-1074", "0x1p-1022"),
+    "erfc": ("0.5", "-0x1.fffffffffffffp-2", "27.226017111108362", "27.226017111108366", "27.9", "26.543258454250985",
+             "0x1p-54", "-0x1p-53", "-5.9"),
     "cosh": ("0x1.633ce8fb9f87dp+9", "0x1p-27"), "acosh": ("0x1.0000000000001p+0",),
 }
 HARD_PAIRS = {
@@ -352,6 +384,9 @@ def argument(name: str, choice: random.Random) -> float:
     if name in ("asin", "acos", "atanh"):
         return between(choice, -60, 0) if kind < 0.5 else choice.choice((-1, 1)) * min(beside_one(choice), 0.999) \
             if kind < 0.7 else choice.uniform(-1, 1)
+    if name in ("erf", "erfc"):
+        return choice.uniform(-7, 28) if kind < 0.5 else choice.uniform(-6, 6) if kind < 0.7 else \
+            between(choice, -60, 1) if kind < 0.9 else between(choice, -1074, 5)
     if name == "acosh":
         return 1 + abs(between(choice, -52, 0)) if kind < 0.5 else abs(between(choice, 0, 1020))
     return any_double(choice) if kind < 0.3 else between(choice, -60, 5) if kind < 0.7 else choice.uniform(-100, 100)
@@ -551,7 +586,8 @@ def is_rounded(name: str, given: tuple[float, ...], value: Fraction) -> bool:
     """Whether a result is neither beyond doubles nor one of those that are known without looking closer."""
     if name == "hypot":
         return 2.0 ** -27 < abs(given[0] / given[1]) < 2.0 ** 27
-    return Fraction(1, 2) ** 1100 < value < 2 ** 1100 and (name != "tanh" or abs(given[0]) < 1000)
+    return Fraction(1, 2) ** 1100 < value < 2 ** 1100 and (name != "tanh" or abs(given[0]) < 1000) and \
+        (name not in ("erf", "erfc") or abs(given[0]) < FAR)
 
 
 def bits_fault(running: Running, name: str) -> str | None:
@@ -588,7 +624,7 @@ def right_bits(error: Fraction) -> int:
 # How many units in the last place it may be away, and an angle that it reduces by too few bits.
 REDUCED = float.fromhex("0x1.6ac5b262ca1ffp+849")
 UNITS = {name: 2 for name in "expm1 log1p sinh cosh tanh asinh acosh atanh tan atan2 log10 log2".split()} | \
-    {"cbrt": 4, "tgamma": 12, "lgamma": 12}
+    {"cbrt": 4, "tgamma": 12, "lgamma": 12, "erfc": 6}
 
 
 def native_fault(cls: str, tried: dict[str, list[Record]]) -> str | None:
@@ -631,8 +667,8 @@ def vectors_fault(name: str, values: list[Decimal]) -> str | None:
         (f"row {row}" for row, (one, other) in enumerate(zip(found, wanted)) if abs(one - other) > 1), None)
 
 
-def scaled_fault(name: str, value: Decimal) -> str | None:
-    *limbs, power_of_two = table(name)
+def scaled_fault(name: str, value: Decimal, row: int = 0) -> str | None:
+    *limbs, power_of_two = table(name)[8 * row:8 * row + 8]
     found = sum(limb * LIMB ** (6 - place) for place, limb in enumerate(limbs))
     return differ("limbs", True, 7 == len(limbs) and LIMB // 2 <= limbs[0] < LIMB) or \
         differ("value", True, abs(found - value * LIMB ** 7 / Decimal(2) ** power_of_two) <= 1)
@@ -659,6 +695,9 @@ def tables() -> Results:
             "arc.quarter": [PI / 4], "arc.unit": [Decimal(1)],
             "gamma.series": [Decimal(STIRLING[k].numerator) / STIRLING[k].denominator / Decimal(64) ** k
                              for k in range(45, -1, -1)],
+            "error.root": [-1 / PI.sqrt()],
+            "error.odd.powers": [(-1) ** k * 2 / PI.sqrt() / math.factorial(k) / (2 * k + 1)
+                                 for k in range(35, -1, -1)],
         }
         for name, values in wanted.items():
             yield f"mathematics/table {name}", vectors_fault(name, values)
@@ -667,6 +706,9 @@ def tables() -> Results:
                             ("wide.one", Decimal(1)), ("gamma.pi", +PI), ("gamma.half", Decimal("0.5")),
                             ("gamma.half.logarithm", (2 * PI).ln() / 2)):
             yield f"mathematics/table {name}", scaled_fault(name, value)
+        rows = [(Decimal(k * k) / 16).exp() * rest_of_error_function(Decimal(k) / 4) for k in range(2, 113)]
+        yield "mathematics/table error.table", differ("numbers", 8 * len(rows), len(table("error.table"))) or next(
+            (fault for row, value in enumerate(rows) if (fault := scaled_fault("error.table", value, row))), None)
     with localcontext(Context(prec=ANGLE_DIGITS)):
         bits = int(2 / PI * LIMB ** 47)
         yield "mathematics/table circular.two.by.pi", differ(

@@ -1,6 +1,7 @@
 """Native code of QBE texts, by way of C: each function becomes one in C with the same temporaries and jumps, and data
 becomes what an assembler takes. gcc and the machine's C library do the rest, so the result of a text doesn't depend on
 the lowering and its runtime. Not for aggregates, nor for variadic functions defined in the text."""
+import os
 import pathlib
 import shutil
 import subprocess
@@ -188,6 +189,10 @@ class Translator:
             source = {"exts": "s", "truncd": "d", "stosi": "s", "stoui": "s", "dtosi": "d", "dtoui": "d", "sltof": "l",
                       "ultof": "l"}.get(name, "w")
             return f"({kind})({self.value(each.operands[0], source)})"
+        if name == "cast":
+            source = {"w": "s", "l": "d", "s": "w", "d": "l"}[cls]
+            return (f"(union {{ {TYPES[source]} a; {TYPES[cls]} b; }})"
+                    f"{{{self.value(each.operands[0], source)}}}.b")
         if name in ("copy", "neg"):
             return ("-" if name == "neg" else "") + f"({self.value(each.operands[0], cls)})"
         if name[0] == "c" and name != "cast":
@@ -232,8 +237,8 @@ def source_of(folder: pathlib.Path, number: int, text: str, is_by_c: bool) -> pa
     return source
 
 
-def native(texts: list[str], words: list[str], is_by_c: bool = False) -> Ended:
-    """Builds texts by gcc, and runs what comes of them."""
+def native(texts: list[str], words: list[str], is_by_c: bool = False, name: str = "./program") -> Ended:
+    """Builds texts by gcc, and runs what comes of them under a name."""
     with tempfile.TemporaryDirectory(prefix="native-") as place:
         folder = pathlib.Path(place)
         sources = [source_of(folder, number, text, is_by_c) for number, text in enumerate(texts)]
@@ -243,6 +248,7 @@ def native(texts: list[str], words: list[str], is_by_c: bool = False) -> Ended:
                                timeout=600)
         if built.returncode:
             return Ended(built.stderr, 1000)
-        run = subprocess.run(["./program", *words], cwd=folder, stdout=subprocess.PIPE, stderr=subprocess.STDOUT,
-                             stdin=subprocess.DEVNULL, timeout=600)
+        run = subprocess.run([name, *words], executable=folder / "program", cwd=folder, stdout=subprocess.PIPE,
+                             stderr=subprocess.STDOUT, stdin=subprocess.DEVNULL,
+                             env=os.environ | {"TZ": "UTC", "LC_ALL": "C"}, timeout=600)
         return Ended(run.stdout.decode("latin-1"), run.returncode)

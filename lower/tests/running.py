@@ -81,10 +81,10 @@ class Running:
                            run.stderr.decode("latin-1"),
                            origins.read_bytes().decode("latin-1") if origins.exists() else "")
 
-    def lower_here(self, text: str, entry: str = "main", is_linked: bool = True) -> Lowering | str:
-        """Lowers a text in this process; a refusal is what it says."""
+    def lower_here(self, text: str, entry: str = "main", is_linked: bool = True, name: str = "a") -> Lowering | str:
+        """Lowers a text in this process, under a name of the program; a refusal is what it says."""
         try:
-            return Lowering([TextReader(text, "a.ssa").read()], entry, is_linked)
+            return Lowering([TextReader(text, f"{name}.ssa").read()], entry, is_linked)
         except Refused as refused:
             return str(refused)
 

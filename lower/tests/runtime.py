@@ -2,19 +2,14 @@
 import random
 
 from .running import FOLDER, Results, Running, differ
+from .telling import TELL
 
-STRINGS = """
+STRINGS = TELL + """
 data $a = { b "hello", b 0 }
 data $b = { b "help", b 0 }
 data $same = { b "hello\\0" }
 data $high = { b "h\\377", b 0 }
 data $to = { z 32 }
-data $f = { b "%d " , b 0 }
-function $tell(w %x) {
-@start
-	%r =w call $printf(l $f, ..., w %x)
-	ret
-}
 function w $sign(w %x) {
 @start
 	%up =w csgtw %x, 0
@@ -25,44 +20,44 @@ function w $sign(w %x) {
 export function w $main() {
 @start
 	%n =l call $strlen(l $a)
-	call $tell(w %n)
+	call $tell.w(w %n)
 	%c =w call $strcmp(l $a, l $b)
 	%s =w call $sign(w %c)
-	call $tell(w %s)
+	call $tell.w(w %s)
 	%c =w call $strcmp(l $a, l $same)
-	call $tell(w %c)
+	call $tell.w(w %c)
 	%c =w call $strcmp(l $high, l $a)
 	%s =w call $sign(w %c)
-	call $tell(w %s)
+	call $tell.w(w %s)
 	%c =w call $strncmp(l $a, l $b, l 3)
-	call $tell(w %c)
+	call $tell.w(w %c)
 	%c =w call $strncmp(l $a, l $b, l 4)
 	%s =w call $sign(w %c)
-	call $tell(w %s)
+	call $tell.w(w %s)
 	%p =l call $strchr(l $a, w 108)
 	%o =l sub %p, $a
-	call $tell(w %o)
+	call $tell.w(w %o)
 	%p =l call $strchr(l $a, w 122)
-	call $tell(w %p)
+	call $tell.w(w %p)
 	%p =l call $strchr(l $a, w 0)
 	%o =l sub %p, $a
-	call $tell(w %o)
+	call $tell.w(w %o)
 	%p =l call $strcpy(l $to, l $a)
 	%x =w call $puts(l %p)
-	call $tell(w %x)
+	call $tell.w(w %x)
 	%c =w call $memcmp(l $a, l $b, l 3)
-	call $tell(w %c)
+	call $tell.w(w %c)
 	%c =w call $memcmp(l $b, l $a, l 5)
 	%s =w call $sign(w %c)
-	call $tell(w %s)
+	call $tell.w(w %s)
 	%p =l call $memset(l $to, w 65, l 11)
 	%x =w call $puts(l $to)
 	%w =l call $write(w 1, l $a, l 4)
-	call $tell(w %w)
+	call $tell.w(w %w)
 	%w =l call $write(w 2, l $a, l 0)
-	call $tell(w %w)
+	call $tell.w(w %w)
 	%x =w call $putchar(w 321)
-	call $tell(w %x)
+	call $tell.w(w %x)
 	call $exit(w 7)
 	ret 0
 }
@@ -71,9 +66,8 @@ STRINGS_OUTPUT = "5 -1 0 1 0 -1 2 0 5 hello\n6 0 1 AAAAAAAAAAA\nhell4 0 A65 "
 
 
 # What no other test calls: variadic functions by their lists, and functions of the system.
-OTHERS = """
+OTHERS = TELL + """
 data $f = { b "%d-%s|", b 0 }
-data $n = { b "%ld ", b 0 }
 data $sf = { b "%d %4s", b 0 }
 data $in = { b "42 word", b 0 }
 data $to = { z 64 }
@@ -87,11 +81,6 @@ data $vec = { l $a 3 $b 2 }
 data $tv = { l 5 5 }
 data $line = { z 8 }
 data $size = { z 8 }
-function $tell(l %x) {
-@start
-	%c =w call $printf(l $n, ..., l %x)
-	ret
-}
 function w $say(l %fmt, ...) {
 @start
 	%ap =l alloc8 24
@@ -240,23 +229,11 @@ def others_fault(running: Running) -> str | None:
 
 
 # Functions that other C libraries have, by their manuals; the numbers of rand_r are those of the GNU C library.
-SMALL = """
-data $f = { b "%ld ", b 0 }
+SMALL = TELL + """
 data $a = { b "abcdef", b 0 }
 data $to = { z 32 }
 data $p = { z 8 }
 data $seed = { w 7 }
-function $tell(l %x) {
-@start
-	%c =w call $printf(l $f, ..., l %x)
-	ret
-}
-function $tell.w(w %x) {
-@start
-	%y =l extsw %x
-	call $tell(l %y)
-	ret
-}
 function $handler(w %s) {
 @start
 	call $tell.w(w %s)
@@ -338,8 +315,7 @@ export function w $main() {
 """
 SMALL_OUTPUT = "0 10 0 1 -1 0 16 22 0 0 77 0 6 abc\n9 abcab\n9 6 3 0 5 0 64 0 72 1187592820 153898277 4096 -1 0 2 "
 # By the names that headers of C libraries give them, and the tables behind tolower and toupper.
-ALIASES = """
-data $f = { b "%ld ", b 0 }
+ALIASES = TELL + """
 data $t = { b "12 0x1f z", b 0 }
 data $sf = { b "%d %i %c", b 0 }
 data $a = { z 8 }
@@ -347,43 +323,37 @@ data $b = { z 8 }
 data $c = { z 8 }
 data $x = { b "ab", b 0 }
 data $y = { b "ac", b 0 }
-function $tell(w %x) {
-@start
-	%y =l extsw %x
-	%c =w call $printf(l $f, ..., l %y)
-	ret
-}
 export function w $main() {
 @start
 	%n =w call $__isoc99_sscanf(l $t, l $sf, ..., l $a, l $b, l $c)
-	call $tell(w %n)
+	call $tell.w(w %n)
 	%v =w loadw $b
-	call $tell(w %v)
+	call $tell.w(w %v)
 	%v =l call $__isoc23_strtol(l $t, l $a, w 0)
 	%w =w copy %v
-	call $tell(w %w)
+	call $tell.w(w %w)
 	%o =l loadl $stdout
 	%r =w call $putc_unlocked(w 65, l %o)
 	%r =w call $putchar_unlocked(w 66)
 	%r =w call $bcmp(l $x, l $y, l 2)
 	%s =w csltw %r, 0
-	call $tell(w %s)
+	call $tell.w(w %s)
 	%tab =l call $__ctype_toupper_loc()
 	%p =l loadl %tab
 	%at =l add %p, 388
 	%v =w loadw %at
-	call $tell(w %v)
+	call $tell.w(w %v)
 	%tab =l call $__ctype_tolower_loc()
 	%p =l loadl %tab
 	%at =l add %p, 260
 	%v =w loadw %at
-	call $tell(w %v)
+	call $tell.w(w %v)
 	%at =l sub %p, 4
 	%v =w loadw %at
-	call $tell(w %v)
+	call $tell.w(w %v)
 	%at =l sub %p, 512
 	%v =w loadw %at
-	call $tell(w %v)
+	call $tell.w(w %v)
 	ret 0
 }
 """
@@ -427,23 +397,17 @@ def small_faults(running: Running) -> Results:
 
 
 # The calls that Hare's compiler makes of its own runtime; a slice of two words grows to three.
-HARE = """
+HARE = TELL + """
 data $text = { b "hello" }
 data $one = { l $text 5 5 }
 data $two = { l $text 4 5 }
 data $vector = { l $text 2 $vector 3 }
-data $f = { b "%d " , b 0 }
-function $tell(w %x) {
-@start
-	%r =w call $printf(l $f, ..., w %x)
-	ret
-}
 export function w $main() {
 @start
 	%a =w call $rt.strcmp(l $one, l $two)
-	call $tell(w %a)
+	call $tell.w(w %a)
 	%b =w call $rt.strcmp(l $one, l $one)
-	call $tell(w %b)
+	call $tell.w(w %b)
 	%slice =l alloc8 24
 	%length =l add %slice, 8
 	%capacity =l add %slice, 16
@@ -455,17 +419,17 @@ export function w $main() {
 	call $rt.ensure(l %slice, l 4)
 	%q =l loadl %slice
 	%c =w loadw %q
-	call $tell(w %c)
+	call $tell.w(w %c)
 	%d =w loadw %capacity
-	call $tell(w %d)
+	call $tell.w(w %d)
 	call $rt.unensure(l %slice, l 4)
 	call $rt.memset(l %q, l 65, l 3)
 	call $rt.memmove(l $text, l %q, l 2)
 	%w =l call $rt.syscall3(l 1, l 1, l $text, l 5)
 	%v =l call $rt.syscall3(l 20, l 1, l $vector, l 2)
-	call $tell(w %v)
+	call $tell.w(w %v)
 	%e =l call $rt.syscall3(l 16, l 1, l 0, l 0)
-	call $tell(w %e)
+	call $tell.w(w %e)
 	call $rt.free(l %q)
 	%r =l call $rt.syscall1(l 60, l 3)
 	ret 0

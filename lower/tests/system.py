@@ -3,21 +3,16 @@ import random
 
 from .running import DATA, Results, Running, differ
 from .runtime import HeapText
+from .telling import TELL
 
 LIBRARY = DATA / "library"
 ABORTED = "Abort: oob.ha:2:37: slice or array access out of bounds\n"
 # The calls of the system in a row; what each gives is printed. Of an unknown one the answer is -38.
-CALLS = """
-data $f = { b "%ld " , b 0 }
+CALLS = TELL + """
 data $list = { l $one 2 $two 3 }
 data $one = { b "ab" }
 data $two = { b "cde" }
 data $times = { l 7 7 }
-function $tell(l %x) {
-@start
-	%r =w call $printf(l $f, ..., l %x)
-	ret
-}
 export function w $main() {
 @start
 	%r =l call $rt.syscall3(l 1, l 1, l $one, l 2)
