@@ -16,7 +16,7 @@ STATIC = pathlib.Path(__file__).resolve().parent / "static"
 # In the order in which each finds what it wants of the others.
 MODULES = ("program.js", "workedout.js", "run.js", "memory.js", "causes.js", "ghost.js", "element.js", "source.js",
            "plot.js", "bands.js", "timeline.js", "stops.js", "marks.js", "code.js", "values.js", "tree.js", "cells.js",
-           "output.js", "agreed.js", "keys.js", "app.js")
+           "output.js", "agreed.js", "keys.js", "before.js", "app.js")
 STYLES, PAGE = "page.css", "index.html"
 IMPORT = re.compile(r"^import [^;]*;\n", re.MULTILINE)
 # What nobody runs: comments that fill lines of their own.

@@ -213,10 +213,7 @@ class Gathering:
         try:
             while (span := queue.get()) and not self.is_stopped:
                 begin, end = span
-                places = self.places[begin:end + 1]
-                lines = list(map(asked.__getitem__, zip(places, places[1:])))
-                for poke in (at for at in self.pokes if begin <= at < end):
-                    lines[poke - begin] = poke_asked(self.pokes[poke])
+                lines = self.value_lines(asked, begin, end)
                 # A move that sets nothing is made by one line with the next one. (A name may end with `step`.)
                 text = ("\n".join(lines) + "\n").replace("\nstep\nstep\nprint", "\nstep 2\nprint")
                 pipe = self.with_room(pipe, len(text), begin)
@@ -225,6 +222,14 @@ class Gathering:
             self.add(b"X", f"the debugger answers no more: {error}".encode())
         finally:
             pipe.close()
+
+    def value_lines(self, asked: Asked, begin: int, end: int) -> list[str]:
+        """For each of some moves whose places are known what makes it and asks for the values that it sets."""
+        places = self.places[begin:end + 1]
+        lines = list(map(asked.__getitem__, zip(places, places[1:])))
+        for poke in (at for at in self.pokes if begin <= at < end):
+            lines[poke - begin] = poke_asked(self.pokes[poke])
+        return lines
 
     def add_values(self, told: str) -> None:
         """Keeps the values among the answers, in their order."""

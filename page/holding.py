@@ -22,12 +22,13 @@ from terminal.text import Program
 from terminal.timeline import Poke, Timeline
 from terminal.waiting import Waiting
 
+from .before import Before
 from .gathering import Gathering, length_of
 from .lowering import Lowering
 from .suspecting import far_suspicions_of, suspicions_of
 from .table import Origins, Table
 from .windows import MOST_MOVES as LAST_MOVE
-from .windows import Long
+from .windows import Long, Window
 
 # A run of at most so many moves is shown whole; of a longer one an overview, and windows.
 MOST_MOVES = 1 << 21
@@ -74,7 +75,10 @@ class Held:
         self.lowering = Lowering(self.program, source, launch, lowered_of(file))
         self.gathering: Gathering
         self.total = length_of(launch, most)
+        # The values by hand of the run that is shown.
+        self.pokes: tuple[Poke, ...] = ()
         self.long: Long | None = None
+        self.before: Before | None = None
         if self.total is None:
             self.begin_long()
         else:
@@ -83,15 +87,30 @@ class Held:
     def begin_long(self) -> None:
         """Of a run that is too long for arrays an overview is made, and its first window."""
         self.long = Long(self.launch, self.table)
+        self.before = Before(self.launch, self.lowering.program, self.lowering.lowered, self.long.pool)
         self.gathering = self.long.window(0)
 
     def gathered(self, pokes: tuple[Poke, ...]) -> Gathering:
+        self.pokes = pokes
         return Gathering(self.launch, self.table, self.most, None if pokes else self.total, pokes).begin()
+
+    def change(self, pokes: tuple[Poke, ...], position: int) -> None:
+        """Shows another run, which has other values by hand from a position on."""
+        if not self.long:
+            self.gathering.stop()
+            self.gathering = self.gathered(pokes)
+            return
+        self.pokes = pokes
+        with self.looking:
+            self.long.change(pokes, position)
+            self.gathering = self.long.window(position, self.base)
 
     def suspicions(self) -> dict[str, Any] | None:
         """Those of the run as it is now."""
         if not self.long:
             return suspicions_of(self.gathering.wait())
+        if self.pokes:
+            return None
         with self.searching:
             if not self.has_searched:
                 self.far, self.has_searched = far_suspicions_of(self.launch, self.table), True
@@ -120,24 +139,21 @@ class Held:
         return self
 
     def check_position(self, position: Any) -> int:
-        last = self.long.overview.moves if self.long else len(self.gathering.wait().places) - 1
+        shown = self.base + len(self.gathering.wait().places) - 1
+        last = max(self.long.overview.moves, shown) if self.long else shown
         if not isinstance(position, int) or isinstance(position, bool) or not 0 <= position <= last:
             raise Refused(f"a position from 0 to {last} was expected")
         return position
 
-    def pokes(self) -> tuple[Poke, ...]:
-        return tuple(Poke(position, line) for position, line in sorted(self.gathering.pokes.items()))
+    def state(self, position: int) -> Timeline:
+        """A state of the run that is shown."""
+        return Timeline(position, self.pokes).at(position)
 
     def go(self, position: int) -> dict[str, Any]:
         """Leads the session to a state of the run that is shown, by steps and the pokes that were made on the way
         there."""
-        self.session.go(Timeline(position, self.shown_pokes()).at(position))
+        self.session.go(self.state(position))
         return self.answered()
-
-    def shown_pokes(self) -> tuple[Poke, ...]:
-        """The pokes of the run that is shown, as the session knows them where it made them."""
-        made = {(poke.position, poke.line): poke for poke in self.session.timeline.pokes}
-        return tuple(made.get((poke.position, poke.line), poke) for poke in self.pokes())
 
     def answered(self) -> dict[str, Any]:
         """The session's own answers in its current state, for the page to compare."""
@@ -160,27 +176,29 @@ class Held:
         """A value by hand, which is a move of the session; the run from there on is gathered anew."""
         if not isinstance(line, str) or not POKE.fullmatch(line):
             raise Refused("`set %x VALUE` or `poke WIDTH ADDRESS VALUE` was expected, with a number")
-        if self.long:
-            raise Refused(f"a run of more than {self.most} moves is only looked at")
-        if self.gathering.places[position] == self.table.end:
-            raise Refused("the run is over here; go back into it first")
+        places, index = self.gathering.places, position - self.base
+        if not 0 <= index < len(places) or places[index] == self.table.end:
+            raise Refused("the run is over here, or isn't shown; go back into it first")
         self.go(position)
         answer = self.session.change(line)
         if answer[0].startswith("no: "):
             raise Refused(f"{line}: {answer[0][4:]}")
-        self.gathering.stop()
-        self.gathering = self.gathered(self.session.timeline.pokes)
-        return self.answered()
+        self.change(self.session.timeline.pokes, position)
+        return {**self.answered(), "base": self.base}
+
+    @property
+    def base(self) -> int:
+        """Where the window that is shown begins."""
+        return self.gathering.base if isinstance(self.gathering, Window) else 0
 
     def unpoke(self) -> dict[str, Any]:
         """Takes the last value by hand back: the session stands before it, and goes on as the program does."""
-        pokes = self.pokes()
-        if not pokes:
+        if not self.pokes:
             raise Refused("nothing was set by hand")
-        self.go(pokes[-1].position)
-        self.gathering.stop()
-        self.gathering = self.gathered(pokes[:-1])
-        return {**self.answered(), "position": pokes[-1].position}
+        position = self.pokes[-1].position
+        self.go(position)
+        self.change(self.pokes[:-1], position)
+        return {**self.answered(), "position": position, "base": self.base}
 
     def stop(self, line: Any) -> dict[str, Any]:
         """A stop that the session gets, or has no more: the page finds where the run meets it."""
@@ -203,7 +221,7 @@ class Held:
             raise Refused("all of this run is shown")
         if way not in ("continue", "reverse"):
             raise Refused("`continue` or `reverse` was expected")
-        self.session.go(Timeline(position))
+        self.session.go(self.state(position))
         moved = self.session.move(way)
         while moved.reason == "limit" and self.session.place.position < LAST_MOVE:
             self.waiting.stop_if_pressed()
@@ -223,6 +241,12 @@ class Held:
         self.gathering = window
         return {"base": window.base}
 
+    def why(self, position: int, asked: dict[str, Any]) -> dict[str, Any]:
+        """What lies before the window of a long run: the moves by which something came to be what it is."""
+        if not self.before:
+            raise Refused("all of this run is shown")
+        return self.before.answer(self.state(position), asked)
+
     def script(self) -> str:
         return "".join(line + "\n" for line in self.session.lines)
 
@@ -235,7 +259,8 @@ class Held:
             # The copy of the text goes away with the session, so nothing may be started any more.
             self.gathering.stop()
             self.gathering.wait(PATIENCE)
-            if self.long:
+            if self.long and self.before:
+                self.before.close()
                 self.long.close()
         self.session.close()
 

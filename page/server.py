@@ -183,11 +183,13 @@ class Handler(http.server.BaseHTTPRequestHandler):
 
     def acted(self, held: Held, path: str, asked: dict[str, Any]) -> Any:
         """What a request of the page that leads the session is answered; None for an unknown one."""
-        if path not in ("api/go", "api/poke", "api/unpoke", "api/stop", "api/window", "api/seek"):
+        if path not in ("api/go", "api/poke", "api/unpoke", "api/stop", "api/window", "api/seek", "api/why"):
             return None
         if asked.get("page") != held.page:
             raise Refused("another page leads this session now; reload this one to lead it again")
         position = held.check_position(asked.get("position"))
+        if path == "api/why":
+            return held.open().why(position, asked)
         if path == "api/window":
             # A window isn't waited for until the session is where the cursor was before.
             with held.looking:

@@ -4,19 +4,21 @@ moves.
 One process makes the overview by running to the end, and it is drawn meanwhile. A process reaches any position that it
 has been at in some milliseconds, back and forward, and others at the speed of a run. So one that has been at the end
 gathers all windows, and another is led to the end in the background, for when the first has been sent as much as it
-reads.
+reads. Behind a value by hand the overview is made anew from there on, and processes that were further on are led back.
 """
 from __future__ import annotations
 
 import json
 import threading
 import time
-from typing import Any
+from dataclasses import replace
+from typing import Any, NamedTuple
 
 from terminal.answers import read_output, read_place
 from terminal.pipe import Ended, Pipe
 from terminal.scratch import Launch
 from terminal.text import STACK, STACK_BYTES
+from terminal.timeline import Poke, Timeline, common, lines_between
 
 from .gathering import Asked, Gathering, data_bytes, live_bytes
 from .table import MOST_NAME, Table
@@ -43,10 +45,9 @@ SENT = WINDOW * 160
 class Overview:
     """Whole stacks at equal distances, from the start on, as far as they have come."""
 
-    def __init__(self, launch: Launch, table: Table):
-        self.launch = launch
+    def __init__(self, launch: Launch, table: Table, pipe: Pipe, pokes: tuple[Poke, ...] = ()):
+        self.launch, self.pipe, self.pokes = launch, pipe, pokes
         self.functions = {name: index for index, name in enumerate(table.program.functions)}
-        self.pipe = replaying(launch)
         self.stride, self.moves, self.end = FIRST_STRIDE, 0, ""
         self.stacks: list[list[int]] = []
         self.is_done = self.is_stopped = False
@@ -56,7 +57,8 @@ class Overview:
     def look(self) -> None:
         """Runs to the end, and takes a stack at each distance."""
         try:
-            self.take(self.pipe.ask("where"))
+            if not self.stacks:
+                self.take(self.pipe.ask("where")[0])
             while not self.end and not self.is_stopped and self.moves < MOST_MOVES:
                 self.advance()
         except (Ended, OSError) as error:
@@ -65,9 +67,23 @@ class Overview:
         self.is_done = True
         self.over.set()
 
+    def kept_of(self, before: Overview, moves: int) -> None:
+        """Begins with the stacks of the run before, up to a move that is another one."""
+        self.stride = before.stride
+        self.stacks = before.stacks[:moves // self.stride + 1]
+        self.moves = (len(self.stacks) - 1) * self.stride
+
+    def at(self, position: int) -> Timeline:
+        """A state of the run."""
+        return Timeline(position, self.pokes).at(position)
+
     def advance(self) -> None:
-        answers = self.pipe.ask(*[f"step {self.stride}", "where"] * AT_ONCE)
-        for moved, where in zip(answers[::2], answers[1::2]):
+        states = [self.at(self.moves + index * self.stride) for index in range(AT_ONCE + 1)]
+        legs = [lines_between(here, there) for here, there in zip(states, states[1:])]
+        answers = iter(self.pipe.ask(*[line for leg in legs for line in (*leg, "where")]))
+        for leg in legs:
+            moved = [next(answers) for _ in leg][-1]
+            where = next(answers)
             if moved[0].startswith("no: "):
                 break
             place = read_place(moved[-1])
@@ -75,7 +91,7 @@ class Overview:
             if place.end or moved[0].startswith("stop: "):
                 self.end = place.end or "goes on"
                 break
-            self.take([where])
+            self.take(where)
         if len(self.stacks) > MOST_COLUMNS:
             # The next stack is a whole distance behind the last one that is kept.
             if len(self.stacks) % 2 == 0:
@@ -85,9 +101,8 @@ class Overview:
             self.stacks = self.stacks[::2]
             self.stride *= 2
 
-    def take(self, answers: list[list[str]]) -> None:
-        for where in answers:
-            self.stacks.append([self.functions[line.split(" ")[0]] for line in reversed(where[-MOST_DEPTH:])])
+    def take(self, where: list[str]) -> None:
+        self.stacks.append([self.functions[line.split(" ")[0]] for line in reversed(where[-MOST_DEPTH:])])
 
     def has_come(self, position: int) -> bool:
         """Whether it is as far as a position, or at its end."""
@@ -104,61 +119,90 @@ def replaying(launch: Launch) -> Pipe:
     return Pipe([launch.debugger, *file, *launch.words, f"--memory={KEPT}"], renaming=launch.renaming)
 
 
+class Standing(NamedTuple):
+    """A process, where it stands, and how far it has been along the run that has these pokes."""
+    at: Timeline
+    been: int
+    pokes: tuple[Poke, ...]
+    pipe: Pipe
+
+    def go(self, there: Timeline) -> Standing:
+        lines = lines_between(self.at, there)
+        if lines:
+            self.pipe.ask(*lines)
+        return self.stands(there)
+
+    def stands(self, there: Timeline) -> Standing:
+        return self._replace(at=there, been=max(self.been, there.position))
+
+    def along(self, pokes: tuple[Poke, ...]) -> Standing:
+        """The same along another run: it has been as far there as both are the same."""
+        been = common(Timeline(self.been, self.pokes).at(self.been), Timeline(self.been, pokes).at(self.been))
+        return self._replace(been=been, pokes=pokes)
+
+
 class Pool:
-    """Processes that stand somewhere in the run, each free for the next window: where it stands, and how far it has
-    been."""
+    """Processes that stand somewhere in the run, each free for the next window."""
 
     def __init__(self, launch: Launch, overview: Overview):
         self.launch, self.overview = launch, overview
-        self.free: list[tuple[int, int, Pipe]] = []
+        self.free: list[Standing] = []
         self.coming, self.is_closed = 0, False
         self.lock = threading.Lock()
         self.come = threading.Condition(self.lock)
 
-    def take(self, base: int) -> tuple[int, int, Pipe]:
-        """The process that is soonest at a position, where it stands and how far it has been. Of several one is used up
-        before the next."""
+    def take(self, base: int) -> Standing:
+        """The process that is soonest at a position. Of several one is used up before the next."""
         def cost(been: int) -> float:
             return JUMP if been >= base else JUMP + (base - been) * FORWARD
         with self.lock:
-            for each in [each for each in self.free if not each[2].has_room(SENT)]:
+            for each in [each for each in self.free if not each.pipe.has_room(SENT)]:
                 self.free.remove(each)
-                each[2].close()
-            best = min(self.free, key=lambda each: (cost(each[1]), -each[2].sent), default=None)
-            if best and cost(best[1]) <= cost(0) + JUMP:
+                each.pipe.close()
+            best = min(self.free, key=lambda each: (cost(each.been), -each.pipe.sent), default=None)
+            if best and cost(best.been) <= cost(0) + JUMP:
                 self.free.remove(best)
                 return best
-        return 0, 0, replaying(self.launch)
+        return self.fresh(self.overview)
 
-    def give(self, at: int, been: int, pipe: Pipe) -> None:
+    def fresh(self, overview: Overview) -> Standing:
+        return Standing(Timeline(), 0, overview.pokes, replaying(self.launch))
+
+    def give(self, free: Standing) -> None:
         with self.lock:
             if self.is_closed:
-                return pipe.close()
-            self.free.append((at, max(at, been), pipe))
+                return free.pipe.close()
+            self.free.append(free.along(self.overview.pokes))
             while len(self.free) > MOST_PROCESSES:
                 # Of those that weren't at the end the one that was given first goes.
-                old = next((each for each in self.free if each[1] < self.overview.moves), self.free[0])
+                old = next((each for each in self.free if each.been < self.overview.moves), self.free[0])
                 self.free.remove(old)
-                old[2].close()
+                old.pipe.close()
         self.refill()
+
+    def follow(self, overview: Overview) -> None:
+        """Another run is the one that is shown."""
+        with self.lock:
+            self.overview = overview
+            self.free = [each.along(overview.pokes) for each in self.free]
 
     def refill(self) -> None:
         """Leads as many processes to the end as should stand there, in the background."""
         with self.lock:
-            ready = sum(been >= self.overview.moves for _, been, _ in self.free) + self.coming
+            ready = sum(each.been >= self.overview.moves for each in self.free) + self.coming
             wanted = SPARES - ready if self.overview.is_done and not self.is_closed else 0
             self.coming += max(wanted, 0)
         for _ in range(wanted):
             threading.Thread(target=self.lead, daemon=True).start()
 
     def lead(self) -> None:
+        overview = self.overview
         try:
-            pipe, at = replaying(self.launch), 0
-            while at < self.overview.moves and not self.is_closed:
-                pipe.ask(f"step {min(SLICE, self.overview.moves - at)}")
-                at += SLICE
+            fresh = self.fresh(overview)
+            while fresh.at.position < overview.moves and not self.is_closed:
+                fresh = fresh.go(overview.at(min(fresh.at.position + SLICE, overview.moves)))
             with self.lock:
-                self.free.append((min(at, self.overview.moves), self.overview.moves, pipe))
+                self.free.append(fresh.along(self.overview.pokes))
         except (Ended, OSError):
             # The run can be looked at without this process.
             pass
@@ -172,36 +216,35 @@ class Pool:
         with self.come:
             self.is_closed = True
             self.come.wait_for(lambda: not self.coming, PATIENCE)
-            for _, _, pipe in self.free:
-                pipe.close()
+            for each in self.free:
+                each.pipe.close()
             self.free = []
 
 
 class Window(Gathering):
     """The arrays of some thousand moves from a position on."""
 
-    def __init__(self, launch: Launch, table: Table, base: int, size: int = WINDOW):
-        super().__init__(launch, table, size)
-        self.base = base
+    def __init__(self, launch: Launch, table: Table, base: Timeline, pokes: tuple[Poke, ...]):
+        super().__init__(launch, table, WINDOW, None, tuple(
+            replace(each, position=each.position - base.position) for each in pokes
+            if base.position <= each.position < base.position + WINDOW))
+        self.base = base.position
 
-    def gather_from(self, at: int, pipe: Pipe) -> int:
-        """Gathers by a process that stands at a position; where it stands then."""
+    def gather_by(self, pipe: Pipe) -> int:
+        """Gathers by a process that stands at the first state; how many moves it has made then."""
         begun = time.monotonic()
         try:
-            if at != self.base:
-                pipe.ask(f"step {self.base - at}" if at < self.base else f"back {at - self.base}")
             given = self.begin_window(pipe)
-            self.take_places(pipe.ask_text("step\n" * self.most))
+            self.take_places(pipe.ask_text(self.lines(0, self.most)))
             moves = len(self.places) - 1
             self.output = read_output(pipe.ask("out")[0][0])
             self.add(b"P", self.places.tobytes())
             pipe.ask(*[f"back {moves}"] * (moves > 0))
-            asked = Asked(self.table)
-            lines = [given, *map(asked.__getitem__, zip(self.places, self.places[1:]))]
+            lines = [given, *self.value_lines(Asked(self.table), 0, moves)]
             self.add_values(pipe.ask_text("\n".join(filter(None, lines)) + "\n"))
             self.seconds = time.monotonic() - begun
             self.add(b"E", json.dumps(self.ended()).encode())
-            return self.base + moves
+            return moves
         finally:
             self.finish()
 
@@ -213,8 +256,8 @@ class Window(Gathering):
         top = stack_top(pipe)
         self.places.append(self.table.ids[frames[0]])
         begin = {"base": self.base, "begun": [line.split(" ")[0] for line in reversed(frames)],
-                 "given": [self.table.temporaries[function, name] for name in names], "total": None, "pokes": {},
-                 "written": int(pipe.ask("out")[0][0].split(" ")[1]), "top": top}
+                 "given": [self.table.temporaries[function, name] for name in names],
+                 "total": None, "pokes": self.pokes, "written": int(pipe.ask("out")[0][0].split(" ")[1]), "top": top}
         self.add(b"B", json.dumps(begin).encode())
         self.add(b"D", data_bytes(pipe, self.table) + live_bytes(pipe, STACK, min(top - STACK, MOST_STACK)))
         return "\n".join(f"print {name}" for name in names)
@@ -237,20 +280,40 @@ class Long:
 
     def __init__(self, launch: Launch, table: Table):
         self.launch, self.table = launch, table
-        self.overview = Overview(launch, table)
+        self.overview = Overview(launch, table, replaying(launch))
         self.pool = Pool(launch, self.overview)
-        threading.Thread(target=self.look, daemon=True).start()
+        self.begin()
 
-    def look(self) -> None:
-        self.overview.look()
-        self.pool.give(self.overview.moves, self.overview.moves, self.overview.pipe)
+    def begin(self) -> None:
+        threading.Thread(target=self.look, args=(self.overview,), daemon=True).start()
 
-    def window(self, position: int) -> Window:
-        """The window around a position."""
-        base = max(0, min(position - WINDOW // 2, self.overview.moves - WINDOW))
-        window = Window(self.launch, self.table, base)
-        at, been, pipe = self.pool.take(base)
-        self.pool.give(window.gather_from(at, pipe), been, pipe)
+    def look(self, overview: Overview) -> None:
+        overview.look()
+        self.pool.give(Standing(overview.at(overview.moves), overview.moves, overview.pokes, overview.pipe))
+
+    def change(self, pokes: tuple[Poke, ...], position: int) -> None:
+        """Goes on with another run, which has other pokes from a position on."""
+        before = self.overview
+        before.is_stopped = True
+        before.over.wait()
+        there = Overview(self.launch, self.table, before.pipe, pokes)
+        there.kept_of(before, min(position, before.moves))
+        self.overview = there
+        self.pool.follow(there)
+        there.pipe = self.pool.take(there.moves).go(there.at(there.moves)).pipe
+        self.begin()
+
+    def window(self, position: int, base: int | None = None) -> Window:
+        """The window around a position; or that from a base on, if the next move is in it."""
+        overview = self.overview
+        if base is None or not base <= position < base + WINDOW:
+            last = overview.moves if overview.is_done else position + WINDOW
+            base = max(0, min(position - WINDOW // 2, last - WINDOW))
+        begin = overview.at(base)
+        window = Window(self.launch, self.table, begin, overview.pokes)
+        standing = self.pool.take(base).go(begin)
+        moves = window.gather_by(standing.pipe)
+        self.pool.give(standing.stands(overview.at(base + moves)))
         return window
 
     def close(self) -> None:

@@ -1,5 +1,6 @@
 // The page: what is shown, where the cursor stands, and what the acts do.
 import {Agreed} from "./agreed.js";
+import {Before} from "./before.js";
 import {Causes} from "./causes.js";
 import {Cells} from "./cells.js";
 import {Code} from "./code.js";
@@ -32,6 +33,7 @@ class App {
     // Whether the runtime of a lowered text counts as its instructions.
     this.isFolded = false;
     this.walk = new Walk(this);
+    this.before = new Before(this);
     this.marks = new Marks(byId("marks"), this);
     this.timeline = new Timeline(byId("timeline"), this);
     this.code = new Code(byId("code"), this);
@@ -85,9 +87,9 @@ class App {
     this.run = run;
     this.memory = new Memory(run);
     // What the run was before a value was set by hand.
-    this.ghost = was && !isUndone ? new Ghost(before, {run, memory: this.memory}, cursor - 1) : null;
+    this.ghost = was && !isUndone && before.run.base === run.base ? new Ghost(before, {run, memory: this.memory}, cursor - 1) : null;
     this.causes = new Causes(run, this.memory);
-    this.marks.take(run, this.memory, was ? cursor - (isUndone ? 0 : 1) : null);
+    this.marks.take(run, this.memory, was ? run.base + cursor - (isUndone ? 0 : 1) : null);
     this.cells.build();
     this.output.build();
     this.header(was);
@@ -169,7 +171,7 @@ class App {
     const count = long || run.moves ? this.wholeMoves : 0;
     byId("moves").textContent = `${spaced(count)} move${count === 1 ? "" : "s"}${!long ? "" : told ? `, ${spaced(run.moves)} shown`
       : left(long.moves, long.mostMoves, 1000 * long.seconds, "at most ")}`;
-    byId("poke").hidden = !this.source.isLive || Boolean(long);
+    byId("poke").hidden = !this.source.isLive;
   }
 
   // Long runs.
@@ -184,7 +186,8 @@ class App {
     }
     bar.hidden = told.isDone;
     bar.value = told.moves / told.most;
-    if (!told.isDone) setTimeout(() => this.overviewed().catch(() => {}), OVERVIEW);
+    clearTimeout(this.overviewing);
+    if (!told.isDone) this.overviewing = setTimeout(() => this.overviewed().catch(() => {}), OVERVIEW);
   }
 
   /** Another window of a long run, with the cursor at a position of the whole run; of many wishes the last one counts. */
@@ -414,13 +417,19 @@ class App {
 
   ask(question, depth = 1) {
     this.walk.begin(question, depth);
+    if (this.walk.root.cause.asked) this.before.look(this.walk.root);
     this.drawCauses();
   }
 
   /** Opens a cause and goes there: the instruction comes next. */
   choose(node) {
+    if (node.question.of === "there") {
+      this.before.go(node);
+      return;
+    }
     this.walk.open(node);
     this.walk.chosen = node;
+    if (node.cause.asked) this.before.look(node);
     this.follow();
   }
 
@@ -433,7 +442,9 @@ class App {
   }
 
   effect() {
-    if (!this.walk.chosen?.parent) return;
+    const {chosen} = this.walk;
+    if (chosen?.from) this.before.back(chosen.from);
+    if (!chosen?.parent) return;
     this.walk.chosen = this.walk.chosen.parent;
     this.follow();
   }
@@ -472,23 +483,34 @@ class App {
 
   /** Makes a value by hand at the cursor; the run from there on is another one. */
   async make(line) {
-    const was = `${this.run.end} at #${this.run.moves}`, cursor = this.cursor;
+    const was = this.endTold, position = this.cursor + this.run.base;
     try {
-      await this.source.ask("api/poke", {position: cursor, line});
-      await this.load(cursor + 1, was);
+      await this.changed(await (await this.source.ask("api/poke", {position, line})).json(), position + 1, was);
     } catch (error) {
       this.say(error.message);
     }
   }
 
+  /** How the run ends, and where, as far as that is known. */
+  get endTold() {
+    const {end, moves} = this.long ?? this.run;
+    return `${end || "goes on"} at #${moves}`;
+  }
+
+  /** Shows the run that a value by hand leads to, or the one before it. */
+  async changed({base}, position, was, isUndone = false) {
+    if (this.long) await this.overviewed();
+    await this.load(position - base, was, isUndone);
+  }
+
   /** Takes the last value by hand back. */
   async unpoke() {
-    if (!Object.keys(this.run.pokes).length) return this.say("nothing was set by hand");
+    if (!this.long && !Object.keys(this.run.pokes).length) return this.say("nothing was set by hand");
     if (!this.source.isLive) return;
-    const was = `${this.run.end} at #${this.run.moves}`;
+    const was = this.endTold;
     try {
-      const {position} = await (await this.source.ask("api/unpoke", {position: this.cursor + this.run.base})).json();
-      await this.load(position, was, true);
+      const told = await (await this.source.ask("api/unpoke", {position: this.cursor + this.run.base})).json(), {position} = told;
+      await this.changed(told, position, was, true);
       this.say(`the value that was set by hand at #${position} is taken back`);
     } catch (error) {
       this.say(error.message);

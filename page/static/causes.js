@@ -6,7 +6,7 @@ import {KINDS} from "./memory.js";
 const MOST_BYTES = 48, MOST_CELLS = 16;
 // What lowering has in place of the arguments behind dots.
 const CELLS = "%.cells.";
-const BEFORE = "before this window";
+export const BEFORE = "before this window";
 // As at the terminal: below it nothing has an address, and how far from an object one may be that was made from it.
 const SMALL = 1024n, FAR = 65536n;
 
@@ -70,7 +70,8 @@ export class Causes {
 
   /** The cause: the move that did it, in words, and the questions that what it read can be asked. */
   of(question) {
-    return this[`of_${question.of}`](question);
+    const cause = this[`of_${question.of}`](question);
+    return cause.verb === BEFORE ? {...cause, asked: wantedOf(question)} : cause;
   }
 
   made(move, verb, questions, more = {}) {
@@ -359,6 +360,20 @@ export class Causes {
     return callee ? `${call} ${callee}` : write;
   }
 
+  /** A cause that was found before another window, and is in this one: the move is known. */
+  of_move({position, name, address, count}) {
+    const {run} = this, {instruction: {op, labels, operands}} = run.placeAt(position);
+    if (run.pokes[position] !== undefined) return this.made(position, "by hand", [], {note: run.pokes[position]});
+    if (name && labels.length) return this.ofPhi(name, position);
+    if (name && op === "ret") return this.ofResult(position);
+    const callee = op === "call" ? this.program.byName.get(operands[0][0]) : null;
+    const isGiven = name && callee?.parameters.some(([, parameter]) => parameter === name) && (this.isInside || this.program.isOwn[callee.index]);
+    if (isGiven) return this.ofParameter(name, position, callee);
+    const wanted = address === undefined ? null : {address, count};
+    const verb = ALLOCATIONS.has(op) && wanted ? "made, as zeros, by" : wanted ? "stored by" : name ? "set by" : "by";
+    return this.executed(position, verb, wanted);
+  }
+
   of_writer({write, found, position}) {
     return this.writer(write, found, position);
   }
@@ -379,4 +394,11 @@ export class Causes {
     if (kind === KINDS.alloc) return this.executed(move, "made, as zeros, by");
     return this.executed(move, "stored by", {address: found[0], count: found.at(-1) - found[0] + 1});
   }
+}
+
+/** What the debugger is asked about a question whose answer lies before a window. */
+function wantedOf({of, name, index, address, count, found}) {
+  const bytes = of === "writer" ? found.map(at => at - found[0])
+    : of === "memory" ? Array.from({length: Math.min(count, MOST_BYTES)}, (_, at) => at) : undefined;
+  return {of: of === "writer" ? "memory" : of, name, index, address: of === "writer" ? found[0] : address, bytes};
 }

@@ -29,13 +29,13 @@ export class Walk {
 
   /** Whether a question is about what a value was made of, and not about how control came there. */
   isValue({of, isAside, isWay}) {
-    return of !== "control" && of !== "call" && !isAside && !isWay;
+    return of !== "control" && of !== "call" && of !== "there" && !isAside && !isWay;
   }
 
   /** Opens all that a value was made of, each move once. */
   slice() {
     if (!this.root) return;
-    const seen = new Set(), waiting = [this.chosen ?? this.root];
+    const seen = new Set(), {chosen, root} = this, waiting = [chosen && chosen.question.of !== "there" ? chosen : root];
     for (let count = 0; waiting.length && count < MOST_NODES; count++) {
       const node = waiting.shift();
       this.open(node);
@@ -115,17 +115,18 @@ export class Tree {
   row(node, index, depth) {
     const {app} = this, {cause} = node, isChosen = node === app.walk.chosen;
     const indent = `${Math.min(depth, DEEP) * 14 + Math.max(0, Math.min(depth, DEEPEST) - DEEP) * 3}px`;
-    const at = cause && cause.move !== null && element("span", {class: "at"}, `#${spaced(cause.move + app.run.base)}`,
-      element("small", {}, `line ${cause.place.instruction.line}`));
+    const at = cause && cause.move !== null ? whenAndWhere(cause.move + app.run.base, cause.place.instruction.line)
+      : node.question.of === "there" && whenAndWhere(node.question.move, node.question.line);
     return element("div", {class: classes("node", isChosen && "is-chosen", cause && "is-open"), role: "treeitem",
       id: `node-${index}`,
       data: {node: index}, css: {"--indent": indent}, "aria-level": depth + 1, "aria-expanded": String(Boolean(cause)),
         "aria-selected": String(isChosen)},
-    element("span", {class: "twist", "aria-hidden": "true"}, cause ? node.kids?.length ? "▾" : "·" : "▸"),
+    element("span", {class: "twist", "aria-hidden": "true"}, cause && !cause.asked ? node.kids?.length ? "▾" : "·" : "▸"),
     element("span", {class: "told"}, this.asked(node.question), cause && this.by(node)), at);
   }
 
   asked(question) {
+    if (question.of === "there") return there(question);
     const isControl = question.of === "control" || question.of === "call";
     return element("span", {class: classes("ask", isControl && "is-control", question.isAside && "is-aside",
       question.isStale && "is-changed")},
@@ -143,4 +144,15 @@ export class Tree {
       isSeen ? " (as above)" : "", cause.note ? element("em", {class: classes("note", cause.isAlarm && "is-alarm")},
         cause.note) : null);
   }
+}
+
+function whenAndWhere(move, line) {
+  return element("span", {class: "at"}, `#${spaced(move)}`, element("small", {}, `line ${line}`));
+}
+
+/** A cause in another window. */
+function there({text, bytes, about, isByHand}) {
+  const isPart = bytes && bytes.length < (about.count ?? about.found.length);
+  const which = isPart ? `byte${bytes.length > 1 ? "s" : ""} ${bytes.join(", ")} ` : "";
+  return element("span", {class: "ask"}, which, isByHand ? "by hand " : "", element("code", {}, text));
 }

@@ -9,7 +9,7 @@ import sys
 import tempfile
 import time
 from functools import partial
-from typing import Callable, Iterator
+from typing import Any, Callable, Iterator
 
 from .causes import COMPARER, TOP
 from .serving import MAIN, Serving, alive, children_of, heard
@@ -145,6 +145,36 @@ def paired_statuses(ask: Asking) -> Iterator[tuple[str, int, Callable[[], int]]]
     yield "a move of one run", 200, lambda: ask.post("good/api/go", GO)[0]
     yield "a page that doesn't lead the other one", 400, lambda: ask.post("bad/api/go", GO)[0]
     yield "a window of a run that is shown whole", 400, lambda: ask.post("good/api/window", GO)[0]
+    yield "what lies before a run that is shown whole", 400, lambda: ask.post("good/api/why", GO)[0]
+
+
+# What is asked about the state at #45 of a run that is shown by windows, and the status of the answer.
+BYTES = {"of": "memory", "address": 65536}
+WHYS: tuple[tuple[dict[str, Any], int], ...] = (
+    ({"of": "temporary", "name": "%i"}, 200), ({"of": "temporary", "name": "%nothing"}, 400),
+    ({"of": "temporary", "name": "%i\nquit"}, 400), ({"of": "temporary"}, 400), ({"of": "temporary", "name": 7}, 400),
+    ({**BYTES, "bytes": [0, 1, 2, 3]}, 200), ({**BYTES, "bytes": []}, 400), ({**BYTES, "bytes": [48]}, 400),
+    ({**BYTES, "bytes": [0] * 49}, 400), ({**BYTES, "bytes": [True]}, 400), ({**BYTES, "bytes": 3}, 400), (BYTES, 400),
+    ({**BYTES, "address": -1, "bytes": [0]}, 400), ({**BYTES, "address": 1 << 32, "bytes": [0]}, 400),
+    ({**BYTES, "address": 5, "bytes": [0]}, 200), ({**BYTES, "address": "$bias", "bytes": [0]}, 400),
+    ({"of": "output", "index": 0}, 400), ({"of": "end"}, 400), ({"of": "control"}, 200),
+    ({"of": "call", "inside": 7}, 200), ({"of": "quit"}, 400), ({"of": ["call"]}, 400), ({}, 400),
+    ({"of": "call", "page": 7}, 400), ({"of": "call", "position": 1 << 40}, 400))
+
+
+def whys(program: str) -> str | None:
+    """Questions about what lies before a window: each is answered or refused as it must be; none moves the session."""
+    with Serving(program, SQUARES, options=("--most", "20")) as serving:
+        ask = Asking(serving.address)
+        ask.get("api/run")
+        while not json.loads(asked(ask.port, "GET", f"/{ask.token}/api/overview", [("Host", ask.host)])[1])["isDone"]:
+            time.sleep(.02)
+        for question, wanted in WHYS:
+            given, told = ask.post("api/why", json.dumps({"page": 1, "position": 45, **question}).encode())
+            if given != wanted:
+                return f"{question}: status {given} and not {wanted}: {told!r}"
+        script = asked(ask.port, "GET", f"/{ask.token}/api/script", [("Host", ask.host)])[1]
+        return f"the session was led by {script!r}" if script else None
 
 
 def paired(program: str) -> str | None:
@@ -262,5 +292,5 @@ def refused(program: str) -> str | None:
     return None if is_told else f"{none}"
 
 
-CASES = {"statuses": statuses, "two runs": paired, "headers": headers, "alone": alone, "one page": taken_over,
-         "Ctrl-C": ended, "refused texts": refused}
+CASES = {"statuses": statuses, "two runs": paired, "what lies before": whys, "headers": headers, "alone": alone,
+         "one page": taken_over, "Ctrl-C": ended, "refused texts": refused}
