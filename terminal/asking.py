@@ -169,11 +169,14 @@ def writers(shell: Shell, rest: str) -> None:
 def when(shell: Shell, rest: str) -> None:
     """Lists the positions at which a condition of this function's temporaries and of memory begins to hold, and ceases
     to. Of a recursive function the innermost frame counts. Where a value is unset or dead it doesn't hold."""
+    if not rest:
+        raise Wrong(f"when CONDITION was expected; the session stands at #{shell.session.place.position}")
     node = shell.parsed(rest)
     program, frames = shell.session.program, shell.session.frames()
     known = questions_of(node, program)
     if known is None or any(part.kind == "word" for part in parts_of(node)):
-        raise Wrong(f"{rest}: addresses that are fixed, and no depth or position, were expected")
+        raise Wrong(f"{rest}: temporaries of one function and memory at fixed addresses were expected, and neither "
+                    "depth nor position")
     names = temporaries_of(node)
     if names and not frames:
         raise Refused("the run is over: go back to a frame of the function that is meant")

@@ -1,8 +1,9 @@
-"""Commands of gdb and rr that don't exist here, with what does the same, for users who type one by habit."""
+"""What is said of a word that isn't known: commands of gdb and rr that don't exist here, with what does the same, and
+names that the program hasn't, with those that may be meant."""
 from __future__ import annotations
 
 import difflib
-from typing import Iterable
+from typing import Iterable, Sequence
 
 # Nothing does the same.
 THREADS = "a program has one thread, and no signals"
@@ -31,14 +32,35 @@ INSTEAD = {
     "define document macro alias": "`source FILE` types the lines of a file",
     "thread threads signal handle inferior inferiors": THREADS,
     "call compile": CODE,
+    "detach": "`quit` leaves",
+    "shell make cd pwd ! pipe": "a session runs no other programs; `source` and `save` take paths",
+    "python py guile": "`source FILE` types the lines of a file, and scripts are for ./qrev FILE.ssa < SCRIPT",
+    "apropos": "`help` lists the commands, and `help COMMAND` tells of one",
 }
+# Names of which the nearest are told, or as many as there are.
+NEAREST, MOST_NAMES = 3, 12
 ANSWERS = {word: answer for words, answer in INSTEAD.items() for word in words.split()}
 
 
 def not_known(word: str, commands: Iterable[str]) -> str:
     """What is said of a word that is no command."""
-    if word in ANSWERS:
-        return f"{word}: no such command; {ANSWERS[word]}"
-    nearest = difflib.get_close_matches(word, commands, 1)
+    name = "!" if word.startswith("!") else word
+    if name in ANSWERS:
+        return f"{word}: no such command; {ANSWERS[name]}"
+    nearest = difflib.get_close_matches(word, [name for name in commands if len(name) > 1], 1)
     meant = f"; `{nearest[0]}` is one" if nearest else ""
     return f"{word}: no such command{meant}; `help` lists them"
+
+
+def names_meant(word: str, names: Sequence[str]) -> str:
+    """Of the names that could stand in a word's place all if they are few, else those that are nearest to it."""
+    if len(names) <= MOST_NAMES:
+        return ", ".join(names)
+    nearest = difflib.get_close_matches(word, names, NEAREST) or \
+        difflib.get_close_matches("$" + word, names, NEAREST)
+    begun = nearest or list(names[:MOST_NAMES])
+    return ", ".join(begun) + f" and {len(names) - len(begun)} others"
+
+
+def no_label(function: str, labels: Sequence[str], label: str) -> str:
+    return f"{label}: {function} has no such label; it has {names_meant(label, labels)}"

@@ -22,6 +22,9 @@ LEVELS = (("||",), ("&&",), ("|",), ("^",), ("&",), ("==", "!="), ("<", "<=", ">
           ("*", "/", "%"))
 MOST_SHIFT, MOST_BITS = 64, 128
 FLOAT = re.compile(r"[0-9]+\.[0-9]*(?:[eE][+-]?[0-9]+)?|[0-9]+[eE][+-]?[0-9]+")
+# A character between single quotes, written as in C.
+CHARACTER = re.compile(r"'(?:\\([0-7]{1,3}|x[0-9a-fA-F]{1,2}|[abfnrtv\\'\"?])|([^\\']))'")
+ESCAPED = dict(zip("abfnrtv\\'\"?", map(ord, "\a\b\f\n\r\t\v\\'\"?")))
 
 
 class Wrong(Exception):
@@ -30,6 +33,14 @@ class Wrong(Exception):
 
 class Missing(Wrong):
     """There is no expression where one was expected."""
+
+
+class Unknown(Wrong):
+    """A word that is none of an expression."""
+
+    def __init__(self, word: str):
+        super().__init__(f"{word or 'the end'!r}: a number, %temporary, $name or w[ADDRESS] was expected")
+        self.word = word
 
 
 class Unset(Exception):
@@ -68,8 +79,11 @@ def lexed(text: str) -> Iterator[str]:
             continue
         behind = at + 1
         is_name = text[at] in "$%" and behind < len(text) and text[behind] in IN_NAME and not text[behind].isdigit()
-        if text[at] == "'" and len(text) > at + 2 and text[at + 2] == "'":
-            behind = at + 3
+        character = CHARACTER.match(text, at)
+        if character:
+            behind = character.end()
+        elif text[at] == "'":
+            raise Wrong(rf"{text[at:]}: a character between quotes was expected, as 'a', '\n' or '\x1b'")
         elif is_name or text[at] in IN_NAME:
             behind = word_end(text, at, is_name)
         else:
@@ -147,15 +161,24 @@ class Parser:
 def number(word: str) -> int | float:
     """The value of a number: decimal, hexadecimal, octal (0o), binary (0b), a character between single quotes, or a
     float as 0.5, 1e-5, inf and nan."""
-    if len(word) == 3 and word[0] == word[2] == "'":
-        return ord(word[1])
+    character = CHARACTER.fullmatch(word)
+    if character:
+        return character_value(character)
     try:
         if word in ("inf", "nan") or FLOAT.fullmatch(word):
             return float(word)
         return int(word) if word.isdigit() else int(word, 0)
     except ValueError:
-        expected = "a number, %temporary, $name or w[ADDRESS] was expected"
-        raise Wrong(f"{word or 'the end'!r}: {expected}") from None
+        raise Unknown(word) from None
+
+
+def character_value(character: re.Match[str]) -> int:
+    escape, plain = character.groups()
+    if plain:
+        return ord(plain)
+    if escape in ESCAPED:
+        return ESCAPED[escape]
+    return int(escape[1:], 16) if escape[0] == "x" else int(escape, 8) & 0xff
 
 
 def parse(text: str) -> Node:

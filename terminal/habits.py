@@ -3,7 +3,9 @@ from __future__ import annotations
 
 import pathlib
 
+from .elsewhere import names_meant
 from .expressions import Unset, Wrong
+from .moving import ARGUMENTS
 from .runs import Places
 from .scratch import Refused
 from .shell import Shell, command
@@ -15,7 +17,7 @@ from .timeline import Timeline
 def start(shell: Shell, rest: str) -> None:
     """Goes to the start of the run, and stays there. Stops stay; pokes are taken back."""
     if rest:
-        raise Wrong(f"{rest}: nothing more was expected; arguments are given when the session begins")
+        raise Wrong(f"{rest}: nothing more was expected; {ARGUMENTS}")
     shell.session.go(Timeline())
     shell.show()
 
@@ -75,7 +77,7 @@ def disas(shell: Shell, rest: str) -> None:
     """Shows the whole text of a function, by default that of the selected frame."""
     program, frames, rest = shell.session.program, shell.session.frames(), shell.function_named(rest)
     if rest and rest not in program.functions:
-        raise Wrong(f"{rest}: a function was expected, of {', '.join(program.functions)}"[:240])
+        raise Wrong(f"{rest}: a function was expected, of {names_meant(rest, list(program.functions))}")
     if not rest and not frames:
         raise Refused("no frame: the run is over; `disas $f` shows a function")
     selected = frames[shell.session.selected] if frames else None

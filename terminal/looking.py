@@ -4,17 +4,19 @@ from __future__ import annotations
 import pathlib
 import shlex
 
-from .answers import live, read_output
+from .answers import Place, live, read_output
 from .expressions import Unset, Wrong
 from .habits import save_stops
 from .scratch import Refused
 from .shell import COMMANDS, Shell, check_format, command
-from .sources import list_source, source_told
+from .sources import lines_listed, list_source, source_told
 from .values import BYTES, FORMATS, formatted, numbered_lines, shown_bytes
 
 MOST_UNITS = 4096
 SIZES = {"b": "b", "h": "h", "w": "w", "l": "l", "g": "l"}
 PER_LINE = {"b": 8, "h": 8, "w": 4, "l": 2}
+# The units of formats that have one of their own, as in gdb.
+UNITS = {"c": "b", "a": "l"}
 
 
 @command("print p inspect", "print[/FORMAT] EXPRESSION", "expression")
@@ -41,7 +43,8 @@ def formatted_words(rest: str) -> tuple[str, str]:
 @command("x", "x/NUF ADDRESS", "expression")
 def examine(shell: Shell, rest: str) -> None:
     """Shows memory: N units of U (b, h, w, l; g is l) in the format F (d u x o t c f a, or s for a text up to its zero
-    byte), from an address on: x/4wx $table+8, x/s %text. Without an address it goes on after the last one."""
+    byte), from an address on: x/4wx $table+8, x/s %text. Without a unit, c shows bytes and a addresses. Without an
+    address it goes on after the last one."""
     letters, text = formatted_words(rest)
     count, unit, letter = read_format(shell, letters)
     address = shell.number(text) if text else shell.examined
@@ -67,13 +70,15 @@ def read_format(shell: Shell, letters: str) -> tuple[int, str, str]:
     """The count, unit and format of x; what isn't given is as it was."""
     digits = letters[:len(letters) - len(letters.lstrip("0123456789"))]
     count = int(digits) if digits else 1
-    for letter in letters[len(digits):]:
-        if letter in SIZES:
-            shell.unit = SIZES[letter]
-        elif letter in FORMATS:
-            shell.format = letter
-        else:
-            raise Wrong(f"/{letters}: a number, a unit of b h w l, and a format of {' '.join(FORMATS)} were expected")
+    units = [SIZES[letter] for letter in letters[len(digits):] if letter in SIZES]
+    formats = [letter for letter in letters[len(digits):] if letter in FORMATS]
+    if len(digits) + len(units) + len(formats) < len(letters):
+        raise Wrong(f"/{letters}: a number, a unit of b h w l, and a format of {' '.join(FORMATS)} were expected")
+    if formats:
+        shell.format = formats[-1]
+        shell.unit = UNITS.get(shell.format, shell.unit)
+    if units:
+        shell.unit = units[-1]
     if not 1 <= count <= MOST_UNITS:
         raise Wrong(f"/{letters}: from 1 to {MOST_UNITS} units were expected")
     return count, shell.unit, shell.format
@@ -90,20 +95,25 @@ def unit_shown(shell: Shell, piece: bytes, unit: str, letter: str, address: int)
 
 
 def texts_at(shell: Shell, address: int, count: int) -> list[str]:
-    """Texts one after the other, each up to its zero byte."""
+    """Texts one after the other, each up to its zero byte; `--` where a byte isn't live, `..` where a text goes on."""
     found = []
     for _ in range(count):
-        text, there = bytearray(), address
-        while len(text) < MOST_UNITS:
-            byte = shell.session.memory(address, 1)[0]
-            if not byte:
-                break
-            text.append(byte)
-            address += 1
-        address += 1
-        found.append(f"{named(shell, there)}: {shown_bytes(bytes(text))}")
+        text, byte = text_at(shell, address)
+        shown = [shown_bytes(text)] * bool(text or byte is not None) + ["--"] * (byte is None) + [".."] * bool(byte)
+        found.append(f"{named(shell, address)}: {' '.join(shown)}")
+        address += len(text) + (not byte)
     shell.examined = address
     return found
+
+
+def text_at(shell: Shell, address: int) -> tuple[bytes, int | None]:
+    """The bytes from an address up to the first that is zero or isn't live, and that byte."""
+    text = bytearray()
+    while True:
+        byte = shell.session.memory(address + len(text), 1)[0]
+        if not byte or len(text) == MOST_UNITS:
+            return bytes(text), byte
+        text.append(byte)
 
 
 def named(shell: Shell, address: int) -> str:
@@ -148,23 +158,43 @@ def undisplay(shell: Shell, rest: str) -> None:
         del shell.displays[int(rest)]
 
 
-@command("bt backtrace where", "bt [N]", "")
+@command("bt backtrace where", "bt [full] [N | -N]", "")
 def backtrace(shell: Shell, rest: str) -> None:
-    """Shows the frames, or N of them, with the lines where they stand. The innermost is frame 0; the selected one is
-    marked."""
+    """Shows the frames, or the N innermost or with -N the N outermost of them, with the lines where they stand. The
+    innermost is frame 0; the selected one is marked. With `full` the temporaries of each that are set are shown too."""
     frames = shell.session.frames()
     if not frames:
         raise Refused("no frame: the run is over")
-    for index, place in enumerate(frames[:shell.count(rest, 1000, len(frames))]):
-        # A caller stands behind its call, which is the line to show.
-        at = place.index - (index > 0)
-        line = shell.session.program.line_of(place.function, place.label, at)
-        mark = ">" if index == shell.session.selected else " "
-        source = shell.screen.map.place(line)
-        instruction = shell.session.program.functions[place.function].at(place.label, at)
-        text = shell.lowered.written(shell.session.program.functions[place.function], instruction)
-        shell.say(f"{mark} {index}  {place.function} {place.label} {place.index}  line {line}: {text}"
-                  + (f"  ({source})" if source else ""))
+    is_full = rest.split(" ")[0] in ("full", "-full")
+    rest = rest.partition(" ")[2].strip() if is_full else rest
+    count = shell.count(rest.removeprefix("-"), 1000, len(frames))
+    shown = range(len(frames))[-count:] if rest.startswith("-") else range(len(frames))[:count]
+    for index in shown:
+        shell.say(frame_told(shell, index, frames[index]))
+        if is_full:
+            shell.say(*(f"     {line}" for line in locals_of(shell, index)))
+
+
+def frame_told(shell: Shell, index: int, place: Place) -> str:
+    # A caller stands behind its call, which is the line to show.
+    at = place.index - (index > 0)
+    line = shell.session.program.line_of(place.function, place.label, at)
+    mark = ">" if index == shell.session.selected else " "
+    source = shell.screen.map.place(line)
+    instruction = shell.session.program.functions[place.function].at(place.label, at)
+    text = shell.lowered.written(shell.session.program.functions[place.function], instruction)
+    return f"{mark} {index}  {place.function} {place.label} {place.index}  line {line}: {text}" + \
+        (f"  ({source})" if source else "")
+
+
+def locals_of(shell: Shell, index: int) -> list[str]:
+    """What `info locals` shows in a frame."""
+    selected = shell.session.selected
+    shell.session.selected = index
+    try:
+        return locals_told(shell, "")
+    finally:
+        shell.session.selected = selected
 
 
 def select(shell: Shell, index: int) -> None:
@@ -222,36 +252,34 @@ def temps(shell: Shell, rest: str) -> None:
         shell.say(f"{name} unset" if value is None else shell.shown(name, ""))
 
 
-@command("list l", "list [-ssa] [LINE | FILE:LINE | $f | @b]", "place")
+@command("list l", "list [-ssa] [LINE | LINE,LINE | FILE:LINE | $f | @b | -]", "place")
 def list_(shell: Shell, rest: str) -> None:
     """Shows the source around where the run stands, if there is one, and else the text, then on from there; or around a
-    line. With -ssa, or around a function or a label, it is the text."""
+    line, from a line on (N,), up to one (,N), from one to another (N,N), or what is before (-). With -ssa, or around a
+    function or a label, it is the text."""
     is_text, rest = rest.split(" ")[0] == "-ssa", rest.removeprefix("-ssa").strip()
+    # An empty line goes on from there.
+    back = " -" * (rest == "-")
     if not is_text and list_source(shell, rest):
-        # An empty line goes on.
-        shell.last = "list" if rest else shell.last
+        shell.last = "list" + back
         return
     program, place = shell.session.program, shell.session.place
-    here, around = 0, shell.list_size // 2
+    here = 0
     frames, selected = shell.session.frames(), shell.session.selected
     if frames:
         # A caller stands behind its call.
         frame = frames[selected]
         here = program.line_of(frame.function, frame.label, frame.index - (selected > 0))
-    if rest:
-        first = shell.line_of(rest) - around
-    elif shell.line_shown:
-        first = shell.line_shown + 1
-    else:
-        first = (here or 1 + around) - around
+    size = shell.list_size
+    first, last = lines_listed(rest, shell.line_of, size, shell.lines_shown, here or 1 + size // 2)
     if first > len(program.lines):
         raise Refused(f"the text has {len(program.lines)} lines")
-    beside, last = [], first + shell.list_size - 1
+    beside = []
     if here and not place.end and not selected and first <= here <= last:
         instruction = program.functions[place.function].at(place.label, place.index)
         beside = shell.screen.beside(place, instruction)
     shell.say(*shell.screen.text_lines(first, last, here, beside))
-    shell.line_shown = last
+    shell.lines_shown, shell.last = (first, last), "list -ssa" + back
 
 
 @command("out", "out")
@@ -268,7 +296,10 @@ def info(shell: Shell, rest: str) -> None:
     the data, the sources, whose an address is, or how large the session is."""
     typed, _, more = rest.partition(" ")
     word = info_word(typed)
-    if word in KNOWN:
+    if word == "watchpoints":
+        watches = [str(stop) for stop in shell.runs.stops if any(line.startswith("watch ") for line in stop.lines)]
+        shell.say(*watches or ["none"])
+    elif word in KNOWN:
         COMMANDS[KNOWN[word]].call(shell, "")
     else:
         shell.say(*OTHERS[word](shell, more))

@@ -14,6 +14,7 @@ from .values import BITS, FLOATS, bits_of
 
 MOST_MOVES = (1 << 32) - 1
 MOST_LISTED = 1000
+ARGUMENTS = "arguments are given when the session begins"
 
 
 def repeated(shell: Shell, text: str, move: Callable[[], Outcome]) -> None:
@@ -117,15 +118,20 @@ def reverse_finish(shell: Shell, rest: str) -> None:
 @command("run r", "run", is_repeated=False)
 def run(shell: Shell, rest: str) -> None:
     """Begins again: goes back to the start and runs on to the first stop. Stops stay; pokes are taken back."""
+    if rest:
+        raise Wrong(f"{rest}: nothing more was expected; {ARGUMENTS}")
     shell.session.go(Timeline())
     shell.outcome(shell.runs.run(True))
 
 
-@command("goto", "goto N | goto why | goto suspect N", "expression", is_repeated=False)
+@command("goto", "goto N | goto start | goto end | goto why | goto suspect N", "expression", is_repeated=False)
 def goto(shell: Shell, rest: str) -> None:
-    """Goes to the position N, back or forward; `goto why` to that of the last cause shown, `goto suspect N` to that of
-    the N-th suspicion. Pokes after it are undone, and a line says so."""
-    if rest == "why":
+    """Goes to the position N, back or forward; to the start or the end of the run, past all stops; `goto why` to the
+    position of the last cause shown, `goto suspect N` to that of the N-th suspicion. Pokes after it are undone, and a
+    line says so."""
+    if rest in ("start", "end"):
+        there = shell.session.timeline.at(MOST_MOVES if rest == "end" else 0)
+    elif rest == "why":
         if not shell.chain:
             raise Refused("nothing was asked by `why` yet")
         there = shell.chain[-1].at
@@ -153,7 +159,7 @@ def go(shell: Shell, there: Timeline) -> None:
     shell.session.go(there)
     for poke in lost:
         shell.say(f"taken back: {poke.line} (#{poke.position})")
-    if shell.session.place.position < there.position:
+    if shell.session.place.position < there.position < MOST_MOVES:
         shell.say(f"the run is over before #{there.position}")
     shell.show()
 
@@ -172,9 +178,13 @@ def checkpoint(shell: Shell, rest: str) -> None:
 def restart(shell: Shell, rest: str) -> None:
     """Goes to a checkpoint. Pokes that were made before it and taken back since are made again."""
     if rest not in shell.checkpoints:
-        known = ", ".join(shell.checkpoints) or "none"
-        raise Wrong(f"{rest or 'restart'}: the name of a checkpoint was expected; there are: {known}")
+        raise Wrong(no_checkpoint(shell, rest or "restart"))
     go(shell, shell.checkpoints[rest])
+
+
+def no_checkpoint(shell: Shell, name: str) -> str:
+    known = ", ".join(shell.checkpoints) or "none"
+    return f"{name}: the name of a checkpoint was expected; there are: {known}"
 
 
 # How a piece of memory begins.

@@ -8,7 +8,7 @@ from typing import Callable, Sequence
 from .answers import Place, live
 from .causes import Cause, Causes
 from .elsewhere import not_known
-from .expressions import Missing, Node, Unset, Value, Wrong, evaluate, parse, parts_of, whole
+from .expressions import Missing, Node, Unknown, Unset, Value, Wrong, evaluate, parse, parts_of, whole
 from .frames import Frames
 from .lookout import Lookout
 from .lowered import lowered_of
@@ -124,9 +124,9 @@ class Shell:
         self.checkpoints: dict[str, Timeline] = {}
         self.chain: list[Cause] = []
         self.suspects: list[Timeline] = []
-        self.line_shown = 0
-        # The source that was listed last, and up to which line.
-        self.line_listed: tuple[str, int] | None = None
+        # The first and the last line that `list` showed, of the text and of a source.
+        self.lines_shown: tuple[int, int] | None = None
+        self.line_listed: tuple[str, int, int] | None = None
         self.examined, self.unit, self.format = 0, "w", "x"
         self.list_size = 11
         self.last = ""
@@ -192,7 +192,7 @@ class Shell:
 
     def list_anew(self) -> None:
         """`list` begins around where the session is looked at now."""
-        self.line_shown, self.line_listed = 0, None
+        self.lines_shown = self.line_listed = None
 
     def show_display(self, number: int, letters: str, text: str) -> None:
         try:
@@ -264,11 +264,21 @@ class Shell:
     def parsed(self, text: str) -> Node:
         if not text.strip():
             raise Missing("an expression was expected")
-        node = parse(text)
+        try:
+            node = parse(text)
+        except Unknown as error:
+            raise Wrong(f"{error}{self.name_meant(error.word)}") from None
         for part in parts_of(node):
             if part.kind == "global":
                 self.address_of(part.text)
         return node
+
+    def name_meant(self, word: str) -> str:
+        """What a word without its sigil may stand for."""
+        program, frames = self.session.program, self.session.frames()
+        known = program.functions[frames[self.session.selected].function].temporaries if frames else {}
+        meant = [name for name in (f"%{word}", f"${word}") if name in known or name in program.addresses]
+        return f"; there is {' and '.join(meant)}" if meant else ""
 
     def number(self, text: str) -> int:
         """The value of an expression as 64 bits."""

@@ -13,9 +13,11 @@ from .scratch import Refused
 from .shell import Shell, command
 from .sourcemap import Line
 
-# A place of a source as it is typed: FILE:LINE.
+# A place of a source as it is typed: FILE:LINE, and lines of it: FILE:LINE,LINE.
 TYPED = re.compile(r"([^\s$@%][^\s]*):(\d+)")
-AROUND = 5
+TYPED_LINES = re.compile(r"([^\s$@%][^\s]*):(\d+,?\d*|,\d+)")
+NUMBERED = re.compile(r"(?:\d+,?\d*|,\d+|-)?")
+LISTED = 11
 MOST_OF_A_LINE = 1_000_000
 
 
@@ -67,26 +69,45 @@ def source_lines(shell: Shell, file: str, first: int, last: int, marked: int) ->
             for at in range(max(first, 1), last + 1)]
 
 
+def lines_listed(rest: str, line_of: Callable[[str], int], size: int, shown: tuple[int, int] | None,
+                 here: int) -> tuple[int, int]:
+    """The first and the last line that `list` shows for what was typed: around a line, from one on (`N,`), up to one
+    (`,N`), from one to another (`N,N`), before those that were shown last (`-`), or behind them."""
+    first, _, last = (part.strip() for part in rest.partition(","))
+    if rest == "-":
+        begin = (shown[0] if shown else here - size // 2) - size
+        if begin + size < 2:
+            raise Refused("the first line was shown already")
+    elif first and last:
+        return line_of(first), line_of(last)
+    elif last:
+        begin = line_of(last) - size + 1
+    elif rest:
+        begin = line_of(first or rest) - (0 if "," in rest else size // 2)
+    else:
+        begin = shown[1] + 1 if shown else here - size // 2
+    return begin, begin + size - 1
+
+
 def list_source(shell: Shell, rest: str) -> bool:
     """Shows lines of the source, where there is one; whether it did."""
-    here, typed = source_selected(shell), TYPED.fullmatch(rest)
+    here, typed = source_selected(shell), TYPED_LINES.fullmatch(rest)
     if typed:
         found = shell.screen.map.lines_from(typed.group(1), 1)
-        file = found[0].file if found else typed.group(1)
-        middle = int(typed.group(2))
-    elif here and (not rest or rest.isdigit()):
-        file, middle = here.file, int(rest) if rest else here.number
-        if not rest and shell.line_listed and shell.line_listed[0] == file:
-            middle = shell.line_listed[1] + AROUND + 1
+        file, rest = found[0].file if found else typed.group(1), typed.group(2)
+    elif here and NUMBERED.fullmatch(rest):
+        file = here.file
     else:
         return False
     marked = here.number if here and here.file == file else 0
-    lines = source_lines(shell, file, middle - AROUND, middle + AROUND, marked)
+    shown = shell.line_listed[1:] if shell.line_listed and shell.line_listed[0] == file else None
+    first, last = lines_listed(rest, int, LISTED, shown, here.number if here else 1)
+    lines = source_lines(shell, file, first, last, marked)
     if not lines and typed:
         raise Refused(f"{file}: the source isn't found, or has no such line")
     if lines:
         shell.say(file, *lines)
-        shell.line_listed = (file, middle + AROUND)
+        shell.line_listed = (file, first, last)
     return bool(lines)
 
 

@@ -3,10 +3,11 @@ from __future__ import annotations
 
 import re
 
+from .elsewhere import names_meant, no_label
 from .expressions import Node, Wrong, as_bytes, temporaries_of
-from .moving import address_word
+from .moving import address_word, no_checkpoint
 from .scratch import Refused
-from .shell import Shell, command
+from .shell import COMMANDS, Shell, command
 from .sources import place_in_source
 from .stops import FrameWatch, MemoryWatch, Stop, SuspicionStop
 from .suspecting import add_suspicion_stop
@@ -16,6 +17,7 @@ PIECES = (("l", 8), ("w", 4), ("h", 2), ("b", 1))
 MOST_RANGE = 512
 # How the name of an address on the stack begins.
 FRAME = re.compile(r"^frame \d+ ")
+RANGE = re.compile(r"(\d+)-(\d+)")
 
 
 def with_condition(shell: Shell, rest: str) -> tuple[str, Node | None, str]:
@@ -53,11 +55,12 @@ def checked_place(shell: Shell, words: list[str]) -> tuple[str, str, int]:
     functions = shell.session.program.functions
     words = [shell.function_named(words[0]), *words[1:]]
     if words[0] not in functions:
-        raise Wrong(f"{words[0]}: a line, $f, @b or $f @b was expected, of {', '.join(functions)}"[:240])
+        meant = names_meant(words[0], list(functions))
+        raise Wrong(f"{words[0]}: a line, $f, @b or $f @b was expected, of {meant}")
     function = functions[words[0]]
     label = words[1] if len(words) > 1 else function.first
     if label not in function.blocks:
-        raise Wrong(f"{label}: {function.name} has no such label; it has {', '.join(function.blocks)}"[:240])
+        raise Wrong(no_label(function.name, list(function.blocks), label))
     index = words[2] if len(words) > 2 else "0"
     most = len(function.blocks[label].body) - 1
     if not index.isdigit() or int(index) > most:
@@ -183,17 +186,41 @@ def stop_named(shell: Shell, text: str) -> Stop:
 
 
 def stops_named(shell: Shell, rest: str) -> list[Stop]:
-    """Stops by their numbers, also after a word of gdb; without a number all."""
+    """Stops by their numbers and ranges of them, also after a word of gdb; without a number all."""
     words = rest.removeprefix("breakpoints").split()
-    return [stop_named(shell, word) for word in words] or list(shell.runs.stops)
+    return [stop for word in words for stop in stops_of(shell, word)] or list(shell.runs.stops)
+
+
+def stops_of(shell: Shell, word: str) -> list[Stop]:
+    """The stop of a number, or those of a range as 2-5, which has at least one."""
+    typed = RANGE.fullmatch(word)
+    found = [stop for stop in shell.runs.stops
+             if typed and isinstance(stop.number, int) and int(typed[1]) <= stop.number <= int(typed[2])]
+    return found or [stop_named(shell, word)]
 
 
 @command("delete d", "delete [N ..]", is_repeated=False)
 def delete(shell: Shell, rest: str) -> None:
-    """Takes stops away by their numbers; without one, all."""
+    """Takes stops away by their numbers, or a range of them as 2-5; without one, all. `delete checkpoint NAME` takes a
+    checkpoint away, and `delete display N` a display."""
+    word, _, name = rest.partition(" ")
+    if word in ("checkpoint", "checkpoints", "bookmark"):
+        delete_checkpoint(shell, name.strip())
+        return
+    if word == "display":
+        COMMANDS["undisplay"].call(shell, name.strip())
+        return
     for stop in stops_named(shell, rest):
         shell.runs.delete(stop)
         shell.say(f"deleted {stop.number}")
+
+
+def delete_checkpoint(shell: Shell, name: str) -> None:
+    if name and name not in shell.checkpoints:
+        raise Wrong(no_checkpoint(shell, name))
+    for each in [name] if name else list(shell.checkpoints):
+        del shell.checkpoints[each]
+        shell.say(f"deleted checkpoint {each}")
 
 
 @command("stops", "stops", is_repeated=False)

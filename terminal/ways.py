@@ -6,6 +6,7 @@ from itertools import islice
 from typing import Sequence
 
 from .causes import ASKED, Cause
+from .elsewhere import names_meant, no_label
 from .expressions import Wrong
 from .frames import steps_begun
 from .levels import MOST_STOPS, begins, own_hits, stop_line
@@ -45,7 +46,7 @@ def call_of(shell: Shell, name: str) -> tuple[Function, Timeline]:
     """A function, and the last state in which a call of it was the innermost frame."""
     session, functions = shell.session, shell.session.program.functions
     if name and name not in functions:
-        raise Wrong(f"{name}: a function was expected, of {', '.join(functions)}"[:240])
+        raise Wrong(f"{name}: a function was expected, of {names_meant(name, list(functions))}")
     at = shell.frames.before_end(session.timeline)
     frames = shell.frames.where(at)
     index = session.selected if session.frames() else 0
@@ -129,7 +130,7 @@ def why_not(shell: Shell, label: str) -> Cause:
     # A label may be typed without its sigil, as a function may.
     label = f"@{label}" if f"@{label}" in function.blocks else label
     if label not in function.blocks:
-        raise Wrong(f"{label}: {function.name} has no such label; it has {', '.join(function.blocks)}"[:240])
+        raise Wrong(no_label(function.name, list(function.blocks), label))
     jumps = [(block.label, len(block.body) - 1) for block in function.blocks.values() if label in block.body[-1].labels]
     if not jumps:
         return Cause(at, [f"no jump of {function.name} leads to {label}"])

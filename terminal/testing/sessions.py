@@ -91,6 +91,31 @@ GDB: Lines = [
     ("list fill", ["function $fill"]), ("path fill", ["$fill went through 13 blocks"]),
     ("disas fill", ["   6  function $fill"]),
     ("source /nowhere/at-all", ["/nowhere/at-all: No such file"]),
+    ("run now", ["now: nothing more was expected; arguments are given when the session begins"]),
+    ("goto start", ["#0 $main @start 0"]), ("b fill", ["break "]), ("goto end", ["#88 done 30"]), ("d", ["deleted"]),
+    # Addresses without bytes, characters as bytes, and addresses as long words, whatever was shown before.
+    ("x/s 0", ["0: --"]), ("x/2s 4095", ["4095: --\n4096 $fill: --\n"]), ("x/2wx $squares", ["0x00000000  "]),
+    ("x/2c $squares+4", ['$squares+4: "\\001"  "\\000"']), ("x/2x $squares+4", ["$squares+4: 0x01  0x00"]),
+    ("p '\\n' + '\\0' + '\\x1b' + '\\101' + '\\''", [f"= {10 + 0 + 27 + 65 + 39}"]),
+    ("p 'ab'", ["'ab': a character between quotes was expected"]), ("when", ["the session stands at #88"]),
+    ("p squares", ["'squares': a number, %temporary, $name or w[ADDRESS] was expected; there is $squares"]),
+    ("goto 44", ["#44 $fill @body 4"]), ("p square", ["; there is %square"]), ("p w[place]", ["; there is %place"]),
+    ("when depth > 1", ["depth > 1: temporaries of one function and memory at fixed addresses were expected"]),
+    ("bt -1", ["  1  $main @start 1"]), ("bt full", ["> 0  $fill @body 4", "\n     %square = 16\n", "\n  1  $main"]),
+    ("bt full -1", ["  1  $main @start 1  line 27: call $fill()\n     10 unset"]), ("bt -0", ["from 1 to 1000"]),
+    ("list 10,12", ["  10 ", "  11 ", "  12 "]), ("", ["  13 ", "  15 "]), ("list -", ["  10 ", "  12 "]),
+    ("", ["  7 ", "  9 "]), ("list 40,", ["  40 ", "  42 "]), ("list ,20", ["> 18 ", "  20 "]),
+    ("list 20,fill", []), ("list ,", [",: a line, a function, data"]), ("list 1,2", ["  1  ", "  2  "]),
+    ("list -", ["the first line was shown already"]),
+    ("b 14", []), ("b 15", []), ("b 16", []), ("watch w $bias", []), ("info watchpoints", ["w $bias+0"]),
+    ("checkpoint one", []), ("checkpoint two", []), ("delete checkpoint one", ["deleted checkpoint one"]),
+    ("info checkpoints", ["two: #44"]), ("delete checkpoint one", ["one: the name of a checkpoint was expected"]),
+    ("delete checkpoint", ["deleted checkpoint two"]), ("delete 2-999", ["deleted "]), ("stops", ["none"]),
+    ("delete 3-4", ["3-4: the number of a stop was expected"]), ("display %i", ["1: %i = 4"]),
+    ("delete display 1", []), ("info display", []), ("shell ls", ["a session runs no other programs"]),
+    ("!ls", ["a session runs no other programs"]), ("detach", ["`quit` leaves"]),
+    # Of many names those that are nearest are told.
+    ("b fil", ["fil: a line, $f, @b or $f @b was expected, of $fill, $main"]),
 ]
 
 # Of strays.ssa: moves 1, 4 and 6 are suspicious, by what docs/CHECKING.md says of each kind.
