@@ -9,11 +9,11 @@ from .expressions import Unset, Wrong
 from .looking import selected_values
 from .output import pieces_of
 from .scratch import Refused
+from .screen import readable
 from .shell import Shell
 from .values import brief, shown_bytes
 
 Piece = tuple[str, str]
-TAB = 4
 # Behind so many moves frames aren't looked through for the names of addresses.
 NEAR = 1_000_000
 
@@ -85,7 +85,7 @@ class Panes:
         digits = len(str(len(lines)))
         found = []
         for number in range(first, min(first + height, len(lines) + 1)):
-            code = lines[number - 1].expandtabs(TAB)
+            code = readable(lines[number - 1])
             stop = " " if number not in stops else "b" if stops[number] else "-"
             mark = ">" if number == here else " "
             pieces = list(pieces_of(f"{mark} {number:{digits}}  {code}"))

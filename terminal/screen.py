@@ -2,6 +2,7 @@
 source."""
 from __future__ import annotations
 
+import re
 import shutil
 import sys
 import textwrap
@@ -24,6 +25,12 @@ GAP = "    "
 # Beyond so many moves the frames of callers aren't looked for at each stop: that goes back along all of them.
 MOST_MOVES = 1_000_000
 HALTED = "fault halted"
+CONTROL = re.compile(r"[\x00-\x1f\x7f]")
+
+
+def readable(line: str) -> str:
+    """A line of a text as a terminal shows it: tabs as spaces, other control characters as ^L."""
+    return CONTROL.sub(lambda found: f"^{chr(ord(found.group()) ^ 64)}", line.expandtabs(TAB))
 
 
 class Screen:
@@ -153,7 +160,7 @@ class Screen:
         lines = self.session.program.lines
         digits = len(str(min(last, len(lines))))
         for number in range(max(first, 1), min(last, len(lines)) + 1):
-            line = f"{'>' if number == marked else ' '} {number:{digits}}  {lines[number - 1].expandtabs(TAB)}"
+            line = f"{'>' if number == marked else ' '} {number:{digits}}  {readable(lines[number - 1])}"
             if number == marked and beside:
                 yield from self.with_values(line, beside)
             else:

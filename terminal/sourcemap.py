@@ -92,9 +92,12 @@ class SourceMap:
         return None
 
     def read(self, file: str) -> list[str]:
-        """The lines of a source; none where it isn't found."""
+        """The lines of a source; none where it isn't found. Only newlines part them, as a compiler counts: a form feed
+        is a part of its line."""
         path = self.path_of(file)
         try:
-            return path.read_text(errors="replace").splitlines() if path else []
+            text = path.read_bytes().decode(errors="replace") if path else ""
         except OSError:
             return []
+        lines = text.replace("\r\n", "\n").split("\n")
+        return lines if lines[-1] else lines[:-1]

@@ -10,6 +10,7 @@ from .expressions import Wrong
 from .moving import repeated
 from .runs import Outcome
 from .scratch import Refused
+from .screen import readable
 from .shell import Shell, command
 from .sourcemap import Line
 
@@ -65,7 +66,7 @@ def source_lines(shell: Shell, file: str, first: int, last: int, marked: int) ->
     lines = shell.screen.map.read(file)
     last = min(last, len(lines))
     digits = len(str(last))
-    return [shell.screen.cut(f"{'>' if at == marked else ' '} {at:{digits}}  {lines[at - 1].expandtabs(4)}")
+    return [shell.screen.cut(f"{'>' if at == marked else ' '} {at:{digits}}  {readable(lines[at - 1])}")
             for at in range(max(first, 1), last + 1)]
 
 

@@ -157,7 +157,8 @@ class Lowering:
         for text in texts:
             for what, number in text.dropped.items():
                 self.report.count({"debug lines": "debug lines as places of the map",
-                                   "thread data": "thread data as plain data"}[what], number)
+                                   "thread data": "thread data as plain data",
+                                   "line ends": "line ends of two bytes, which QBE refuses"}[what], number)
             for line in text.cut_numbers:
                 self.report.note(text.path, line, "a number of more than 64 bits is cut, as QBE does")
 

@@ -101,7 +101,32 @@ def at_line_fault(running: Running) -> str | None:
     return differ("at-line", (1, f"{path}:90: C6: %.33 =w loadsw %field.32\n"), (run.returncode, run.stdout))
 
 
+# The text of the string is on two lines.
+TWO_BYTES = """# A comment.
+dbgfile "p.c"
+data $text = { b "one
+two", b 0 }
+export function w $main() {
+@start
+	dbgloc 3, 1
+	%x =w call $puts(l $text)
+	ret 0
+}
+"""
+
+
+def line_end_fault(running: Running) -> str | None:
+    """Lines that end in the bytes 13 and 10 are what they are with a newline alone, and the report counts them."""
+    plain = running.lower({"a.ssa": TWO_BYTES}, "--link")
+    ended = running.lower({"a.ssa": TWO_BYTES.replace("\n", "\r\n")}, "--link", "--report")
+    return differ("the text", (0, plain.text, plain.map), (ended.status, ended.text, ended.map)) or \
+        differ("the output", "one\ntwo\n", running.run(ended.text).output) or \
+        differ("the place", "a.ssa\t8\tp.c\t3\t1", next(line for line in ended.map.split("\n") if "\t8\t" in line)) or \
+        differ("the report", True, "10 line ends of two bytes, which QBE refuses\n" in ended.errors)
+
+
 def results(running: Running) -> Results:
+    yield "places/line ends of two bytes", line_end_fault(running)
     for name in ("list", "matrix", "structval", "tagged"):
         yield f"places/{name}", session_fault(running, REAL / f"{name}.ssa")
     for place, line, source, text in PLACES:

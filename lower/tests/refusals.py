@@ -22,7 +22,7 @@ def blocks(*lines: str) -> str:
 TEXTS = [
     # Tokens.
     ("data $a = { b ! }", 1, "begins no token"),
-    ("data $a = { b 1 }\r\n", 1, "takes a newline alone"),
+    ("data $a = { b 1 }\r\n\rdata $b = { b 1 }\n", 2, r"`\015` begins no token"),
     ("\xef\xbb\xbfdata $a = { b 1 }\n", 1, "byte order mark"),
     (in_main("%gr\xc3\xb6 =w copy 1"), 3, r"`\303` begins no token: names have letters of ASCII"),
     (in_main("%x =w copy -"), 3, "begins no token"),

@@ -136,8 +136,6 @@ def bad_token(token: str, text: str, path: str, line: int) -> Refused:
         return Refused(path, line, f"`{first}` without a name behind it")
     if len(token) > 1 or first in "._" or first.isalpha() and first.isascii():
         return Refused(path, line, f"`{token}` is no word of the language")
-    if first == "\r":
-        return Refused(path, line, r"the line ends in `\015` and a newline, and QBE takes a newline alone")
     if first == "\xef" and text.startswith(MARK):
         return Refused(path, line, "the text begins with a byte order mark, which QBE doesn't take")
     if first > "~":
