@@ -367,6 +367,9 @@ const tests = {
       assert.deepStrictEqual(told.terminals.pop().shellArgs,
         ["--prompt", "--lower", "--input", "/given", "--file", "/found", whole.uri.fsPath, "other.ssa", "--entry", "f",
           "--", "a", "b"]);
+      vscode.debug.activeDebugSession = { ...session, configuration: { ...launch, lower: false } };
+      await registered.commands["qrev.prompt"]();
+      assert.deepStrictEqual(told.terminals.pop().shellArgs, ["--prompt", "--no-lower", whole.uri.fsPath]);
     } finally {
       adapter.process.kill();
       follower.onExit();

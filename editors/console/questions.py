@@ -97,8 +97,9 @@ class Prompter:
 
     def __init__(self, launch: dict[str, Any], words: list[str]):
         self.process = subprocess.Popen(
-            [str(TOP / "qrev"), *words, "--prompt", *words_of(launch)], stdin=subprocess.PIPE, stdout=subprocess.PIPE,
-            stderr=subprocess.STDOUT, text=True, errors="replace",
+            # What runs is the text as the adapter has it, however the file is by now.
+            [str(TOP / "qrev"), *words, "--prompt", "--no-lower", *words_of(launch)], stdin=subprocess.PIPE,
+            stdout=subprocess.PIPE, stderr=subprocess.STDOUT, text=True, errors="replace",
             env={**os.environ, "PYTHONUNBUFFERED": "1", "NO_COLOR": "1"})
         self.led: list[str] | None = None
 

@@ -165,7 +165,7 @@ class Search:
 
 def begin_check(launch: dict[str, Any], words: list[str], options: list[str]) -> subprocess.Popen[str]:
     """Begins the command that checks the run of a launch."""
-    command = [str(TOP / "qrev"), *words, "--check", *options, *words_of(launch)]
+    command = [str(TOP / "qrev"), *words, "--check", "--no-lower", *options, *words_of(launch)]
     nothing = subprocess.DEVNULL
     return subprocess.Popen(command, stdin=nothing, stdout=subprocess.PIPE, stderr=nothing, text=True,
                             errors="replace", env={**os.environ, "NO_COLOR": "1"})

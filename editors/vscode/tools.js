@@ -192,11 +192,12 @@ async function textOf(given) {
   return file;
 }
 
-// The words of `qrev` for a text, and for what a launch says of it. A text of whole QBE is lowered without a word.
+// The words of `qrev` for a text, and for what a launch says of it. A text of whole QBE is lowered without a word, unless the
+// launch forbids it.
 function wordsOf(file, launch) {
   const files = Array.isArray(launch.lower) ? launch.lower : [];
   const isAsked = launch.lower || launch.input || launch.files || launch.argv;
-  const lower = launch.lower !== false && isAsked ? ["--lower"] : [];
+  const lower = launch.lower === false ? ["--no-lower"] : isAsked ? ["--lower"] : [];
   return [...lower, ...(launch.input ? ["--input", launch.input] : []),
     ...(launch.files || []).flatMap((name) => ["--file", name]), file, ...files, ...(launch.args || []).map(String),
     ...(launch.entry ? ["--entry", launch.entry] : []), ...(launch.argv ? ["--", ...launch.argv] : [])];

@@ -1,5 +1,5 @@
-"""Reads a text as QBE does, and refuses what QBE refuses in a function. Lines may end in two bytes, as some editors write
-them, which QBE itself doesn't take."""
+"""Reads a text as QBE does, and refuses what QBE refuses in a function. Lines may end in two bytes, as some editors
+write them, which QBE itself doesn't take."""
 from terminal.reading.reader import TextReader as Reader
 from terminal.reading.tree import Function
 

@@ -119,8 +119,15 @@ def unasked_faults(wrapper: Wrapper) -> Results:
                                            (run.returncode, run.stdout[-9:], run.stderr))
     run = wrapper.run("--prompt", "whole.ssa", script="c\n")
     yield "command/the prompt lowers", differ(
-        "end", (True, "whole.ssa is of whole QBE: it was lowered, and is shown by its own lines\n"),
-        (" done 3\n" in run.stdout, run.stderr))
+        "end", (True, True, "whole.ssa is of whole QBE: it was lowered; `source:` at a stop is a line of its own\n"),
+        (" done 3\n" in run.stdout, "  source: whole.ssa:3\n" in run.stdout, run.stderr))
+    for word in ("--prompt", "--check"):
+        run = wrapper.run(word, "--no-lower", "whole.ssa")
+        yield f"command/{word} with --no-lower", differ(
+            "run", (1, True), (run.returncode, (run.stdout + run.stderr).startswith("whole.ssa:3: P2: ")))
+    run = wrapper.run("--lower", "--no-lower", "whole.ssa")
+    yield "command/both words", differ("run", (64, "qrev: --lower and --no-lower don't go together\n"),
+                                       (run.returncode, run.stderr))
     run = wrapper.run("--page", "--export", "out.html", "whole.ssa")
     yield "command/a page lowers", differ("status", (0, True), (run.returncode, (wrapper.top / "out.html").exists()))
     run = wrapper.run("whole.ssa")

@@ -337,7 +337,8 @@ export function w $main() {
 """
 PLACES_LINES: Lines = [
     ("info source", ["here: p.c:6\np.c: 6 lines in the text\n"]), ("list", ["p.c\n", ">  6      int a = twice(3);\n"]),
-    ("list -ssa", ["%t =w copy 3"]), ("list p.c:2", ["  1  int twice(int x) {^L\n", "> 6"]), ("list 1,3", ["  3      return y;\n"]),
+    ("list -ssa", ["%t =w copy 3"]), ("list p.c:2", ["  1  int twice(int x) {^L\n", "> 6"]),
+    ("list 1,3", ["p.c\n", "  3      return y;\n"]), ("list p.c:8,", [" 8      a = b + 1;\n", "10  }\n"]),
     ("list 9", ["  9      return a;"]), ("list $twice", ["function w $twice(w %x) {"]),
     ("list other.c:1", ["isn't found"]), ("b p.c:7", ["break 1: $main @start 2"]),
     ("tbreak a.ssa:9", ["break 2: $twice @start 2"]), ("b none.c:1", ["the sources are: p.c"]),
