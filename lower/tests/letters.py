@@ -171,9 +171,7 @@ def wide_doubles(calls: Calls) -> None:
                 result = calls.call(name, cls, f"l {place}", f"l {end}")
                 calls.line(f"%b{result[1:]} ={wide} cast {result}")
                 calls.plain("tell" if wide == "l" else "tell.w", f"{wide} %b{result[1:]}")
-                calls.line(f"%e{result[1:]} =l loadl {end}")
-                calls.line(f"%o{result[1:]} =l sub %e{result[1:]}, {place}")
-                calls.plain("tell", f"l %o{result[1:]}")
+                calls.kept(place, end)
 
 
 def kinds(calls: Calls) -> None:

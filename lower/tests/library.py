@@ -10,6 +10,7 @@ from typing import NamedTuple
 
 from .floats import string_of
 from .running import Results, Running, Skipped, differ
+from .telling import OPTION_LETTER
 
 LONG = (1 << 64) - 1
 BUFFER = 160
@@ -526,7 +527,7 @@ def is_there() -> bool:
 
 OPTION_WORDS = (b"-a", b"-b", b"-ab", b"-c", b"-cx", b"-ac", b"-acx y", b"-", b"--", b"word", b"-z", b"-za", b"-:", b"")
 OPTION_LETTERS = (b"abc:", b":abc:", b"c:za", b"")
-TRY_OPTIONS = """
+TRY_OPTIONS = OPTION_LETTER + """
 function $try(w %count, l %words, l %options) {
 @start
 	storew 0, $optind
@@ -535,11 +536,7 @@ function $try(w %count, l %words, l %options) {
 	%found =w call $getopt(w %count, l %words, l %options)
 	%argument =l loadl $optarg
 	%index =w loadw $optind
-	%letter =w loadw $optopt
-	%is.wrong =w ceqw %found, 63
-	%is.lacking =w ceqw %found, 58
-	%is.told =w or %is.wrong, %is.lacking
-	%told =w mul %letter, %is.told
+	%told =w call $option.letter(w %found)
 	%is.any =w cnel %argument, 0
 	jnz %is.any, @tell, @none
 @none

@@ -2,7 +2,7 @@
 random numbers of 48 bits, paths, names with numbers, arrays, messages, signals, locks, and what the system is asked."""
 from .calls import Calls, batch, native_fault
 from .running import Results, Running, differ
-from .telling import TELL
+from .telling import OPTION_LETTER, TELL
 
 # Options with names.
 
@@ -13,7 +13,7 @@ WORDS = (b"--all", b"--add=1", b"--add", b"--ad", b"--adde=", b"--append", b"--a
          b"-a", b"-b", b"-bx", b"-c", b"-cx", b"-ab", b"-ac", b"-z", b"-", b"word", b"other", b"", b"-file", b"-fi",
          b"-x", b"-x=3", b"-long", b"-all", b"-verbose", b"-f", b"--x=", b"--=x", b"-az", b"-;", b"-:")
 LETTERS = (b"ab::c:", b":ab::c:", b"+abc:", b"-abc:", b"-:ac:b", b"+:abc", b"", b":", b"abcf:")
-TRY_OPTIONS = """
+TRY_OPTIONS = OPTION_LETTER + """
 data $try.index = { w 0 }
 data $try.flag = { w 0 }
 data $try.form = { b "%d %d %d %d %d\\n", b 0 }
@@ -27,11 +27,7 @@ function $try(l %getopt, w %count, l %words, l %letters, l %options, w %told) {
 	%argument =l loadl $optarg
 	call $tell.text(l %argument)
 	%index =w loadw $optind
-	%letter =w loadw $optopt
-	%is.wrong =w ceqw %found, 63
-	%is.lacking =w ceqw %found, 58
-	%is.told =w or %is.wrong, %is.lacking
-	%letter =w mul %letter, %is.told
+	%letter =w call $option.letter(w %found)
 	%which =w loadw $try.index
 	%flag =w loadw $try.flag
 	%c =w call $printf(l $try.form, ..., w %found, w %index, w %letter, w %which, w %flag)

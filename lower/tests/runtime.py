@@ -2,7 +2,7 @@
 import random
 
 from .running import FOLDER, Results, Running, differ
-from .telling import TELL
+from .telling import TELL, over_bytes
 
 STRINGS = TELL + """
 data $a = { b "hello", b 0 }
@@ -567,24 +567,7 @@ HEAP_FRONT = """
 data $places = { z 96 }
 data $sum = { l 0 }
 data $f = { b "%ld\\0" }
-function $look(l %p, l %n) {
-@start
-	%end =l add %p, %n
-@loop
-	%at =l phi @start %p, @body %next
-	%c =w cnel %at, %end
-	jnz %c, @body, @end
-@body
-	%b =l loadub %at
-	%s =l loadl $sum
-	%t =l add %s, %b
-	storel %t, $sum
-	%next =l add %at, 1
-	jmp @loop
-@end
-	ret
-}
-"""
+""" + over_bytes("look", "%s =l loadl $sum\n\t%b =l extuw %byte\n\t%t =l add %s, %b\n\tstorel %t, $sum")
 
 
 def heap_fault(running: Running, seed: int) -> str | None:

@@ -1,4 +1,4 @@
-"""Functions with which the texts of tests say numbers, each with a space behind it."""
+"""Functions with which the texts of tests say numbers, each with a space behind it; and some of their kin."""
 
 TELL = """
 data $tell.form = { b "%ld ", b 0 }
@@ -12,6 +12,42 @@ function $tell.w(w %x) {
 	%y =l extsw %x
 	call $tell(l %y)
 	ret
+}
+"""
+
+
+def over_bytes(name: str, body: str, end: str = "") -> str:
+    """A function of an address and a count that does something with each byte there, `%byte`."""
+    return f"""
+function ${name}(l %p, l %count) {{
+@start
+	%end =l add %p, %count
+@loop
+	%at =l phi @start %p, @byte %next
+	%is =w cnel %at, %end
+	jnz %is, @byte, @end
+@byte
+	%byte =w loadub %at
+	{body}
+	%next =l add %at, 1
+	jmp @loop
+@end
+	{end}
+	ret
+}}
+"""
+
+
+# The letter of an option that isn't right, or 0, by what `getopt` or its kin gave.
+OPTION_LETTER = """
+function w $option.letter(w %found) {
+@start
+	%letter =w loadw $optopt
+	%is.wrong =w ceqw %found, 63
+	%is.lacking =w ceqw %found, 58
+	%is.told =w or %is.wrong, %is.lacking
+	%letter =w mul %letter, %is.told
+	ret %letter
 }
 """
 # The same for texts, bytes and the last error, which is then none.
@@ -30,22 +66,8 @@ function $tell.text(l %p) {
 	%c =w call $printf(l $tell.none, ...)
 	ret
 }
-function $tell.bytes(l %p, l %count) {
-@start
-	%end =l add %p, %count
-@loop
-	%at =l phi @start %p, @byte %next
-	%is =w cnel %at, %end
-	jnz %is, @byte, @end
-@byte
-	%byte =w loadub %at
-	%c =w call $printf(l $tell.byte.form, ..., w %byte)
-	%next =l add %at, 1
-	jmp @loop
-@end
-	%c =w call $putchar(w 32)
-	ret
-}
+""" + over_bytes("tell.bytes", "%c =w call $printf(l $tell.byte.form, ..., w %byte)",
+                 "%c =w call $putchar(w 32)") + """
 function $tell.error() {
 @start
 	%e =l call $__errno_location()
