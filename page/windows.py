@@ -45,8 +45,8 @@ SENT = WINDOW * 160
 class Overview:
     """Whole stacks at equal distances, from the start on, as far as they have come."""
 
-    def __init__(self, launch: Launch, table: Table, pipe: Pipe, pokes: tuple[Poke, ...] = ()):
-        self.launch, self.pipe, self.pokes = launch, pipe, pokes
+    def __init__(self, table: Table, pokes: tuple[Poke, ...] = ()):
+        self.pokes = pokes
         self.functions = {name: index for index, name in enumerate(table.program.functions)}
         self.stride, self.moves, self.end = FIRST_STRIDE, 0, ""
         self.stacks: list[list[int]] = []
@@ -54,18 +54,20 @@ class Overview:
         self.begun, self.seconds = time.monotonic(), 0.0
         self.over = threading.Event()
 
-    def look(self) -> None:
-        """Runs to the end, and takes a stack at each distance."""
+    def look(self, standing: Standing) -> Standing:
+        """Leads a process to the end, takes a stack at each distance, and gives where it stands then."""
         try:
+            standing = standing.go(self.at(self.moves))
             if not self.stacks:
-                self.take(self.pipe.ask("where")[0])
+                self.take(standing.pipe.ask("where")[0])
             while not self.end and not self.is_stopped and self.moves < MOST_MOVES:
-                self.advance()
+                self.advance(standing.pipe)
         except (Ended, OSError) as error:
             self.end = f"the debugger ended: {error}"
         self.seconds = time.monotonic() - self.begun
         self.is_done = True
         self.over.set()
+        return standing.stands(self.at(self.moves))
 
     def kept_of(self, before: Overview, moves: int) -> None:
         """Begins with the stacks of the run before, up to a move that is another one."""
@@ -77,10 +79,10 @@ class Overview:
         """A state of the run."""
         return Timeline(position, self.pokes).at(position)
 
-    def advance(self) -> None:
+    def advance(self, pipe: Pipe) -> None:
         states = [self.at(self.moves + index * self.stride) for index in range(AT_ONCE + 1)]
         legs = [lines_between(here, there) for here, there in zip(states, states[1:])]
-        answers = iter(self.pipe.ask(*[line for leg in legs for line in (*leg, "where")]))
+        answers = iter(pipe.ask(*[line for leg in legs for line in (*leg, "where")]))
         for leg in legs:
             moved = [next(answers) for _ in leg][-1]
             where = next(answers)
@@ -96,7 +98,7 @@ class Overview:
             # The next stack is a whole distance behind the last one that is kept.
             if len(self.stacks) % 2 == 0:
                 self.stacks.pop()
-                self.pipe.ask(f"back {self.stride}")
+                pipe.ask(f"back {self.stride}")
                 self.moves -= self.stride
             self.stacks = self.stacks[::2]
             self.stride *= 2
@@ -280,27 +282,23 @@ class Long:
 
     def __init__(self, launch: Launch, table: Table):
         self.launch, self.table = launch, table
-        self.overview = Overview(launch, table, replaying(launch))
+        self.overview = Overview(table)
         self.pool = Pool(launch, self.overview)
         self.begin()
 
     def begin(self) -> None:
-        threading.Thread(target=self.look, args=(self.overview,), daemon=True).start()
-
-    def look(self, overview: Overview) -> None:
-        overview.look()
-        self.pool.give(Standing(overview.at(overview.moves), overview.moves, overview.pokes, overview.pipe))
+        """Makes the overview in the background."""
+        overview, standing = self.overview, self.pool.take(self.overview.moves)
+        threading.Thread(target=lambda: self.pool.give(overview.look(standing)), daemon=True).start()
 
     def change(self, pokes: tuple[Poke, ...], position: int) -> None:
         """Goes on with another run, which has other pokes from a position on."""
         before = self.overview
         before.is_stopped = True
         before.over.wait()
-        there = Overview(self.launch, self.table, before.pipe, pokes)
-        there.kept_of(before, min(position, before.moves))
-        self.overview = there
-        self.pool.follow(there)
-        there.pipe = self.pool.take(there.moves).go(there.at(there.moves)).pipe
+        self.overview = Overview(self.table, pokes)
+        self.overview.kept_of(before, min(position, before.moves))
+        self.pool.follow(self.overview)
         self.begin()
 
     def window(self, position: int, base: int | None = None) -> Window:
