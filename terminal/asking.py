@@ -23,7 +23,8 @@ INSIDE = "--inside"
 CHANGES = (*MOVES, "break", "watch", "delete")
 
 
-@command("why", "why [--inside] [%x | WIDTH ADDRESS | N ADDRESS | out N | jump | call | not @b | N | back]", "watch")
+@command("why", "why [--inside] [%x | $d | WIDTH ADDRESS | N ADDRESS | out N | jump | call | not @b | N | back]",
+         "watch")
 def why(shell: Shell, rest: str) -> None:
     """Says where a value comes from: the instruction that set it, with its operands; `why N` asks on about the N-th of
     them, `why back` comes back. Alone it is about the end of the run or, before that, about how the run came here. `why
@@ -32,7 +33,7 @@ def why(shell: Shell, rest: str) -> None:
     one instruction; `--inside` looks into it."""
     words = [word for word in rest.split() if word != INSIDE]
     shell.causes.is_inside = INSIDE in rest.split()
-    rest = as_bytes(" ".join(words))
+    rest = shell.sized(as_bytes(" ".join(words)))
     words = rest.split()
     if words == ["back"]:
         if len(shell.chain) < 2:
@@ -82,7 +83,8 @@ def asked(shell: Shell, words: list[str], rest: str) -> Cause:
         width = words[0] if words[0] in FLOATS else ""
         return causes.of(causes.memory(shell.number(rest.partition(words[0])[2]), count, at, width))
     raise Wrong(
-        f"{rest}: %TEMPORARY, WIDTH ADDRESS, N ADDRESS, out N, jump, call, not @b, back or a number was expected")
+        f"{rest}: %TEMPORARY, $DATA, WIDTH ADDRESS, N ADDRESS, out N, jump, call, not @b, back or a number was "
+        "expected")
 
 
 def of_output(shell: Shell, text: str) -> Cause:

@@ -1,6 +1,7 @@
 """The prompt's lines: what each does, and what it prints. The commands themselves are in modules by their kinds."""
 from __future__ import annotations
 
+import re
 import shlex
 from dataclasses import dataclass
 from typing import Callable, Sequence
@@ -20,12 +21,14 @@ from .screen import Screen
 from .session import Session
 from .sourcemap import SourceMap
 from .timeline import Timeline
-from .values import FLOATS, FORMATS, as_float, bits_of, formatted, remarks, unsigned
+from .values import BITS, FLOATS, FORMATS, as_float, bits_of, formatted, remarks, unsigned
 from .waiting import Interrupted, Waiting
 
 MEGABYTE = 1 << 20
 FAULT = "a fault of the front end"
 MEMORY_TOLD = 512
+# An address in an object of data.
+IN_DATA = re.compile(r"(\$[\w.$]+)(?:\s*\+\s*(0x[0-9a-fA-F]+|[0-9]+))?")
 # How deeply files of commands, and commands at stops, may lead to one another.
 MOST_NESTED = 16
 
@@ -257,6 +260,20 @@ class Shell:
         if name not in addresses:
             raise Wrong(f"{name}: the program has no such data or function")
         return addresses[name]
+
+    def sized(self, text: str) -> str:
+        """An address in an object of data, with the width of the item that begins there before it; any other text as it
+        is."""
+        found = IN_DATA.fullmatch(text.strip())
+        data = next((each for each in self.session.program.data if found and each.name == found[1]), None)
+        if not found or not data:
+            return text
+        offset = int(found[2] or "0", 0)
+        floats = [cls for cls in FLOATS if self.lowered.float_at(data, data.address + offset, BITS[cls] // 8) == cls]
+        letter = floats[0] if floats else data.letter_at(offset)
+        if letter is None:
+            raise Wrong(f"{text}: no item of {data.name} with a width begins there, so say one: w {text}")
+        return f"{letter} {text}"
 
     def evaluate(self, text: str) -> Value:
         return evaluate(self.parsed(text), FrameState(self))

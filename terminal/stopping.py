@@ -104,16 +104,16 @@ def tbreak(shell: Shell, rest: str) -> None:
     add_breakpoint(shell, rest, True)
 
 
-@command("watch w", "watch %x | $f %x | WIDTH ADDRESS | N ADDRESS [if CONDITION]", "watch", is_repeated=False)
+@command("watch w", "watch %x | $f %x | $d | WIDTH ADDRESS | N ADDRESS [if CONDITION]", "watch", is_repeated=False)
 def watch(shell: Shell, rest: str) -> None:
-    """Stops where a value changes: %x of this frame alone, %x of any frame of $f, memory of a WIDTH b h w l, or s d of
-    floats, or a range of N bytes. A write of the same value is no change; on the stack bytes that are dead in between
-    aren't either."""
+    """Stops where a value changes: %x of this frame alone, %x of any frame of $f, the item of data at $d or $d+8,
+    memory of a WIDTH b h w l, or s d of floats, or a range of N bytes. A write of the same value is no change; on the
+    stack bytes that are dead in between aren't either."""
     what, condition, text = with_condition(shell, rest)
-    what = as_bytes(what)
+    what = shell.sized(as_bytes(what))
     words = what.split()
     if not words:
-        raise Wrong("watch %TEMPORARY, $FUNCTION %TEMPORARY, WIDTH ADDRESS or N ADDRESS was expected")
+        raise Wrong("watch %TEMPORARY, $DATA, $FUNCTION %TEMPORARY, WIDTH ADDRESS or N ADDRESS was expected")
     if len(words) == 2 and words[0].startswith("$") and words[1].startswith("%"):
         stop = Stop(what, [f"watch {what}"], [])
     elif len(words) == 1 and words[0].startswith("%"):
@@ -121,8 +121,8 @@ def watch(shell: Shell, rest: str) -> None:
     elif words[0] in BITS or words[0].isdigit():
         stop = memory_watch(shell, words[0], what.partition(" ")[2])
     else:
-        expected = "%TEMPORARY, $FUNCTION %TEMPORARY, a width (b, h, w, l, s, d) or a number of bytes was expected"
-        raise Wrong(f"{words[0]}: {expected}")
+        raise Wrong(f"{words[0]}: %TEMPORARY, $DATA, $FUNCTION %TEMPORARY, a width (b, h, w, l, s, d) or a number of "
+                    "bytes was expected")
     stop.condition, stop.condition_text = condition, text
     if stop.memory:
         # The address that is watched, whatever the temporaries in it hold when the line is typed again.

@@ -105,13 +105,19 @@ class Function:
 
 @dataclass(frozen=True)
 class Data:
-    """An object: where it lies, at which of its bytes an address of what begins, and the name of its section."""
+    """An object: where it lies, at which of its bytes an address of what begins, the name of its section, and the
+    letters of its items, but for zero bytes, by where they begin."""
     name: str
     line: int
     address: int
     size: int
     pointers: tuple[tuple[int, str], ...] = ()
     section: str = ""
+    items: tuple[tuple[int, str], ...] = ()
+
+    def letter_at(self, offset: int) -> str | None:
+        """The letter of the item that begins at a byte."""
+        return dict(self.items).get(offset)
 
 
 class View:
@@ -167,14 +173,16 @@ class View:
 def laid_out(read: tree.Data, end: int) -> Data:
     """An object behind the end of the one before: it lies at the next multiple of its alignment."""
     alignment = 16 if read.alignment is None else read.alignment
-    size, pointers = 0, []
+    size, pointers, items = 0, [], []
     for item in read.items:
         if item.is_global:
             pointers.append((size, str(item.value)))
+        if item.letter != "z":
+            items.append((size, item.letter))
         size += item_size(item.letter, str(item.value))
     # The name of a section is as it is written, between its quotes.
     return Data(read.name, read.line, -(-end // alignment) * alignment, size, tuple(pointers),
-                (read.section or "")[1:-1])
+                (read.section or "")[1:-1], tuple(items))
 
 
 def item_size(letter: str, written: str) -> int:
