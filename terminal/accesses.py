@@ -12,9 +12,9 @@ from typing import Iterator
 
 from .answers import Place, Touched, read_accesses, read_bytes, read_value
 from .frames import steps_begun
-from .scratch import MOST_BYTES, SLICE, Scratch
+from .scratch import MOST_BYTES, Scratch
 from .text import BUILT_IN, LOADED, STORED, Instruction, Operand, Program
-from .timeline import Poke, Timeline, lines_between
+from .timeline import Poke, Timeline
 from .values import BYTES
 
 MOST_STOPS = 60
@@ -73,24 +73,8 @@ class Accesses:
 
     def told(self, high: Timeline, low: int, address: int, count: int) -> list[Touched]:
         """The reads and writes of these bytes, as `accesses` tells them."""
-        found: list[Touched] = []
-        scratch = self.scratch.go(high.at(low))
-        for line in lines_between(scratch.timeline, high):
-            word, _, number = line.partition(" ")
-            left = int(number) if word == "step" else 0
-            if not left:
-                scratch.after(scratch.ask(line)[0], line)
-            while left:
-                before = scratch.timeline.position
-                answer = scratch.ask(f"accesses {min(left, SLICE)} {address} {count}")[0]
-                found += read_accesses(answer)
-                made = scratch.after(answer, "step") - before
-                if not made:
-                    return found
-                scratch.waiting.stop_if_pressed()
-                scratch.waiting.tell(scratch.timeline.position)
-                left -= made
-        return found
+        answers = self.scratch.along(high.at(low), high, lambda moves: f"accesses {moves} {address} {count}")
+        return [one for answer in answers for one in read_accesses(answer)]
 
     def places(self, positions: list[int], run: Timeline) -> list[Place]:
         """The places at positions of a run, from the last one back."""

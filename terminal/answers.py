@@ -4,8 +4,8 @@ from __future__ import annotations
 import re
 from dataclasses import dataclass
 
-COMMANDS = ("step", "accesses", "back", "continue", "reverse", "break", "watch", "delete", "stops", "set", "poke",
-            "print", "temps", "mem", "where", "list", "out", "quit")
+COMMANDS = ("step", "accesses", "counts", "back", "continue", "reverse", "break", "watch", "delete", "stops", "set",
+            "poke", "print", "temps", "mem", "where", "list", "out", "quit")
 
 
 @dataclass(frozen=True)
@@ -68,6 +68,16 @@ def read_accesses(lines: list[str]) -> list[Touched]:
             position, address, count = rest.split(" ")
             found.append(Touched(word == "write", int(position), int(address), int(count)))
     return found
+
+
+def read_count(line: str) -> tuple[int, Place] | None:
+    """A line of the answer of `counts`: how many moves were made from a place."""
+    word, _, rest = line.partition(" ")
+    count, _, place = rest.partition(" ")
+    if word != "count":
+        return None
+    function, label, index = place.split(" ")
+    return int(count), Place(0, function, label, int(index))
 
 
 def read_value(line: str) -> int | None:

@@ -194,6 +194,25 @@ class Scratch:
             self.timeline = self.timeline.moved(moved.place.position, line)
         return self.timeline.position
 
+    def along(self, low: Timeline, high: Timeline, told: Callable[[int], str]) -> Iterator[list[str]]:
+        """Goes from one state of a run to a later one by a command that makes so many moves; what that answers."""
+        self.go(low)
+        for line in lines_between(self.timeline, high):
+            word, _, number = line.partition(" ")
+            left = int(number) if word == "step" else 0
+            if not left:
+                self.after(self.ask(line)[0], line)
+            while left:
+                before = self.timeline.position
+                answer = self.ask(told(min(left, SLICE)))[0]
+                made = self.after(answer, "step") - before
+                yield answer
+                if not made:
+                    return
+                self.waiting.stop_if_pressed()
+                self.waiting.tell(self.timeline.position)
+                left -= made
+
     # What is asked of the state where it stands.
 
     def where(self) -> list[Place]:

@@ -236,6 +236,18 @@ ASKED: Lines = [
     ("why w $balance", ["by hand: #37 poke w $balance 5"]),
 ]
 
+# Five rounds of $fill and four of $main, counted by hand.
+COUNTED: Lines = [
+    ("counts", ["49   55.7%  $fill, entered 1 time", "39   44.3%  $main, entered 1 time",
+                "88 moves in the run from #0 to #88 done 30"]),
+    ("step 30", ["#30"]),
+    ("counts fill", ["6  11      %more =w cslew %i, 4", "5  14      %square =w mul %i, %i", "1  22      ret",
+                     "$fill: 49 moves, entered 1 time in the run from #0 to #88"]),
+    ("counts $main", ["4  39      %next =l add %i, 1", "1  44      ret %total", "$main: 39 moves"]),
+    ("step 5", ["#35"]), ("counts $no", ["$no: a function was expected; there are $fill, $main"]),
+    ("poke w $squares 7", ["#36"]), ("counts", ["88 moves in the run from #0 to #89 done 37"]),
+]
+
 FIBONACCI: Lines = [
     ("b $fib if depth == 4", ["break 1"]), ("c", ["stop: break 1", "$fib @start 0"]), ("p %n", ["%n = 4"]),
     ("p depth", ["= 4"]),
