@@ -9,6 +9,7 @@ from .asking import counted, told_bounds, whole_run
 from .elsewhere import names_meant
 from .expressions import Wrong
 from .scratch import Scratch
+from .screen import readable
 from .shell import Shell, command
 from .text import Function
 from .timeline import Timeline
@@ -57,13 +58,38 @@ def told(function: Function, found: Counter[Site]) -> str:
 
 
 def lines_told(shell: Shell, function: Function, found: Counter[Site]) -> Iterator[str]:
-    """The lines of a function behind how often each was done. Labels and phis are part of the jumps that lead there."""
+    """The lines of a function behind how often each was done: those of its source if there is one. Of several
+    instructions in a line the one that was done most often counts. Labels and phis are part of the jumps that lead
+    there."""
     at = {instruction.line: found[function.name, label, index]
           for label, index, instruction in function.places() if index >= 0}
-    width, digits = len(str(max(at.values(), default=0))), len(str(max(at, default=function.line) + 1))
-    for number in range(function.line, max(at, default=function.line) + 1):
+    source = source_of(shell, at)
+    if source:
+        file, at = source
+        yield file
+    texts = shell.screen.map.read(source[0]) if source else shell.session.program.lines
+    first, last = min(at) if source else function.line, max(at)
+    width, digits = len(str(max(at.values()))), len(str(last))
+    for number in range(first, last + 1):
         count = str(at[number]) if number in at else ""
-        yield shell.screen.cut(f"{count:>{width}}  {number:{digits}}  {shell.screen.text_line(number)}")
+        yield shell.screen.cut(f"{count:>{width}}  {number:{digits}}  {readable(texts[number - 1])}")
+
+
+def source_of(shell: Shell, at: dict[int, int]) -> tuple[str, dict[int, int]] | None:
+    """The source that most instructions come from, or the text that was lowered, if it is found; and its lines with the
+    greatest count of each."""
+    origins = {line: shell.screen.map.origins(line) for line in at}
+    sources = {line: shell.screen.map.source(line) for line in at}
+    files = Counter(source.file for source in sources.values() if source) or \
+        Counter(found[-1].file for found in origins.values() if found)
+    if not files:
+        return None
+    file, lines = files.most_common(1)[0][0], Counter[int]()
+    for line, count in at.items():
+        for origin in origins[line]:
+            if origin.file == file:
+                lines[origin.number] = max(count, lines[origin.number])
+    return (file, lines) if len(shell.screen.map.read(file)) >= max(lines) else None
 
 
 def functions_told(shell: Shell, found: Counter[Site]) -> Iterator[str]:

@@ -160,14 +160,11 @@ class Screen:
         lines = self.session.program.lines
         digits = len(str(min(last, len(lines))))
         for number in range(max(first, 1), min(last, len(lines)) + 1):
-            line = f"{'>' if number == marked else ' '} {number:{digits}}  {self.text_line(number)}"
+            line = f"{'>' if number == marked else ' '} {number:{digits}}  {readable(lines[number - 1])}"
             if number == marked and beside:
                 yield from self.with_values(line, beside)
             else:
                 yield self.cut(line)
-
-    def text_line(self, number: int) -> str:
-        return readable(self.session.program.lines[number - 1])
 
     def with_values(self, line: str, beside: list[str]) -> Iterator[str]:
         """A line with values beside it, or on lines below where the terminal is too narrow."""

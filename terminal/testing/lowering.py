@@ -337,6 +337,8 @@ export function w $main() {
 """
 PLACES_LINES: Lines = [
     ("info source", ["here: p.c:6\np.c: 6 lines in the text\n"]), ("list", ["p.c\n", ">  6      int a = twice(3);\n"]),
+    ("counts twice", ["p.c\n2  2      int y = x * 2;\n2  3      return y;\n$twice: 6 moves, entered 2 times"]),
+    ("counts", ["$twice, entered 2 times\n", "%  the runtime\n"]),
     ("list -ssa", ["%t =w copy 3"]), ("list p.c:2", ["  1  int twice(int x) {^L\n", "> 6"]),
     ("list 1,3", ["p.c\n", "  3      return y;\n"]), ("list p.c:8,", [" 8      a = b + 1;\n", "10  }\n"]),
     ("list 9", ["  9      return a;"]), ("list $twice", ["function w $twice(w %x) {"]),
