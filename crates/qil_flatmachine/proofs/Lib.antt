@@ -18,3 +18,5 @@ pub mod Viewing
 pub mod Replacing
 pub mod Setting
 pub mod Copying
+pub mod Quiet
+pub mod Watching

@@ -7,3 +7,4 @@ pub mod Passing
 pub mod Faults
 pub mod Kept
 pub mod Stepped
+pub mod Quiet
