@@ -1,3 +1,4 @@
 -- The lemmas of this crate.
 pub mod Here
 pub mod Named
+pub mod Listed

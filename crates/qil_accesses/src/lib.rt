@@ -6,9 +6,11 @@
 
 mod access;
 mod ahead;
+mod laws;
 mod list;
 mod made;
 
 pub use access::{Access, Action};
 pub use ahead::{Ahead, look_ahead};
+pub use laws::accesses_are_those_of_each_state;
 pub use list::{AccessList, note_move};
