@@ -91,8 +91,8 @@ GLOBAL, TEMP, LABEL = name_after("$"), name_after("%"), name_after("@")
 
 # The shapes of the words of each command, and how many of them it needs. The second word of `watch` hangs on the first.
 COMMANDS: dict[str, tuple[list[Shape | None], int]] = {
-    "step": ([COUNT], 0), "accesses": ([COUNT, address, COUNT], 3), "back": ([COUNT], 0), "continue": ([], 0),
-    "reverse": ([], 0),
+    "step": ([COUNT], 0), "accesses": ([COUNT, address, COUNT], 3), "counts": ([COUNT], 1), "back": ([COUNT], 0),
+    "continue": ([], 0), "reverse": ([], 0),
     "break": ([GLOBAL, LABEL, WORD], 1), "watch": ([watched, None], 2), "delete": ([WORD], 1), "stops": ([], 0),
     "set": ([TEMP, value], 2), "poke": ([width, address, value], 3), "print": ([TEMP], 1), "temps": ([], 0),
     "mem": ([address, number(1, 256)], 2), "where": ([], 0), "list": ([], 0), "out": ([], 0), "quit": ([], 0),
@@ -201,6 +201,21 @@ class Session:
             lines += [f"{action} #{position} {first} {length}\n" for action, first, length in self.accessed(before)
                       if max(first, start) < min(first + length, start + size)]
             count -= 1
+        return "".join(lines) + self.place()
+
+    def counts_(self, count: int) -> str:
+        if self.now.is_over:
+            raise No("at end")
+        met: dict[tuple[int, int, int], int] = {}
+        while count > 0 and not self.now.is_over and len(met) < MOST_LINES:
+            frame = self.inner()
+            place = frame.func, frame.block, frame.at
+            met[place] = met.get(place, 0) + 1
+            self.add(self.machine.step(self.now))
+            count -= 1
+        lines = [f"count {met[f, b, at]} ${func.name} @{block.label} {at}\n"
+                 for f, func in enumerate(self.machine.funcs) for b, block in enumerate(func.blocks)
+                 for at in range(len(block.insts) + 1) if (f, b, at) in met]
         return "".join(lines) + self.place()
 
     def accessed(self, before: State) -> list[tuple[str, int, int]]:

@@ -40,6 +40,7 @@ impl<'a> LineName<'a> {
 pub enum Verb {
     Step,
     Accesses,
+    Counts,
     Back,
     Continue,
     Reverse,
@@ -88,6 +89,8 @@ pub enum Command<'a> {
     Step(u32),
     /// Move forward up to this many times, and show what reads or writes one of so many bytes from an address on.
     Accesses(u32, Address<'a>, u32),
+    /// Move forward up to this many times, and show how many of the moves were made from each place.
+    Counts(u32),
     /// Move backward up to this many times, 1 to 4,294,967,295.
     Back(u32),
     /// Move forward to the first place with a reason to stop.

@@ -43,6 +43,9 @@ fn moving_verb(word: &[u8]) -> Option<Verb>
     if word == b"accesses".as_slice() {
         return Some(Verb::Accesses);
     }
+    if word == b"counts".as_slice() {
+        return Some(Verb::Counts);
+    }
     None
 }
 
@@ -130,6 +133,13 @@ fn accesses<'a>(words: &mut Words<'a>) -> Result<Command<'a>, Refused>
     alone(Command::Accesses(moves, address, count), words)
 }
 
+fn counts<'a>(words: &mut Words<'a>) -> Result<Command<'a>, Refused>
+    ensures { result ≡ spelled verbs.Counts (words_of words.old.rest.now) }
+{
+    let moves = count_needed(words)?;
+    alone(Command::Counts(moves), words)
+}
+
 fn back<'a>(words: &mut Words<'a>) -> Result<Command<'a>, Refused>
     ensures { result ≡ spelled verbs.Back (words_of words.old.rest.now) }
 {
@@ -214,6 +224,7 @@ fn spelled<'a>(verb: Verb, words: &mut Words<'a>) -> Result<Command<'a>, Refused
     match verb {
         Verb::Step => step(words),
         Verb::Accesses => accesses(words),
+        Verb::Counts => counts(words),
         Verb::Back => back(words),
         Verb::Continue => alone(Command::Continue, words),
         Verb::Reverse => alone(Command::Reverse, words),

@@ -6,6 +6,7 @@ use Rattle.qil_commands.specs.declared.command.Refused.TheVariants.{LineTooLong,
 use Rattle.qil_accesses.specs.declared.access.Action.{Action}
 use Rattle.qil_accesses.specs.declared.access.Action.TheVariants.{Read, Write}
 use Rattle.qil_accesses.specs.declared.access.Access.{Access}
+use Rattle.qil_counts.specs.declared.count.Count.{Count}
 use Rattle.qil_semantics.specs.State.{State}
 use Rattle.qil_semantics.specs.declared.reason.Reason.{Reason}
 use Rattle.qil_semantics.specs.declared.reason.Reason.TheVariants as reasons
@@ -71,6 +72,14 @@ action_word Write = codes "write #"
 abbrev pub access_line : Access → List ℕ
 access_line one =
     text_of (action_word one.action ∷ decimal one.position ∷ codes " " ∷ decimal one.address ∷ codes " " ∷ decimal one.count ∷ codes "\n" ∷ [])
+
+-- ---- counts
+
+-- `count C $F @B K`
+abbrev pub count_line : {A : Type 0} → Program A → Count → List ℕ
+count_line p one =
+    text_of (codes "count " ∷ decimal one.count ∷ codes " $" ∷ func_name (func_at p one.place.func.index) ∷ codes " @" ∷ label_in (block_at p one.place.func.index one.place.block.index)
+    ∷ codes " " ∷ decimal one.place.index ∷ codes "\n" ∷ [])
 
 -- ---- stops
 

@@ -56,7 +56,7 @@ fn put_list<P: Put>(out: &mut P, list: &[Access]) -> Result<(), PutError>
 }
 
 /// Puts the place, and before it why no more moves were made, if that is said.
-fn put_moved<'s, 'c, A: Allocator + Copy + 'c, M: Readers<A, Code<'c, A>>, P: Put>(
+pub fn put_moved<'s, 'c, A: Allocator + Copy + 'c, M: Readers<A, Code<'c, A>>, P: Put>(
     out: &'s mut P,
     position: u64,
     machine: &'s M,

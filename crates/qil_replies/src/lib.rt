@@ -5,6 +5,7 @@
 #![tactic(auto)]
 
 mod accesses;
+mod counts;
 mod put;
 mod reply;
 mod script;

@@ -8,6 +8,7 @@ ghost use Rattle.qil_replies.specs.Texts.{reason_line};
 ghost use Rattle.qil_replies.specs.Reply.{reply_text};
 
 use crate::accesses::put_accesses;
+use crate::counts::put_counts;
 use crate::reply::Reply;
 use crate::stops::put_stops;
 use crate::texts::{put_deleted, put_reason, put_stop, refusal_words};
@@ -58,6 +59,10 @@ pub fn put_reply<'c, A: Allocator + Copy + 'c, M: Readers<A, Code<'c, A>>, P: Pu
         Reply::Accesses(list, reason) => {
             let list = list.as_slice();
             put_accesses(out, position, machine, list, *reason)
+        }
+        Reply::Counts(list, reason) => {
+            let list = list.as_slice();
+            put_counts(out, position, machine, list, *reason)
         }
         Reply::Added(number, kind) => put_stop(code_of(machine), out, *number, *kind),
         Reply::Deleted(number) => put_deleted(out, *number),

@@ -47,7 +47,7 @@ unfolding moved least
 forward_none p zero t lt = refl
 forward_none p (suc k) t lt = absurd (omega (arith, lt))
 
-moved_more : {A : Type 0} (p : Program A) (k : ℕ) (t now new : Timeline) → now ≡ moved p k t → new ≡ forward p now → new ≡ moved p (k + 1) t
+pub moved_more : {A : Type 0} (p : Program A) (k : ℕ) (t now new : Timeline) → now ≡ moved p k t → new ≡ forward p now → new ≡ moved p (k + 1) t
 unfolding moved
 moved_more p k t now new e f =
     let one : k + 1 ≡ suc k = omega arith in
@@ -85,11 +85,11 @@ gathered_more {A} s a m k now new list list' at way goes f here added =
 pub gathered_position : {A : Type 0} (s : SessionState A) (a m k : ℕ) (now : Timeline) (list : List Access) → IsGathered s a m k now list → position now ≡ position s.timeline + k
 gathered_position s a m k now list way = ap position way.moves ∙ moved-position s.program k s.timeline
 
-either_goes : (b c : Bool) → (b || c) ≡ false → b ≡ false
+pub either_goes : (b c : Bool) → (b || c) ≡ false → b ≡ false
 either_goes true c e = absurd (true≢false e)
 either_goes false c e = refl
 
-either_room : (b c : Bool) → (b || c) ≡ false → c ≡ false
+pub either_room : (b c : Bool) → (b || c) ≡ false → c ≡ false
 either_room true c e = absurd (true≢false e)
 either_room false c e = e
 
@@ -134,7 +134,7 @@ gathers_near s a m n new list is_short all small =
 -- ---- the replies
 
 -- no number up to k holds, so the least is above it
-least-above : (test : ℕ → Bool) (n k : ℕ) → k < n → ((j : ℕ) → j < suc k → test j ≡ false) → k < least test n
+pub least-above : (test : ℕ → Bool) (n k : ℕ) → k < n → ((j : ℕ) → j < suc k → test j ≡ false) → k < least test n
 unfolding least
 least-above test zero k lt below = absurd (omega (arith, lt))
 least-above test (suc n) zero lt below =
@@ -143,7 +143,7 @@ least-above test (suc n) (suc k) lt below =
     let deep : k < least (λ j. test (suc j)) n = least-above (λ j. test (suc j)) n k (omega (arith, lt)) (λ j less. below (suc j) (omega (arith, less))) in
     subst (λ i. suc k < i) (sym (cond-false (test zero) zero (suc (least (λ j. test (suc j)) n)) (below zero (omega arith)))) (omega (arith, deep))
 
-below_next : (test : ℕ → Bool) (k : ℕ) → ((j : ℕ) → j < k → test j ≡ false) → test k ≡ false → (j : ℕ) → j < suc k → test j ≡ false
+pub below_next : (test : ℕ → Bool) (k : ℕ) → ((j : ℕ) → j < k → test j ≡ false) → test k ≡ false → (j : ℕ) → j < suc k → test j ≡ false
 below_next test k below here j lt = below_more (λ i. test i ≡ false) k below here j (omega (arith, lt))
 
 pub replies_over : {A : Type 0} {wants : Bool} (p : Program A) (t : Timeline) (stops : Listed) (limit n m : ℕ) (at : Address) →

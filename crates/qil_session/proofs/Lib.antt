@@ -1,6 +1,7 @@
 -- The lemmas of this crate.
 pub mod MoveAnswers
 pub mod AccessAnswers
+pub mod CountAnswers
 pub mod PokeAnswers
 pub mod StopAnswers
 pub mod ShownAnswers

@@ -34,6 +34,7 @@ use Rattle.qil_replies.proofs.ReachedLemmas.{Reported-line, Reported-answered, n
 quit_is : (said : Result (Option Command) Refused) → is_quit said ≡ true → said ≡ Ok (Some commands.Quit)
 quit_is (Ok (Some (commands.Step n))) h = absurd (false≢true h)
 quit_is (Ok (Some (commands.Accesses n at m))) h = absurd (false≢true h)
+quit_is (Ok (Some (commands.Counts n))) h = absurd (false≢true h)
 quit_is (Ok (Some (commands.Back n))) h = absurd (false≢true h)
 quit_is (Ok (Some commands.Continue)) h = absurd (false≢true h)
 quit_is (Ok (Some commands.Reverse)) h = absurd (false≢true h)

@@ -26,7 +26,7 @@ use std::alloc::Allocator;
 
 /// Whether the run is over.
 #[inline(always)]
-fn is_at_end<'c, A: Allocator + Copy + 'c, H: Runs<A, Code<'c, A>>>(history: &H) -> bool
+pub fn is_at_end<'c, A: Allocator + Copy + 'c, H: Runs<A, Code<'c, A>>>(history: &H) -> bool
     ensures { result ≡ at_end (H.timeline history.now) }
 {
     is_over(history.machine())
@@ -100,7 +100,7 @@ fn gather<'c, A: Allocator + Copy + 'c, H: Runs<A, Code<'c, A>>>(
 }
 
 /// Why no more moves were made, if there was no memory for one.
-fn reason_if(is_short: bool) -> Option<Reason>
+pub fn reason_if(is_short: bool) -> Option<Reason>
     ensures { result ≡ cond is_short (Some Memory) None }
 {
     if is_short { Some(Reason::Memory) } else { None }

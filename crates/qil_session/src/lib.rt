@@ -7,6 +7,7 @@
 
 mod accessing;
 mod answer;
+mod counting;
 mod moves;
 mod poking;
 mod serving;

@@ -11,6 +11,7 @@ ghost use Rattle.qil_stops.specs.Named.{named_stops};
 ghost use Rattle.qil_stops.specs.Depths.{RunsToDepth, RunsBackToDepth};
 
 use crate::accessing::accesses;
+use crate::counting::counts;
 use crate::moves::{answer_continue, answer_reverse, back, step};
 use crate::poking::{poke, set};
 use crate::showing::show_bytes;
@@ -112,6 +113,7 @@ impl<'c, A: Allocator + Copy + 'c, H: Runs<A, Code<'c, A>>> Session<A, H> {
             Command::Accesses(moves, address, count) => {
                 accesses(&mut self.history, self.alloc, moves, address, count)
             }
+            Command::Counts(moves) => counts(&mut self.history, self.alloc, moves),
             Command::Back(count) => back(&mut self.history, count),
             Command::Continue => answer_continue(&mut self.history, &self.stops, self.limit),
             Command::Reverse => answer_reverse(&mut self.history, &self.stops, self.limit),

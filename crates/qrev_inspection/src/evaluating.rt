@@ -119,6 +119,7 @@ fn is_move(line: &[u8]) -> bool {
         Ok(Some(
             Command::Step(_)
                 | Command::Accesses(..)
+                | Command::Counts(_)
                 | Command::Back(_)
                 | Command::Continue
                 | Command::Reverse

@@ -65,6 +65,7 @@ pub fn done_by<A: Allocator>(reply: &Reply<'_, A>) -> Done
         Reply::Place => Done::Moved,
         Reply::Stopped(reason) => Done::Stopped(*reason),
         Reply::Accesses(_, reason) => moved_or_stopped(*reason),
+        Reply::Counts(_, reason) => moved_or_stopped(*reason),
         Reply::Added(number, _) => Done::Added(*number),
         _ => Done::Told,
     }

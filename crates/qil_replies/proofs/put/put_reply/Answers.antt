@@ -10,7 +10,8 @@ use Rattle.qil_render.specs.qil_state.State.{state_of}
 use Rattle.qil_render.specs.Shown.{printed}
 use Rattle.qil_replies.specs.Reply.{reply_text}
 use Rattle.qil_accesses.specs.declared.access.Access.{Access}
-use Rattle.qil_replies.specs.Texts.{stop_line, stops_shown, access_line, place_text}
+use Rattle.qil_counts.specs.declared.count.Count.{Count}
+use Rattle.qil_replies.specs.Texts.{stop_line, stops_shown, access_line, count_line, place_text}
 use Rattle.qil_replies.proofs.put.put_reply.Goals as goal
 
 pub returns-in-Nothing : goal.returns-in-Nothing
@@ -33,6 +34,12 @@ pub returns-in-Accesses : goal.returns-in-Accesses
 unfolding reply_text
 returns-in-Accesses g c =
     rw c.in-Accesses.is (HasPut-as (ap (λ (list : List Access). flat_map access_line list ++ place_text c.in-Accesses.reason c.args.position (state_of (g.M.Readers.whole c.args.machine.now))) c.as_slice-list.ensures) c.put_accesses.ensures)
+
+pub returns-in-Counts : goal.returns-in-Counts
+unfolding reply_text
+returns-in-Counts g c =
+    let w = g.M.Readers.whole c.args.machine.now in
+    rw c.in-Counts.is (HasPut-as (ap (λ (list : List Count). flat_map (count_line w.program) list ++ place_text c.in-Counts.reason c.args.position (state_of w)) c.as_slice-list-in-Counts.ensures) c.put_counts.ensures)
 
 pub returns-in-Added : goal.returns-in-Added
 unfolding reply_text

@@ -1,0 +1,3 @@
+-- The definitions.
+pub mod Counts
+pub mod Rows
