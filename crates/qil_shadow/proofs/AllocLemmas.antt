@@ -66,7 +66,7 @@ pub record IsAlloc {A : Type 0} (p : Program A) (place : Place) (slots : List (O
   pub slot : to ≡ slot_in (names_of p place.func.index) onto.name
   pub value : value_in slots count ≡ Some (first vs)
 
-is_alloc : {A : Type 0} (p : Program A) (place : Place) (slots : List (Option ℕ)) (class : Class) (to : Slot) (op : AllocOp) (count : NumberedOperand) (kind : InstKind A) (vs : List ℕ)
+pub is_alloc : {A : Type 0} (p : Program A) (place : Place) (slots : List (Option ℕ)) (class : Class) (to : Slot) (op : AllocOp) (count : NumberedOperand) (kind : InstKind A) (vs : List ℕ)
     → IsInst p place slots (numbered.Alloc class to op count) kind vs → IsAlloc p place slots to op count kind vs
 is_alloc p place slots class to op count (insts.Assign x e) vs is = absurd (let e = is.number in cc)
 is_alloc p place slots class to op count (insts.Store w a b) vs is = absurd (let e = is.number in cc)

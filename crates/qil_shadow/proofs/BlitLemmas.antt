@@ -64,7 +64,7 @@ pub record IsBlit {A : Type 0} (p : Program A) (place : Place) (slots : List (Op
   pub at : value_in slots source ≡ Some (first vs)
   pub to : value_in slots target ≡ Some (second vs)
 
-is_blit : {A : Type 0} (p : Program A) (place : Place) (slots : List (Option ℕ)) (source target : NumberedOperand) (count : ℕ) (kind : InstKind A) (vs : List ℕ)
+pub is_blit : {A : Type 0} (p : Program A) (place : Place) (slots : List (Option ℕ)) (source target : NumberedOperand) (count : ℕ) (kind : InstKind A) (vs : List ℕ)
     → IsInst p place slots (numbered.Blit source target count) kind vs → IsBlit p place slots source target count kind vs
 is_blit p place slots source target count (insts.Assign x e) vs is = absurd (let e = is.number in cc)
 is_blit p place slots source target count (insts.Alloc x op n) vs is = absurd (let e = is.number in cc)

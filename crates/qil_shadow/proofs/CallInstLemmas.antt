@@ -120,7 +120,7 @@ pub record IsCall {A : Type 0} (p : Program A) (place : Place) (slots : List (Op
   pub arguments : AreArguments p place args given
   pub value : value_in slots callee ≡ Some (first vs)
 
-is_call : {A : Type 0} (p : Program A) (place : Place) (slots : List (Option ℕ)) (to : Option Receiver) (callee : NumberedOperand) (args : List NumberedArgument) (kind : InstKind A) (vs : List ℕ)
+pub is_call : {A : Type 0} (p : Program A) (place : Place) (slots : List (Option ℕ)) (to : Option Receiver) (callee : NumberedOperand) (args : List NumberedArgument) (kind : InstKind A) (vs : List ℕ)
     → IsInst p place slots (numbered.Call to callee args) kind vs → IsCall p place slots to callee args kind vs
 is_call p place slots to callee args (insts.Assign x e) vs is = absurd (let e = is.number in cc)
 is_call p place slots to callee args (insts.Alloc x op n) vs is = absurd (let e = is.number in cc)
@@ -158,7 +158,7 @@ none_accessed : {A : Type 0} (p : Program A) (place : Place) (slots : List (Opti
     → IsCall p place slots to callee args kind vs → inst_accesses p s t kind vs ≡ []
 none_accessed {A} p place slots to callee args was now kind vs s t k = ap (λ (i : InstKind A). inst_accesses p s t i vs) k.same
 
-sound_call : {A : Type 0} (p : Program A) (place : Place) (slots : List (Option ℕ)) (to : Option Receiver) (callee : NumberedOperand) (args : List NumberedArgument) (kind : InstKind A) (vs : List ℕ) (s : State) (n : ℕ) (o : Option Callee)
+pub sound_call : {A : Type 0} (p : Program A) (place : Place) (slots : List (Option ℕ)) (to : Option Receiver) (callee : NumberedOperand) (args : List NumberedArgument) (kind : InstKind A) (vs : List ℕ) (s : State) (n : ℕ) (o : Option Callee)
     → IsCall p place slots to callee args kind vs → o ≡ callee_at p (first vs) → IsSound p s n kind vs → CallIsSound n o
 sound_call {A} p place slots to callee args kind vs s n o k is sound = subst (CallIsSound n) (sym is) (subst (λ (i : InstKind A). IsSound p s n i vs) k.same sound)
 
@@ -175,7 +175,7 @@ call_of_nothing {A} p place slots to callee args was now a value nothing found =
 
 -- ---- a function of the program
 
-named_kept : {A : Type 0} (p : Program A) (fs : List ℕ) (was now : Shadow A) → Keeps was now → named p fs now ≡ named p fs was
+pub named_kept : {A : Type 0} (p : Program A) (fs : List ℕ) (was now : Shadow A) → Keeps was now → named p fs now ≡ named p fs was
 named_kept p fs was now k = λ j. shadow_by p fs (k.calls_are j).calls (k.memory_is j) (k.calls_are j).objects.objects (k.position_is j)
 
 pub call_of_function : {A : Type 0} (p : Program A) (place : Place) (slots : List (Option ℕ)) (to : Option Receiver) (callee : NumberedOperand) (args : List NumberedArgument) (was mid now : Shadow A) (a : ℕ) (func : FuncId)

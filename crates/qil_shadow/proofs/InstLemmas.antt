@@ -56,7 +56,7 @@ second_held o q os (v ∷ (w ∷ vs)) e = ap (λ xs. get_or xs 1 None) e
 
 -- ---- what is read
 
-some_is : {X : Type 0} (x y : X) → Some x ≡ Some y → x ≡ y
+pub some_is : {X : Type 0} (x y : X) → Some x ≡ Some y → x ≡ y
 some_is x y e = ap (λ o. unwrap_or o x) e
 
 read_by : {A : Type 0} (b : Block A) (o : Option (Inst A)) (r : Reading) (kind : InstKind A) → option_map (λ i. i.kind) o ≡ Some kind → operand_by b o r ≡ operand_in kind r

@@ -30,3 +30,6 @@ pub mod PutLemmas
 pub mod PassLemmas
 pub mod CallInstLemmas
 pub mod EnterLemmas
+pub mod ShapeLemmas
+pub mod PhiLemmas
+pub mod JumpLemmas

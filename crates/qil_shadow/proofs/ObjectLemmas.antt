@@ -16,7 +16,7 @@ use Rattle.qil_shadow.specs.Table.{ObjectTable, is_living, has_one, has_byte, ob
 
 -- ---- lists
 
-each_at : {X : Type 0} (P : X → Type 0) (xs : List X) (i : ℕ) (x : X) → AllByRecursion P xs → slice_get xs i ≡ Some x → P x
+pub each_at : {X : Type 0} (P : X → Type 0) (xs : List X) (i : ℕ) (x : X) → AllByRecursion P xs → slice_get xs i ≡ Some x → P x
 each_at P [] i x all is = absurd (cc)
 each_at P (y ∷ ys) zero x all is = subst (λ o. P (unwrap_or o y)) is all.0
 each_at P (y ∷ ys) (suc i) x all is = each_at P ys i x all.1 is

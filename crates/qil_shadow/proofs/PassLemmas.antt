@@ -131,16 +131,16 @@ pub first_frames : {A : Type 0} (p : Program A) (i : ℕ) (fs : List ℕ) (cs : 
 first_frames p i fs [] slots = absurd slots
 first_frames p i fs (c ∷ cs) slots = refl
 
-slots_held : {A : Type 0} (p : Program A) (i : ℕ) (s : Slot) (m : Origin) (cs : List CallShadow) → HasSlots p i cs → HasSlots p i (with_held s m cs)
+pub slots_held : {A : Type 0} (p : Program A) (i : ℕ) (s : Slot) (m : Origin) (cs : List CallShadow) → HasSlots p i cs → HasSlots p i (with_held s m cs)
 slots_held p i s m [] slots = slots
 slots_held p i s m (c ∷ cs) slots = slots ∙ sym (length-set c.origins s.index m)
 
-innermost_held : {A : Type 0} (p : Program A) (i : ℕ) (x : Name) (m : Origin) (cs : List CallShadow) → HasSlots p i cs → Has (names_of p i) x
+pub innermost_held : {A : Type 0} (p : Program A) (i : ℕ) (x : Name) (m : Origin) (cs : List CallShadow) → HasSlots p i cs → Has (names_of p i) x
     → innermost p i (with_held (slot_in (names_of p i) x) m cs) ≡ with_origin (innermost p i cs) x m
 innermost_held p i x m [] slots has = absurd slots
 innermost_held p i x m (c ∷ cs) slots has = slot_set (names_of p i) c.origins x (number_in (names_of p i) x) m slots (has_slot (names_of p i) x has)
 
-callers_held : (s : Slot) (m : Origin) (cs : List CallShadow) → callers_of (with_held s m cs) ≡ callers_of cs
+pub callers_held : (s : Slot) (m : Origin) (cs : List CallShadow) → callers_of (with_held s m cs) ≡ callers_of cs
 callers_held s m [] = refl
 callers_held s m (c ∷ cs) = refl
 
@@ -161,7 +161,7 @@ put_passed p i fs t (q ∷ ps) (a ∷ given) l slots has =
     put_passed p i fs t ps given (with_set l s m) (slots_held p i s m l.calls slots) has.1
     ∙ (λ j. with_origins (innermost_held p i q.name m l.calls slots has.0 j) (passed_named p t ps given) ∷ frames_by p fs (callers_held s m l.calls j))
 
-objects_put : (qs : List (Slot × Origin)) (l : LiveCalls) → (with_all qs l).objects ≡ l.objects
+pub objects_put : (qs : List (Slot × Origin)) (l : LiveCalls) → (with_all qs l).objects ≡ l.objects
 objects_put [] l = refl
 objects_put (q ∷ qs) l = objects_put qs (with_set l q.0 q.1)
 

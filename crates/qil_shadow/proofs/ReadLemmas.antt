@@ -34,6 +34,7 @@ use Rattle.qil_shadow.specs.Numbered.{origins_by}
 use Rattle.qil_shadow.specs.Stack.{CallShadow, held_origin}
 use Rattle.qil_shadow.specs.ObjectNumbers.{AreStarts}
 use Rattle.qil_shadow.specs.Starting.{IsOf}
+use Rattle.qil_shadow.specs.Phis.{phi_read}
 use Rattle.qil_shadow.specs.Reads.{operand_at, operand_there, read_at, HasValue, IsFor, IsRead, innermost, HasSlots}
 use Rattle.qil_shadow.proofs.DataPlaces.{start_high}
 use Rattle.qil_shadow.proofs.ByNameLemmas.{slot_by_name}
@@ -175,3 +176,33 @@ nothing_read {A} p place r block a X here there read = absurd (let e : None ≡ 
 
 pub no_block : {A : Type 0} (p : Program A) (place : Place) (r : Reading) (a : Operand) (X : Type 0) → None ≡ block_at p place.func.index place.block.index → read_at p place r ≡ Some a → X
 no_block {A} p place r a X here read = absurd (let e : None ≡ Some a = ap (λ (b : Option (Block A)). operand_there b place.index r) here ∙ read in cc)
+
+-- ---- phis
+
+pub phi_slot : {A : Type 0} (p : Program A) (i : ℕ) (cs : List CallShadow) (s : Slot) (c : Class) (a : Operand) (operand : NumberedOperand) → operand ≡ numbered.Slot s
+    → HasSlots p i cs → IsFor p (names_of p i) a operand → in_class c (held_origin cs s) ≡ operand_origin p (innermost p i cs) c a
+phi_slot p i cs s c a operand e slots is = slot_origin p i cs s c a slots (subst (IsFor p (names_of p i) a) e is)
+
+pub phi_low : {A : Type 0} (p names : Program A) (starts : List ℕ) (data_end i : ℕ) (cs : List CallShadow) (v : ℕ) (c : Class) (a : Operand) (operand : NumberedOperand)
+    → operand ≡ numbered.Constant v → v < 1024 → IsOf p names starts data_end → IsFor p (names_of p i) a operand → origins.Number ≡ operand_origin p (innermost p i cs) c a
+phi_low p names starts data_end i cs v c a operand e low own is = low_origin p (names_of p i) (innermost p i cs) v c a own.starts_are.no_fault low (subst (IsFor p (names_of p i) a) e is)
+
+pub phi_value : {A : Type 0} (p : Program A) (i v : ℕ) (a : Operand) (operand : NumberedOperand) → operand ≡ numbered.Constant v → IsFor p (names_of p i) a operand → HasValue p a v
+phi_value p i v a operand e is = value_is p (names_of p i) v a (subst (IsFor p (names_of p i) a) e is)
+
+pub phi_constant : {A : Type 0} (p : Program A) (i : ℕ) (cs : List CallShadow) (v : ℕ) (c : Class) (a : Operand) (operand : NumberedOperand) (found : Origin) → operand ≡ numbered.Constant v
+    → IsFor p (names_of p i) a operand → found ≡ operand_origin p none_set c a → found ≡ operand_origin p (innermost p i cs) c a
+phi_constant p i cs v c a operand found e is at = at ∙ constant_origin p (names_of p i) (innermost p i cs) v c a (subst (IsFor p (names_of p i) a) e is)
+
+pub phi_is_written : {A : Type 0} (p names : Program A) (starts : List ℕ) (data_end : ℕ) (place : Place) (to k : ℕ) (written a : Operand) (v : ℕ) (c : Class) (found : Origin)
+    → Some written ≡ phi_read p place to k
+    → (AreStarts names starts → HasValue names written v → found ≡ operand_origin names none_set c written)
+    → IsOf p names starts data_end → phi_read p place to k ≡ Some a → HasValue p a v → found ≡ operand_origin p none_set c a
+phi_is_written {A} p names starts data_end place to k written a v c found there is own read value =
+    let same : a ≡ written = ap (λ o. unwrap_or o a) (sym read ∙ sym there) in
+    let as_names : AreStarts names starts = subst (λ (q : Program A). AreStarts q starts) (sym own.names_are) own.starts_are in
+    let its_value : HasValue names written v = subst (λ (q : Program A). HasValue q written v) (sym own.names_are) (subst (λ w. HasValue p w v) same value) in
+    is as_names its_value ∙ (λ i. operand_origin (own.names_are i) none_set c written) ∙ ap (operand_origin p none_set c) (sym same)
+
+pub no_phi : {A : Type 0} (p : Program A) (place : Place) (to k : ℕ) (a : Operand) (X : Type 0) → None ≡ phi_read p place to k → phi_read p place to k ≡ Some a → X
+no_phi p place to k a X none read = absurd (let e : None ≡ Some a = none ∙ read in cc)

@@ -54,7 +54,7 @@ pub record IsStore {A : Type 0} (p : Program A) (place : Place) (slots : List (O
   pub at : value_in slots number ≡ Some (first vs)
   pub to : value_in slots address ≡ Some (second vs)
 
-is_store : {A : Type 0} (p : Program A) (place : Place) (slots : List (Option ℕ)) (width : Width) (number address : NumberedOperand) (kind : InstKind A) (vs : List ℕ)
+pub is_store : {A : Type 0} (p : Program A) (place : Place) (slots : List (Option ℕ)) (width : Width) (number address : NumberedOperand) (kind : InstKind A) (vs : List ℕ)
     → IsInst p place slots (numbered.Store width number address) kind vs → IsStore p place slots width number address kind vs
 is_store p place slots width number address (insts.Assign x e) vs is = absurd (let e = is.number in cc)
 is_store p place slots width number address (insts.Alloc x op n) vs is = absurd (let e = is.number in cc)

@@ -23,3 +23,6 @@ pub mod Returns
 pub mod Moves
 pub mod Passing
 pub mod Entering
+pub mod Shapes
+pub mod Phis
+pub mod Jumps

@@ -1,8 +1,9 @@
 //! What constants are made of. Numbered code has the address of a name as a constant, and the tree says which constant is one: it
 //! is looked at only if the value can be an address.
 
-ghost use Rattle.std.specs.Prelude.{◌≡◌, Some};
+ghost use Rattle.std.specs.Prelude.{◌≡◌, Some, slice_get};
 ghost use Rattle.std.specs.Option.{option_copied};
+ghost use Rattle.std.specs.Str.{bytes_eq};
 ghost use Rattle.qil_tree.specs.declared.tree.Operand.{Operand};
 ghost use Rattle.qil_memory.specs.qil_layout.Layout.{address_of};
 ghost use Rattle.qil_shadow.specs.Objects.{object_named};
@@ -10,13 +11,15 @@ ghost use Rattle.qil_shadow.specs.ObjectNumbers.{AreStarts};
 ghost use Rattle.qil_shadow.specs.Shadow.{none_set};
 ghost use Rattle.qil_shadow.specs.Shadowed.{operand_origin};
 ghost use Rattle.qil_shadow.specs.Starting.{IsOf};
-ghost use Rattle.qil_shadow.specs.Reads.{first_operand, second_operand, operand_in, of_two, returned_in, operand_at, read_at, HasValue, IsRead, innermost, HasSlots, is_sure};
+ghost use Rattle.qil_code.specs.Numbered.{names_of};
+ghost use Rattle.qil_shadow.specs.Reads.{first_operand, second_operand, operand_in, of_two, returned_in, operand_at, read_at, HasValue, IsFor, IsRead, innermost, HasSlots, is_sure};
+ghost use Rattle.qil_shadow.specs.Phis.{source_value, phi_value, phi_read};
 
 use crate::origin::{ObjectId, Origin};
 use crate::shadow::Shadow;
 use crate::suspicion::Place;
 use qil_code::{BlockId, Code, NumberedOperand, PhiMove};
-use qil_tree::{Block, Class, Expr, InstKind, JumpKind, Operand};
+use qil_tree::{Block, Class, Expr, InstKind, JumpKind, Operand, Phi, PhiSource};
 use std::alloc::Allocator;
 
 /// No name has an address below: the functions lie here that every program has.
@@ -124,19 +127,58 @@ fn operand_at<'t, 'a, A: Allocator>(
     }
 }
 
-/// What a phi of a block takes where that of a label is left.
-fn phi_operand<'t, 'a, A: Allocator>(
-    block: &'t Block<'a, A>,
-    left: &[u8],
-    index: usize,
-) -> Option<&'t Operand<'a>> {
-    let phi = block.phis.as_slice().get(index)?;
+/// Whether a source of a phi is for the block of a label.
+#[inline(always)]
+fn is_for(source: &PhiSource<'_>, left: &[u8]) -> bool
+    ensures { result ≡ bytes_eq source.now.label left.now }
+{
+    source.label.bytes() == left
+}
+
+/// What a phi takes where the block of a label is left.
+#[inline(always)]
+fn source_value<'t, 'a, A: Allocator>(phi: &'t Phi<'a, A>, left: &[u8]) -> Option<&'t Operand<'a>>
+    ensures { option_copied result ≡ source_value left.now phi.now }
+{
     for source in phi.sources.as_slice() {
-        if source.label.bytes() == left {
+        if is_for(source, left) {
             return Some(&source.value);
         }
     }
     None
+}
+
+/// The same of the phi of a number.
+fn phi_operand<'t, 'a, A: Allocator>(
+    block: &'t Block<'a, A>,
+    left: &[u8],
+    index: usize,
+) -> Option<&'t Operand<'a>>
+    ensures { option_copied result ≡ phi_value left.now (slice_get block.now.phis index) }
+{
+    match block.phis.as_slice().get(index) {
+        Some(phi) => source_value(phi, left),
+        None => None,
+    }
+}
+
+/// The operand of a phi of a block, where that of a place is left for it.
+#[inline(always)]
+fn phi_written<'c, A: Allocator + Copy>(
+    code: &Code<'c, A>,
+    place: Place,
+    to: BlockId,
+    index: usize,
+) -> Option<&'c Operand<'c>>
+    ensures { option_copied result ≡ phi_read code.now place to.index index }
+{
+    match code.source(place.func, place.block) {
+        Some(left) => match code.source(place.func, to) {
+            Some(target) => phi_operand(target, left.label.bytes(), index),
+            None => None,
+        },
+        None => None,
+    }
 }
 
 impl<'c, A: Allocator + Copy> Shadow<'c, A> {
@@ -207,7 +249,10 @@ impl<'c, A: Allocator + Copy> Shadow<'c, A> {
         to: BlockId,
         index: usize,
         phi: &PhiMove,
-    ) -> Origin {
+    ) -> Origin
+        ensures { (a : Operand) → IsOf code.now self.now.names self.now.calls.objects.starts self.now.data_end → HasSlots code.now place.func.index self.now.calls.calls → phi_read code.now place to.index index ≡ Some a
+            → IsFor code.now (names_of code.now place.func.index) a phi.now.source → result ≡ operand_origin code.now (innermost code.now place.func.index self.now.calls.calls) phi.now.class a }
+    {
         match phi.source {
             NumberedOperand::Slot(slot) => self.calls.origin(slot).in_class(phi.class),
             NumberedOperand::Constant(value) => {
@@ -230,14 +275,11 @@ impl<'c, A: Allocator + Copy> Shadow<'c, A> {
         index: usize,
         class: Class,
         value: u64,
-    ) -> Origin {
-        let Some(left) = code.source(place.func, place.block) else {
-            return Origin::Number;
-        };
-        let Some(target) = code.source(place.func, to) else {
-            return Origin::Number;
-        };
-        match phi_operand(target, left.label.bytes(), index) {
+    ) -> Origin
+        ensures { (a : Operand) → IsOf code.now self.now.names self.now.calls.objects.starts self.now.data_end → phi_read code.now place to.index index ≡ Some a → HasValue code.now a value
+            → result ≡ operand_origin code.now none_set class a }
+    {
+        match phi_written(code, place, to, index) {
             Some(operand) => self.written_origin(operand, class, value),
             None => Origin::Number,
         }

@@ -193,7 +193,9 @@ impl<'c, A: Allocator + Copy> Shadow<'c, A> {
 
     /// Looks at the value of a `jnz`.
     #[inline(always)]
-    pub(crate) fn use_test(&mut self, test: NumberedOperand, value: u64) {
+    pub(crate) fn use_test(&mut self, test: NumberedOperand, value: u64)
+        ensures { KeepsAll self.old self.new }
+    {
         let open = self.open_of(Class::W, test);
         if open != 0 && is_decided_by_open(value, open) {
             self.open.note(self.position);

@@ -1,11 +1,12 @@
 //! A step of the shadow: it looks at what comes next, and becomes the shadow of the state behind it. A step that ends the run
 //! asks nothing of it.
 
-ghost use Rattle.std.specs.Prelude.{◌≡◌, ℕ, List, Some, None, ◌<◌, [], ◌∷◌, ◌++◌, length, unwrap_or, slice_get, IfOk, OnOk};
+ghost use Rattle.std.specs.Prelude.{◌≡◌, ℕ, ◌%◌, ◌==◌, if◌then◌else◌, List, Some, None, ◌<◌, [], ◌∷◌, ◌++◌, length, unwrap_or, slice_get, IfOk, OnOk};
 ghost use Rattle.std.specs.Option.{option_copied};
 ghost use Rattle.qil_tree.specs.declared.ops.Class.TheVariants.{L};
 ghost use Rattle.qil_tree.specs.declared.tree.Operand.{Operand};
 ghost use Rattle.qil_tree.specs.declared.tree.Argument.{Argument};
+ghost use Rattle.qil_tree.specs.declared.tree.Block.{Block};
 ghost use Rattle.qil_tree.specs.declared.tree.Func.{Func};
 ghost use Rattle.qil_tree.specs.declared.tree.Program.{Program};
 ghost use Rattle.qil_memory.specs.qil_rules.Operands.{right_class, stored_class};
@@ -15,16 +16,20 @@ ghost use Rattle.qil_code.specs.Numbered.{func_at, names_of};
 ghost use Rattle.qil_shadow.specs.Origins.{binary_origin};
 ghost use Rattle.qil_shadow.specs.Bytes.{laid_origins, origins_at, stored_origins, joined, load_bytes};
 ghost use Rattle.qil_shadow.specs.Shadow as by_names;
-ghost use Rattle.qil_shadow.specs.Shadowed.{operand_origin, is_twice, enters, returns};
+ghost use Rattle.qil_shadow.specs.Shadowed.{operand_origin, is_twice, enters, goes, returns, leaves};
 ghost use Rattle.qil_shadow.specs.Accesses as accesses;
 ghost use Rattle.qil_shadow.specs.Spots.{HasSpot, origins_in};
 ghost use Rattle.qil_shadow.specs.Numbered.{value_in, frames_by};
 ghost use Rattle.qil_shadow.specs.Doubts.{StandsFor, Reports};
 ghost use Rattle.qil_shadow.specs.Starting.{IsOf};
 ghost use Rattle.qil_shadow.specs.Calls.{taken, with_return};
-ghost use Rattle.qil_shadow.specs.Reads.{IsRead, IsReturned, innermost, HasSlots};
+ghost use Rattle.qil_shadow.specs.Reads.{IsFor, IsRead, IsReturned, innermost, HasSlots};
 ghost use Rattle.qil_shadow.specs.Kept.{Keeps, KeepsAll, KeepsButCalls, KeepsButMemory, KeepsRest};
 ghost use Rattle.qil_shadow.specs.Instructions.{named, AreCalls, IsAt, KeepsButSlot, HasGiven, HasDone};
+ghost use Rattle.qil_shadow.specs.Moves.{with_all};
+ghost use Rattle.qil_shadow.specs.Phis.{phi_read, IsEdge, moves_from, got_by, AreAlike};
+ghost use Rattle.qil_shadow.specs.Jumps.{IsJump, GoesOn, left_running, LiesAfter};
+ghost use Rattle.qil_shadow.specs.Shapes.{IsUnset, expr_operands, HasLeft};
 ghost use Rattle.qil_shadow.specs.Passing.{AreArguments, one_passed, passed_by};
 ghost use Rattle.qil_shadow.specs.Entering.{IsEntered};
 ghost use Rattle.qil_shadow.specs.Returns.{IsCalled};
@@ -99,7 +104,8 @@ impl<'c, A: Allocator + Copy> Shadow<'c, A> {
         slots: &[Option<u64>],
         inst: &NumberedInst<A>,
     ) -> Result<(), AllocError>
-        ensures { OnOk result (HasDone code.now place slots.now inst.now self.old self.new) }
+        ensures done { OnOk result (HasDone code.now place slots.now inst.now self.old self.new) }
+        ensures left { OnOk result (HasLeft code.now place slots.now inst.now self.old self.new) }
     {
         match inst {
             NumberedInst::Assign(class, to, expr) => {
@@ -138,6 +144,7 @@ impl<'c, A: Allocator + Copy> Shadow<'c, A> {
     ) -> Result<(), AllocError>
         ensures done { OnOk result (HasDone code.now place slots.now (NumberedInst.Assign class to expr) self.old self.new) }
         ensures rest { OnOk result (KeepsButSlot to self.old self.new) }
+        ensures left { OnOk result (HasLeft code.now place slots.now (NumberedInst.Assign class to expr) self.old self.new) }
     {
         let origin = self.expr_origin(code, place, slots, class, expr)?;
         self.calls.set(to, origin);
@@ -155,7 +162,8 @@ impl<'c, A: Allocator + Copy> Shadow<'c, A> {
         class: Class,
         expr: NumberedExpr,
     ) -> Result<Origin, AllocError>
-        ensures { IfOk result (λ origin. HasGiven code.now place slots.now class expr self.old self.new origin) }
+        ensures given { IfOk result (λ origin. HasGiven code.now place slots.now class expr self.old self.new origin) }
+        ensures unset { OnOk result (IsUnset slots.now (expr_operands expr) → self.new.found.items ≡ self.old.found.items) }
     {
         match expr {
             NumberedExpr::Unary(op, operand) => {
@@ -245,6 +253,7 @@ impl<'c, A: Allocator + Copy> Shadow<'c, A> {
             → StandsFor code.now s sh f self.old.calls.objects.objects self.old.calls.top self.old.position place
             → Reports code.now s sh f (accesses.access (Action.Load op) (operand_origin code.now (innermost code.now place.func.index self.old.calls.calls) L a) v (load_bytes op)) self.old.found.items self.new.found.items) }
         ensures rest { OnOk result (Keeps self.old self.new) }
+        ensures unset { OnOk result (value_in slots.now operand ≡ None → self.new.found.items ≡ self.old.found.items) }
     {
         let Some(address) = value_of(slots, operand) else {
             return Ok(Origin::Number);
@@ -274,6 +283,7 @@ impl<'c, A: Allocator + Copy> Shadow<'c, A> {
             → Reports code.now s sh f (accesses.access (Action.Store width) (operand_origin code.now (innermost code.now place.func.index self.old.calls.calls) L b) t (width_bytes width)) self.old.found.items self.new.found.items) }
         ensures done { OnOk result (HasDone code.now place slots.now (NumberedInst.Store width number address) self.old self.new) }
         ensures rest { OnOk result (KeepsButMemory self.old self.new) }
+        ensures left { OnOk result (HasLeft code.now place slots.now (NumberedInst.Store width number address) self.old self.new) }
     {
         if value_of(slots, number).is_none() {
             return Ok(());
@@ -304,6 +314,7 @@ impl<'c, A: Allocator + Copy> Shadow<'c, A> {
     ) -> Result<(), AllocError>
         ensures done { OnOk result (HasDone code.now place slots.now (NumberedInst.Blit source target count) self.old self.new) }
         ensures rest { OnOk result (KeepsButMemory self.old self.new) }
+        ensures left { OnOk result (HasLeft code.now place slots.now (NumberedInst.Blit source target count) self.old self.new) }
     {
         let Some(source_address) = value_of(slots, source) else {
             return Ok(());
@@ -344,6 +355,7 @@ impl<'c, A: Allocator + Copy> Shadow<'c, A> {
     ) -> Result<(), AllocError>
         ensures done { OnOk result ((p : Program A) (class : Class) → HasDone p place slots.now (NumberedInst.Alloc class to op count) self.old self.new) }
         ensures rest { KeepsRest self.old self.new }
+        ensures left { OnOk result ((p : Program A) (class : Class) → HasLeft p place slots.now (NumberedInst.Alloc class to op count) self.old self.new) }
     {
         self.use_bits(self.open_of(Class::L, count));
         match value_of(slots, count) {
@@ -365,7 +377,8 @@ impl<'c, A: Allocator + Copy> Shadow<'c, A> {
         callee: NumberedOperand,
         args: &[NumberedArgument],
     ) -> Result<(), AllocError>
-        ensures { OnOk result (HasDone code.now place slots.now (NumberedInst.Call to callee args.now) self.old self.new) }
+        ensures done { OnOk result (HasDone code.now place slots.now (NumberedInst.Call to callee args.now) self.old self.new) }
+        ensures left { OnOk result (HasLeft code.now place slots.now (NumberedInst.Call to callee args.now) self.old self.new) }
     {
         let Some(address) = value_of(slots, callee) else {
             return Ok(());
@@ -548,22 +561,62 @@ impl<'c, A: Allocator + Copy> Shadow<'c, A> {
         place: Place,
         slots: &[Option<u64>],
         jump: &NumberedJump<A>,
-    ) -> Result<(), AllocError> {
+    ) -> Result<(), AllocError>
+        ensures named { OnOk result ((f : Frame) (fs : List ℕ) (func : Func A) (left : Block A) → IsJump code.now place jump.now func left → f.label ≡ left.label → IsAt code.now place self.old → self.old.heap.roles.items ≡ []
+            → GoesOn code.now place.func.index slots.now f fs self.old.calls.calls left.jump.kind
+            → named code.now (left_running place.func.index fs left.jump.kind) self.new
+            ≡ leaves code.now f (named code.now (place.func.index ∷ fs) self.old) (innermost code.now place.func.index self.old.calls.calls) (frames_by code.now fs (callers_of self.old.calls.calls)) func left.jump.kind) }
+        ensures lies { OnOk result ((f : Frame) (fs : List ℕ) (func : Func A) (left : Block A) → IsJump code.now place jump.now func left → IsAt code.now place self.old → self.old.heap.roles.items ≡ []
+            → GoesOn code.now place.func.index slots.now f fs self.old.calls.calls left.jump.kind → LiesAfter left.jump.kind self.old.calls self.new.calls) }
+        ensures rest { OnOk result (self.old.heap.roles.items ≡ [] → KeepsButCalls self.old self.new) }
+    {
         match jump {
-            NumberedJump::Jmp(edge) => self.take_edge(code, place, edge),
-            NumberedJump::Jnz(test, set, zero) => match value_of(slots, *test) {
-                Some(value) => {
-                    self.use_test(*test, value);
-                    if value % 4_294_967_296 == 0 {
-                        self.take_edge(code, place, zero)
-                    } else {
-                        self.take_edge(code, place, set)
-                    }
-                }
-                None => Ok(()),
-            },
-            NumberedJump::Ret(operand) => self.leave_function(code, place, slots, *operand),
+            NumberedJump::Jmp(edge) => {
+                self.take_edge(code, place, edge)?;
+                Ok(())
+            }
+            NumberedJump::Jnz(test, set, zero) => {
+                self.take_one_of(code, place, slots, *test, set, zero)?;
+                Ok(())
+            }
+            NumberedJump::Ret(operand) => {
+                self.leave_function(code, place, slots, *operand)?;
+                Ok(())
+            }
             NumberedJump::Hlt => Ok(()),
+        }
+    }
+
+    /// Goes along the edge that a value chooses.
+    #[inline(always)]
+    fn take_one_of(
+        &mut self,
+        code: &Code<'c, A>,
+        place: Place,
+        slots: &[Option<u64>],
+        test: NumberedOperand,
+        set: &Edge<A>,
+        zero: &Edge<A>,
+    ) -> Result<(), AllocError>
+        ensures named { OnOk result ((f : Frame) (fs : List ℕ) (func : Func A) (left one other : Block A) (l m : List ℕ) (v : ℕ) → value_in slots.now test ≡ Some v
+            → IsEdge code.now place set.now.to set.now.moves func left one l → IsEdge code.now place zero.now.to zero.now.moves func left other m → f.label ≡ left.label → IsAt code.now place self.old
+            → named code.now (place.func.index ∷ fs) self.new
+            ≡ goes code.now f (named code.now (place.func.index ∷ fs) self.old) (innermost code.now place.func.index self.old.calls.calls) (frames_by code.now fs (callers_of self.old.calls.calls)) func (if v % 4294967296 == 0 then m else l)) }
+        ensures alike { OnOk result (AreAlike self.old.calls self.new.calls) }
+        ensures rest { OnOk result (KeepsButCalls self.old self.new) }
+    {
+        match value_of(slots, test) {
+            Some(value) => {
+                self.use_test(test, value);
+                if value % 4_294_967_296 == 0 {
+                    self.take_edge(code, place, zero)?;
+                    Ok(())
+                } else {
+                    self.take_edge(code, place, set)?;
+                    Ok(())
+                }
+            }
+            None => Ok(()),
         }
     }
 
@@ -615,29 +668,67 @@ impl<'c, A: Allocator + Copy> Shadow<'c, A> {
         code: &Code<'c, A>,
         place: Place,
         edge: &Edge<A>,
-    ) -> Result<(), AllocError> {
+    ) -> Result<(), AllocError>
+        ensures named { OnOk result ((f : Frame) (fs : List ℕ) (func : Func A) (left target : Block A) (l : List ℕ) → IsEdge code.now place edge.now.to edge.now.moves func left target l → f.label ≡ left.label → IsAt code.now place self.old
+            → named code.now (place.func.index ∷ fs) self.new
+            ≡ goes code.now f (named code.now (place.func.index ∷ fs) self.old) (innermost code.now place.func.index self.old.calls.calls) (frames_by code.now fs (callers_of self.old.calls.calls)) func l) }
+        ensures alike { OnOk result (AreAlike self.old.calls self.new.calls) }
+        ensures rest { OnOk result (KeepsButCalls self.old self.new) }
+    {
         match edge.moves.as_slice() {
             [] => Ok(()),
             [only] => {
-                let origin = self.phi_origin(code, place, edge.to, 0, only);
-                let open = self.phi_open(only);
-                self.calls.set(only.target, origin);
-                self.open.set(only.target, open);
+                self.do_phi(code, place, edge.to, only);
                 Ok(())
             }
             [first, second] => {
-                let origin = self.phi_origin(code, place, edge.to, 0, first);
-                let other = self.phi_origin(code, place, edge.to, 1, second);
-                let open = self.phi_open(first);
-                let other_open = self.phi_open(second);
-                self.calls.set(first.target, origin);
-                self.calls.set(second.target, other);
-                self.open.set(first.target, open);
-                self.open.set(second.target, other_open);
+                self.do_two_phis(code, place, edge.to, first, second);
                 Ok(())
             }
-            moves => self.do_phis(code, place, edge.to, moves),
+            moves => {
+                self.do_phis(code, place, edge.to, moves)?;
+                Ok(())
+            }
         }
+    }
+
+    /// Does the only phi of a block.
+    #[inline(always)]
+    fn do_phi(&mut self, code: &Code<'c, A>, place: Place, to: BlockId, only: &PhiMove)
+        ensures calls { (func : Func A) (left target : Block A) (l : List ℕ) → IsEdge code.now place to (only.now ∷ []) func left target l → IsAt code.now place self.old
+            → self.new.calls ≡ with_all (got_by code.now (names_of code.now place.func.index) (innermost code.now place.func.index self.old.calls.calls) (moves_from left target)) self.old.calls }
+        ensures alike { AreAlike self.old.calls self.new.calls }
+        ensures rest { KeepsButCalls self.old self.new }
+    {
+        let origin = self.phi_origin(code, place, to, 0, only);
+        let open = self.phi_open(only);
+        self.calls.set(only.target, origin);
+        self.open.set(only.target, open);
+    }
+
+    /// Does the two phis of a block: both are read before one is written.
+    #[inline(always)]
+    fn do_two_phis(
+        &mut self,
+        code: &Code<'c, A>,
+        place: Place,
+        to: BlockId,
+        first: &PhiMove,
+        second: &PhiMove,
+    )
+        ensures calls { (func : Func A) (left target : Block A) (l : List ℕ) → IsEdge code.now place to (first.now ∷ (second.now ∷ [])) func left target l → IsAt code.now place self.old
+            → self.new.calls ≡ with_all (got_by code.now (names_of code.now place.func.index) (innermost code.now place.func.index self.old.calls.calls) (moves_from left target)) self.old.calls }
+        ensures alike { AreAlike self.old.calls self.new.calls }
+        ensures rest { KeepsButCalls self.old self.new }
+    {
+        let origin = self.phi_origin(code, place, to, 0, first);
+        let other = self.phi_origin(code, place, to, 1, second);
+        let open = self.phi_open(first);
+        let other_open = self.phi_open(second);
+        self.calls.set(first.target, origin);
+        self.calls.set(second.target, other);
+        self.open.set(first.target, open);
+        self.open.set(second.target, other_open);
     }
 
     /// Does the phis of a block: all are read before one is written.
@@ -647,15 +738,38 @@ impl<'c, A: Allocator + Copy> Shadow<'c, A> {
         place: Place,
         to: BlockId,
         moves: &[PhiMove],
-    ) -> Result<(), AllocError> {
+    ) -> Result<(), AllocError>
+        ensures calls { OnOk result ((func : Func A) (left target : Block A) (l : List ℕ) → IsEdge code.now place to moves.now func left target l → IsAt code.now place self.old
+            → self.new.calls ≡ with_all (got_by code.now (names_of code.now place.func.index) (innermost code.now place.func.index self.old.calls.calls) (moves_from left target)) self.old.calls) }
+        ensures alike { OnOk result (AreAlike self.old.calls self.new.calls) }
+        ensures rest { OnOk result (KeepsButCalls self.old self.new) }
+    {
         self.moved.truncate(0);
         for (index, one) in moves.iter().enumerate() {
-            let origin = self.phi_origin(code, place, to, index, one);
-            self.moved.push((one.target, origin))?;
-            let open = self.phi_open(one);
-            self.open.gather(one.target, open)?;
+            self.gather_phi(code, place, to, index, one)?;
         }
         self.put_moved();
+        Ok(())
+    }
+
+    /// Gathers what the phi of a number gets.
+    #[inline(always)]
+    fn gather_phi(
+        &mut self,
+        code: &Code<'c, A>,
+        place: Place,
+        to: BlockId,
+        index: usize,
+        one: &PhiMove,
+    ) -> Result<(), AllocError>
+        ensures moved { OnOk result ((a : Operand) → IsAt code.now place self.old → phi_read code.now place to.index index ≡ Some a → IsFor code.now (names_of code.now place.func.index) a one.now.source
+            → self.new.moved.items ≡ self.old.moved.items ++ (one.now.target, operand_origin code.now (innermost code.now place.func.index self.old.calls.calls) one.now.class a) ∷ []) }
+        ensures rest { OnOk result (KeepsAll self.old self.new) }
+    {
+        let origin = self.phi_origin(code, place, to, index, one);
+        self.moved.push((one.target, origin))?;
+        let open = self.phi_open(one);
+        self.open.gather(one.target, open)?;
         Ok(())
     }
 }

@@ -1,6 +1,7 @@
 -- Nothing where an operand is unset or no byte is copied; the target is looked at where the source is live.
 use Rattle.std.proofs.Common.{◌≡◌, ◌∙◌, sym, refl, true, false, rules, arith}
 use Rattle.qil_shadow.proofs.BlitLemmas.{blit_empty, blit_dead, blit_done}
+use Rattle.qil_shadow.proofs.ShapeLemmas.{blit_left, kept_memory, memory_behind, is_set, none_unset}
 use Rattle.qil_shadow.proofs.shadow.Shadow.blit.Goals as goal
 
 pub returns-then-count-eq0-clause-done : goal.returns-then-count-eq0-clause-done
@@ -21,3 +22,14 @@ returns-clause-done g c =
     (λ x read own slots. c.origin_of-origin.ensures x own slots read) (λ s sh f own stands. c.in_ok-look_through.ensures.named c.args.code.now s sh f own stands) c.in_ok-look_through.ensures.rest c.is_live.ensures alive
     (λ x read own slots. c.origin_of-other.ensures x own slots read) (λ s sh f own stands. c.in_ok-look_through-2.ensures.named c.args.code.now s sh f own stands) c.in_ok-look_through-2.ensures.rest
     (record { calls_are = refl; names_are = refl; end_is = refl; position_is = refl; roles_are = refl }) refl c.copy.ensures
+
+pub returns-then-not-is_live-clause-left : goal.returns-then-not-is_live-clause-left
+returns-then-not-is_live-clause-left g c =
+    blit_left c.args.code.now c.args.place c.args.slots.now c.args.source c.args.target c.args.count c.args.self.now c.look_through.new.self (kept_memory c.args.self.now c.look_through.new.self c.in_ok-look_through.ensures.rest)
+    (λ none. none_unset c.args.slots.now c.args.source c.args.target _ (is_set _ c.in-Some.source_address (sym c.in-Some.is ∙ c.value_of.ensures)) (is_set _ c.in-Some-value_of.target_address (sym c.in-Some-value_of.is ∙ c.value_of-2.ensures)) none)
+
+pub returns-clause-left : goal.returns-clause-left
+returns-clause-left g c =
+    blit_left c.args.code.now c.args.place c.args.slots.now c.args.source c.args.target c.args.count c.args.self.now _
+    (memory_behind c.args.self.now c.look_through.new.self c.look_through-2.new.self _ c.in_ok-look_through.ensures.rest c.in_ok-look_through-2.ensures.rest (record { calls_are = refl; names_are = refl; end_is = refl; position_is = refl; roles_are = refl }))
+    (λ none. none_unset c.args.slots.now c.args.source c.args.target _ (is_set _ c.in-Some.source_address (sym c.in-Some.is ∙ c.value_of.ensures)) (is_set _ c.in-Some-value_of.target_address (sym c.in-Some-value_of.is ∙ c.value_of-2.ensures)) none)
