@@ -6,7 +6,7 @@ def others() -> dict[str, str]:
     found = {"bcmp": "memcmp", "strtoimax": "strtoll", "strtoumax": "strtoull", "imaxabs": "llabs", "_IO_getc": "getc",
              "_IO_putc": "putc", "__strdup": "strdup", "__strtok_r": "strtok_r", "__stpcpy": "stpcpy",
              "__mempcpy": "mempcpy", "fseeko64": "fseeko", "ftello64": "ftello", "stat64": "stat", "lstat64": "lstat",
-             "fstat64": "fstat", "ftruncate64": "ftruncate", "mmap64": "mmap", "putchar_unlocked": "putchar",
+             "fstat64": "fstat", "mkstemp64": "mkstemp", "mkstemps64": "mkstemps", "mkostemp64": "mkostemp", "ftruncate64": "ftruncate", "mmap64": "mmap", "putchar_unlocked": "putchar",
              "__sysv_signal": "signal", "bsd_signal": "signal", "__errno": "__errno_location",
              "pthread_sigmask": "sigprocmask", "imaxdiv": "lldiv", "drem": "remainder", "dremf": "remainderf",
              "wcstoimax": "wcstoll", "wcstoumax": "wcstoull", "__rawmemchr": "rawmemchr",
