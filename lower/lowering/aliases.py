@@ -6,7 +6,7 @@ def others() -> dict[str, str]:
     found = {"bcmp": "memcmp", "strtoimax": "strtoll", "strtoumax": "strtoull", "imaxabs": "llabs", "_IO_getc": "getc",
              "_IO_putc": "putc", "__strdup": "strdup", "__strtok_r": "strtok_r", "__stpcpy": "stpcpy",
              "__mempcpy": "mempcpy", "fseeko64": "fseeko", "ftello64": "ftello", "stat64": "stat", "lstat64": "lstat",
-             "fstat64": "fstat", "mkstemp64": "mkstemp", "mkstemps64": "mkstemps", "mkostemp64": "mkostemp", "ftruncate64": "ftruncate", "mmap64": "mmap", "putchar_unlocked": "putchar",
+             "fstat64": "fstat", "ftruncate64": "ftruncate", "mmap64": "mmap", "putchar_unlocked": "putchar",
              "__sysv_signal": "signal", "bsd_signal": "signal", "__errno": "__errno_location",
              "pthread_sigmask": "sigprocmask", "imaxdiv": "lldiv", "drem": "remainder", "dremf": "remainderf",
              "wcstoimax": "wcstoll", "wcstoumax": "wcstoull", "__rawmemchr": "rawmemchr",
@@ -15,6 +15,7 @@ def others() -> dict[str, str]:
     found |= {f"__{name}": name for name in ("isnan", "isnanf", "isinf", "isinff", "finite", "finitef")}
     found |= {"__tzname": "tzname", "__timezone": "timezone", "__daylight": "daylight", "mbrtoc32": "mbrtowc",
               "c32rtomb": "wcrtomb"}
+    found |= {f"{name}64": name for name in ("mkstemp", "mkstemps", "mkostemp")}
     scanning = ("scanf", "fscanf", "sscanf", "vscanf", "vfscanf", "vsscanf")
     found |= {f"__isoc{year}_{name}": name for year in ("99", "23") for name in scanning}
     found |= {f"__isoc23_{name}": name for name in ("strtol", "strtoll", "strtoul", "strtoull")}

@@ -10,8 +10,8 @@ from .symbols import references
 FILES, SIGNALS = "files", "signals"
 SIGNALLING = frozenset("$signal $sigaction $sigprocmask $pthread_sigmask $sigpending".split())
 OPENING = frozenset(
-    "$fopen $fopen64 $freopen $tmpfile $open $open64 $openat $creat $open_memstream $fmemopen $mkstemp $mkstemps $mkostemp"
-    .split())
+    "$fopen $fopen64 $freopen $tmpfile $open $open64 $openat $creat $open_memstream $fmemopen $mkstemp $mkstemps "
+    "$mkostemp".split())
 # The calls of the system that open files: open, creat, openat.
 OPENING_CALLS = frozenset((2, 85, 257))
 

@@ -8,6 +8,15 @@ EDGES = (0, -1, 1, 86399, 86400, -86400, -86401, 951782400, 951868799, 68169600,
          253402300800, -62135596800, -62135596801, -62167219200, -62167219201, 67768036191676799, 67768036191676800,
          -67768040609740800, -67768040609740801, 2 ** 31 - 1, 2 ** 31, -2 ** 31, 2 ** 63 - 1, -2 ** 63, 2 ** 62)
 LETTERS = "aAbBcCdDeFgGhHIjklmMnpPrRsStTuUVwWxXyYzZ%"
+# What strptime takes of what strftime writes; and what each takes wherever a date stands.
+READ = tuple("aAbBCdDeFgGhHIjklmMnprRStTuUVwWxXyYzZ%c") + \
+    ("Ec", "Ex", "EX", "OM", "-d", "_H", "^a")
+FEW = (b"%Y-%m-%d", b"%Y %j", b"%C%y %j", b"%Y %U %w", b"%Y %W %a", b"%y %U %u", b"%Y %b %d", b"%I:%M %p", b"%s",
+       b"%Y %m", b"%d %b", b"%j")
+WRONG = ("%d", "%H:%M", "%Y", "%y", "%b", "%A", "%p", "%z", "%j", "%Oc", "%E", "%", "%P", "%+", "a%%b", " %d",
+         "%n%e%t")
+GIVEN = ("0", "", "5", "32", "07", " 7x", "366", "367", "24:00", "23:60", "9:5", "99999", "Mayor", "JUNE", "mon", "tUESday",
+         "AM", "pMx", "p", "+05", "-0530", "+05:30", "+0560", "+05:3", "Z", "z", "a%b", "a b", "  12  ", "2024")
 OTHERS = "EfiJKLNOoqQv[]"
 INTEGERS = (0, 1, -1, 12, -12, 13, 59, 60, 61, 365, 366, 1000, -1000, 2 ** 31 - 1, -2 ** 31)
 
@@ -126,7 +135,43 @@ def texts(calls: Calls) -> None:
             formatted(calls, date, b"%G-%V-%g %U %W %j %a", 60)
 
 
-GROUPS = {"times": times, "dates": dates, "formats": formats, "texts": texts}
+def read(calls: Calls, text: str, form: bytes) -> None:
+    """Reads a text as a format says: how far it is taken, and the date if it is."""
+    date = calls.room(56)
+    found = calls.call("strptime", "l", f"l {text}", f"l {calls.text(form)}", f"l {date}")
+    calls.far(text, found)
+    calls.line(f"%is{found[1:]} =w cnel {found}, 0")
+    calls.line(f"jnz %is{found[1:]}, @some{found[1:]}, @none{found[1:]}")
+    calls.body.append(f"@some{found[1:]}")
+    told_date(calls, date)
+    calls.body.append(f"@none{found[1:]}")
+
+
+def reading(calls: Calls) -> None:
+    """Dates from what they were written as, in all their letters and in a few of them."""
+    for index in range(260):
+        time = calls.choice.randrange(-62135596800 // 4, 253402300800 // 2)
+        place, date, text = calls.room(0, f"l {time}"), calls.room(56), calls.room(200)
+        # The machine's library refuses a second `O`.
+        letters = calls.choice.sample(READ, calls.choice.randrange(1, 6))
+        form = calls.choice.choice((" ", "/", "-x ")).join("%" + letter for letter in letters).encode()
+        if index % 4 == 0:
+            form = calls.choice.choice(FEW)
+        calls.call("gmtime_r", "l", f"l {place}", f"l {date}")
+        calls.call("strftime", "l", f"l {text}", "l 200", f"l {calls.text(form)}", f"l {date}")
+        read(calls, text, form)
+
+
+def misreading(calls: Calls) -> None:
+    """Each text by each format, of which few fit."""
+    for form in WRONG:
+        # Its day of the week in the year 0 is another one.
+        for given in GIVEN[form == "%Y":]:
+            read(calls, calls.text(given.encode()), form.encode())
+
+
+GROUPS = {"times": times, "dates": dates, "formats": formats, "texts": texts, "reading": reading,
+          "misreading": misreading}
 
 
 def small(calls: Calls) -> None:
