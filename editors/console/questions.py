@@ -11,7 +11,8 @@ from typing import Any
 
 TOP = pathlib.Path(__file__).resolve().parent.parent.parent
 # Questions that change nothing, and of `info` those that aren't about the prompt's own stops.
-ASKING = frozenset(("why", "readers", "writers", "suspects", "made", "path", "when", "counts", "disas", "x"))
+ASKING = frozenset(("why", "readers", "writers", "suspects", "made", "path", "when", "counts", "disas", "disassemble",
+                    "x", "bt", "backtrace"))
 INFORMING = frozenset(("data", "frame", "functions", "locals", "out", "source", "symbol", "temps"))
 WORDS = tuple(sorted((*ASKING, "goto", "help", "info")))
 # A line that the prompt answers alike in each state, before and behind an answer.
@@ -31,7 +32,8 @@ HELP = """In this console:
   readers $d, writers $d, when %x, path         what read it, wrote it, set it; the way through the function
   counts, counts $f                             how often functions and lines ran
   suspects, made %x                             what no correct compiler's output does; what a value is made of
-  disas, x/8xw $d, info locals                  the text of a function; memory; the frame
+  disas, x/8xw $d, bt, info locals              the text of a function; memory; the frames
+  help why                                      more about a question
 docs/DEBUGGER.md and docs/TERMINAL.md have all of it.
 """
 
@@ -42,10 +44,11 @@ def is_question(line: str) -> bool:
     if not words:
         return False
     word = words[0].partition("/")[0]
-    if word == "counts" and len(words) > 1 and words[1].isdigit():
+    behind = words[1] if len(words) > 1 else ""
+    if word == "counts" and behind.isdigit():
         # The debugger's own command, which moves.
         return False
-    return word in ASKING or word == "info" and len(words) > 1 and words[1] in INFORMING
+    return word in ASKING or word == "info" and behind in INFORMING or word == "help" and behind in {*ASKING, "info"}
 
 
 @dataclass

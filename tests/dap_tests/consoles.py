@@ -37,6 +37,8 @@ SQUARES = [
                  "      bounds: storew at the end of $squares (16 bytes), into $bias+0\n"
                  "1 suspicion in 88 moves, done 30"),
     ("goto 44", "#44 $fill @body 4"),
+    ("bt", "> 0  $fill @body 4  line 18: storew %square, %place\n  1  $main @start 1  line 27: call $fill()"),
+    ("bt -1", "  1  $main @start 1  line 27: call $fill()"),
     ("made %place", "%place is made of the address of $squares (16 bytes)"),
     ("goto #44", "$fill @body 4\n$main @start 1"),
     ("set %square 3", "#45 $fill @body 4"),
@@ -113,6 +115,12 @@ def another_frame(console: Console) -> None:
         raise Wrong(f"the caller has {message['body']['result']!r}")
     if "%square = 16" not in console.asked("info locals"):
         raise Wrong("the innermost call lacks %square")
+    message = console.answer("evaluate", {"expression": "bt", "context": "repl", "frameId": 2})
+    if "\n> 1  $main @start 1  line 27" not in message["body"]["result"]:
+        raise Wrong(f"the frames are {message['body']['result']!r}")
+    told = console.asked("help made")
+    if not told.startswith("made %x\n") or "failed" in told:
+        raise Wrong(f"of a word: {told!r}")
 
 
 def changed(console: Console) -> None:
