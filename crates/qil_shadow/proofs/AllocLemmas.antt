@@ -1,10 +1,13 @@
 -- What an alloc that fits does: the object that is made by number is by names the one that the definition says.
-use Rattle.std.proofs.Common.{◌≡◌, ◌∙◌, sym, ap, subst, refl, ℕ, suc, ◌+◌, ◌-◌, ◌≤◌, List, [], ◌∷◌, ◌++◌, length, map, Option, Some, None}
+use Rattle.std.proofs.Common.{◌≡◌, ◌∙◌, sym, ap, subst, refl, ℕ, suc, ◌+◌, ◌-◌, ◌^◌, ◌<◌, ◌≤◌, List, [], ◌∷◌, ◌++◌, length, map, Option, Some, None}
 use Rattle.std.specs.Prelude.{replicate}
 use Rattle.std.proofs.lemmas.List.{length-map, map-append}
 use Rattle.qil_memory.specs.qil_layout.Layout.{rounded}
 use Rattle.qil_memory.specs.Buffers.{stack_base, stack_end}
 use Rattle.qil_tree.specs.declared.ops.Class.{Class}
+use Rattle.qil_tree.specs.declared.ops.Class.TheVariants as classes
+use Rattle.qil_memory.specs.qil_rules.Operands.{as_class}
+use Rattle.qil_semantics.specs.Slots.{temps_of}
 use Rattle.qil_tree.specs.declared.ops.AllocOp.{AllocOp}
 use Rattle.qil_tree.specs.declared.tree.Target.{Target}
 use Rattle.qil_tree.specs.declared.tree.Operand.{Operand}
@@ -41,8 +44,8 @@ use Rattle.qil_shadow.specs.Doubts.{place_named}
 use Rattle.qil_shadow.specs.Reads.{innermost, HasSlots}
 use Rattle.qil_shadow.specs.Kept.{KeepsAll, KeepsRest}
 use Rattle.qil_shadow.specs.Instructions.{named, AreCalls, IsInst, IsSound, RoomIsSound, ShadowIs, HasDone}
-use Rattle.qil_shadow.proofs.KeptLemmas.{same_value}
-use Rattle.qil_shadow.proofs.InstLemmas.{first_held, set_frames, reports_none}
+use Rattle.qil_shadow.proofs.ValueLemmas.{Holds, val_long, first_read, none_held, same_held}
+use Rattle.qil_shadow.proofs.InstLemmas.{set_frames, reports_none}
 
 -- ---- which instruction it is
 
@@ -64,7 +67,7 @@ pub record IsAlloc {A : Type 0} (p : Program A) (place : Place) (slots : List (O
   pub same : kind ≡ insts.Alloc onto op room
   pub has : Has (names_of p place.func.index) onto.name
   pub slot : to ≡ slot_in (names_of p place.func.index) onto.name
-  pub value : value_in slots count ≡ Some (first vs)
+  pub value : Holds slots count (first vs)
 
 pub is_alloc : {A : Type 0} (p : Program A) (place : Place) (slots : List (Option ℕ)) (class : Class) (to : Slot) (op : AllocOp) (count : NumberedOperand) (kind : InstKind A) (vs : List ℕ)
     → IsInst p place slots (numbered.Alloc class to op count) kind vs → IsAlloc p place slots to op count kind vs
@@ -81,7 +84,7 @@ is_alloc {A} p place slots class to op count (insts.Alloc x o n) vs is =
       same = ap (λ k. insts.Alloc x k n) (sym (ap (λ (i : NumberedInst A). op_of_inst op i) is.number));
       has = has-among ns x.name is.target.0 is.target.1;
       slot = ap (λ (i : NumberedInst A). slot_of_inst to i) is.number;
-      value = ap (value_in slots) c ∙ first_held (value_in slots (operand_of p ns n)) [] vs is.values;
+      value = subst (λ o. Holds slots o (first vs)) (sym c) (val_long p ns slots n (first vs) is.known.0 (first_read p (temps_of ns slots) (as_class classes.L n) [] vs is.values));
     }
 
 -- ---- what it does
@@ -132,27 +135,24 @@ grown_named {A} p place fs f x to was now at n are slots here has is calls posit
       position = was.position;
     })
 
-none_some : (o : Option ℕ) (v : ℕ) (X : Type 0) → None ≡ o → o ≡ Some v → X
-none_some o v X none some = absurd (let e : None ≡ Some v = none ∙ some in cc)
-
 pub alloc_unset : {A : Type 0} (p : Program A) (place : Place) (slots : List (Option ℕ)) (class : Class) (to : Slot) (op : AllocOp) (count : NumberedOperand) (was now : Shadow A) → None ≡ value_in slots count
     → HasDone p place slots (numbered.Alloc class to op count) was now
 alloc_unset p place slots class to op count was now unset = record {
-  shadow_is = λ kind vs s f fs is at calls stands sound. none_some (value_in slots count) (first vs) _ unset (is_alloc p place slots class to op count kind vs is).value;
-  found_is = λ kind vs s sh f is at stands. none_some (value_in slots count) (first vs) _ unset (is_alloc p place slots class to op count kind vs is).value;
+  shadow_is = λ kind vs s f fs is at calls stands sound. none_held slots count (first vs) _ unset (is_alloc p place slots class to op count kind vs is).value;
+  found_is = λ kind vs s sh f is at stands. none_held slots count (first vs) _ unset (is_alloc p place slots class to op count kind vs is).value;
 }
 
 pub alloc_done : {A : Type 0} (p : Program A) (place : Place) (slots : List (Option ℕ)) (class : Class) (to : Slot) (op : AllocOp) (count : NumberedOperand) (was mid now : Shadow A) (n align : ℕ)
-    → Some n ≡ value_in slots count → align ≡ alignment op → KeepsAll was mid → KeepsRest mid now
+    → Some n ≡ value_in slots count → n < 2 ^ 64 → align ≡ alignment op → KeepsAll was mid → KeepsRest mid now
     → (rounded align mid.calls.top + n ≤ stack_end → now.calls ≡ with_made mid.calls to (made_at place to (rounded align mid.calls.top) n mid.position (length mid.calls.calls)))
     → (stack_base ≤ mid.calls.top → rounded align mid.calls.top + n ≤ stack_end
     → origins_in now.memory ≡ laid_origins (origins_in mid.memory) mid.calls.top (replicate (rounded align mid.calls.top + n - mid.calls.top) bytes.Number))
     → HasDone p place slots (numbered.Alloc class to op count) was now
-alloc_done {A} p place slots class to op count was mid now n align value even keeps rest makes clears = record {
+alloc_done {A} p place slots class to op count was mid now n align value low even keeps rest makes clears = record {
   shadow_is = λ kind vs s f fs is at calls stands sound.
       let k = is_alloc p place slots class to op count kind vs is in
       let room : RoomIsSound s.top (rounded (alignment op) s.top) (first vs) = subst (λ (i : InstKind A). IsSound p s (length was.calls.calls) i vs) k.same sound in
-      let same : n ≡ first vs = same_value (value_in slots count) n (first vs) value k.value in
+      let same : n ≡ first vs = same_held slots count n (first vs) value k.value low in
       let top : mid.calls.top ≡ s.top = ap (λ (c : LiveCalls). c.top) keeps.rest.calls_are ∙ stands.top_is in
       let address : rounded align mid.calls.top ≡ rounded (alignment op) s.top = λ i. rounded (even i) (top i) in
       let fits : rounded align mid.calls.top + n ≤ stack_end = subst (λ z. z ≤ stack_end) (λ i. sym address i + sym same i) room.1 in

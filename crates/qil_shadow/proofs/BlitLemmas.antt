@@ -1,5 +1,5 @@
 -- What a blit does: it looks at the access to its source and, where that is live, at the one to its target, and copies the bytes.
-use Rattle.std.proofs.Common.{◌≡◌, ◌∙◌, sym, ap, subst, refl, ℕ, ◌<◌, Bool, true, false, List, [], ◌∷◌, ◌++◌, length, map, Option, Some, None, arith, append_assoc}
+use Rattle.std.proofs.Common.{◌≡◌, ◌∙◌, sym, ap, subst, refl, ℕ, ◌^◌, ◌<◌, Bool, true, false, List, [], ◌∷◌, ◌++◌, length, map, Option, Some, None, arith, append_assoc}
 use Rattle.std.specs.Prelude.{◌==◌, if◌then◌else◌}
 use Rattle.std.proofs.lemmas.Bool.{false≢true}
 use Rattle.std.proofs.lemmas.Bool.Decides.{nat_tests}
@@ -37,8 +37,11 @@ use Rattle.qil_shadow.specs.Kept.{Keeps, KeepsButMemory}
 use Rattle.qil_shadow.specs.Instructions.{named, IsInst, IsSound, CopyIsSound, ReportsAll, ShadowIs, FoundIs, HasDone}
 use Rattle.qil_shadow.proofs.WordLemmas.{laid_none}
 use Rattle.qil_shadow.proofs.DoubtsByName.{live_by_name}
-use Rattle.qil_shadow.proofs.KeptLemmas.{keeps_on, own_kept, stands_kept, slots_behind, reported_as, same_value}
-use Rattle.qil_shadow.proofs.InstLemmas.{first_held, second_held, inst_read, reports_one, reports_none}
+use Rattle.qil_shadow.proofs.KeptLemmas.{keeps_on, own_kept, stands_kept, slots_behind, reported_as}
+use Rattle.qil_shadow.proofs.InstLemmas.{inst_read, reports_one, reports_none}
+use Rattle.qil_memory.specs.qil_rules.Operands.{as_class}
+use Rattle.qil_semantics.specs.Slots.{temps_of}
+use Rattle.qil_shadow.proofs.ValueLemmas.{Holds, val_long, first_read, second_read, none_held, same_held}
 
 -- ---- which instruction it is
 
@@ -61,8 +64,8 @@ pub record IsBlit {A : Type 0} (p : Program A) (place : Place) (slots : List (Op
   pub same : kind ≡ insts.Blit from onto count
   pub one : IsRead p place readings.First from source
   pub other : IsRead p place readings.Second onto target
-  pub at : value_in slots source ≡ Some (first vs)
-  pub to : value_in slots target ≡ Some (second vs)
+  pub at : Holds slots source (first vs)
+  pub to : Holds slots target (second vs)
 
 pub is_blit : {A : Type 0} (p : Program A) (place : Place) (slots : List (Option ℕ)) (source target : NumberedOperand) (count : ℕ) (kind : InstKind A) (vs : List ℕ)
     → IsInst p place slots (numbered.Blit source target count) kind vs → IsBlit p place slots source target count kind vs
@@ -81,8 +84,8 @@ is_blit {A} p place slots source target count (insts.Blit a b n) vs is =
       same = ap (λ k. insts.Blit a b k) (sym c);
       one = inst_read p place slots (numbered.Blit source target count) (insts.Blit a b n) vs readings.First a source is refl s is.known.0;
       other = inst_read p place slots (numbered.Blit source target count) (insts.Blit a b n) vs readings.Second b target is refl t is.known.1.0;
-      at = ap (value_in slots) s ∙ first_held (value_in slots (operand_of p ns a)) (value_in slots (operand_of p ns b) ∷ []) vs is.values;
-      to = ap (value_in slots) t ∙ second_held (value_in slots (operand_of p ns a)) (value_in slots (operand_of p ns b)) [] vs is.values;
+      at = subst (λ o. Holds slots o (first vs)) (sym s) (val_long p ns slots a (first vs) is.known.0 (first_read p (temps_of ns slots) (as_class classes.L a) (as_class classes.L b ∷ []) vs is.values));
+      to = subst (λ o. Holds slots o (second vs)) (sym t) (val_long p ns slots b (second vs) is.known.1.0 (second_read p (temps_of ns slots) (as_class classes.L a) (as_class classes.L b) [] vs is.values));
     }
 
 -- ---- what is looked at
@@ -110,15 +113,15 @@ none_some o v X none some = absurd (let e : None ≡ Some v = none ∙ some in c
 pub blit_unset_source : {A : Type 0} (p : Program A) (place : Place) (slots : List (Option ℕ)) (source target : NumberedOperand) (count : ℕ) (was : Shadow A) → None ≡ value_in slots source
     → HasDone p place slots (numbered.Blit source target count) was was
 blit_unset_source p place slots source target count was unset = record {
-  shadow_is = λ kind vs s f fs is at calls stands sound. none_some (value_in slots source) (first vs) _ unset (is_blit p place slots source target count kind vs is).at;
-  found_is = λ kind vs s sh f is at stands. none_some (value_in slots source) (first vs) _ unset (is_blit p place slots source target count kind vs is).at;
+  shadow_is = λ kind vs s f fs is at calls stands sound. none_held slots source (first vs) _ unset (is_blit p place slots source target count kind vs is).at;
+  found_is = λ kind vs s sh f is at stands. none_held slots source (first vs) _ unset (is_blit p place slots source target count kind vs is).at;
 }
 
 pub blit_unset_target : {A : Type 0} (p : Program A) (place : Place) (slots : List (Option ℕ)) (source target : NumberedOperand) (count : ℕ) (was : Shadow A) → None ≡ value_in slots target
     → HasDone p place slots (numbered.Blit source target count) was was
 blit_unset_target p place slots source target count was unset = record {
-  shadow_is = λ kind vs s f fs is at calls stands sound. none_some (value_in slots target) (second vs) _ unset (is_blit p place slots source target count kind vs is).to;
-  found_is = λ kind vs s sh f is at stands. none_some (value_in slots target) (second vs) _ unset (is_blit p place slots source target count kind vs is).to;
+  shadow_is = λ kind vs s f fs is at calls stands sound. none_held slots target (second vs) _ unset (is_blit p place slots source target count kind vs is).to;
+  found_is = λ kind vs s sh f is at stands. none_held slots target (second vs) _ unset (is_blit p place slots source target count kind vs is).to;
 }
 
 laid_zero : (m : ByteOrigins) (a b n : ℕ) → n ≡ 0 → m ≡ laid_origins m b (origins_at m a n)
@@ -158,19 +161,19 @@ live_is {A} p s sh f place was mid a v n b keeps own stands same live =
 
 -- a source that isn't live
 pub blit_dead : {A : Type 0} (p : Program A) (place : Place) (slots : List (Option ℕ)) (source target : NumberedOperand) (count a : ℕ) (was now : Shadow A) (m : Origin) (live : Bool) → 0 < count → Some a ≡ value_in slots source
-    → ((x : Operand) → IsRead p place readings.First x source → IsOrigin p place was x m) → Looks p place was now (access actions.CopyFrom m a count) → Keeps was now
+    → a < 2 ^ 64 → ((x : Operand) → IsRead p place readings.First x source → IsOrigin p place was x m) → Looks p place was now (access actions.CopyFrom m a count) → Keeps was now
     → live ≡ live_between now.data_end now.calls.top a count → live ≡ false → HasDone p place slots (numbered.Blit source target count) was now
-blit_dead {A} p place slots source target count a was now m live some value origin looks keeps lives dead = record {
+blit_dead {A} p place slots source target count a was now m live some value low origin looks keeps lives dead = record {
   shadow_is = λ kind vs s f fs is at calls stands sound.
       let b = is_blit p place slots source target count kind vs is in
       let copy : CopyIsSound p s (first vs) (second vs) count = (subst (λ (i : InstKind A). IsSound p s (length was.calls.calls) i vs) b.same sound) some in
-      let same : a ≡ first vs = same_value (value_in slots source) a (first vs) value b.at in
+      let same : a ≡ first vs = same_held slots source a (first vs) value b.at low in
       let no : are_live p s (first vs) count ≡ live = live_is p s (named p (place.func.index ∷ fs) was) f place was now a (first vs) count live keeps at.own stands same lives in
       absurd (false≢true (sym (no ∙ dead) ∙ copy.live));
   found_is = λ kind vs s sh f is at stands.
       let b = is_blit p place slots source target count kind vs is in
       let t = innermost p place.func.index was.calls.calls in
-      let same : a ≡ first vs = same_value (value_in slots source) a (first vs) value b.at in
+      let same : a ≡ first vs = same_held slots source a (first vs) value b.at low in
       let no : are_live p s (first vs) count ≡ false = live_is p s sh f place was now a (first vs) count live keeps at.own stands same lives ∙ dead in
       let one = operand_origin p t classes.L b.from in
       let other = operand_origin p t classes.L b.onto in
@@ -191,19 +194,19 @@ copied_named {A} p i fs was now m calls position memory =
 
 pub blit_done : {A : Type 0} (p : Program A) (place : Place) (slots : List (Option ℕ)) (source target : NumberedOperand) (count a b : ℕ) (was mid behind now : Shadow A) (m q : Origin) (live : Bool) → 0 < count
     → Some a ≡ value_in slots source → Some b ≡ value_in slots target
-    → ((x : Operand) → IsRead p place readings.First x source → IsOrigin p place was x m) → Looks p place was mid (access actions.CopyFrom m a count) → Keeps was mid
+    → a < 2 ^ 64 → b < 2 ^ 64 → ((x : Operand) → IsRead p place readings.First x source → IsOrigin p place was x m) → Looks p place was mid (access actions.CopyFrom m a count) → Keeps was mid
     → live ≡ live_between mid.data_end mid.calls.top a count → live ≡ true
     → ((x : Operand) → IsRead p place readings.Second x target → IsOrigin p place mid x q) → Looks p place mid behind (access actions.CopyTo q b count) → Keeps mid behind
     → KeepsButMemory behind now → now.found.items ≡ behind.found.items
     → (HasSpot a count → HasSpot b count → overlap a b count ≡ false → origins_in now.memory ≡ laid_origins (origins_in behind.memory) b (origins_at (origins_in behind.memory) a count))
     → HasDone p place slots (numbered.Blit source target count) was now
-blit_done {A} p place slots source target count a b was mid behind now m q live some value other_value origin looks keeps lives alive other_origin other_looks other_keeps last found copies = record {
+blit_done {A} p place slots source target count a b was mid behind now m q live some value other_value low other_low origin looks keeps lives alive other_origin other_looks other_keeps last found copies = record {
   shadow_is = λ kind vs s f fs is at calls stands sound.
       let k = is_blit p place slots source target count kind vs is in
       let copy : CopyIsSound p s (first vs) (second vs) count = (subst (λ (i : InstKind A). IsSound p s (length was.calls.calls) i vs) k.same sound) some in
       let all = keeps_on was mid behind keeps other_keeps in
-      let same : a ≡ first vs = same_value (value_in slots source) a (first vs) value k.at in
-      let there : b ≡ second vs = same_value (value_in slots target) b (second vs) other_value k.to in
+      let same : a ≡ first vs = same_held slots source a (first vs) value k.at low in
+      let there : b ≡ second vs = same_held slots target b (second vs) other_value k.to other_low in
       let apart : overlap a b count ≡ false = (λ i. overlap (same i) (there i) count) ∙ copy.apart in
       let memory : origins_in now.memory ≡ laid_origins (origins_in was.memory) (second vs) (origins_at (origins_in was.memory) (first vs) count) =
       copies (subst (λ v. HasSpot v count) (sym same) copy.source) (subst (λ v. HasSpot v count) (sym there) copy.target) apart
@@ -213,8 +216,8 @@ blit_done {A} p place slots source target count a b was mid behind now m q live 
   found_is = λ kind vs s sh f is at stands.
       let k = is_blit p place slots source target count kind vs is in
       let t = innermost p place.func.index was.calls.calls in
-      let same : a ≡ first vs = same_value (value_in slots source) a (first vs) value k.at in
-      let there : b ≡ second vs = same_value (value_in slots target) b (second vs) other_value k.to in
+      let same : a ≡ first vs = same_held slots source a (first vs) value k.at low in
+      let there : b ≡ second vs = same_held slots target b (second vs) other_value k.to other_low in
       let yes : are_live p s (first vs) count ≡ true = live_is p s sh f place was mid a (first vs) count live keeps at.own stands same lives ∙ alive in
       let one = operand_origin p t classes.L k.from in
       let other = operand_origin p t classes.L k.onto in

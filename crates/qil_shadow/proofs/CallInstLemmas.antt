@@ -1,5 +1,5 @@
 -- What a call does, by what it calls.
-use Rattle.std.proofs.Common.{◌≡◌, ◌∙◌, sym, ap, subst, ℕ, zero, suc, ◌-◌, ◌<◌, Bool, true, false, ◌&&◌, List, [], ◌∷◌, length, map, Option, Some, None, option_map, refl, arith}
+use Rattle.std.proofs.Common.{◌≡◌, ◌∙◌, sym, ap, subst, ℕ, zero, suc, ◌-◌, ◌^◌, ◌<◌, Bool, true, false, ◌&&◌, List, [], ◌∷◌, length, map, Option, Some, None, option_map, refl, arith}
 use Rattle.std.specs.Prelude.{codes, slice_get, if◌then◌else◌, ◌==◌, nat_lt, ◌%◌, ◌/◌, ⊤}
 use Rattle.std.specs.List.{AllByRecursion}
 use Rattle.std.proofs.lemmas.Bool.Decides.{nat_tests}
@@ -8,7 +8,7 @@ use Rattle.qil_memory.specs.qil_layout.declared.callee.Callee.TheVariants.{Defin
 use Rattle.qil_memory.specs.qil_layout.declared.callee.FuncId.{FuncId}
 use Rattle.qil_memory.specs.qil_layout.Callee as layout
 use Rattle.qil_memory.specs.qil_layout.Callee.{callee_at, lies, defined_at}
-use Rattle.qil_memory.specs.qil_rules.Operands.{argument_read, call_target, inst_target}
+use Rattle.qil_memory.specs.qil_rules.Operands.{as_class, argument_read, call_target, inst_target}
 use Rattle.qil_tree.specs.declared.tree.Argument.{Argument}
 use Rattle.qil_tree.specs.declared.tree.CallResult.{CallResult}
 use Rattle.qil_tree.specs.declared.tree.Operand.{Operand}
@@ -43,10 +43,11 @@ use Rattle.qil_shadow.specs.Kept.{Keeps, KeepsAll, KeepsButCalls}
 use Rattle.qil_shadow.specs.Instructions.{named, AreCalls, IsAt, IsInst, IsTarget, CallIsSound, IsSound, called_first, ShadowIs, HasDone}
 use Rattle.qil_shadow.specs.Passing.{AreArguments}
 use Rattle.qil_shadow.specs.Returns.{IsTaker}
-use Rattle.qil_shadow.proofs.KeptLemmas.{same_value}
-use Rattle.qil_shadow.proofs.InstLemmas.{first_held, inst_read, set_frames, reports_none}
+use Rattle.qil_shadow.proofs.InstLemmas.{inst_read, set_frames, reports_none}
 use Rattle.qil_shadow.proofs.PassLemmas.{first_frames, at_kept}
-use Rattle.qil_shadow.proofs.BlitLemmas.{none_some}
+use Rattle.qil_tree.specs.declared.ops.Class.TheVariants as classes
+use Rattle.qil_semantics.specs.Slots.{temps_of}
+use Rattle.qil_shadow.proofs.ValueLemmas.{Holds, val_long, first_read, none_held, same_held}
 
 -- ---- what lies at an address is there
 
@@ -79,7 +80,7 @@ some_at (x ∷ xs) (suc i) l = some_at xs i (omega (arith, l))
 low_test : (a n : ℕ) → nat_lt a n ≡ true → a < n
 low_test a n e = grind (arith, nat_tests, e)
 
-defined_there : {A : Type 0} (p : Program A) (a : ℕ) (func : FuncId) → Some (Defined func) ≡ callee_at p a → (f : Func A) × (slice_get p.funcs func.index ≡ Some f)
+pub defined_there : {A : Type 0} (p : Program A) (a : ℕ) (func : FuncId) → Some (Defined func) ≡ callee_at p a → (f : Func A) × (slice_get p.funcs func.index ≡ Some f)
 defined_there p a func e =
     let at : layout.func_at p a ≡ Some func.index = defined_by (lies p (codes "putchar") 1024 a) (lies p (codes "puts") 1040 a) (lies p (codes "exit") 1056 a) (layout.func_at p a) func e in
     some_at p.funcs func.index
@@ -118,7 +119,7 @@ pub record IsCall {A : Type 0} (p : Program A) (place : Place) (slots : List (Op
   pub receiver : to ≡ option_map (receiver_of (names_of p place.func.index)) result
   pub taker : IsTarget (names_of p place.func.index) (inst_target kind)
   pub arguments : AreArguments p place args given
-  pub value : value_in slots callee ≡ Some (first vs)
+  pub value : Holds slots callee (first vs)
 
 pub is_call : {A : Type 0} (p : Program A) (place : Place) (slots : List (Option ℕ)) (to : Option Receiver) (callee : NumberedOperand) (args : List NumberedArgument) (kind : InstKind A) (vs : List ℕ)
     → IsInst p place slots (numbered.Call to callee args) kind vs → IsCall p place slots to callee args kind vs
@@ -141,7 +142,7 @@ is_call {A} p place slots to callee args (insts.Call x c given) vs is =
         read = λ k a at.
             inst_read p place slots (numbered.Call to callee args) (insts.Call x c given) vs (readings.Argument k) a.value (operand_of p ns a.value) is (ap (option_map (λ b. b.value)) at) refl (known_at p place given k a is.known.1 at);
       };
-      value = ap (value_in slots) s ∙ first_held (value_in slots (operand_of p ns c)) _ vs is.values;
+      value = subst (λ o. Holds slots o (first vs)) (sym s) (val_long p ns slots c (first vs) is.known.0 (first_read p (temps_of ns slots) (as_class classes.L c) (map argument_read given) vs is.values));
     }
 
 -- ---- nothing is called
@@ -149,8 +150,8 @@ is_call {A} p place slots to callee args (insts.Call x c given) vs is =
 pub call_unset : {A : Type 0} (p : Program A) (place : Place) (slots : List (Option ℕ)) (to : Option Receiver) (callee : NumberedOperand) (args : List NumberedArgument) (was : Shadow A) → None ≡ value_in slots callee
     → HasDone p place slots (numbered.Call to callee args) was was
 call_unset p place slots to callee args was unset = record {
-  shadow_is = λ kind vs s f fs is at all stands sound. none_some (value_in slots callee) (first vs) _ unset (is_call p place slots to callee args kind vs is).value;
-  found_is = λ kind vs s sh f is at stands. none_some (value_in slots callee) (first vs) _ unset (is_call p place slots to callee args kind vs is).value;
+  shadow_is = λ kind vs s f fs is at all stands sound. none_held slots callee (first vs) _ unset (is_call p place slots to callee args kind vs is).value;
+  found_is = λ kind vs s sh f is at stands. none_held slots callee (first vs) _ unset (is_call p place slots to callee args kind vs is).value;
 }
 
 -- no call accesses bytes
@@ -163,11 +164,11 @@ pub sound_call : {A : Type 0} (p : Program A) (place : Place) (slots : List (Opt
 sound_call {A} p place slots to callee args kind vs s n o k is sound = subst (CallIsSound n) (sym is) (subst (λ (i : InstKind A). IsSound p s n i vs) k.same sound)
 
 pub call_of_nothing : {A : Type 0} (p : Program A) (place : Place) (slots : List (Option ℕ)) (to : Option Receiver) (callee : NumberedOperand) (args : List NumberedArgument) (was now : Shadow A) (a : ℕ) → Some a ≡ value_in slots callee
-    → None ≡ callee_at p a → now.found.items ≡ was.found.items → HasDone p place slots (numbered.Call to callee args) was now
-call_of_nothing {A} p place slots to callee args was now a value nothing found = record {
+    → a < 2 ^ 64 → None ≡ callee_at p a → now.found.items ≡ was.found.items → HasDone p place slots (numbered.Call to callee args) was now
+call_of_nothing {A} p place slots to callee args was now a value low nothing found = record {
   shadow_is = λ kind vs s f fs is at all stands sound.
       let k = is_call p place slots to callee args kind vs is in
-      let same : a ≡ first vs = same_value (value_in slots callee) a (first vs) value k.value in
+      let same : a ≡ first vs = same_held slots callee a (first vs) value k.value low in
       absurd (sound_call p place slots to callee args kind vs s (length was.calls.calls) None k (nothing ∙ ap (callee_at p) same) sound);
   found_is = λ kind vs s sh f is at stands.
       reports_none p s sh f _ was.found.items now.found.items (none_accessed p place slots to callee args was now kind vs s (innermost p place.func.index was.calls.calls) (is_call p place slots to callee args kind vs is)) found;
@@ -179,16 +180,16 @@ pub named_kept : {A : Type 0} (p : Program A) (fs : List ℕ) (was now : Shadow 
 named_kept p fs was now k = λ j. shadow_by p fs (k.calls_are j).calls (k.memory_is j) (k.calls_are j).objects.objects (k.position_is j)
 
 pub call_of_function : {A : Type 0} (p : Program A) (place : Place) (slots : List (Option ℕ)) (to : Option Receiver) (callee : NumberedOperand) (args : List NumberedArgument) (was mid now : Shadow A) (a : ℕ) (func : FuncId)
-    → Some a ≡ value_in slots callee → Some (Defined func) ≡ callee_at p a → KeepsAll was mid
+    → Some a ≡ value_in slots callee → a < 2 ^ 64 → Some (Defined func) ≡ callee_at p a → KeepsAll was mid
     → ((given : List Argument) (f : Func A) (fs : List ℕ) → IsAt p place mid → AreCalls p (place.func.index ∷ fs) mid.calls.calls → AreArguments p place args given → func_at p func.index ≡ Some f → length mid.calls.calls < 1000
     → named p (func.index ∷ (place.func.index ∷ fs)) now
     ≡ enters p (named p (place.func.index ∷ fs) mid) (innermost p place.func.index mid.calls.calls) (frames_by p fs (callers_of mid.calls.calls)) given (Some f))
     → now.found.items ≡ mid.found.items → HasDone p place slots (numbered.Call to callee args) was now
-call_of_function {A} p place slots to callee args was mid now a func value there keeps enter found = record {
+call_of_function {A} p place slots to callee args was mid now a func value low there keeps enter found = record {
   shadow_is = λ kind vs s f fs is at all stands sound.
       let i = place.func.index in
       let k = is_call p place slots to callee args kind vs is in
-      let same : a ≡ first vs = same_value (value_in slots callee) a (first vs) value k.value in
+      let same : a ≡ first vs = same_held slots callee a (first vs) value k.value low in
       let meant : Some (Defined func) ≡ callee_at p (first vs) = there ∙ ap (callee_at p) same in
       let few : length was.calls.calls < 1000 = sound_call p place slots to callee args kind vs s (length was.calls.calls) (Some (Defined func)) k meant sound in
       let it = defined_there p a func there in
@@ -240,7 +241,7 @@ taken_first p i fs (Some x) to m cs slots among is =
     ap (λ r. frames_by p (i ∷ fs) (taken r m cs)) is
     ∙ set_frames p i fs cs (receiver_of (names_of p i) x).slot x.name m slots (has-among (names_of p i) x.name among.0 among.1) refl
 
-by_result : (ns : List Name) (result : Option CallResult) → IsTarget ns (option_map call_target result) → IsTaker ns result
+pub by_result : (ns : List Name) (result : Option CallResult) → IsTarget ns (option_map call_target result) → IsTaker ns result
 by_result ns None among = tt
 by_result ns (Some x) among = among
 
@@ -250,13 +251,13 @@ taker_of {A} p place slots to callee args kind vs k =
     by_result (names_of p place.func.index) k.result (subst (λ (i : InstKind A). IsTarget (names_of p place.func.index) (inst_target i)) k.same k.taker)
 
 pub call_of_built_in : {A : Type 0} (p : Program A) (place : Place) (slots : List (Option ℕ)) (to : Option Receiver) (callee : NumberedOperand) (args : List NumberedArgument) (was mid now : Shadow A) (a : ℕ) (called : Callee)
-    → Some a ≡ value_in slots callee → Some called ≡ callee_at p a → IsBuiltIn called → KeepsAll was mid → now.calls ≡ record mid.calls { calls = taken to origins.Number mid.calls.calls } → KeepsButCalls mid now
+    → Some a ≡ value_in slots callee → a < 2 ^ 64 → Some called ≡ callee_at p a → IsBuiltIn called → KeepsAll was mid → now.calls ≡ record mid.calls { calls = taken to origins.Number mid.calls.calls } → KeepsButCalls mid now
     → HasDone p place slots (numbered.Call to callee args) was now
-call_of_built_in {A} p place slots to callee args was mid now a called value there built keeps gives rest = record {
+call_of_built_in {A} p place slots to callee args was mid now a called value low there built keeps gives rest = record {
   shadow_is = λ kind vs s f fs is at all stands sound.
       let i = place.func.index in
       let k = is_call p place slots to callee args kind vs is in
-      let same : a ≡ first vs = same_value (value_in slots callee) a (first vs) value k.value in
+      let same : a ≡ first vs = same_held slots callee a (first vs) value k.value low in
       let meant : Some called ≡ callee_at p (first vs) = there ∙ ap (callee_at p) same in
       let sh = named p (i ∷ fs) was in
       let t = innermost p i was.calls.calls in

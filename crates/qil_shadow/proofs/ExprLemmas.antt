@@ -1,6 +1,6 @@
 -- What an expression gives by its number is what the one of the tree gives.
-use Rattle.std.proofs.Common.{◌≡◌, ◌∙◌, sym, ap, subst, refl, ℕ, ◌<◌, Bool, true, false, List, [], ◌∷◌, Option, Some, None, unwrap_or, arith}
-use Rattle.std.specs.Prelude.{◌&&◌, if◌then◌else◌}
+use Rattle.std.proofs.Common.{◌≡◌, ◌∙◌, sym, ap, subst, refl, ℕ, ◌^◌, ◌<◌, Bool, true, false, List, [], ◌∷◌, Option, Some, None, unwrap_or, Ok, arith}
+use Rattle.std.specs.Prelude.{◌&&◌, ◌%◌, if◌then◌else◌}
 use Rattle.std.proofs.lemmas.Bool.Decides.{nat_tests}
 use Rattle.qil_tree.specs.declared.ops.Class.{Class}
 use Rattle.qil_tree.specs.declared.ops.Class.TheVariants as classes
@@ -16,10 +16,11 @@ use Rattle.qil_tree.specs.declared.tree.Expr.{Expr}
 use Rattle.qil_tree.specs.declared.tree.Expr.TheVariants as exprs
 use Rattle.qil_tree.specs.declared.tree.InstKind.TheVariants as insts
 use Rattle.qil_tree.specs.declared.tree.Program.{Program}
-use Rattle.qil_memory.specs.qil_rules.Operands.{right_class}
+use Rattle.qil_memory.specs.qil_rules.Operands.{as_class, right_class}
 use Rattle.qil_memory.specs.qil_layout.Layout.{fault_of}
 use Rattle.qil_semantics.specs.State.{Name, Frame, State}
-use Rattle.qil_semantics.specs.Values.{first, second}
+use Rattle.qil_semantics.specs.Slots.{temps_of}
+use Rattle.qil_semantics.specs.Values.{val, first, second}
 use Rattle.qil_code.specs.declared.numbered.Slot.{Slot}
 use Rattle.qil_code.specs.declared.numbered.NumberedOperand.{NumberedOperand}
 use Rattle.qil_code.specs.declared.numbered.NumberedOperand.TheVariants as numbered_operands
@@ -48,7 +49,8 @@ use Rattle.qil_shadow.specs.Starting.{IsOf}
 use Rattle.qil_shadow.specs.Kept.{Keeps}
 use Rattle.qil_shadow.specs.Instructions.{IsAt, IsInst, ExprIsSound, ReportsAll, HasGiven}
 use Rattle.qil_shadow.proofs.ReadLemmas.{slot_origin, low_origin}
-use Rattle.qil_shadow.proofs.InstLemmas.{first_held, second_held, inst_read, assigned_expr, reports_one, reports_none}
+use Rattle.qil_shadow.proofs.InstLemmas.{inst_read, assigned_class, assigned_expr, reports_one, reports_none}
+use Rattle.qil_shadow.proofs.ValueLemmas.{Holds, val_long, first_read, second_read, word_is, same_binary, unwrapped_held}
 
 -- ---- two numbers
 
@@ -258,10 +260,16 @@ given_binary p place slots class expr was op left right r shape gives =
     let here = subst (λ q. IsInst p place slots (numbered_insts.Assign class to expr) (insts.Assign x q) vs) same is in
     let one = inst_read p place slots (numbered_insts.Assign class to expr) (insts.Assign x (exprs.Binary op a b)) vs readings.First a left here refl u.3 here.known.0 in
     let other = inst_read p place slots (numbered_insts.Assign class to expr) (insts.Assign x (exprs.Binary op a b)) vs readings.Second b right here refl u.4 here.known.1.0 in
-    let v : unwrap_or (value_in slots left) 0 ≡ first vs = ap (λ o. unwrap_or (value_in slots o) 0) u.3 ∙ ap (λ o. unwrap_or o 0) (first_held (value_in slots (operand_of p ns a)) (value_in slots (operand_of p ns b) ∷ []) vs here.values) in
-    let w : unwrap_or (value_in slots right) 0 ≡ second vs = ap (λ o. unwrap_or (value_in slots o) 0) u.4 ∙ ap (λ o. unwrap_or o 0) (second_held (value_in slots (operand_of p ns a)) (value_in slots (operand_of p ns b)) [] vs here.values) in (
+    let temps = temps_of ns slots in
+    let reads = first_read p temps (as_class x.class a) (as_class (right_class op x.class) b ∷ []) vs here.values in
+    let reads_other = second_read p temps (as_class x.class a) (as_class (right_class op x.class) b) [] vs here.values in
+    let wanted : class ≡ x.class = assigned_class p place slots class to expr x e vs is in
+    let v : class ≡ classes.L → unwrap_or (value_in slots left) 0 % 2 ^ 64 ≡ first vs =
+    λ long. unwrapped_held slots left (first vs) (subst (λ o. Holds slots o (first vs)) (sym u.3) (val_long p ns slots a (first vs) here.known.0 (subst (λ c. val p temps c a ≡ Ok (first vs)) (sym wanted ∙ long) reads))) in
+    let w : right_class op class ≡ classes.L → unwrap_or (value_in slots right) 0 % 2 ^ 64 ≡ second vs =
+    λ long. unwrapped_held slots right (second vs) (subst (λ o. Holds slots o (second vs)) (sym u.4) (val_long p ns slots b (second vs) here.known.1.0 (subst (λ c. val p temps c b ≡ Ok (second vs)) (ap (right_class op) (sym wanted) ∙ long) reads_other))) in (
       gives a b at.own at.slots one other
-          ∙ (λ i. binary_origin op class (is_twice a b) (operand_origin p t class a) (v i) (operand_origin p t (right_class op class) b) (w i))
+          ∙ same_binary op class (is_twice a b) (operand_origin p t class a) (operand_origin p t (right_class op class) b) (unwrap_or (value_in slots left) 0) (first vs) (unwrap_or (value_in slots right) 0) (second vs) v w
           ∙ (λ i. expr_origin p t (origins_in was.memory) class (sym same i) vs),
       ap (λ q. expr_accesses p t q vs) same,
     ))
@@ -272,20 +280,22 @@ pub given_load : {A : Type 0} (p : Program A) (place : Place) (slots : List (Opt
     → ((a : Operand) (v : ℕ) (s : State) (sh : by_names.Shadow) (f : Frame) → value_in slots operand ≡ Some v → IsOf p was.names was.calls.objects.starts was.data_end → HasSlots p place.func.index was.calls.calls
     → IsRead p place readings.First a operand → StandsFor p s sh f was.calls.objects.objects was.calls.top was.position place
     → Reports p s sh f (access (actions.Load op) (operand_origin p (innermost p place.func.index was.calls.calls) classes.L a) v (load_bytes op)) was.found.items now.found.items)
-    → Keeps was now → HasGiven p place slots class expr was now r
-given_load p place slots class expr was now op operand r shape gives looks rest = record {
+    → ((v : ℕ) → value_in slots operand ≡ Some v → v < 2 ^ 64) → Keeps was now → HasGiven p place slots class expr was now r
+given_load p place slots class expr was now op operand r shape gives looks low rest = record {
   origin_is = λ to x e vs is at sound.
       let ns = names_of p place.func.index in
       let u = is_load p ns e op operand (sym shape ∙ assigned_expr p place slots class to expr x e vs is) in
       let here = subst (λ q. IsInst p place slots (numbered_insts.Assign class to expr) (insts.Assign x q) vs) u.1 is in
-      let v : value_in slots operand ≡ Some (first vs) = ap (value_in slots) u.2 ∙ first_held (value_in slots (operand_of p ns u.0)) [] vs here.values in
+      let h : Holds slots operand (first vs) = subst (λ o. Holds slots o (first vs)) (sym u.2) (val_long p ns slots u.0 (first vs) here.known.0 (first_read p (temps_of ns slots) (as_class classes.L u.0) [] vs here.values)) in
+      let v : value_in slots operand ≡ Some (first vs) = h.1 ∙ ap (λ n. Some n) (word_is h.0 (first vs) (low h.0 h.1) h.2) in
       gives (first vs) v (subst (λ q. ExprIsSound q vs) u.1 sound) ∙ (λ i. expr_origin p (innermost p place.func.index was.calls.calls) (origins_in was.memory) class (sym u.1 i) vs);
   found_is = λ to x e vs s sh f is at stands.
       let ns = names_of p place.func.index in
       let t = innermost p place.func.index was.calls.calls in
       let u = is_load p ns e op operand (sym shape ∙ assigned_expr p place slots class to expr x e vs is) in
       let here = subst (λ q. IsInst p place slots (numbered_insts.Assign class to expr) (insts.Assign x q) vs) u.1 is in
-      let v : value_in slots operand ≡ Some (first vs) = ap (value_in slots) u.2 ∙ first_held (value_in slots (operand_of p ns u.0)) [] vs here.values in
+      let h : Holds slots operand (first vs) = subst (λ o. Holds slots o (first vs)) (sym u.2) (val_long p ns slots u.0 (first vs) here.known.0 (first_read p (temps_of ns slots) (as_class classes.L u.0) [] vs here.values)) in
+      let v : value_in slots operand ≡ Some (first vs) = h.1 ∙ ap (λ n. Some n) (word_is h.0 (first vs) (low h.0 h.1) h.2) in
       let read = inst_read p place slots (numbered_insts.Assign class to expr) (insts.Assign x (exprs.Load op u.0)) vs readings.First u.0 operand here refl u.2 here.known.0 in
       subst (λ q. ReportsAll p s sh f (expr_accesses p t q vs) was.found.items now.found.items) (sym u.1)
       (reports_one p s sh f (access (actions.Load op) (operand_origin p t classes.L u.0) (first vs) (load_bytes op)) was.found.items now.found.items (looks u.0 (first vs) s sh f v at.own at.slots read stands));

@@ -43,17 +43,6 @@ use Rattle.qil_shadow.specs.Instructions.{named, IsInst, ReportsAll}
 use Rattle.qil_shadow.proofs.ByNameLemmas.{slot_set}
 use Rattle.qil_shadow.proofs.ParamLemmas.{has_slot}
 
--- ---- values
-
-pub first_held : (o : Option ℕ) (os : List (Option ℕ)) (vs : List ℕ) → o ∷ os ≡ map (λ v. Some v) vs → o ≡ Some (first vs)
-first_held o os [] e = absurd cc
-first_held o os (v ∷ vs) e = ap (λ xs. get_or xs 0 None) e
-
-pub second_held : (o q : Option ℕ) (os : List (Option ℕ)) (vs : List ℕ) → o ∷ (q ∷ os) ≡ map (λ v. Some v) vs → q ≡ Some (second vs)
-second_held o q os [] e = absurd cc
-second_held o q os (v ∷ []) e = absurd cc
-second_held o q os (v ∷ (w ∷ vs)) e = ap (λ xs. get_or xs 1 None) e
-
 -- ---- what is read
 
 pub some_is : {X : Type 0} (x y : X) → Some x ≡ Some y → x ≡ y

@@ -33,3 +33,9 @@ pub mod EnterLemmas
 pub mod ShapeLemmas
 pub mod PhiLemmas
 pub mod JumpLemmas
+pub mod SoundLemmas
+pub mod StepLemmas
+pub mod ValueLemmas
+pub mod StateLemmas
+pub mod LeaveLemmas
+pub mod FollowLemmas

@@ -42,7 +42,7 @@ use Rattle.qil_shadow.proofs.KeptLemmas.{own_kept, slots_behind}
 
 -- ---- one argument
 
-no_item : {X Y : Type 0} (v : X → Y) (o : Option X) → option_map v o ≡ None → o ≡ None
+pub no_item : {X Y : Type 0} (v : X → Y) (o : Option X) → option_map v o ≡ None → o ≡ None
 no_item v None e = refl
 no_item v (Some x) e = absurd cc
 

@@ -1,6 +1,6 @@
 -- How calls lie behind an instruction, and that nothing was found where an operand is unset.
-use Rattle.std.proofs.Common.{◌≡◌, ◌∙◌, sym, ap, subst, refl, ℕ, zero, suc, ◌+◌, ◌<◌, ◌≤◌, List, [], ◌∷◌, length, map, Option, Some, None, option_map}
-use Rattle.std.specs.Prelude.{false, slice_get, is_none}
+use Rattle.std.proofs.Common.{◌≡◌, ◌∙◌, sym, ap, subst, refl, ℕ, zero, suc, ◌+◌, ◌^◌, ◌<◌, ◌≤◌, List, [], ◌∷◌, length, map, Option, Some, None, option_map}
+use Rattle.std.specs.Prelude.{true, false, slice_get, is_none}
 use Rattle.std.proofs.lemmas.Bool.{true≢false}
 use Rattle.std.proofs.lemmas.List.{length-set}
 use Rattle.qil_tree.specs.declared.ops.AllocOp.{AllocOp}
@@ -40,10 +40,10 @@ use Rattle.qil_shadow.specs.Kept.{Keeps, KeepsAll, KeepsButCalls, KeepsButMemory
 use Rattle.qil_shadow.specs.Entering.{origins_of, IsEntered}
 use Rattle.qil_shadow.specs.Instructions.{IsAt, IsInst, IsSound, RoomIsSound, KeepsButSlot}
 use Rattle.qil_shadow.specs.Shapes.{CallShape, shapes_of, with_called, shapes_behind, top_behind, LiesBehind, IsUnset, expr_operands, operands_of, KeepsOwn, HasLeft}
-use Rattle.qil_shadow.proofs.KeptLemmas.{same_value}
+use Rattle.qil_shadow.proofs.ValueLemmas.{none_held, same_held}
 use Rattle.qil_shadow.proofs.AllocLemmas.{IsAlloc, is_alloc, made_at}
 use Rattle.qil_shadow.proofs.AssignLemmas.{is_assign}
-use Rattle.qil_shadow.proofs.BlitLemmas.{IsBlit, is_blit, none_some}
+use Rattle.qil_shadow.proofs.BlitLemmas.{IsBlit, is_blit}
 use Rattle.qil_shadow.proofs.StoreInstLemmas.{IsStore, is_store}
 use Rattle.qil_shadow.proofs.CallInstLemmas.{IsCall, is_call, sound_call, IsBuiltIn}
 
@@ -74,6 +74,10 @@ set_here o v X some none = absurd (let e : Some v ≡ None = some ∙ none in cc
 
 pub is_set : (o : Option ℕ) (v : ℕ) → Some v ≡ o → is_none o ≡ false
 is_set o v some = ap is_none (sym some)
+
+pub none_is : (o : Option ℕ) → is_none o ≡ true → None ≡ o
+none_is None e = refl
+none_is (Some v) e = absurd (true≢false (sym e))
 
 -- of two that are set none is
 pub none_unset : (slots : List (Option ℕ)) (a b : NumberedOperand) (X : Type 0) → is_none (value_in slots a) ≡ false → is_none (value_in slots b) ≡ false → IsUnset slots (a ∷ (b ∷ [])) → X
@@ -169,10 +173,10 @@ made_lies p i kind vs was now to o shapes top same = record {
 }
 
 pub alloc_left : {A : Type 0} (p : Program A) (place : Place) (slots : List (Option ℕ)) (class : Class) (to : Slot) (op : AllocOp) (count : NumberedOperand) (was mid now : Shadow A) (n align : ℕ)
-    → Some n ≡ value_in slots count → align ≡ alignment op → KeepsAll was mid → KeepsRest mid now
+    → Some n ≡ value_in slots count → n < 2 ^ 64 → align ≡ alignment op → KeepsAll was mid → KeepsRest mid now
     → (rounded align mid.calls.top + n ≤ stack_end → now.calls ≡ with_made mid.calls to (made_at place to (rounded align mid.calls.top) n mid.position (length mid.calls.calls)))
     → HasLeft p place slots (numbered.Alloc class to op count) was now
-alloc_left {A} p place slots class to op count was mid now n align value even keeps rest makes = record {
+alloc_left {A} p place slots class to op count was mid now n align value low even keeps rest makes = record {
   own = record {
     names_are = rest.names_are ∙ keeps.rest.names_are;
     end_is = rest.end_is ∙ keeps.rest.end_is;
@@ -182,7 +186,7 @@ alloc_left {A} p place slots class to op count was mid now n align value even ke
   lies = λ kind vs s is at stands sound.
       let k = is_alloc p place slots class to op count kind vs is in
       let room : RoomIsSound s.top (rounded (alignment op) s.top) (first vs) = subst (λ (i : InstKind A). IsSound p s (length was.calls.calls) i vs) k.same sound in
-      let same : n ≡ first vs = same_value (value_in slots count) n (first vs) value k.value in
+      let same : n ≡ first vs = same_held slots count n (first vs) value k.value low in
       let top : mid.calls.top ≡ s.top = ap (λ (c : LiveCalls). c.top) keeps.rest.calls_are ∙ stands in
       let address : rounded align mid.calls.top ≡ rounded (alignment op) s.top = λ i. rounded (even i) (top i) in
       let fits : rounded align mid.calls.top + n ≤ stack_end = subst (λ z. z ≤ stack_end) (λ i. sym address i + sym same i) room.1 in
@@ -197,7 +201,7 @@ pub alloc_unset_left : {A : Type 0} (p : Program A) (place : Place) (slots : Lis
     → HasLeft p place slots (numbered.Alloc class to op count) was now
 alloc_unset_left p place slots class to op count was now unset keeps = record {
   own = own_of was now keeps.rest;
-  lies = λ kind vs s is at top sound. none_some (value_in slots count) (first vs) _ unset (is_alloc p place slots class to op count kind vs is).value;
+  lies = λ kind vs s is at top sound. none_held slots count (first vs) _ unset (is_alloc p place slots class to op count kind vs is).value;
   unset = λ none. keeps.found_is;
 }
 
@@ -207,17 +211,17 @@ pub call_unset_left : {A : Type 0} (p : Program A) (place : Place) (slots : List
     → HasLeft p place slots (numbered.Call to callee args) was was
 call_unset_left p place slots to callee args was unset = record {
   own = record { names_are = refl; end_is = refl; position_is = refl; roles_are = refl };
-  lies = λ kind vs s is at top sound. none_some (value_in slots callee) (first vs) _ unset (is_call p place slots to callee args kind vs is).value;
+  lies = λ kind vs s is at top sound. none_held slots callee (first vs) _ unset (is_call p place slots to callee args kind vs is).value;
   unset = λ none. refl;
 }
 
 pub nothing_left : {A : Type 0} (p : Program A) (place : Place) (slots : List (Option ℕ)) (to : Option Receiver) (callee : NumberedOperand) (args : List NumberedArgument) (was now : Shadow A) (a : ℕ) → Some a ≡ value_in slots callee
-    → None ≡ callee_at p a → KeepsAll was now → HasLeft p place slots (numbered.Call to callee args) was now
-nothing_left {A} p place slots to callee args was now a value nothing keeps = record {
+    → a < 2 ^ 64 → None ≡ callee_at p a → KeepsAll was now → HasLeft p place slots (numbered.Call to callee args) was now
+nothing_left {A} p place slots to callee args was now a value low nothing keeps = record {
   own = own_of was now keeps.rest;
   lies = λ kind vs s is at top sound.
       let k = is_call p place slots to callee args kind vs is in
-      let same : a ≡ first vs = same_value (value_in slots callee) a (first vs) value k.value in
+      let same : a ≡ first vs = same_held slots callee a (first vs) value k.value low in
       absurd (sound_call p place slots to callee args kind vs s (length was.calls.calls) None k (nothing ∙ ap (callee_at p) same) sound);
   unset = λ none. keeps.found_is;
 }
@@ -231,15 +235,15 @@ both_own was mid now k l = record {
 }
 
 pub function_left : {A : Type 0} (p : Program A) (place : Place) (slots : List (Option ℕ)) (to : Option Receiver) (callee : NumberedOperand) (args : List NumberedArgument) (was mid now : Shadow A) (a : ℕ) (func : FuncId)
-    → Some a ≡ value_in slots callee → Some (Defined func) ≡ callee_at p a → KeepsAll was mid
+    → Some a ≡ value_in slots callee → a < 2 ^ 64 → Some (Defined func) ≡ callee_at p a → KeepsAll was mid
     → (length mid.calls.calls < 1000 → IsEntered (length (names_of p func.index)) to mid.calls now.calls) → KeepsButCalls mid now
     → HasLeft p place slots (numbered.Call to callee args) was now
-function_left {A} p place slots to callee args was mid now a func value there keeps enters rest = record {
+function_left {A} p place slots to callee args was mid now a func value low there keeps enters rest = record {
   own = both_own was mid now keeps rest;
   lies = λ kind vs s is at top sound.
       let i = place.func.index in
       let k = is_call p place slots to callee args kind vs is in
-      let same : a ≡ first vs = same_value (value_in slots callee) a (first vs) value k.value in
+      let same : a ≡ first vs = same_held slots callee a (first vs) value k.value low in
       let meant : Some (Defined func) ≡ callee_at p (first vs) = there ∙ ap (callee_at p) same in
       let few : length was.calls.calls < 1000 = sound_call p place slots to callee args kind vs s (length was.calls.calls) (Some (Defined func)) k meant sound in
       let calls_same = keeps.rest.calls_are in
@@ -261,14 +265,14 @@ built_in_shapes p i to Puts top cs is = refl
 built_in_shapes p i to Exit top cs is = refl
 
 pub built_in_left : {A : Type 0} (p : Program A) (place : Place) (slots : List (Option ℕ)) (to : Option Receiver) (callee : NumberedOperand) (args : List NumberedArgument) (was mid now : Shadow A) (a : ℕ) (called : Callee) (m : Origin)
-    → Some a ≡ value_in slots callee → Some called ≡ callee_at p a → IsBuiltIn called → KeepsAll was mid → now.calls ≡ record mid.calls { calls = taken to m mid.calls.calls } → KeepsButCalls mid now
+    → Some a ≡ value_in slots callee → a < 2 ^ 64 → Some called ≡ callee_at p a → IsBuiltIn called → KeepsAll was mid → now.calls ≡ record mid.calls { calls = taken to m mid.calls.calls } → KeepsButCalls mid now
     → HasLeft p place slots (numbered.Call to callee args) was now
-built_in_left {A} p place slots to callee args was mid now a called m value there built keeps gives rest = record {
+built_in_left {A} p place slots to callee args was mid now a called m value low there built keeps gives rest = record {
   own = both_own was mid now keeps rest;
   lies = λ kind vs s is at top sound.
       let i = place.func.index in
       let k = is_call p place slots to callee args kind vs is in
-      let same : a ≡ first vs = same_value (value_in slots callee) a (first vs) value k.value in
+      let same : a ≡ first vs = same_held slots callee a (first vs) value k.value low in
       let meant : Some called ≡ callee_at p (first vs) = there ∙ ap (callee_at p) same in
       let now_calls : now.calls ≡ record was.calls { calls = taken to m was.calls.calls } = gives ∙ ap (λ (c : LiveCalls). record c { calls = taken to m c.calls }) keeps.rest.calls_are in
       let shapes : shapes_of now.calls.calls ≡ with_called p i k.result (callee_at p (first vs)) was.calls.top (shapes_of was.calls.calls) =

@@ -1,5 +1,5 @@
 -- What an instruction does to a shadow that is kept by number: what the definition says of that of the tree, by names.
-use Rattle.std.specs.Prelude.{◌≡◌, ℕ, ◌+◌, ◌<◌, ◌≤◌, false, true, List, [], ◌∷◌, ◌++◌, length, map, flat_map, ⊤, Option, Some, None, option_map}
+use Rattle.std.specs.Prelude.{◌≡◌, ℕ, ◌+◌, ◌<◌, ◌≤◌, false, true, List, [], ◌∷◌, ◌++◌, length, map, flat_map, ⊤, Option, Some, None, option_map, Ok}
 use Rattle.std.specs.List.{AllByRecursion}
 use Rattle.qil_tree.specs.declared.ops.Class.{Class}
 use Rattle.qil_tree.specs.declared.tree.Target.{Target}
@@ -17,7 +17,8 @@ use Rattle.qil_memory.specs.qil_layout.Callee.{callee_at}
 use Rattle.qil_memory.specs.Buffers.{stack_base, stack_end}
 use Rattle.qil_memory.specs.Calls.{overlap}
 use Rattle.qil_semantics.specs.State.{Name, Frame, State}
-use Rattle.qil_semantics.specs.Values.{first, second}
+use Rattle.qil_semantics.specs.Slots.{temps_of}
+use Rattle.qil_semantics.specs.Values.{vals, first, second}
 use Rattle.qil_semantics.specs.Calls.{depth_limit}
 use Rattle.qil_semantics.specs.Step.{alignment}
 use Rattle.qil_code.specs.declared.numbered.Slot.{Slot}
@@ -71,13 +72,14 @@ abbrev pub IsTarget : List Name → Option Target → Type 0
 IsTarget ns None = ⊤
 IsTarget ns (Some to) = IsAmong to.name ns
 
--- at a place of the tree stands the one of a kind, which has this form by number; what it reads is known, and has these values
+-- at a place of the tree stands the one of a kind, which has this form by number; what it reads is known, and has these values in a
+-- frame whose temporaries are in these slots
 pub record IsInst {A : Type 0} (p : Program A) (place : Place) (slots : List (Option ℕ)) (inst : NumberedInst A) (kind : InstKind A) (vs : List ℕ) : Type 0 where
   pub here : kind_at p place ≡ Some kind
   pub number : inst ≡ kind_of p (names_of p place.func.index) kind
   pub known : AllByRecursion (λ r. IsKnown p (names_of p place.func.index) r.operand) (inst_reads kind)
   pub target : IsTarget (names_of p place.func.index) (inst_target kind)
-  pub values : map (λ r. value_in slots (operand_of p (names_of p place.func.index) r.operand)) (inst_reads kind) ≡ map (λ v. Some v) vs
+  pub values : vals p (temps_of (names_of p place.func.index) slots) (inst_reads kind) ≡ Ok vs
 
 -- ---- that it doesn't fault
 

@@ -26,3 +26,4 @@ pub mod Entering
 pub mod Shapes
 pub mod Phis
 pub mod Jumps
+pub mod Steps

@@ -6,6 +6,7 @@ mod access;
 mod bytes;
 mod calls;
 mod constants;
+mod edges;
 mod heap;
 mod heap_step;
 mod laws;

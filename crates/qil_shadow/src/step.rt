@@ -1,7 +1,7 @@
 //! A step of the shadow: it looks at what comes next, and becomes the shadow of the state behind it. A step that ends the run
 //! asks nothing of it.
 
-ghost use Rattle.std.specs.Prelude.{◌≡◌, ℕ, ◌%◌, ◌==◌, if◌then◌else◌, List, Some, None, ◌<◌, [], ◌∷◌, ◌++◌, length, unwrap_or, slice_get, IfOk, OnOk};
+ghost use Rattle.std.specs.Prelude.{◌≡◌, ℕ, ◌-◌, ◌^◌, ◌%◌, ◌==◌, if◌then◌else◌, false, List, Some, None, ◌<◌, [], ◌∷◌, ◌++◌, length, unwrap_or, slice_get, IfOk, OnOk};
 ghost use Rattle.std.specs.Option.{option_copied};
 ghost use Rattle.qil_tree.specs.declared.ops.Class.TheVariants.{L};
 ghost use Rattle.qil_tree.specs.declared.tree.Operand.{Operand};
@@ -11,7 +11,8 @@ ghost use Rattle.qil_tree.specs.declared.tree.Func.{Func};
 ghost use Rattle.qil_tree.specs.declared.tree.Program.{Program};
 ghost use Rattle.qil_memory.specs.qil_rules.Operands.{right_class, stored_class};
 ghost use Rattle.qil_memory.specs.qil_layout.Layout.{width_bytes};
-ghost use Rattle.qil_semantics.specs.State.{Frame, State};
+ghost use Rattle.qil_semantics.specs.State.{Frame, State, is_final};
+ghost use Rattle.qil_semantics.specs.Step.{step_of};
 ghost use Rattle.qil_code.specs.Numbered.{func_at, names_of};
 ghost use Rattle.qil_shadow.specs.Origins.{binary_origin};
 ghost use Rattle.qil_shadow.specs.Bytes.{laid_origins, origins_at, stored_origins, joined, load_bytes};
@@ -29,6 +30,7 @@ ghost use Rattle.qil_shadow.specs.Instructions.{named, AreCalls, IsAt, KeepsButS
 ghost use Rattle.qil_shadow.specs.Moves.{with_all};
 ghost use Rattle.qil_shadow.specs.Phis.{phi_read, IsEdge, moves_from, got_by, AreAlike};
 ghost use Rattle.qil_shadow.specs.Jumps.{IsJump, GoesOn, left_running, LiesAfter};
+ghost use Rattle.qil_shadow.specs.Steps.{IsReady, Finds, Follows, HasFollowed};
 ghost use Rattle.qil_shadow.specs.Shapes.{IsUnset, expr_operands, HasLeft};
 ghost use Rattle.qil_shadow.specs.Passing.{AreArguments, one_passed, passed_by};
 ghost use Rattle.qil_shadow.specs.Entering.{IsEntered};
@@ -45,8 +47,8 @@ use crate::shadow::{Shadow, are_one_temporary, value_of};
 use crate::suspicion::Place;
 use crate::widths::class_right;
 use qil_code::{
-    BlockId, Code, Edge, NumberedArgument, NumberedExpr, NumberedInst, NumberedJump,
-    NumberedOperand, PhiMove, Receiver, Slot, alignment, byte_count, class_returned, class_stored,
+    Code, Edge, NumberedArgument, NumberedExpr, NumberedInst, NumberedJump, NumberedOperand,
+    Receiver, Slot, alignment, byte_count, class_returned, class_stored,
 };
 use qil_layout::{Callee, FuncId};
 use qil_tree::{AbiType, AllocOp, BinaryOp, Class, LoadOp, Width};
@@ -73,8 +75,17 @@ fn argument_at(args: &[NumberedArgument], index: usize) -> Option<&NumberedArgum
     args.get(index)
 }
 
+/// The instruction of a number, if there is one.
+#[inline(always)]
+fn inst_at<A: Allocator>(insts: &[NumberedInst<A>], index: usize) -> Option<&NumberedInst<A>>
+    ensures { option_copied result ≡ slice_get insts.now index }
+{
+    insts.get(index)
+}
+
 impl<'c, A: Allocator + Copy> Shadow<'c, A> {
-    /// Makes the step of the innermost frame at a place, which holds these values.
+    /// Makes the step of the innermost frame at a place, which holds these values. Specifications see it beside a state whose
+    /// frame this is: what is suspicious of its step is found, and where the run goes on the shadow is by names that of the next.
     ///
     /// # Errors
     ///
@@ -84,15 +95,40 @@ impl<'c, A: Allocator + Copy> Shadow<'c, A> {
         code: &Code<'c, A>,
         place: Place,
         slots: &[Option<u64>],
-    ) -> Result<(), AllocError> {
-        if let Some(block) = code.block(place.func, place.block) {
-            match block.insts.as_slice().get(place.index as usize) {
-                Some(inst) => self.do_inst(code, place, slots, inst)?,
-                None => self.leave(code, place, slots, &block.jump)?,
-            }
-        }
+    ) -> Result<(), AllocError>
+        ensures found { OnOk result ((s : State) (f : Frame) (gs : List Frame) → IsReady code.now s f gs place slots.now self.old → Finds code.now s self.old self.new) }
+        ensures next { OnOk result ((s : State) (f : Frame) (gs : List Frame) → IsReady code.now s f gs place slots.now self.old → self.old.position < 2 ^ 64 - 1 → is_final (step_of code.now s).status ≡ false
+            → HasFollowed code.now s self.old self.new) }
+    {
+        self.do_next(code, place, slots)?;
         self.position = self.position.saturating_add(1);
         Ok(())
+    }
+
+    /// What stands at a place.
+    #[inline(always)]
+    fn do_next(
+        &mut self,
+        code: &Code<'c, A>,
+        place: Place,
+        slots: &[Option<u64>],
+    ) -> Result<(), AllocError>
+        ensures found { OnOk result ((s : State) (f : Frame) (gs : List Frame) → IsReady code.now s f gs place slots.now self.old → Finds code.now s self.old self.new) }
+        ensures next { OnOk result ((s : State) (f : Frame) (gs : List Frame) → IsReady code.now s f gs place slots.now self.old → is_final (step_of code.now s).status ≡ false → Follows code.now s self.old self.new) }
+    {
+        match code.block(place.func, place.block) {
+            Some(block) => match inst_at(block.insts.as_slice(), place.index as usize) {
+                Some(inst) => {
+                    self.do_inst(code, place, slots, inst)?;
+                    Ok(())
+                }
+                None => {
+                    self.leave(code, place, slots, &block.jump)?;
+                    Ok(())
+                }
+            },
+            None => Ok(()),
+        }
     }
 
     /// What an instruction does.
@@ -253,6 +289,7 @@ impl<'c, A: Allocator + Copy> Shadow<'c, A> {
             → StandsFor code.now s sh f self.old.calls.objects.objects self.old.calls.top self.old.position place
             → Reports code.now s sh f (accesses.access (Action.Load op) (operand_origin code.now (innermost code.now place.func.index self.old.calls.calls) L a) v (load_bytes op)) self.old.found.items self.new.found.items) }
         ensures rest { OnOk result (Keeps self.old self.new) }
+        ensures low { OnOk result ((v : ℕ) → value_in slots.now operand ≡ Some v → v < 2 ^ 64) }
         ensures unset { OnOk result (value_in slots.now operand ≡ None → self.new.found.items ≡ self.old.found.items) }
     {
         let Some(address) = value_of(slots, operand) else {
@@ -659,117 +696,5 @@ impl<'c, A: Allocator + Copy> Shadow<'c, A> {
             }
             None => Origin::Number,
         }
-    }
-
-    /// Goes along an edge.
-    #[inline(always)]
-    fn take_edge(
-        &mut self,
-        code: &Code<'c, A>,
-        place: Place,
-        edge: &Edge<A>,
-    ) -> Result<(), AllocError>
-        ensures named { OnOk result ((f : Frame) (fs : List ℕ) (func : Func A) (left target : Block A) (l : List ℕ) → IsEdge code.now place edge.now.to edge.now.moves func left target l → f.label ≡ left.label → IsAt code.now place self.old
-            → named code.now (place.func.index ∷ fs) self.new
-            ≡ goes code.now f (named code.now (place.func.index ∷ fs) self.old) (innermost code.now place.func.index self.old.calls.calls) (frames_by code.now fs (callers_of self.old.calls.calls)) func l) }
-        ensures alike { OnOk result (AreAlike self.old.calls self.new.calls) }
-        ensures rest { OnOk result (KeepsButCalls self.old self.new) }
-    {
-        match edge.moves.as_slice() {
-            [] => Ok(()),
-            [only] => {
-                self.do_phi(code, place, edge.to, only);
-                Ok(())
-            }
-            [first, second] => {
-                self.do_two_phis(code, place, edge.to, first, second);
-                Ok(())
-            }
-            moves => {
-                self.do_phis(code, place, edge.to, moves)?;
-                Ok(())
-            }
-        }
-    }
-
-    /// Does the only phi of a block.
-    #[inline(always)]
-    fn do_phi(&mut self, code: &Code<'c, A>, place: Place, to: BlockId, only: &PhiMove)
-        ensures calls { (func : Func A) (left target : Block A) (l : List ℕ) → IsEdge code.now place to (only.now ∷ []) func left target l → IsAt code.now place self.old
-            → self.new.calls ≡ with_all (got_by code.now (names_of code.now place.func.index) (innermost code.now place.func.index self.old.calls.calls) (moves_from left target)) self.old.calls }
-        ensures alike { AreAlike self.old.calls self.new.calls }
-        ensures rest { KeepsButCalls self.old self.new }
-    {
-        let origin = self.phi_origin(code, place, to, 0, only);
-        let open = self.phi_open(only);
-        self.calls.set(only.target, origin);
-        self.open.set(only.target, open);
-    }
-
-    /// Does the two phis of a block: both are read before one is written.
-    #[inline(always)]
-    fn do_two_phis(
-        &mut self,
-        code: &Code<'c, A>,
-        place: Place,
-        to: BlockId,
-        first: &PhiMove,
-        second: &PhiMove,
-    )
-        ensures calls { (func : Func A) (left target : Block A) (l : List ℕ) → IsEdge code.now place to (first.now ∷ (second.now ∷ [])) func left target l → IsAt code.now place self.old
-            → self.new.calls ≡ with_all (got_by code.now (names_of code.now place.func.index) (innermost code.now place.func.index self.old.calls.calls) (moves_from left target)) self.old.calls }
-        ensures alike { AreAlike self.old.calls self.new.calls }
-        ensures rest { KeepsButCalls self.old self.new }
-    {
-        let origin = self.phi_origin(code, place, to, 0, first);
-        let other = self.phi_origin(code, place, to, 1, second);
-        let open = self.phi_open(first);
-        let other_open = self.phi_open(second);
-        self.calls.set(first.target, origin);
-        self.calls.set(second.target, other);
-        self.open.set(first.target, open);
-        self.open.set(second.target, other_open);
-    }
-
-    /// Does the phis of a block: all are read before one is written.
-    fn do_phis(
-        &mut self,
-        code: &Code<'c, A>,
-        place: Place,
-        to: BlockId,
-        moves: &[PhiMove],
-    ) -> Result<(), AllocError>
-        ensures calls { OnOk result ((func : Func A) (left target : Block A) (l : List ℕ) → IsEdge code.now place to moves.now func left target l → IsAt code.now place self.old
-            → self.new.calls ≡ with_all (got_by code.now (names_of code.now place.func.index) (innermost code.now place.func.index self.old.calls.calls) (moves_from left target)) self.old.calls) }
-        ensures alike { OnOk result (AreAlike self.old.calls self.new.calls) }
-        ensures rest { OnOk result (KeepsButCalls self.old self.new) }
-    {
-        self.moved.truncate(0);
-        for (index, one) in moves.iter().enumerate() {
-            self.gather_phi(code, place, to, index, one)?;
-        }
-        self.put_moved();
-        Ok(())
-    }
-
-    /// Gathers what the phi of a number gets.
-    #[inline(always)]
-    fn gather_phi(
-        &mut self,
-        code: &Code<'c, A>,
-        place: Place,
-        to: BlockId,
-        index: usize,
-        one: &PhiMove,
-    ) -> Result<(), AllocError>
-        ensures moved { OnOk result ((a : Operand) → IsAt code.now place self.old → phi_read code.now place to.index index ≡ Some a → IsFor code.now (names_of code.now place.func.index) a one.now.source
-            → self.new.moved.items ≡ self.old.moved.items ++ (one.now.target, operand_origin code.now (innermost code.now place.func.index self.old.calls.calls) one.now.class a) ∷ []) }
-        ensures rest { OnOk result (KeepsAll self.old self.new) }
-    {
-        let origin = self.phi_origin(code, place, to, index, one);
-        self.moved.push((one.target, origin))?;
-        let open = self.phi_open(one);
-        self.open.gather(one.target, open)?;
-        Ok(())
     }
 }

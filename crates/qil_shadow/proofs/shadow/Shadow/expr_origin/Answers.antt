@@ -23,7 +23,7 @@ returns-in-Extend-clause-given g c =
 pub returns-in_ok-origin-in-Load-clause-given : goal.returns-in_ok-origin-in-Load-clause-given
 returns-in_ok-origin-in-Load-clause-given g c =
     given_load c.args.code.now c.args.place c.args.slots.now c.args.class c.args.expr c.args.self.now _ c.in-Load.op c.in-Load.operand _ c.in-Load.is (λ v is spot. c.in_ok-origin-in-Load.ensures.origin v is spot)
-    (λ a v s sh f is own slots read stands. c.in_ok-origin-in-Load.ensures.found a v s sh f is own slots read stands) c.in_ok-origin-in-Load.ensures.rest
+    (λ a v s sh f is own slots read stands. c.in_ok-origin-in-Load.ensures.found a v s sh f is own slots read stands) (λ v is. c.in_ok-origin-in-Load.ensures.low v is) c.in_ok-origin-in-Load.ensures.rest
 
 pub returns-in_ok-origin-in-Load-clause-unset : goal.returns-in_ok-origin-in-Load-clause-unset
 returns-in_ok-origin-in-Load-clause-unset g c = λ none. c.in_ok-origin-in-Load.ensures.unset (unset_only c.args.slots.now c.in-Load.operand (subst (λ e. IsUnset c.args.slots.now (expr_operands e)) c.in-Load.is none))
