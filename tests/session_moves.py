@@ -8,7 +8,8 @@ BYTES = {b"b": 1, b"h": 2, b"w": 4, b"l": 8}
 NOT_ASKED = (b"no: line too long", b"no: unknown command", b"no: missing word", b"no: bad word", b"no: extra word",
              b"no: unknown place")
 # The lines of an answer that can have several.
-SHOWN = {b"accesses": rb"(read|write) #\d+ \d+ \d+", b"counts": rb"count \d+ \$\S+ @\S+ \d+", b"where": rb"\$.* @\S+ \d+", b"list": rb"(  |> ).*"}
+SHOWN = {b"accesses": rb"(read|write) #\d+ \d+ \d+", b"counts": rb"count \d+ \$\S+ @\S+ \d+",
+         b"where": rb"\$.* @\S+ \d+", b"list": rb"(  |> ).*"}
 
 
 class Answers:

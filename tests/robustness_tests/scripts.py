@@ -12,7 +12,8 @@ from .programs import NUMBERS
 # Lines that no program makes lawful, and spacing that says nothing.
 ODD = """fly|step 0|step -1|step 4294967296|step 00003|accesses|accesses 1
 accesses 1 $d0|accesses 0 $d0 1|accesses 1 $nope 1|accesses 1 $d0 0|accesses 1 $d0 4294967296
-accesses 4294967296 0 1|counts|counts 0|counts 4294967296|counts x|counts 1 2|counts 00002|accesses 9 18446744073709551615 9|accesses 5 $d0+18446744073709551615 3
+accesses 4294967296 0 1|accesses 9 18446744073709551615 9|accesses 5 $d0+18446744073709551615 3
+counts|counts 0|counts 4294967296|counts x|counts 1 2|counts 00002
 back 1 2|back x|print|print x|print %|set %x
 set %w0 18446744073709551616|set %w0 -9223372036854775809|set %w0 -0|poke b 0|poke q 0 1|poke w 65536 -1
 mem 0 0|mem 0 257|mem 18446744073709551615 4|mem 18446744073709551616 1|mem $d0+ 1

@@ -1,6 +1,7 @@
 """Scripts: long ones, and random ones on random programs against the model of tests/oracle."""
 from __future__ import annotations
 
+import re
 from collections.abc import Callable, Iterable, Iterator
 from random import Random
 from typing import TypedDict
@@ -41,8 +42,8 @@ def seeded(seed: int, lines: int) -> tuple[bytes, list[int], bytes, Options]:
     random = Random(seed)
     text, arguments = random_program(random)
     script = random_script(random, text, lines)
-    # A `step` without a bound of its own could go on for ever.
-    script = script.replace(b"step 4294967295\n", b"step 500\n")
+    # A `step`, `accesses` or `counts` without a bound of its own could go on for ever.
+    script = re.sub(rb"\b(step|accesses|counts) 4294967295\b", rb"\1 500", script)
     return text, arguments, script, options_of(random)
 
 
