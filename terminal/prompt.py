@@ -2,6 +2,7 @@
 from __future__ import annotations
 
 import os
+import re
 import sys
 from typing import Iterator
 
@@ -10,14 +11,15 @@ try:
 except ImportError:
     readline = None  # type: ignore[assignment]
 
-from .expressions import WORDS as EXPRESSION_WORDS
+from .expressions import WORDS as EXPRESSION_WORDS, Wrong
 from .looking import info_words
-from .shell import COMMANDS, Leave, Shell, Switched
+from .shell import COMMANDS, Command, Leave, Shell, Switched
 
 PROMPT = "(qrev) "
 GATHERING = "> "
 HISTORY = "~/.qrev_terminal_history"
 MOST_HISTORY = 2000
+WORD = re.compile(r"(?<![\w%$@<])[a-z]{2,}(?!\w)")
 
 
 def candidates(shell: Shell, line: str, begun: str) -> Iterator[str]:
@@ -26,14 +28,22 @@ def candidates(shell: Shell, line: str, begun: str) -> Iterator[str]:
     if not before:
         yield from COMMANDS
         return
-    word = before[0].partition("/")[0]
-    kind = COMMANDS[word].completes if word in COMMANDS else ""
+    try:
+        command = shell.command_named(before[0].partition("/")[0])
+    except Wrong:
+        return
+    kind = command.completes
+    yield from words_of(command)
     program, frames = shell.session.program, shell.session.frames()
     function = frames[shell.session.selected].function if frames else ""
     if kind in ("expression", "watch", "place"):
         yield from program.functions
+        if kind == "place" and begun:
+            # A function may be typed without its sigil, as in gdb.
+            yield from (name.removeprefix("$") for name in program.functions)
         yield from (data.name for data in program.data)
-        named = next((each for each in reversed(before) if each in program.functions), function)
+        typed = map(shell.function_named, reversed(before[1:]))
+        named = next((name for name in typed if name in program.functions), function)
         if named:
             yield from program.functions[named].temporaries
             yield from program.functions[named].blocks
@@ -41,13 +51,20 @@ def candidates(shell: Shell, line: str, begun: str) -> Iterator[str]:
         yield "if"
     elif kind == "command":
         yield from COMMANDS
-    elif kind == "checkpoint":
+    elif kind == "checkpoint" or before[1:] == ["checkpoint"]:
         yield from shell.checkpoints
     elif kind == "info":
         yield from info_words()
     elif kind == "file":
         folder, _, name = begun.rpartition("/")
         yield from (f"{folder}/{each}" if folder else each for each in os.listdir(folder or "."))
+
+
+def words_of(command: Command) -> Iterator[str]:
+    """The words that stand as they are in how a command is used; a dash parts words here."""
+    for word in WORD.findall(command.usage):
+        if word not in command.names:
+            yield word
 
 
 class Prompt:

@@ -199,7 +199,7 @@ def stops_of(shell: Shell, word: str) -> list[Stop]:
     return found or [stop_named(shell, word)]
 
 
-@command("delete d", "delete [N ..]", is_repeated=False)
+@command("delete d", "delete [N ..] | delete checkpoint NAME | delete display N", is_repeated=False)
 def delete(shell: Shell, rest: str) -> None:
     """Takes stops away by their numbers, or a range of them as 2-5; without one, all. `delete checkpoint NAME` takes a
     checkpoint away, and `delete display N` a display."""

@@ -169,11 +169,16 @@ def completed(program: str) -> str | None:
     session = Held(program, str(SQUARES))
     try:
         for keys, wanted in (("conti\t\n", "#88 done 30"), ("watch w $bi\t\n", "watch 1: w $bias+0"),
+                             ("b fi\t @bo\t\n", "$fill @body 0"), ("d 2\n", "deleted 2"),
                              ("reverse-c\t\n", "#44 $fill @body 4"),
                              ("p %squ\t\n", "%square = 16"), ("b $fi\t @bo\t\n", "$fill @body 0"),
                              ("checkpoint here\n", "here"), ("restart he\t\n", "#44"),
-                             ("help undis\t\n", "undisplay [N]"), ("p $bias+%squ\t*2\n", "= 65584"),
-                             ("info chec\t\n", "here: #44")):
+                             ("help undis\t\n", "undisplay [N]"), ("chec\t other\n", "other"),
+                             ("delete checkp\t ot\t\n", "deleted checkpoint other"), ("goto en\t\n", "#88 done 30"),
+                             ("resta he\t\n", "#44"), ("list -s\t\n", " 18 "),
+                             ("why ou\t\n", "nothing was written yet"), ("why no\t @en\t\n", "to @end"),
+                             ("suspects\n", "1 suspicion"), ("goto sus\t 1\n", "#44"),
+                             ("p $bias+%squ\t*2\n", "= 65584"), ("info chec\t\n", "here: #44")):
             session.type(keys)
             answer = session.wait_for(PROMPT)
             session.place = last_place(answer) or session.place
