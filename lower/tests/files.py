@@ -494,6 +494,30 @@ def refused(running: Running) -> Results:
     yield "files/large and given", differ("lowering", (0, []), told["--file here"])
 
 
+# Calls with the stream that a failed fopen gives, which are a fault in native code as well.
+NO_STREAM = (
+    "w call $fputs(l $t, l 0)", "w call $fputc(w 65, l 0)", "w call $putc(w 65, l 0)",
+    "l call $fwrite(l $t, l 1, l 1, l 0)", "w call $fprintf(l 0, l $t, ...)", "w call $fgetc(l 0)", "w call $getc(l 0)", "l call $fgets(l $to, w 8, l 0)",
+    "l call $fread(l $to, l 1, l 1, l 0)", "l call $getline(l $place, l $size, l 0)", "w call $fscanf(l 0, l $t, ...)",
+    "w call $ungetc(w 65, l 0)", "w call $feof(l 0)", "w call $ferror(l 0)", "w call $fclose(l 0)",
+    "w call $fseek(l 0, l 0, w 0)", "l call $ftell(l 0)", "w call $fileno(l 0)", "w call $fputwc(w 65, l 0)",
+    "w call $fgetwc(l 0)", "w call $fwprintf(l 0, l $wide, ...)")
+NO_STREAM_DATA = '''
+data $t = { b "text", b 0 }
+data $r = { b "r", b 0 }
+data $wide = { w 65 0 }
+data $to = { z 8 }
+data $place = { l 0 }
+data $size = { l 0 }
+'''
+
+
+def no_stream_fault(running: Running, call: str, opening: str) -> str | None:
+    text = f"{NO_STREAM_DATA}export function w $main() {{\n@start\n{opening}\t%r ={call}\n\tret 0\n}}\n"
+    lowered = running.lower_here(text)
+    return lowered if isinstance(lowered, str) else differ("end", "fault dead address 0", running.run(lowered.text).end)
+
+
 def results(running: Running) -> Results:
     for case in FOUND:
         yield f"files/{case.name}", found_fault(running, case)
@@ -503,3 +527,7 @@ def results(running: Running) -> Results:
     waits = None if is_there() else Skipped("a C library that ctypes finds")
     for seed in range(30):
         yield f"files/random use {seed}", waits or random_fault(running, seed)
+    for call in NO_STREAM:
+        for opening in ("", "\t%f =l call $fopen(l $t, l $r)\n"):
+            name = call.partition("$")[2].partition("(")[0]
+            yield f"files/{name} without a stream{' of files' * bool(opening)}", no_stream_fault(running, call, opening)
