@@ -497,7 +497,8 @@ def refused(running: Running) -> Results:
 # Calls with the stream that a failed fopen gives, which are a fault in native code as well.
 NO_STREAM = (
     "w call $fputs(l $t, l 0)", "w call $fputc(w 65, l 0)", "w call $putc(w 65, l 0)",
-    "l call $fwrite(l $t, l 1, l 1, l 0)", "w call $fprintf(l 0, l $t, ...)", "w call $fgetc(l 0)", "w call $getc(l 0)", "l call $fgets(l $to, w 8, l 0)",
+    "l call $fwrite(l $t, l 1, l 1, l 0)", "w call $fprintf(l 0, l $t, ...)",
+    "w call $fgetc(l 0)", "w call $getc(l 0)", "l call $fgets(l $to, w 8, l 0)",
     "l call $fread(l $to, l 1, l 1, l 0)", "l call $getline(l $place, l $size, l 0)", "w call $fscanf(l 0, l $t, ...)",
     "w call $ungetc(w 65, l 0)", "w call $feof(l 0)", "w call $ferror(l 0)", "w call $fclose(l 0)",
     "w call $fseek(l 0, l 0, w 0)", "l call $ftell(l 0)", "w call $fileno(l 0)", "w call $fputwc(w 65, l 0)",
