@@ -1,5 +1,6 @@
 """The functions of the runtime: values worked out by hand, random use against Python, and the faults by their names."""
 import random
+import re
 
 from .running import FOLDER, Results, Running, differ
 from .telling import TELL, over_bytes
@@ -612,11 +613,45 @@ def small_heap_fault(running: Running) -> str | None:
         (None if 0 <= (1 << 20) - 900000 - heap < 3 * 4096 else f"the heap has {heap} bytes")
 
 
+# A program has at most a thousand functions.
+MOST_FUNCTIONS = 800
+ADDING = "float.add.d"
+
+
+def whole_programs() -> list[str]:
+    """The texts of the runtime as programs, each text with those that define what it names, and one that adds."""
+    texts = [path.read_text() for path in sorted((FOLDER / "runtime").glob("*.ssa"))]
+    defined = {name: number for number, text in enumerate(texts)
+               for name in re.findall(r"(?m)^(?:export )?(?:function|data)(?: [a-z]+)? \$([\w.]+)", text)}
+    named = [{defined[name] for name in re.findall(r"\$([\w.]+)", text) if name in defined} for text in texts]
+    whole = [reached(number, named) for number in range(len(texts))]
+    programs, adding = [], whole[defined[ADDING]]
+    found = adding
+    for needed in whole:
+        if sum(texts[number].count("function ") for number in found | needed) > MOST_FUNCTIONS:
+            programs.append(found)
+            found = adding
+        found = found | needed
+    return ["".join(texts[number] for number in sorted(each)) for each in (*programs, found)]
+
+
+def reached(first: int, named: list[set[int]]) -> set[int]:
+    """What is named, and what that names, and so on."""
+    found: set[int] = set()
+    left = [first]
+    while left:
+        number = left.pop()
+        if number not in found:
+            found.add(number)
+            left += named[number]
+    return found
+
+
 def texts_fault(running: Running) -> str | None:
     """The texts of the runtime are texts of the language as they stand: 1.5 and 2.25 are 3.75."""
-    text = "".join(path.read_text() for path in sorted((FOLDER / "runtime").glob("*.ssa")))
-    words = ("4609434218613702656", "4612248968380809216", "--entry", "float.add.d")
-    return differ("end", "done 4615626668101337088", running.run(text, "continue\n", words).end)
+    words = ("4609434218613702656", "4612248968380809216", "--entry", ADDING)
+    ends = (running.run(text, "continue\n", words).end for text in whole_programs())
+    return next(filter(None, (differ("end", "done 4615626668101337088", end) for end in ends)), None)
 
 
 def results(running: Running) -> Results:
