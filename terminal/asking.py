@@ -16,6 +16,7 @@ from .stops import Answered, FixedState, questions_of
 from .text import Operand, Program
 from .timeline import Poke, Timeline, common
 from .values import BITS, FLOATS, brief
+from .waiting import Interrupted
 from .ways import why_not
 
 MOST_SHOWN = 1000
@@ -98,10 +99,10 @@ def of_output(shell: Shell, text: str) -> Cause:
 
 def whole_run(shell: Shell) -> Timeline:
     """The session's run up to here and on to its end, but no further than the limit of a run."""
-    here = shell.session.timeline
-    scratch = shell.session.scratch.go(here)
-    if not scratch.place.end:
-        scratch.after(scratch.ask(f"step {shell.launch.limit}")[0], "step")
+    here, scratch = shell.session.timeline, shell.session.scratch
+    there = here.at(here.position + (shell.runs.budget or shell.launch.limit))
+    for _ in scratch.along(here, there, lambda moves: f"step {moves}"):
+        pass
     return scratch.timeline
 
 
@@ -191,10 +192,12 @@ def when(shell: Shell, rest: str) -> None:
     if not stops:
         raise Wrong(f"{rest}: a condition of temporaries or memory was expected")
     run = whole_run(shell)
-    spans = held_spans(shell, run, stops, ["where", *known], node, function if names else "")
+    bounds = told_bounds(shell, run)
+    low, spans = held_spans(shell, run, stops, ["where", *known], node, function if names else "")
     for begin, end in spans[:MOST_SHOWN]:
         shell.say(f"holds from #{begin}" + (f", no longer from #{end}" if end is not None else " on"))
-    shell.say(f"{counted(len(spans), 'time')} {told_bounds(shell, run)}")
+    stopped = f"; only from #{low} on, since Ctrl-C stopped the search" if low else ""
+    shell.say(f"{counted(len(spans), 'time')} {bounds}{stopped}")
 
 
 def fixed_address(part: Node, program: Program) -> int:
@@ -202,12 +205,19 @@ def fixed_address(part: Node, program: Program) -> int:
 
 
 def held_spans(shell: Shell, run: Timeline, stops: list[str], questions: list[str], node: Node,
-               function: str) -> list[tuple[int, int | None]]:
-    """The spans of positions in which a condition holds, by going back along the changes of what it is about."""
+               function: str) -> tuple[int, list[tuple[int, int | None]]]:
+    """The spans of positions in which a condition holds, by going back along the changes of what it is about; and how
+    far back that went, which is all of the run unless Ctrl-C is pressed."""
     scratch = shell.session.scratch.go(run)
     readings = Readings(shell, node, questions, function, run)
     changes = [(run.position, readings.holds(scratch.place, scratch.ask(*questions)))]
-    changes += [(hit.position, readings.holds(hit.place, hit.answers)) for hit in scratch.hits(False, stops, questions)]
+    low = 0
+    try:
+        for hit in scratch.hits(False, stops, questions):
+            changes.append((hit.position, readings.holds(hit.place, hit.answers)))
+    except Interrupted:
+        shell.waiting.heed()
+        low = changes[-1][0]
     spans: list[tuple[int, int | None]] = []
     end: int | None = None
     was_held = False
@@ -218,7 +228,7 @@ def held_spans(shell: Shell, run: Timeline, stops: list[str], questions: list[st
         elif is_held and not was_held:
             end = None if position == run.position else position + 1
         was_held = is_held
-    return (spans + [(0, end)] * was_held)[::-1]
+    return low, (spans + [(low, end)] * was_held)[::-1]
 
 
 class Readings:

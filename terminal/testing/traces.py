@@ -255,8 +255,8 @@ def condition_faults(debugger: str, file: str, seed: int, questions: int) -> lis
                 name = chosen.choice(sorted(values))
                 function = state.frames[0].function
                 node = parse(f"u({name}) == {values[name]}")
-                spans = held_spans(shell, Timeline(len(trace.states) - 1), [f"watch {function} {name}"],
-                                   ["where", f"print {name}"], node, function)
+                _, spans = held_spans(shell, Timeline(len(trace.states) - 1), [f"watch {function} {name}"],
+                                      ["where", f"print {name}"], node, function)
                 wanted = spans_of(trace, function, name, values[name])
                 found.append(None if spans == wanted else f"{name} of {function}: {spans} and not {wanted}")
         return [fault for fault in found if fault]
