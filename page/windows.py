@@ -66,7 +66,6 @@ class Overview:
             self.end = f"the debugger ended: {error}"
         self.seconds = time.monotonic() - self.begun
         self.is_done = True
-        self.over.set()
         return standing.stands(self.at(self.moves))
 
     def kept_of(self, before: Overview, moves: int) -> None:
@@ -192,7 +191,8 @@ class Pool:
         """Leads as many processes to the end as should stand there, in the background."""
         with self.lock:
             ready = sum(each.been >= self.overview.moves for each in self.free) + self.coming
-            wanted = SPARES - ready if self.overview.is_done and not self.is_closed else 0
+            is_whole = self.overview.is_done and not self.overview.is_stopped
+            wanted = SPARES - ready if is_whole and not self.is_closed else 0
             self.coming += max(wanted, 0)
         for _ in range(wanted):
             threading.Thread(target=self.lead, daemon=True).start()
@@ -289,7 +289,14 @@ class Long:
     def begin(self) -> None:
         """Makes the overview in the background."""
         overview, standing = self.overview, self.pool.take(self.overview.moves)
-        threading.Thread(target=lambda: self.pool.give(overview.look(standing)), daemon=True).start()
+        threading.Thread(target=self.look, args=(overview, standing), daemon=True).start()
+
+    def look(self, overview: Overview, standing: Standing) -> None:
+        try:
+            self.pool.give(overview.look(standing))
+        finally:
+            # Who waits for it may end all: by now the pool has the process, or has closed it.
+            overview.over.set()
 
     def change(self, pokes: tuple[Poke, ...], position: int) -> None:
         """Goes on with another run, which has other pokes from a position on."""
