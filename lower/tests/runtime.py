@@ -3,7 +3,7 @@ import random
 import re
 
 from .running import FOLDER, Results, Running, differ
-from .telling import TELL, over_bytes
+from .telling import TELL, over_bytes, with_lists
 
 STRINGS = TELL + """
 data $a = { b "hello", b 0 }
@@ -67,7 +67,7 @@ STRINGS_OUTPUT = "5 -1 0 1 0 -1 2 0 5 hello\n6 0 1 AAAAAAAAAAA\nhell4 0 A65 "
 
 
 # What no other test calls: variadic functions by their lists, and functions of the system.
-OTHERS = TELL + """
+OTHERS = with_lists(TELL + """
 data $f = { b "%d-%s|", b 0 }
 data $sf = { b "%d %4s", b 0 }
 data $in = { b "42 word", b 0 }
@@ -84,26 +84,16 @@ data $line = { z 8 }
 data $size = { z 8 }
 function w $say(l %fmt, ...) {
 @start
-	%ap =l alloc8 24
-	vastart %ap
-	%c =w call $vprintf(l %fmt, l %ap)
+	%c =w call $vprintf(l %fmt, l %list)
 	%out =l loadl $stdout
-	%ap2 =l alloc8 24
-	vastart %ap2
-	%c =w call $vfprintf(l %out, l %fmt, l %ap2)
-	%ap3 =l alloc8 24
-	vastart %ap3
-	%d =w call $vsprintf(l $to, l %fmt, l %ap3)
+	%c =w call $vfprintf(l %out, l %fmt, l %list)
+	%d =w call $vsprintf(l $to, l %fmt, l %list)
 	%x =w call $puts(l $to)
-	%ap4 =l alloc8 24
-	vastart %ap4
-	%d =w call $vsnprintf(l $to, l 4, l %fmt, l %ap4)
+	%d =w call $vsnprintf(l $to, l 4, l %fmt, l %list)
 	%dl =l extsw %d
 	call $tell(l %dl)
 	%x =w call $puts(l $to)
-	%ap5 =l alloc8 24
-	vastart %ap5
-	%e =w call $vasprintf(l $place, l %fmt, l %ap5)
+	%e =w call $vasprintf(l $place, l %fmt, l %list)
 	%p =l loadl $place
 	%x =w call $puts(l %p)
 	call $free(l %p)
@@ -111,24 +101,18 @@ function w $say(l %fmt, ...) {
 }
 function w $take(l %text, l %fmt, ...) {
 @start
-	%ap =l alloc8 24
-	vastart %ap
-	%c =w call $vsscanf(l %text, l %fmt, l %ap)
+	%c =w call $vsscanf(l %text, l %fmt, l %list)
 	ret %c
 }
 function w $take.input(l %fmt, ...) {
 @start
-	%ap =l alloc8 24
-	vastart %ap
-	%c =w call $vscanf(l %fmt, l %ap)
+	%c =w call $vscanf(l %fmt, l %list)
 	ret %c
 }
 function w $take.stream(l %fmt, ...) {
 @start
-	%ap =l alloc8 24
-	vastart %ap
 	%in =l loadl $stdin
-	%c =w call $vfscanf(l %in, l %fmt, l %ap)
+	%c =w call $vfscanf(l %in, l %fmt, l %list)
 	ret %c
 }
 export function w $main() {
@@ -213,7 +197,7 @@ export function w $main() {
 	call $_Exit(w 3)
 	hlt
 }
-"""
+""")
 OTHERS_INPUT = "11 abcdefg 22 xyz!bytes;rest"
 # The number of `random` is that of the GNU C library behind srandom(5), and 54536 is what its table of characters says
 # of `A`.

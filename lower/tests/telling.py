@@ -1,4 +1,5 @@
 """Functions with which the texts of tests say numbers, each with a space behind it; and some of their kin."""
+import re
 
 TELL = """
 data $tell.form = { b "%ld ", b 0 }
@@ -36,6 +37,12 @@ function ${name}(l %p, l %count) {{
 	ret
 }}
 """
+
+
+def with_lists(text: str) -> str:
+    """A text in which each call whose last argument is `%list` has a list of its own before it, of the arguments behind
+    the dots."""
+    return re.sub(r"(?m)^(?=.*\bcall .*, l %list\)$)", "\t%list =l alloc8 24\n\tvastart %list\n", text)
 
 
 # The letter of an option that isn't right, or 0, by what `getopt` or its kin gave.

@@ -3,6 +3,7 @@ locale."""
 from .calls import Calls, batch, native_fault
 from .letters import filled
 from .running import Results, Running, differ
+from .telling import with_lists
 
 
 def items_of(text: str) -> str:
@@ -84,26 +85,18 @@ export function w $main() {{
 }}
 """
 # The same by lists, where the address of a text's cells is read: 4 are the characters of each.
-LISTS = f"""
+LISTS = with_lists(f"""
 data $form = {{ {items_of("%d %s;")} }}
 data $word = {{ b "w", b 0 }}
 data $room = {{ z 40 }}
 function w $say(l %form, ...) {{
 @start
-	%list =l alloc8 24
-	vastart %list
 	%a =w call $vwprintf(l %form, l %list)
 	%out =l loadl $stdout
-	%next =l alloc8 24
-	vastart %next
-	%b =w call $vfwprintf(l %out, l %form, l %next)
-	%last =l alloc8 24
-	vastart %last
-	%c =w call $vswprintf(l $room, l 5, l %form, l %last)
+	%b =w call $vfwprintf(l %out, l %form, l %list)
+	%c =w call $vswprintf(l $room, l 5, l %form, l %list)
 	%put =w call $fputws(l $room, l %out)
-	%again =l alloc8 24
-	vastart %again
-	%d =w call $vswprintf(l $room, l 4, l %form, l %again)
+	%d =w call $vswprintf(l $room, l 4, l %form, l %list)
 	%x =w mul %a, %b
 	%y =w mul %c, %d
 	%z =w sub %x, %y
@@ -114,7 +107,7 @@ export function w $main() {{
 	%r =w call $say(l $form, ..., w 5, l $word)
 	ret %r
 }}
-"""
+""")
 
 
 def lists_fault(running: Running) -> str | None:
