@@ -76,7 +76,8 @@ def refused_lines(messages: Sequence[Message], path: pathlib.Path, known: Collec
 def faults(logs: Mapping[str, Sequence[Message]], seconds: float) -> Iterator[tuple[str, Fault]]:
     """For each session how its messages differ from the definitions, or None."""
     path = definitions()
-    has_compiler = shutil.which("tsc") is not None
+    # The compiler runs in node.
+    has_compiler = bool(shutil.which("tsc") and shutil.which("node"))
     if path is None or not has_compiler:
         lack = "node-vscode-debugprotocol" if has_compiler else "tsc"
         yield from ((f"schema: {name}", Skipped(lack)) for name in [*logs, *(what for what, _ in PLANTED)])
