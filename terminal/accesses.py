@@ -10,14 +10,17 @@ from dataclasses import dataclass
 from itertools import islice
 from typing import Iterator
 
-from .answers import Place, Touched, read_accesses, read_bytes, read_value
+from .answers import Place, read_accesses, read_bytes, read_value
 from .frames import steps_begun
 from .scratch import MOST_BYTES, Scratch
-from .text import BUILT_IN, LOADED, STORED, Instruction, Operand, Program
+from .text import BUILT_IN, LOADED, STACK, STORED, Instruction, Operand, Program
 from .timeline import Poke, Timeline
 from .values import BYTES
+from .waiting import Interrupted
 
-MOST_STOPS = 60
+MOST_STOPS, MOST_ALLOCS = 60, 4096
+# A survey counts no more, and looks at so many moves at once.
+MOST_COUNTED, FIRST_WINDOW, MOST_WINDOW = 100_000, 1 << 16, 1 << 22
 FIRST_BLOCK, MOST_BLOCK = 32, 8192
 
 
@@ -39,6 +42,54 @@ class Access:
     count: int
 
 
+@dataclass
+class Survey:
+    """What touched some bytes in a run: how often that happened, the accesses that are nearest to a position, and from
+    where to where the run was looked at."""
+    total: int
+    found: list[Access]
+    looked_at: range
+    is_stopped: bool
+
+
+class Nearest:
+    """Of lines of `accesses` those that are nearest to a position, and how many there were."""
+
+    def __init__(self, here: int, most: int):
+        self.here, self.most, self.total = here, most, 0
+        self.looked_at = range(here, here)
+        # Those before the position, the last one first, and those from it on.
+        self.before: list[str] = []
+        self.after: list[str] = []
+
+    def add(self, lines: list[str], window: range) -> None:
+        """The lines of a window of the run that is beside what was looked at."""
+        self.total += len(lines)
+        if window.start < self.here:
+            self.before += lines[::-1][:self.most - len(self.before)]
+            self.looked_at = range(window.start, self.looked_at.stop)
+        else:
+            self.after += lines[:self.most - len(self.after)]
+            self.looked_at = range(self.looked_at.start, window.stop)
+
+    def lines(self) -> list[str]:
+        ranked = sorted((*self.before, *self.after), key=lambda line: abs(position_of(line) - self.here))
+        return sorted(ranked[:self.most], key=position_of)
+
+
+def windows(here: int, end: int) -> Iterator[range]:
+    """The moves of a run in pieces, those around a position first."""
+    low, high, size = here, here, FIRST_WINDOW
+    while low > 0 or high < end:
+        if low > 0:
+            yield range(max(0, low - size), low)
+            low = max(0, low - size)
+        if high < end:
+            yield range(high, min(end, high + size))
+            high = min(end, high + size)
+        size = min(2 * size, MOST_WINDOW)
+
+
 class Accesses:
     def __init__(self, program: Program, scratch: Scratch):
         self.program, self.scratch = program, scratch
@@ -56,25 +107,61 @@ class Accesses:
                     found.append(Site(function.name, label, index, instruction))
         return found
 
-    def touching(self, is_write: bool, high: Timeline, low: int, address: int, count: int) -> Iterator[Access]:
-        """What touched these bytes by moves from `low` on and before `high`; the latest first."""
+    def survey(self, is_write: bool, run: Timeline, address: int, count: int, here: int, most: int) -> Survey:
+        """What wrote or read these bytes in a run, of which the nearest to a position are kept. The search ends where
+        enough were counted, or where Ctrl-C stops it."""
         sites = {(site.function, site.label, site.index): site for site in self.sites(is_write)}
+        near, is_stopped = Nearest(min(here, run.position), most), False
         if not any(self.may_touch(site, is_write, address, count) for site in sites.values()):
-            return
-        found = [one for one in self.told(high, low, address, count) if one.is_write == is_write]
-        found.reverse()
-        for first in range(0, len(found), MOST_BLOCK):
-            block = found[first:first + MOST_BLOCK]
-            for one, place in zip(block, self.places([one.position for one in block], high)):
-                # What an alloc makes isn't written by one of these.
-                site = sites.get((place.function, place.label, place.index))
-                if site:
-                    yield Access(one.position, site, one.address, one.count)
+            return Survey(0, [], range(run.position), False)
+        try:
+            allocs = self.allocs(run) if is_write and address + count > STACK else []
+            for window in windows(near.here, run.position):
+                if near.total >= MOST_COUNTED:
+                    break
+                near.add(self.lines(is_write, run, window, address, count, allocs), window)
+        except Interrupted:
+            self.scratch.waiting.heed()
+            is_stopped = True
+        kept = read_accesses(near.lines())[::-1]
+        places = self.places([one.position for one in kept], run) if kept else []
+        found = [Access(one.position, sites[place.function, place.label, place.index], one.address, one.count)
+                 for one, place in zip(kept, places)]
+        return Survey(near.total, found[::-1], near.looked_at, is_stopped)
 
-    def told(self, high: Timeline, low: int, address: int, count: int) -> list[Touched]:
-        """The reads and writes of these bytes, as `accesses` tells them."""
-        answers = self.scratch.along(high.at(low), high, lambda moves: f"accesses {moves} {address} {count}")
-        return [one for answer in answers for one in read_accesses(answer)]
+    def lines(self, is_write: bool, run: Timeline, window: range, address: int, count: int,
+              allocs: list[int] | None) -> list[str]:
+        """What `accesses` tells of a window of the run, but of no `alloc`: the bytes that one makes are told as
+        written, and they are no store's."""
+        word, found = "write #" if is_write else "read #", []
+        for answer in self.scratch.along(run.at(window.start), run.at(window.stop),
+                                         lambda moves: f"accesses {moves} {address} {count}"):
+            lines = [line for line in answer if line.startswith(word)]
+            if lines and allocs is None:
+                lines = self.without_allocs(lines, run)
+            elif lines and allocs and allocs[0] <= position_of(lines[-1]) and position_of(lines[0]) <= allocs[-1]:
+                known = set(allocs)
+                lines = [line for line in lines if position_of(line) not in known]
+            found += lines
+        return found
+
+    def allocs(self, run: Timeline) -> list[int] | None:
+        """From which positions an `alloc` moves, in order, or None if there are too many to name."""
+        stops = [f"break {function.name} {label} {index}" for function in self.program.functions.values()
+                 for label, index, instruction in function.places() if instruction.operation.startswith("alloc")]
+        if len(stops) > MOST_STOPS:
+            return None
+        hits = self.scratch.go(run).hits(False, stops, last=0) if stops else ()
+        found = [hit.position for hit in islice(hits, MOST_ALLOCS) if hit.stop is not None]
+        return found[::-1] if len(found) < MOST_ALLOCS else None
+
+    def without_allocs(self, lines: list[str], run: Timeline) -> list[str]:
+        """The lines whose moves weren't made from an `alloc`, found by going to each."""
+        here, functions = self.scratch.timeline, self.program.functions
+        places = self.places([position_of(line) for line in reversed(lines)], run)[::-1]
+        self.scratch.go(here)
+        return [line for line, at in zip(lines, places)
+                if not functions[at.function].at(at.label, at.index).operation.startswith("alloc")]
 
     def places(self, positions: list[int], run: Timeline) -> list[Place]:
         """The places at positions of a run, from the last one back."""
@@ -190,6 +277,11 @@ def telling(site: Site, is_write: bool) -> tuple[Operand, ...]:
     """The operands that decide which bytes are touched: the address, or the callee and its argument."""
     operands = site.instruction.operands
     return operands[:2] if site.instruction.operation == "call" else (operands[1 if is_write else 0],)
+
+
+def position_of(line: str) -> int:
+    """From which position the move of a line of `accesses` was made."""
+    return int(line[line.index("#") + 1:].partition(" ")[0])
 
 
 def size_of(instruction: Instruction) -> int:

@@ -4,7 +4,7 @@ from __future__ import annotations
 import pathlib
 from itertools import zip_longest
 
-from .accesses import Access
+from .accesses import MOST_COUNTED, Access
 from .answers import COMMANDS as LANGUAGE, Place, read_place
 from .causes import MOST_BYTES_ASKED, Cause, Question
 from .expressions import Node, Unset, Wrong, as_bytes, evaluate, parts_of, temporaries_of, whole
@@ -121,15 +121,19 @@ def accesses(shell: Shell, rest: str, is_write: bool) -> None:
     width = words[0] if len(words) > 1 and (words[0] in BITS or words[0].isdigit()) else ""
     address = shell.number(rest.partition(width)[2] if width else rest)
     count = BITS.get(width, 0) // 8 or int(width or 1)
-    run = whole_run(shell)
-    found = sorted(shell.causes.accesses.touching(is_write, run, 0, address, count), key=lambda access: access.position)
-    lines = {access.position: access_told(shell, access, run) for access in found[:MOST_SHOWN]}
+    run, here = whole_run(shell), shell.session.place.position
+    survey = shell.causes.accesses.survey(is_write, run, address, count, here, MOST_SHOWN)
+    lines = {access.position: access_told(shell, access, run) for access in survey.found}
     by_hand = pokes_meeting(shell, run, address, count) if is_write else []
     lines.update({poke.position: f"#{poke.position} by hand: {poke.line}" for poke in by_hand})
     shell.say(*(lines[position] for position in sorted(lines)))
-    more = f" ({MOST_SHOWN} are shown)" if len(found) > MOST_SHOWN else ""
+    more = f" (the {MOST_SHOWN} nearest to #{here} are shown)" if survey.total > MOST_SHOWN else ""
     hand = f" and {len(by_hand)} by hand" if by_hand else ""
-    shell.say(f"{counted(len(found), 'write' if is_write else 'read')}{hand}{more} {told_bounds(shell, run)}")
+    bounds = told_bounds(shell, run)
+    if survey.looked_at != range(run.position):
+        why = "Ctrl-C stopped the search" if survey.is_stopped else f"the search stops behind {MOST_COUNTED}"
+        bounds += f"; only from #{survey.looked_at.start} to #{survey.looked_at.stop}, since {why}"
+    shell.say(f"{counted(survey.total, 'write' if is_write else 'read')}{hand}{more} {bounds}")
 
 
 def pokes_meeting(shell: Shell, run: Timeline, address: int, count: int) -> list[Poke]:
@@ -193,10 +197,13 @@ def when(shell: Shell, rest: str) -> None:
         raise Wrong(f"{rest}: a condition of temporaries or memory was expected")
     run = whole_run(shell)
     bounds = told_bounds(shell, run)
-    low, spans = held_spans(shell, run, stops, ["where", *known], node, function if names else "")
+    # Where only temporaries of a function that is called once at a time count, a place tells whether it has a frame.
+    is_plain = len(stops) == len(names) and function not in program.again
+    questions = known if is_plain else ["where", *known]
+    low, spans = held_spans(shell, run, stops, questions, node, function if names else "")
     for begin, end in spans[:MOST_SHOWN]:
         shell.say(f"holds from #{begin}" + (f", no longer from #{end}" if end is not None else " on"))
-    stopped = f"; only from #{low} on, since Ctrl-C stopped the search" if low else ""
+    stopped = f"; only from #{low} on, since Ctrl-C stopped the search" if low is not None else ""
     shell.say(f"{counted(len(spans), 'time')} {bounds}{stopped}")
 
 
@@ -205,13 +212,13 @@ def fixed_address(part: Node, program: Program) -> int:
 
 
 def held_spans(shell: Shell, run: Timeline, stops: list[str], questions: list[str], node: Node,
-               function: str) -> tuple[int, list[tuple[int, int | None]]]:
+               function: str) -> tuple[int | None, list[tuple[int, int | None]]]:
     """The spans of positions in which a condition holds, by going back along the changes of what it is about; and how
     far back that went, which is all of the run unless Ctrl-C is pressed."""
     scratch = shell.session.scratch.go(run)
     readings = Readings(shell, node, questions, function, run)
-    changes = [(run.position, readings.holds(scratch.place, scratch.ask(*questions)))]
-    low = 0
+    changes = [(run.position, readings.at_end())]
+    low: int | None = None
     try:
         for hit in scratch.hits(False, stops, questions):
             changes.append((hit.position, readings.holds(hit.place, hit.answers)))
@@ -228,7 +235,7 @@ def held_spans(shell: Shell, run: Timeline, stops: list[str], questions: list[st
         elif is_held and not was_held:
             end = None if position == run.position else position + 1
         was_held = is_held
-    return low, (spans + [(low, end)] * was_held)[::-1]
+    return low, (spans + [(low or 0, end)] * was_held)[::-1]
 
 
 class Readings:
@@ -239,13 +246,26 @@ class Readings:
         self.shell, self.node, self.questions, self.function, self.run = shell, node, questions, function, run
         self.scratch, self.program = shell.session.scratch, shell.session.program
 
+    def at_end(self) -> bool | None:
+        """Of the state in which the run ends, where the process stands."""
+        if self.function:
+            return None if any(frame.function == self.function for frame in self.scratch.where()) else False
+        return self.value(self.scratch.place, dict(zip(self.questions, self.scratch.ask(*self.questions))))
+
     def holds(self, place: Place, answers: list[list[str]]) -> bool | None:
         """Of a state whose answers are known; None where the frame that is meant isn't the innermost one."""
         known = dict(zip(self.questions, answers))
         if self.function and place.function != self.function:
-            frames = frames_of(known["where"])
-            return None if any(frame.function == self.function for frame in frames) else False
+            return None if self.is_in_caller(place, known) else False
         return self.value(place, known)
+
+    def is_in_caller(self, place: Place, known: dict[str, list[str]]) -> bool:
+        """Whether a frame of the function calls the one of a place in another function."""
+        if "where" in known:
+            return any(frame.function == self.function for frame in frames_of(known["where"]))
+        # A temporary changes here by the return into its frame, or by the call that makes it.
+        instruction = self.program.functions[place.function].at(place.label, place.index)
+        return instruction.operation == "ret"
 
     def value(self, place: Place, known: dict[str, list[str]]) -> bool:
         try:

@@ -11,7 +11,8 @@ import math
 import operator
 import re
 from dataclasses import dataclass
-from typing import Callable, Iterator, Protocol
+from functools import cached_property
+from typing import Callable, Iterator, NamedTuple, Protocol
 
 from .reading.accepted import IN_NAME
 from .values import BYTES, FLOAT_BYTES, FLOATS, bits_of, float_of, signed, unsigned
@@ -55,11 +56,15 @@ class State(Protocol):
     def word(self, name: str) -> int: ...
 
 
-@dataclass(frozen=True)
-class Value:
+class Value(NamedTuple):
     """A number, and the class whose bits it has, or none for a number that was written or worked out."""
     number: int | float
     width: str = ""
+
+
+# What an expression counts as, by the state; and the values of conditions.
+Meaning = Callable[[State], Value]
+TRUTH = (Value(0), Value(1))
 
 
 @dataclass(frozen=True)
@@ -68,6 +73,11 @@ class Node:
     kind: str
     text: str = ""
     parts: tuple[Node, ...] = ()
+
+    @cached_property
+    def meaning(self) -> Meaning:
+        """Its value by the state, worked out once for the many states at which a condition is asked."""
+        return meaning_of(self)
 
 
 def lexed(text: str) -> Iterator[str]:
@@ -251,37 +261,72 @@ def combined_floats(text: str, first: Value, second: Value) -> Value:
 
 def is_equal(a: Value, b: Value) -> bool:
     """Whether two values have the same bits in the narrower of their classes."""
-    width = "w" if "w" in (a.width, b.width) else "l" if "l" in (a.width, b.width) else ""
-    if width:
-        return unsigned(whole(a), width) == unsigned(whole(b), width)
+    if a.width == "w" or b.width == "w":
+        return (whole(a) - whole(b)) & 0xffffffff == 0
+    if a.width == "l" or b.width == "l":
+        return (whole(a) - whole(b)) & 0xffffffffffffffff == 0
     return a.number == b.number
 
 
 def evaluate(node: Node, state: State) -> Value:
+    return node.meaning(state)
+
+
+def meaning_of(node: Node) -> Meaning:
+    text = node.text
     if node.kind in ("number", "float"):
-        return Value(int(node.text) if node.kind == "number" else float(node.text))
+        value = Value(int(text) if node.kind == "number" else float(text))
+        return lambda _: value
     if node.kind == "temporary":
-        value, width = state.temporary(node.text)
-        return Value(float_of(value, width) if width in FLOATS else signed(value, width), width)
+        return lambda state: held(*state.temporary(text))
     if node.kind == "global":
-        return Value(state.address(node.text), "l")
+        return lambda state: Value(state.address(text), "l")
     if node.kind == "word":
-        return Value(state.word(node.text))
+        return lambda state: Value(state.word(text))
+    first = node.parts[0].meaning
     if node.kind == "memory":
-        address = unsigned(whole(evaluate(node.parts[0], state)), "l")
-        if node.text in FLOATS:
-            return Value(float_of(state.bytes(address, FLOAT_BYTES[node.text]), node.text), node.text)
-        width = "l" if node.text == "l" else "w"
-        return Value(signed(state.bytes(address, BYTES[node.text]), node.text), width)
-    first = evaluate(node.parts[0], state)
+        return lambda state: in_memory(text, unsigned(whole(first(state)), "l"), state)
     if node.kind in ("u", "s"):
         cut = unsigned if node.kind == "u" else signed
-        bits = bits_of(first.number, first.width or "d") if is_float(first) else whole(first)
-        return Value(cut(bits, first.width or "l"))
+        return lambda state: as_cut(first(state), cut)
     if node.kind == "unary":
-        return of_float(node.text, first) if is_float(first) else \
-            Value(UNARY[node.text](whole(first)), first.width if node.text in "-~" else "")
-    return combined(node, first, state)
+        return lambda state: of_one(text, first(state))
+    return meaning_of_two(text, first, node.parts[1].meaning)
+
+
+def meaning_of_two(text: str, first: Meaning, second: Meaning) -> Meaning:
+    """The value of a binary operation; && and || look at the second operand where it counts."""
+    if text == "&&":
+        return lambda state: TRUTH[bool(first(state).number) and bool(second(state).number)]
+    if text == "||":
+        return lambda state: TRUTH[bool(first(state).number) or bool(second(state).number)]
+    if text in ("==", "!="):
+        is_wanted = text == "=="
+        return lambda state: compared(is_wanted, first(state), second(state))
+    return lambda state: combined(text, first(state), second(state))
+
+
+def held(value: int, width: str) -> Value:
+    """What a temporary of a class counts as."""
+    return Value(float_of(value, width) if width in FLOATS else signed(value, width), width)
+
+
+def in_memory(text: str, address: int, state: State) -> Value:
+    """What memory of a width counts as."""
+    if text in FLOATS:
+        return Value(float_of(state.bytes(address, FLOAT_BYTES[text]), text), text)
+    return Value(signed(state.bytes(address, BYTES[text]), text), "l" if text == "l" else "w")
+
+
+def as_cut(value: Value, cut: Callable[[int, str], int]) -> Value:
+    bits = bits_of(value.number, value.width or "d") if is_float(value) else whole(value)
+    return Value(cut(bits, value.width or "l"))
+
+
+def of_one(text: str, value: Value) -> Value:
+    if is_float(value):
+        return of_float(text, value)
+    return Value(UNARY[text](whole(value)), value.width if text in "-~" else "")
 
 
 def of_float(text: str, value: Value) -> Value:
@@ -300,21 +345,21 @@ def whole(value: Value) -> int:
     return value.number
 
 
-def combined(node: Node, first: Value, state: State) -> Value:
-    """The value of a binary operation whose first operand is known; && and || look at the second where it counts."""
-    if node.text in ("&&", "||"):
-        if bool(first.number) == (node.text == "||"):
-            return Value(int(node.text == "||"))
-        return Value(int(bool(evaluate(node.parts[1], state).number)))
-    second = evaluate(node.parts[1], state)
+def compared(is_wanted: bool, first: Value, second: Value) -> Value:
+    """Whether two values are equal, or are not."""
     if is_float(first) or is_float(second):
-        return combined_floats(node.text, first, second)
-    if node.text in ("==", "!="):
-        return Value(int(is_equal(first, second) == (node.text == "==")))
-    result = int(BINARY[node.text](whole(first), whole(second)))
+        return combined_floats("==" if is_wanted else "!=", first, second)
+    return TRUTH[is_equal(first, second) == is_wanted]
+
+
+def combined(text: str, first: Value, second: Value) -> Value:
+    """The value of any other binary operation."""
+    if is_float(first) or is_float(second):
+        return combined_floats(text, first, second)
+    result = int(BINARY[text](whole(first), whole(second)))
     if abs(result) >> MOST_BITS:
         raise Unset(f"a value of more than {MOST_BITS} bits")
-    return Value(result, max(first.width, second.width, key=len) if node.text in "+-*/%&|^" else "")
+    return Value(result, max(first.width, second.width, key=len) if text in "+-*/%&|^" else "")
 
 
 def parts_of(node: Node) -> Iterator[Node]:

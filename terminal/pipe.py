@@ -143,9 +143,9 @@ class Pipe:
             at = behind
         return answers
 
-    def ask_text(self, text: str) -> str:
-        """All answers to some lines, for answers that show themselves where they end."""
-        return self.told(self.exchange(self.written(text) + MARK, 1)[:-len(MARKED)])
+    def ask_text(self, text: str, marks: int = 0) -> str:
+        """All answers to some lines, for answers that show themselves where they end, or by so many marks."""
+        return self.told(self.exchange(self.written(text) + MARK, 1 + marks)[:-len(MARKED)])
 
     def written(self, text: str) -> bytes:
         """Lines as the debugger reads them."""

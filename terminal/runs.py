@@ -192,7 +192,7 @@ class Runs:
             stop.ignored = filter.left.get(id(stop), stop.ignored)
         if not outcome and suspicious and last == suspicious.position:
             position, outcome = last, Outcome(suspicious.said, suspicious.stop)
-        elif not outcome and last is not None and not self.session.place.end:
+        elif not outcome and last is not None and not self.session.place.end and (is_forward or here.position):
             position, outcome = max(last, 0), Outcome("limit")
         if outcome:
             self.session.go(here.at(position))

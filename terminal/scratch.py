@@ -11,7 +11,7 @@ from dataclasses import dataclass
 from typing import Callable, Iterator, NamedTuple, TypeVar
 
 from .answers import Place, read_bytes, read_moved, read_place, read_value
-from .pipe import Ended, Pipe
+from .pipe import MARK, MARKED_LINE, Ended, Pipe, is_unbounded
 from .renaming import Renaming
 from .timeline import Timeline, lines_between
 from .waiting import Interrupted, Waiting
@@ -23,7 +23,7 @@ FAR = 8 * SLICE
 # The debugger takes no more moves for one `step` or `back`.
 MOST_MOVES = (1 << 32) - 1
 # A batch that took less than this, in seconds, is followed by a larger one.
-SHORT = 0.03
+SHORT = 0.1
 MOST_BYTES = 256
 # A stop as it is told: why, by which stop if by one, and where.
 TOLD = re.compile(r"stop: (\w+)(?: (\d+))?\n(#(\d+) .*)\n")
@@ -145,9 +145,9 @@ class Scratch:
         another."""
         return self.asked(sum(map(len, lines)) + 3 * len(lines), lambda pipe: pipe.ask(*lines))
 
-    def ask_text(self, text: str) -> str:
-        """All answers to lines whose answers show where they end."""
-        return self.asked(len(text), lambda pipe: pipe.ask_text(text))
+    def ask_text(self, text: str, marks: int = 0) -> str:
+        """All answers to lines whose answers show where they end, or have marks behind them."""
+        return self.asked(len(text), lambda pipe: pipe.ask_text(text, marks))
 
     def asked(self, size: int, call: Callable[[Pipe], Answer]) -> Answer:
         """What a call of the process gives, which sends so many bytes."""
@@ -282,24 +282,24 @@ class Scratch:
                    last: int | None) -> Iterator[Hit]:
         """The stops of a run, with questions that are asked at each."""
         self.set_stops(stops)
+        indices = {f"{word} {number}": index for number, index in self.numbers.items() for word in ("break", "watch")}
         command = "continue" if is_forward else "reverse"
-        size, width = 1, 1 + len(questions)
+        many = [is_unbounded(question) for question in questions]
+        block = "".join(f"{line}\n{MARK.decode() if is_unbounded(line) else ''}" for line in (command, *questions))
+        size = 1
         while True:
             begun = time.monotonic()
-            answers = self.ask(*[command, *questions] * size)
-            moves = answers[::width]
-            is_oldest = [OLDER] in moves or moves[-1][0] == OLDEST
-            if not self.followed(next((move[1] for move in reversed(moves) if len(move) == 2), ""), command, is_oldest):
+            text = self.ask_text(block * size, sum(many) * size)
+            at = text.rfind("\n#") + 1
+            is_oldest = OLDEST in text or OLDER in text
+            if not self.followed(text[at:text.index("\n", at)] if at else "", command, is_oldest):
                 return
-            for index, move in enumerate(moves):
-                told = TOLD.match("\n".join((*move, "")))
-                if told:
-                    reason, number, line, position = told.groups()
-                    stop = self.numbers[int(number)] if number else None
-                    if number or reason in ENDS:
-                        yield Hit(int(position), stop, line, answers[index * width + 1:(index + 1) * width])
-                    if reason in ENDS:
-                        return
+            for reason, line, answers in stops_told(text, many):
+                stop = indices.get(reason)
+                if stop is not None or reason in ENDS:
+                    yield Hit(int(line[1:line.index(" ")]), stop, line, answers)
+                if reason in ENDS:
+                    return
             if self.is_far_enough(last, is_forward, is_oldest):
                 return
             size = next_size(size, most, begun)
@@ -329,6 +329,29 @@ class Scratch:
         self.start()
         self.go(here)
         self.set_stops(stops)
+
+
+def stops_told(text: str, many: list[bool]) -> Iterator[tuple[str, str, list[list[str]]]]:
+    """What a run writes about its stops: why it stopped, the place line, and the answers to the questions there, which
+    have one line each unless they have many, and then a mark. Where no move was made there is no reason."""
+    lines, at = text.split("\n"), 0
+    end, is_bounded, width = len(lines) - 1, not any(many), len(many)
+    while at < end:
+        line, reason, place = lines[at], "", ""
+        at += 1
+        if line.startswith("stop: "):
+            reason, place = line[6:], lines[at]
+            at += 1
+        if is_bounded:
+            yield reason, place, [[answer] for answer in lines[at:at + width]]
+            at += width
+            continue
+        answers = []
+        for has_many in many:
+            behind = lines.index(MARKED_LINE, at) if has_many else at + 1
+            answers.append(lines[at:behind])
+            at = behind + has_many
+        yield reason, place, answers
 
 
 def next_size(size: int, most: int, begun: float) -> int:

@@ -35,8 +35,8 @@ ENDLESS = """export function w $main() {
 	jmp @loop
 }
 """
-# Seconds after which a prompt waits for keys, and for which it looks for the changes of a value.
-READY, LOOKED_FOR = 0.2, 3
+# Seconds after which a prompt waits for keys.
+READY = 0.2
 # What is typed for a run of so many moves, and how many seconds of a processor `why` may take behind it.
 SPEEDS = ((1_000_000, 1.0), (10_000_000, 5.0))
 # A round of the loop below takes eight moves, and stores at an address that only the run tells.
@@ -124,26 +124,6 @@ def interrupted(program: str) -> str | None:
             session.settle(READY)
             session.place = last_place(answer) or session.place
             return missing(answer, "stopped by Ctrl-C") or session.replayed_fault()
-        finally:
-            session.close()
-
-
-def interrupted_question(program: str) -> str | None:
-    """Ctrl-C in a question about millions of changes shows what was found up to there. A round takes two moves behind
-    the first one, so %i is 2,999,990 from #5999981 on."""
-    with tempfile.TemporaryDirectory(prefix="endless-") as folder:
-        session = Held(program, written(folder, "endless.ssa", ENDLESS), "--limit", "6000001")
-        try:
-            session.type("when %i >= 2999990\n")
-            time.sleep(LOOKED_FOR)
-            session.type("\x03")
-            answer = session.wait_for(PROMPT)
-            session.settle(READY)
-            low = re.search(r"; only from #(\d+) on, since Ctrl-C stopped the search", answer)
-            if not low or not 0 < int(low[1]) < 5_900_000:
-                return f"Ctrl-C shows {answer!r}"
-            return missing(answer, "holds from #5999981 on", "1 time in the run from #0 to #6000001 $main @loop 0") or \
-                missing(session.do("s"), "#1 $main")
         finally:
             session.close()
 
@@ -790,7 +770,7 @@ def stops_kept(program: str) -> str | None:
 
 
 HABITS = {call.__name__.replace("_", " "): call for call in (
-    interrupted, interrupted_question, interrupted_at_the_prompt, left, completed, bad_lines, refused, broken,
+    interrupted, interrupted_at_the_prompt, left, completed, bad_lines, refused, broken,
     narrow, without_readline, wrapped, memory_told, bounded, fast, followed, suspected, patient, looked_at,
     shown_at_last, drawn_at_last, closed, gone, long_named, gone_round, far, deep, saved_and_compared, stops_kept,
     mapped, lowered, bare)}

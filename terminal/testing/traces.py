@@ -218,8 +218,8 @@ def access_faults(debugger: str, file: str, seed: int, questions: int) -> list[s
                 if moves:
                     byte = chosen.choice(moves)[0].start
                     wanted = [position for span, position in moves if byte in span]
-                    given = sorted(access.position for access in
-                                   shell.causes.accesses.touching(is_write, run, 0, byte, 1))
+                    survey = shell.causes.accesses.survey(is_write, run, byte, 1, 0, len(moves) + 1)
+                    given = [access.position for access in survey.found]
                     found.append(None if given == wanted else f"byte {byte}: {given} and not {wanted}")
         return [fault for fault in found if fault]
     finally:
