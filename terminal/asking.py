@@ -7,13 +7,14 @@ from itertools import zip_longest
 from .accesses import MOST_COUNTED, Access
 from .answers import COMMANDS as LANGUAGE, Place, read_place
 from .causes import MOST_BYTES_ASKED, Cause, Question
-from .expressions import Node, Unset, Wrong, as_bytes, evaluate, parts_of, temporaries_of, whole
+from .conditions import quick_test
+from .expressions import Node, Unset, Wrong, as_bytes, evaluate, fixed, parts_of, temporaries_of
 from .pipe import Pipe
 from .scratch import Refused, frames_of
 from .session import MOVES
 from .shell import Shell, command
-from .stops import Answered, FixedState, questions_of
-from .text import Operand, Program
+from .stops import Answered, questions_of
+from .text import Operand
 from .timeline import Poke, Timeline, common
 from .values import BITS, FLOATS, brief
 from .waiting import Interrupted
@@ -191,8 +192,8 @@ def when(shell: Shell, rest: str) -> None:
     for name in names:
         shell.temporary(name)
     stops = [f"watch {function} {name}" for name in names]
-    stops += [f"watch {FLOATS.get(part.text, part.text)} {fixed_address(part, program)}" for part in parts_of(node)
-              if part.kind == "memory"]
+    stops += [f"watch {FLOATS.get(part.text, part.text)} {fixed(part.parts[0], program.addresses)}"
+              for part in parts_of(node) if part.kind == "memory"]
     if not stops:
         raise Wrong(f"{rest}: a condition of temporaries or memory was expected")
     run = whole_run(shell)
@@ -205,10 +206,6 @@ def when(shell: Shell, rest: str) -> None:
         shell.say(f"holds from #{begin}" + (f", no longer from #{end}" if end is not None else " on"))
     stopped = f"; only from #{low} on, since Ctrl-C stopped the search" if low is not None else ""
     shell.say(f"{counted(len(spans), 'time')} {bounds}{stopped}")
-
-
-def fixed_address(part: Node, program: Program) -> int:
-    return whole(evaluate(part.parts[0], FixedState(program))) % (1 << 64)
 
 
 def held_spans(shell: Shell, run: Timeline, stops: list[str], questions: list[str], node: Node,
@@ -245,6 +242,8 @@ class Readings:
     def __init__(self, shell: Shell, node: Node, questions: list[str], function: str, run: Timeline):
         self.shell, self.node, self.questions, self.function, self.run = shell, node, questions, function, run
         self.scratch, self.program = shell.session.scratch, shell.session.program
+        classes = self.program.functions[function].temporaries if function else {}
+        self.quick = quick_test(node, questions, classes, self.program.addresses)
 
     def at_end(self) -> bool | None:
         """Of the state in which the run ends, where the process stands."""
@@ -254,8 +253,11 @@ class Readings:
 
     def holds(self, place: Place, answers: list[list[str]]) -> bool | None:
         """Of a state whose answers are known; None where the frame that is meant isn't the innermost one."""
+        is_there = not self.function or place.function == self.function
+        if is_there and self.quick and not self.quick(answers):
+            return False
         known = dict(zip(self.questions, answers))
-        if self.function and place.function != self.function:
+        if not is_there:
             return None if self.is_in_caller(place, known) else False
         return self.value(place, known)
 

@@ -12,7 +12,7 @@ import operator
 import re
 from dataclasses import dataclass
 from functools import cached_property
-from typing import Callable, Iterator, NamedTuple, Protocol
+from typing import Callable, Iterator, Mapping, NamedTuple, Protocol
 
 from .reading.accepted import IN_NAME
 from .values import BYTES, FLOAT_BYTES, FLOATS, bits_of, float_of, signed, unsigned
@@ -375,6 +375,30 @@ def temporaries_of(node: Node) -> list[str]:
 def is_fixed(node: Node) -> bool:
     """Whether an expression has the same value in each state."""
     return all(part.kind in ("number", "float", "global", "binary", "unary", "u", "s") for part in parts_of(node))
+
+
+class FixedState:
+    """A state of which nothing is known: for expressions that are the same everywhere."""
+
+    def __init__(self, addresses: Mapping[str, int]):
+        self.addresses = addresses
+
+    def temporary(self, name: str) -> tuple[int, str]:
+        raise Unset(name)
+
+    def bytes(self, address: int, count: int) -> int:
+        raise Unset(f"address {address}")
+
+    def word(self, name: str) -> int:
+        raise Unset(name)
+
+    def address(self, name: str) -> int:
+        return self.addresses[name]
+
+
+def fixed(node: Node, addresses: Mapping[str, int]) -> int:
+    """The address that an expression is in each state."""
+    return whole(evaluate(node, FixedState(addresses))) % (1 << 64)
 
 
 def as_bytes(text: str) -> str:

@@ -175,8 +175,10 @@ class Runs:
         if suspicious and (last is None or abs(suspicious.position - here.position) <= abs(last - here.position)):
             last = suspicious.position
         position, outcome = here.position, None
+        counts = filter.counts(questions) if is_known and not target else None
         try:
-            hits = self.scratch.go(here).hits(is_forward, lines, questions, MOST_AT_ONCE if is_known else 1, last)
+            hits = self.scratch.go(here).hits(is_forward, lines, questions, MOST_AT_ONCE if is_known else 1, last,
+                                              counts)
             for hit in hits:
                 if suspicious and last is not None and (hit.position > last if is_forward else hit.position < last):
                     break

@@ -39,6 +39,8 @@ class Refused(Exception):
 
 
 Answer = TypeVar("Answer")
+# Whether a hit of a stop can count, by the answers there.
+Counts = Callable[[int, list[list[str]]], bool]
 
 
 @dataclass(frozen=True)
@@ -243,14 +245,15 @@ class Scratch:
             self.numbers[int(answer[0].split(" ")[1])] = index
 
     def hits(self, is_forward: bool, stops: list[str], questions: list[str] = [], most: int = MOST_AT_ONCE,
-             last: int | None = None) -> Iterator[Hit]:
+             last: int | None = None, counts: Counts | None = None) -> Iterator[Hit]:
         """The stops of a run from here on, with the answers at each; the last one is the end, or the start.
 
-        With `last` the run doesn't go on past that position, though hits after it may still come. Meanwhile the process
-        may be further on: to ask more, go to the position first.
+        With `last` the run doesn't go on past that position, though hits after it may still come. Of the hits that
+        don't count some come none the less. Meanwhile the process may be further on: to ask more, go to the position
+        first.
         """
         if questions:
-            yield from self.asked_hits(is_forward, stops, questions, most, last)
+            yield from self.asked_hits(is_forward, stops, questions, most, last, counts)
             return
         for text in self.texts(is_forward, stops, most, last):
             for reason, number, line, position in TOLD.findall(text):
@@ -279,7 +282,7 @@ class Scratch:
             size = next_size(size, most, begun)
 
     def asked_hits(self, is_forward: bool, stops: list[str], questions: list[str], most: int,
-                   last: int | None) -> Iterator[Hit]:
+                   last: int | None, counts: Counts | None) -> Iterator[Hit]:
         """The stops of a run, with questions that are asked at each."""
         self.set_stops(stops)
         indices = {f"{word} {number}": index for number, index in self.numbers.items() for word in ("break", "watch")}
@@ -296,6 +299,8 @@ class Scratch:
                 return
             for reason, line, answers in stops_told(text, many):
                 stop = indices.get(reason)
+                if counts and stop is not None and not counts(stop, answers):
+                    continue
                 if stop is not None or reason in ENDS:
                     yield Hit(int(line[1:line.index(" ")]), stop, line, answers)
                 if reason in ENDS:

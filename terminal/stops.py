@@ -6,8 +6,9 @@ from dataclasses import dataclass, field
 from typing import Callable
 
 from .answers import Place, live, read_bytes, read_value
-from .expressions import Node, Unset, evaluate, is_fixed, parts_of, temporaries_of, whole
-from .scratch import frames_of
+from .conditions import Test, quick_test
+from .expressions import Node, Unset, evaluate, fixed, is_fixed, parts_of, temporaries_of
+from .scratch import Counts, frames_of
 from .text import STACK, Program
 from .values import BYTES, FLOAT_BYTES, FLOATS, as_float
 
@@ -146,25 +147,6 @@ class Answered:
         return self.depth if name == "depth" else self.place.position
 
 
-class FixedState:
-    """A state of which nothing is known: for expressions that are the same everywhere."""
-
-    def __init__(self, program: Program):
-        self.program = program
-
-    def temporary(self, name: str) -> tuple[int, str]:
-        raise Unset(name)
-
-    def bytes(self, address: int, count: int) -> int:
-        raise Unset(f"address {address}")
-
-    def word(self, name: str) -> int:
-        raise Unset(name)
-
-    def address(self, name: str) -> int:
-        return self.program.addresses[name]
-
-
 def questions_of(node: Node, program: Program) -> list[str] | None:
     """The questions at a hit for a condition, or None if an address in it depends on the state."""
     asked = [f"print {name}" for name in temporaries_of(node)]
@@ -173,7 +155,7 @@ def questions_of(node: Node, program: Program) -> list[str] | None:
         if part.kind == "memory":
             if not is_fixed(part.parts[0]):
                 return None
-            address = whole(evaluate(part.parts[0], FixedState(program))) % (1 << 64)
+            address = fixed(part.parts[0], program.addresses)
             asked.append(f"mem {address} {(BYTES | FLOAT_BYTES)[part.text]}")
     return asked
 
@@ -213,6 +195,29 @@ class Filter:
             asked += [stop.memory.question] if stop.memory else []
             asked += ["where", f"print {stop.frame.temporary}"] if stop.frame else []
         return list(dict.fromkeys(asked)), is_known
+
+    def counts(self, questions: list[str]) -> Counts | None:
+        """A quick test of whether a hit can count, by the answers there, or None if that takes more."""
+        if any(stop.frame or stop.memory for stop in self.stops):
+            return None
+        tests: list[list[Test] | None] = []
+        for owner in self.owners:
+            there = [stop for stop in self.stops if stop is owner or owner.place and stop.place == owner.place]
+            found = [self.test(stop, questions) for stop in there]
+            known = [test for test in found if test]
+            tests.append(known if len(known) == len(found) else None)
+
+        def can_count(index: int, answers: list[list[str]]) -> bool:
+            mine = tests[index] if index < len(tests) else None
+            return mine is None or any(test(answers) for test in mine)
+        return can_count if any(tests) else None
+
+    def test(self, stop: Stop, questions: list[str]) -> Test | None:
+        """A quick test of the condition of a breakpoint."""
+        if not (stop.place and stop.condition):
+            return None
+        classes = self.program.functions[stop.place[0]].temporaries
+        return quick_test(stop.condition, questions, classes, self.program.addresses)
 
     def chosen(self, index: int, state: Answered) -> tuple[Stop | None, str]:
         """The stop that counts at a hit of the line with that index, with what there is to say of it."""
