@@ -17,7 +17,6 @@ INSTEAD = {
     "jump j": "`goto N` goes to a position; for the other way of a jump, `set` the temporary that it looks at",
     "kill": "`start` goes to the start, `quit` leaves",
     "starti": "`start` goes to the first instruction",
-    "ptype whatis": "`print %x` shows a value, `made %x` what it is made of",
     "show": "`info session` tells of the session",
     "record target": "nothing has to be recorded: `back` and `reverse` go back over any run",
     "undo": "`back` takes the last move back",

@@ -19,6 +19,10 @@ from .values import BYTES, FLOAT_BYTES, FLOATS, bits_of, float_of, signed, unsig
 
 SYMBOLS = ("<<", ">>", "<=", ">=", "==", "!=", "&&", "||", *"+-*/%&|^~!<>()[],")
 WORDS = ("depth", "position")
+# What is said of how C writes memory and addresses.
+POINTED = {"*": "the memory at an address is w[%p]; b, h, l, s and d are other widths",
+           "[": "an item of an array is w[$array+4*%i]; b, h, l, s and d are other widths",
+           "&": "a name of data or of a function is its address"}
 LEVELS = (("||",), ("&&",), ("|",), ("^",), ("&",), ("==", "!="), ("<", "<=", ">", ">="), ("<<", ">>"), ("+", "-"),
           ("*", "/", "%"))
 MOST_SHIFT, MOST_BITS = 64, 128
@@ -148,6 +152,8 @@ class Parser:
 
     def single(self) -> Node:
         word = self.take()
+        if word in POINTED:
+            raise Wrong(f"{word!r}: {POINTED[word]}")
         if word == "(":
             node = self.binary()
             self.expect(")")
@@ -194,6 +200,8 @@ def character_value(character: re.Match[str]) -> int:
 def parse(text: str) -> Node:
     parser = Parser(text)
     node = parser.binary()
+    if parser.words[parser.at] == "[":
+        raise Wrong(f"'[': {POINTED['[']}")
     if parser.words[parser.at]:
         raise Wrong(f"{parser.words[parser.at]!r}: the end of the expression, or an operator, was expected")
     return node

@@ -226,11 +226,21 @@ def down(shell: Shell, rest: str) -> None:
     select(shell, shell.session.selected - shell.count(rest, 1000))
 
 
-@command("frame f", "frame [N]")
+@command("frame f", "frame [N | function $f]")
 def frame(shell: Shell, rest: str) -> None:
-    """Selects a frame by its number in `bt`; without one, shows the selected frame."""
+    """Selects a frame by its number in `bt`, or the innermost one of a function; without a word, shows the selected
+    frame."""
+    word, _, name = rest.partition(" ")
+    if word == "function" and name.strip():
+        function = shell.function_named(name.strip())
+        frames = [each.function for each in shell.session.frames()]
+        if function not in frames:
+            raise Refused(f"{function}: no frame of it; `bt` shows those that are there")
+        select(shell, frames.index(function))
+        return
+    rest = name.strip() if word == "level" else rest
     if rest and not rest.isdigit():
-        raise Wrong(f"{rest}: the number of a frame was expected")
+        raise Wrong(f"{rest}: the number of a frame was expected, or `function $f`")
     select(shell, int(rest) if rest else shell.session.selected)
 
 
@@ -290,10 +300,11 @@ def out(shell: Shell, rest: str) -> None:
 
 
 @command("info i",
-         "info stops|locals|args|stack|frame|display|checkpoints|functions|data|source|symbol ADDRESS|session", "info")
+         "info stops|locals|args|stack|frame|display|checkpoints|functions|data|source|line PLACE|"
+         "symbol ADDRESS|session", "info")
 def info(shell: Shell, rest: str) -> None:
     """Shows the stops, the temporaries, the parameters, the frames, what is displayed, the checkpoints, the functions,
-    the data, the sources, whose an address is, or how large the session is."""
+    the data, the sources, the place of a line, whose an address is, or how large the session is."""
     typed, _, more = rest.partition(" ")
     word = info_word(typed)
     if word == "watchpoints":
@@ -420,7 +431,8 @@ TOPICS = {
     "move": "step next until advance finish continue run start back reverse-next reverse-finish reverse goto "
             "checkpoint restart",
     "move by lines of a source": "step-line next-line reverse-step-line reverse-next-line",
-    "look": "print x display undisplay bt up down frame temps list disas mem out info",
+    "look": "print x display undisplay bt up down frame temps list search reverse-search disas mem find whatis out "
+            "info",
     "stop": "break tbreak watch ignore condition commands disable enable stops delete",
     "ask": "suspects made why path readers writers when compare",
     "change": "set poke",

@@ -130,6 +130,8 @@ class Shell:
         # The first and the last line that `list` showed, of the text and of a source.
         self.lines_shown: tuple[int, int] | None = None
         self.line_listed: tuple[str, int, int] | None = None
+        # What was searched for in the text, and the line that was found last.
+        self.sought, self.line_found = "", 0
         self.examined, self.unit, self.format = 0, "w", "x"
         self.list_size = 11
         self.last = ""
@@ -196,6 +198,7 @@ class Shell:
     def list_anew(self) -> None:
         """`list` begins around where the session is looked at now."""
         self.lines_shown = self.line_listed = None
+        self.line_found = 0
 
     def show_display(self, number: int, letters: str, text: str) -> None:
         try:

@@ -110,7 +110,8 @@ def watch(shell: Shell, rest: str) -> None:
     memory of a WIDTH b h w l, or s d of floats, or a range of N bytes. A write of the same value is no change; on the
     stack bytes that are dead in between aren't either."""
     what, condition, text = with_condition(shell, rest)
-    what = shell.sized(as_bytes(what))
+    # gdb needs a word for what all watches of memory do here: they stay at the address.
+    what = shell.sized(as_bytes(re.sub(r"^-l(?:ocation)? ", "", what)))
     words = what.split()
     if not words:
         raise Wrong("watch %TEMPORARY, $DATA, $FUNCTION %TEMPORARY, WIDTH ADDRESS or N ADDRESS was expected")

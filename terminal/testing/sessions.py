@@ -258,6 +258,26 @@ FIBONACCI: Lines = [
 ]
 
 # docs/QUESTIONS.md, "What would happen if this value were another?": -1 squared is stored at 4 bytes before $squares.
+# Lines, values and names that are looked for. The squares of 0 to 3 are stored, and that of 4 behind them.
+SOUGHT: Lines = [
+    ("search storew", ["> 18 "]), ("search", ["> 18 "]), ("reverse-search phi", ["> 10 "]), ("search jnz", ["> 12 "]),
+    ("search", ["> 33 "]), ("search nosuch", ["nosuch: no line has it"]), ("search [", ["[: no line has it"]),
+    ("search ^@b.dy", ["> 34 "]), ("whatis %i", ["%i: l, set at line 30"]), ("whatis %k", ["no such temporary"]),
+    ("whatis $fill", ["$fill: a function (), which gives nothing, line 6"]), ("whatis w[$bias]", ["w[$bias]: w"]),
+    ("ptype $squares", ["$squares: 16 bytes of data from 65536 on, line 3"]), ("whatis", ["whatis %x"]),
+    ("info line 18", ["$fill @body 4  line 18: storew %square, %place"]),
+    ("info line $fill @end", ["$fill @end 0  line 22: ret"]), ("find", ["find [WIDTH] VALUE"]),
+    ("frame function fill", ["$fill: no frame of it"]), ("b 18", []), ("c", ["#8 $fill @body 4"]),
+    ("frame function main", ["frame 1 $main"]), ("frame function $fill", ["frame 0 $fill"]),
+    ("frame function gone", ["gone"]), ("whatis %i", ["%i: w, set at line 10"]), ("watch -l $bias", ["w $bias+0"]),
+    ("p *%i", ["the memory at an address is w[%p]"]), ("p $squares[2]", ["an item of an array is w[$array+4*%i]"]),
+    ("delete", []), ("goto end", ["#88 done 30"]), ("find 14", ["0 places"]),
+    ("find 9", ["65548 $squares+12\n1 place"]),
+    ("find 16", ["65552 $bias+0\n1 place"]), ("find l 4294967296", ["65536 $squares+0\n1 place"]),
+    ("find b 4", ["65544 $squares+8\n1 place"]), ('find "\\t"', ["65548 $squares+12\n1 place"]),
+    ("find 4294967296", ["doesn't fit into 32 bits"]),
+]
+
 HAND: Lines = [
     ("goto 2", ["#2 $fill @loop 0"]), ("set %i -1", ["#3 $fill @loop 0", "%i=-1"]),
     ("c", ["#10 fault dead address 65532"]),
