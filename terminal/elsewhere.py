@@ -41,6 +41,11 @@ NEAREST, MOST_NAMES = 3, 12
 ANSWERS = {word: answer for words, answer in INSTEAD.items() for word in words.split()}
 
 
+def is_elsewhere(word: str) -> bool:
+    """Whether it is a command of other debuggers, which doesn't exist here."""
+    return word in ANSWERS
+
+
 def not_known(word: str, commands: Iterable[str]) -> str:
     """What is said of a word that is no command."""
     name = "!" if word.startswith("!") else word

@@ -434,7 +434,7 @@ TOPICS = {
     "look": "print x display undisplay bt up down frame temps list search reverse-search disas mem find whatis out "
             "info",
     "stop": "break tbreak watch ignore condition commands disable enable stops delete",
-    "ask": "suspects made why path readers writers when compare",
+    "ask": "suspects made why path calls readers writers when counts compare",
     "change": "set poke",
     "session": "tui save source other help quit",
 }

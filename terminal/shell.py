@@ -8,7 +8,7 @@ from typing import Callable, Sequence
 
 from .answers import Place, live
 from .causes import Cause, Causes
-from .elsewhere import not_known
+from .elsewhere import is_elsewhere, not_known
 from .expressions import Missing, Node, Unknown, Unset, Value, Wrong, evaluate, parse, parts_of, whole
 from .frames import Frames
 from .lookout import Lookout
@@ -424,6 +424,8 @@ class Shell:
         """The command of that name, or the only one whose full name begins so."""
         if word in COMMANDS:
             return COMMANDS[word]
+        if is_elsewhere(word):
+            raise Wrong(not_known(word, COMMANDS))
         begun = {found.names[0]: found for name, found in COMMANDS.items() if name.startswith(word) and word}
         shortest = min(begun, key=len, default="")
         # Of two names one of which begins with the other the shorter one is meant.

@@ -278,6 +278,18 @@ SOUGHT: Lines = [
     ("find 4294967296", ["doesn't fit into 32 bits"]),
 ]
 
+# Fibonacci's number of 6 takes 25 calls, of which 8 are of 1 and 5 of 0.
+CALLED: Lines = [
+    ("calls", ["calls $FUNCTION was expected"]), ("calls none", ["none: a function was expected; there are $fib, $"]),
+    ("calls fib", ["#1 $fib(%n=6)  called at #0 $main @start 0  line 20: ", "25 calls of $fib in the run from #0 to",
+                   "\n#5 $fib(%n=5)  called at #4 $fib @large 1  line 11: "]),
+    ("s 50", []), ("calls $fib if %n < 2", ["13 calls of $fib in the run"]),
+    ("calls main", ["0 calls of $main in the run"]),
+    ("calls fib if %n == 1", ["$fib(%n=1)", "8 calls"]), ("calls fib if %sum", ["%sum: $fib has no such parameter"]),
+    ("calls fib if w[%n] > 1", ["parameters and memory at fixed addresses were expected"]), ("call fib", ["can't be"]),
+    ("goto 1", ["#1 $fib"]), ("set %n 3", ["#2 $fib"]), ("calls fib", ["#1 $fib(%n=6)", "\n5 calls of $fib in"]),
+]
+
 HAND: Lines = [
     ("goto 2", ["#2 $fill @loop 0"]), ("set %i -1", ["#3 $fill @loop 0", "%i=-1"]),
     ("c", ["#10 fault dead address 65532"]),
