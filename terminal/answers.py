@@ -4,8 +4,8 @@ from __future__ import annotations
 import re
 from dataclasses import dataclass
 
-COMMANDS = ("step", "accesses", "counts", "back", "continue", "reverse", "break", "watch", "delete", "stops", "set",
-            "poke", "print", "temps", "mem", "where", "list", "out", "quit")
+COMMANDS = ("step", "accesses", "counts", "frames", "back", "continue", "reverse", "break", "watch", "delete", "stops",
+            "set", "poke", "print", "temps", "mem", "where", "list", "out", "quit")
 
 
 @dataclass(frozen=True)

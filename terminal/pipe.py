@@ -19,7 +19,7 @@ MARK = b"?\n"
 MARKED_LINE = "no: unknown command"
 MARKED = MARKED_LINE.encode() + b"\n"
 # Commands whose answers have as many lines as there are frames, temporaries, instructions, stops, accesses or places.
-UNBOUNDED = frozenset(("where", "temps", "list", "stops", "accesses", "counts"))
+UNBOUNDED = frozenset(("where", "temps", "list", "stops", "accesses", "counts", "frames"))
 # The debugger reads so many bytes of a script and no more (docs/DEBUGGER.md).
 MOST_SENT = 1 << 24
 PIECE = WIDE = 1 << 18

@@ -9,7 +9,7 @@ from .timeline import Timeline, common, lines_between
 from .values import Names
 from .waiting import Waiting
 
-MOVES = ("step", "accesses", "counts", "back", "continue", "reverse", "set", "poke")
+MOVES = ("step", "accesses", "counts", "frames", "back", "continue", "reverse", "set", "poke")
 
 
 class Session:

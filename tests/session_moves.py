@@ -9,7 +9,7 @@ NOT_ASKED = (b"no: line too long", b"no: unknown command", b"no: missing word", 
              b"no: unknown place")
 # The lines of an answer that can have several.
 SHOWN = {b"accesses": rb"(read|write) #\d+ \d+ \d+", b"counts": rb"count \d+ \$\S+ @\S+ \d+",
-         b"where": rb"\$.* @\S+ \d+", b"list": rb"(  |> ).*"}
+         b"frames": rb"frame (-|#\d+) (-|#\d+) \$\S+ \d+", b"where": rb"\$.* @\S+ \d+", b"list": rb"(  |> ).*"}
 
 
 class Answers:
@@ -89,7 +89,7 @@ def value_line(words: Sequence[bytes]) -> bytes:
 def take_refusal(words: Sequence[bytes], refusal: bytes, moves: Moves) -> None:
     """A command that was refused: the move that it asks for, if it asks for one."""
     verb = words[0]
-    if verb in (b"step", b"accesses", b"counts", b"continue"):
+    if verb in (b"step", b"accesses", b"counts", b"frames", b"continue"):
         moves.ask(b"forward", refusal)
     elif verb in (b"back", b"reverse"):
         moves.ask(b"back", refusal)
@@ -116,7 +116,7 @@ def take_answer(words: Sequence[bytes], answers: Answers, moves: Moves, stops: s
         refusal = answers.take()
         if refusal not in NOT_ASKED:
             take_refusal(words, refusal[len(b"no: "):], moves)
-    elif verb in (b"step", b"accesses", b"counts", b"back", b"continue", b"reverse"):
+    elif verb in (b"step", b"accesses", b"counts", b"frames", b"back", b"continue", b"reverse"):
         if verb in SHOWN:
             answers.take_shown(SHOWN[verb])
         take_way(words, answers, moves)

@@ -32,7 +32,7 @@ MOST_READ, MOST_TARGETS = 65536, 1000
 PASSING = ("unset", "no such frame", "dead address", "division by zero", "a shift by less than 0 or more than 63",
            "a value of more than 127 bits")
 LOOKING = ("print", "temps", "mem", "where", "list", "out", "stops", "break", "watch", "delete")
-MOVING = ("step", "accesses", "counts", "back", "continue", "reverse", "set", "poke")
+MOVING = ("step", "accesses", "counts", "frames", "back", "continue", "reverse", "set", "poke")
 
 
 # What answers a request: of its arguments the body, if there is one.

@@ -15,6 +15,8 @@ GREATEST_SCRIPT = 2**24
 GREATEST_LINE = 256
 MOST_STOPS = 64
 MOST_LINES = 4096
+# No more than 1,000 frames last.
+MOST_ENDED = MOST_LINES - 1000
 WIDTHS = {"b": 1, "h": 2, "w": 4, "l": 8}
 NAME = "[A-Za-z0-9._$]+"
 NUMBER = re.compile("[0-9]+")
@@ -91,8 +93,8 @@ GLOBAL, TEMP, LABEL = name_after("$"), name_after("%"), name_after("@")
 
 # The shapes of the words of each command, and how many of them it needs. The second word of `watch` hangs on the first.
 COMMANDS: dict[str, tuple[list[Shape | None], int]] = {
-    "step": ([COUNT], 0), "accesses": ([COUNT, address, COUNT], 3), "counts": ([COUNT], 1), "back": ([COUNT], 0),
-    "continue": ([], 0), "reverse": ([], 0),
+    "step": ([COUNT], 0), "accesses": ([COUNT, address, COUNT], 3), "counts": ([COUNT], 1),
+    "frames": ([COUNT, COUNT], 2), "back": ([COUNT], 0), "continue": ([], 0), "reverse": ([], 0),
     "break": ([GLOBAL, LABEL, WORD], 1), "watch": ([watched, None], 2), "delete": ([WORD], 1), "stops": ([], 0),
     "set": ([TEMP, value], 2), "poke": ([width, address, value], 3), "print": ([TEMP], 1), "temps": ([], 0),
     "mem": ([address, number(1, 256)], 2), "where": ([], 0), "list": ([], 0), "out": ([], 0), "quit": ([], 0),
@@ -217,6 +219,40 @@ class Session:
                  for f, func in enumerate(self.machine.funcs) for b, block in enumerate(func.blocks)
                  for at in range(len(block.insts) + 1) if (f, b, at) in met]
         return "".join(lines) + self.place()
+
+    def frames_(self, count: int, least: int) -> str:
+        if self.now.is_over:
+            raise No("at end")
+        # How many frames each state has. A frame is there in each state that has more than are below it.
+        depths = [len(self.now.frames)]
+        lines: list[str] = []
+        start = self.position
+        while count > 0 and not self.now.is_over and len(lines) < MOST_ENDED:
+            ended = self.inner().func
+            self.add(self.machine.step(self.now))
+            depths.append(len(self.now.frames))
+            count -= 1
+            if depths[-1] < depths[-2]:
+                begin = self.begun(depths[:-1], depths[-1], start)
+                if begin is None or self.position - begin >= least:
+                    lines.append(self.frame_line(begin, self.position, ended, depths[-1]))
+        for below, frame in enumerate(self.now.frames):
+            begin = self.begun(depths, below, start)
+            if begin is not None:
+                lines.append(self.frame_line(begin, None, frame.func, below))
+        return "".join(lines) + self.place()
+
+    @staticmethod
+    def begun(depths: list[int], below: int, start: int) -> Optional[int]:
+        """Where the frame of the last state began that has so many below it, if one of the moves led there."""
+        for back, depth in enumerate(reversed(depths)):
+            if depth <= below:
+                return start + len(depths) - back
+        return None
+
+    def frame_line(self, begin: Optional[int], end: Optional[int], func: int, below: int) -> str:
+        at = ["-" if position is None else f"#{position}" for position in (begin, end)]
+        return f"frame {at[0]} {at[1]} ${self.machine.funcs[func].name} {below}\n"
 
     def accessed(self, before: State) -> list[tuple[str, int, int]]:
         """What the last move read and wrote: from which address on how many bytes."""

@@ -56,9 +56,10 @@ PHIS = b"""function $main() {
 # records. What copies and allocations overwrite is kept in a block, and more than 32 bytes of it in a second one; so
 # are the slots of three phis and more, in a second block where these are more than four.
 ASKED = {
-    MOVES: [(0, b"accesses 1 65536 8", 1), (0, b"counts 1", 3), (0, b"step", 0), (0, b"set %x 9", 0),
-            (0, b"poke l 65536 9", 0), (1, b"step", 0), (1, b"set %x 9", 0), (1, b"poke l 65536 9", 0), (2, b"step", 2),
-            (3, b"step", 2), (4, b"step", 1), (5, b"step", 1), (6, b"step", 0)],
+    MOVES: [(0, b"accesses 1 65536 8", 1), (0, b"counts 1", 3), (0, b"frames 1 1", 2), (0, b"step", 0),
+            (0, b"set %x 9", 0), (0, b"poke l 65536 9", 0), (1, b"step", 0), (1, b"set %x 9", 0),
+            (1, b"poke l 65536 9", 0), (2, b"step", 2), (3, b"step", 2), (4, b"step", 1), (5, b"step", 1),
+            (6, b"step", 0)],
     PHIS: [(0, b"step", 0), (1, b"step", 1), (2, b"step", 1), (3, b"step", 2), (4, b"step", 0)],
 }
 

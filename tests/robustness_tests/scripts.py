@@ -14,6 +14,7 @@ ODD = """fly|step 0|step -1|step 4294967296|step 00003|accesses|accesses 1
 accesses 1 $d0|accesses 0 $d0 1|accesses 1 $nope 1|accesses 1 $d0 0|accesses 1 $d0 4294967296
 accesses 4294967296 0 1|accesses 9 18446744073709551615 9|accesses 5 $d0+18446744073709551615 3
 counts|counts 0|counts 4294967296|counts x|counts 1 2|counts 00002
+frames|frames 9|frames 0 1|frames 1 0|frames 4294967296 1|frames 1 4294967296|frames 9 x|frames 1 1 1|frames 02 01
 back 1 2|back x|print|print x|print %|set %x
 set %w0 18446744073709551616|set %w0 -9223372036854775809|set %w0 -0|poke b 0|poke q 0 1|poke w 65536 -1
 mem 0 0|mem 0 257|mem 18446744073709551615 4|mem 18446744073709551616 1|mem $d0+ 1
@@ -23,9 +24,9 @@ break $main @start 99|break $main @start -1|delete|delete -1|delete 99|delete 18
 stops now|STEP|quitt|where.|list #""".replace("\n", "|").split("|")
 ODD += ["", " ", "\t\r", " \t step\r", "step\0", "out\t", "\xff\xfe", "a" * 256, "a" * 257, " " * 257,
         "step" + " " * 252, "step" + " " * 253]
-KINDS = {"step": 14, "step N": 12, "accesses": 6, "counts": 6, "back": 8, "back N": 10, "continue": 10, "reverse": 9,
-         "break": 6, "watch bytes": 5, "watch temp": 5, "delete": 4, "stops": 2, "set": 6, "poke": 6, "print": 6,
-         "temps": 5, "mem": 5, "where": 4, "list": 3, "out": 3, "odd": 6}
+KINDS = {"step": 14, "step N": 12, "accesses": 6, "counts": 6, "frames": 6, "back": 8, "back N": 10, "continue": 10,
+         "reverse": 9, "break": 6, "watch bytes": 5, "watch temp": 5, "delete": 4, "stops": 2, "set": 6, "poke": 6,
+         "print": 6, "temps": 5, "mem": 5, "where": 4, "list": 3, "out": 3, "odd": 6}
 
 
 def random_script(random: Random, text: bytes, lines: int) -> bytes:
@@ -82,6 +83,8 @@ class Lines:
             return f"{kind[:4]} {self.count()}"
         if kind == "counts":
             return f"counts {self.count()}"
+        if kind == "frames":
+            return f"frames {self.count()} {random.choice((1, 2, 5, 12, 40, 4294967295))}"
         if kind == "accesses":
             return f"accesses {self.count()} {self.address()} {random.choice((1, 2, 4, 30, 4294967295))}"
         if kind == "break":

@@ -42,8 +42,8 @@ def seeded(seed: int, lines: int) -> tuple[bytes, list[int], bytes, Options]:
     random = Random(seed)
     text, arguments = random_program(random)
     script = random_script(random, text, lines)
-    # A `step`, `accesses` or `counts` without a bound of its own could go on for ever.
-    script = re.sub(rb"\b(step|accesses|counts) 4294967295\b", rb"\1 500", script)
+    # A `step`, `accesses`, `counts` or `frames` without a bound of its own could go on for ever.
+    script = re.sub(rb"\b(step|accesses|counts|frames) 4294967295\b", rb"\1 500", script)
     return text, arguments, script, options_of(random)
 
 

@@ -30,13 +30,14 @@ LOADED = "loaded 2 functions 36 data bytes ssa yes\n#0 $main @start 0\n"
 REFUSED = {
     "unknown command": ["fly 1 2", "Step", "steps", "ste", "step\v2", "$main"],
     "missing word": [
-        "accesses", "accesses 1", "accesses 1 $d", "counts",
+        "accesses", "accesses 1", "accesses 1 $d", "counts", "frames", "frames 1",
         "set", "set %x", "poke", "poke b", "watch", "watch w", "watch $f", "delete", "mem", "mem 0"],
     "bad word": [
         # counts
         "accesses x", "accesses 0 $d 1", "accesses 4294967296 $d 1", "accesses 1 d 1", "accesses 1 $d 0",
         "accesses 1 $d 4294967296", "accesses 1 $d x",
         "counts x", "counts 0", "counts -1", "counts 4294967296",
+        "frames x", "frames 0 1", "frames 1 0", "frames 4294967296 1", "frames 1 4294967296", "frames 1 -1",
         "step +1", "step x", "step 1x", "back -1", "back 0", "back 4294967296", "back 18446744073709551617",
         # values
         "set %x -9223372036854775809", "set %x 18446744073709551616", "set %x -", "set %x --1", "set %x +1",
@@ -55,7 +56,7 @@ REFUSED = {
         # a word of the wrong shape is told before one that is missing behind it, and before one too many
         "poke q", "mem x", "watch q", "print x y"],
     "extra word": [
-        "accesses 1 $d 1 1", "counts 1 2",
+        "accesses 1 $d 1 1", "counts 1 2", "frames 1 2 3",
         "step 1 2", "continue 1", "reverse 1", "break $main @b 1 2", "watch w 1 2", "watch $f %x.2 1", "delete 1 2",
         "stops 1", "set %x 1 2", "poke b 0 1 2", "print %x %y", "temps %x", "mem 0 1 2", "list 1", "out 1",
         # words are counted before what they name is looked up
@@ -71,6 +72,8 @@ TAKEN = [
     ("accesses 0000000000000000000000000000000000001 $nope 1", "no: unknown place\n"),
     ("counts 1", "count 1 $main @start 0\n#1 $main @start 1\n"),
     ("counts 0000000000000000000000000000000000001", "count 1 $main @start 0\n#1 $main @start 1\n"),
+    ("frames 1 4294967295", "#1 $main @start 1\n"),
+    ("frames 0000000000000000000000000000000000001 01", "#1 $main @start 1\n"),
     # values
     ("set %x -0\nprint %x", "#1 $main @start 0\n%x = 0\n"),
     ("set %x -1\nprint %x", "#1 $main @start 0\n%x = 18446744073709551615\n"),

@@ -28,7 +28,8 @@ moving_verb word =
     if_word word (codes "step") verbs.Step (if_word word (codes "back") verbs.Back
     (if_word word (codes "continue") verbs.Continue (if_word word (codes "reverse") verbs.Reverse
     (if_word word (codes "set") verbs.Set (if_word word (codes "poke") verbs.Poke (if_word word (codes "quit") verbs.Quit
-    (if_word word (codes "accesses") verbs.Accesses (if_word word (codes "counts") verbs.Counts None))))))))
+    (if_word word (codes "accesses") verbs.Accesses (if_word word (codes "counts") verbs.Counts
+    (if_word word (codes "frames") verbs.Frames None)))))))))
 
 -- the verbs of stops
 abbrev pub stopping_verb : List ℕ → Option Verb
@@ -90,6 +91,7 @@ spelled verbs.Step words = perhaps 1 count_of words >>= λ n. alone (commands.St
 spelled verbs.Back words = perhaps 1 count_of words >>= λ n. alone (commands.Back n.0) n.1
 spelled verbs.Accesses words = needed count_of words >>= λ n. needed address_of n.1 >>= λ a. needed count_of a.1 >>= λ m. alone (commands.Accesses n.0 a.0 m.0) m.1
 spelled verbs.Counts words = needed count_of words >>= λ n. alone (commands.Counts n.0) n.1
+spelled verbs.Frames words = needed count_of words >>= λ n. needed count_of n.1 >>= λ d. alone (commands.Frames n.0 d.0) d.1
 spelled verbs.Continue words = alone commands.Continue words
 spelled verbs.Reverse words = alone commands.Reverse words
 spelled verbs.Set words = needed temporary_of words >>= λ x. needed value_of x.1 >>= λ v. alone (commands.Set x.0 v.0) v.1

@@ -41,6 +41,7 @@ pub enum Verb {
     Step,
     Accesses,
     Counts,
+    Frames,
     Back,
     Continue,
     Reverse,
@@ -91,6 +92,9 @@ pub enum Command<'a> {
     Accesses(u32, Address<'a>, u32),
     /// Move forward up to this many times, and show how many of the moves were made from each place.
     Counts(u32),
+    /// Move forward up to this many times, and show the frames that end, of those that begin by these moves only the ones that are at
+    /// least so many moves long; and the frames that begin and last.
+    Frames(u32, u32),
     /// Move backward up to this many times, 1 to 4,294,967,295.
     Back(u32),
     /// Move forward to the first place with a reason to stop.

@@ -46,6 +46,9 @@ fn moving_verb(word: &[u8]) -> Option<Verb>
     if word == b"counts".as_slice() {
         return Some(Verb::Counts);
     }
+    if word == b"frames".as_slice() {
+        return Some(Verb::Frames);
+    }
     None
 }
 
@@ -140,6 +143,14 @@ fn counts<'a>(words: &mut Words<'a>) -> Result<Command<'a>, Refused>
     alone(Command::Counts(moves), words)
 }
 
+fn frames<'a>(words: &mut Words<'a>) -> Result<Command<'a>, Refused>
+    ensures { result ≡ spelled verbs.Frames (words_of words.old.rest.now) }
+{
+    let moves = count_needed(words)?;
+    let length = count_needed(words)?;
+    alone(Command::Frames(moves, length), words)
+}
+
 fn back<'a>(words: &mut Words<'a>) -> Result<Command<'a>, Refused>
     ensures { result ≡ spelled verbs.Back (words_of words.old.rest.now) }
 {
@@ -225,6 +236,7 @@ fn spelled<'a>(verb: Verb, words: &mut Words<'a>) -> Result<Command<'a>, Refused
         Verb::Step => step(words),
         Verb::Accesses => accesses(words),
         Verb::Counts => counts(words),
+        Verb::Frames => frames(words),
         Verb::Back => back(words),
         Verb::Continue => alone(Command::Continue, words),
         Verb::Reverse => alone(Command::Reverse, words),

@@ -18,7 +18,7 @@ use Rattle.qil_semantics.specs.Timeline.{position, at_end}
 use Rattle.qil_stops.specs.Listed.{is_listed}
 use Rattle.qil_stops.specs.declared.stop.StopKind.{StopKind}
 use Rattle.qil_replies.specs.SessionState.{SessionState, has_kind, is_full, resolved_address}
-use Rattle.qil_replies.specs.Answers.{Answer, answer, answer_text, AreValid, IsValid, IsAnsweredTo, is_quit, if_back, accesses_answer, counts_answer, poke_answer, poke_at, stop_answer}
+use Rattle.qil_replies.specs.Answers.{Answer, answer, answer_text, AreValid, IsValid, IsAnsweredTo, is_quit, if_back, accesses_answer, counts_answer, spans_answer, poke_answer, poke_at, stop_answer}
 use Rattle.qil_replies.specs.Reached.{Reported, Reached}
 
 pub Reported-nil : {A : Type 0} (first : SessionState A) → Reported first [] [] [] first
@@ -52,6 +52,10 @@ counts_answer-goes : {A : Type 0} (s : SessionState A) (n : ℕ) (shortage : Opt
 counts_answer-goes s n None = refl
 counts_answer-goes s n (Some k) = refl
 
+spans_answer-goes : {A : Type 0} (s : SessionState A) (n d : ℕ) (shortage : Option ℕ) → (spans_answer s n d shortage).goes ≡ true
+spans_answer-goes s n d None = refl
+spans_answer-goes s n d (Some k) = refl
+
 -- only `quit` ends a session
 pub answer_goes : {A : Type 0} (s : SessionState A) (said : Result (Option Command) Refused) (shortage : Option ℕ) → is_quit said ≡ false → (answer s said shortage).goes ≡ true
 unfolding answer
@@ -59,6 +63,7 @@ answer_goes s (Ok (Some (commands.Step n))) None h = cond_goes (at_end s.timelin
 answer_goes s (Ok (Some (commands.Step n))) (Some k) h = refl
 answer_goes s (Ok (Some (commands.Accesses n at m))) shortage h = cond_goes (at_end s.timeline) _ _ refl (accesses_answer-goes s n m (resolved_address s.program at) shortage)
 answer_goes s (Ok (Some (commands.Counts n))) shortage h = cond_goes (at_end s.timeline) _ _ refl (counts_answer-goes s n shortage)
+answer_goes s (Ok (Some (commands.Frames n d))) shortage h = cond_goes (at_end s.timeline) _ _ refl (spans_answer-goes s n d shortage)
 answer_goes s (Ok (Some (commands.Back n))) shortage h = if_back-goes s _ refl
 answer_goes s (Ok (Some commands.Continue)) None h = cond_goes (at_end s.timeline) _ _ refl refl
 answer_goes s (Ok (Some commands.Continue)) (Some k) h = refl

@@ -19,6 +19,8 @@ use Rattle.qil_semantics.specs.declared.reason.Reason.TheVariants.{Memory}
 use Rattle.qil_accesses.specs.Accesses.{accesses_by, is_filled}
 use Rattle.qil_counts.specs.Counts as counts
 use Rattle.qil_counts.specs.Counts.{counts_by, met_by}
+use Rattle.qil_spans.specs.Spans as spans
+use Rattle.qil_spans.specs.Spans.{ended_by, spans_by}
 use Rattle.qil_stops.specs.declared.stop.Watched.TheVariants as watches
 use Rattle.qil_stops.specs.declared.stop.StopKind.{StopKind}
 use Rattle.qil_stops.specs.declared.stop.StopKind.TheVariants as kinds
@@ -93,6 +95,21 @@ counted s k reason = goes_to s (replies.Counts (met_by s.program s.timeline k) r
 abbrev pub counts_answer : {A : Type 0} → SessionState A → ℕ → Option ℕ → Answer A
 counts_answer s n None = counted s (count_moves s n) None
 counts_answer s n (Some k) = counted s k (Some Memory)
+
+-- k moves forward are enough: to the end, or to that of the last frame which is told
+abbrev pub is_spanned : {A : Type 0} → SessionState A → ℕ → ℕ → Bool
+is_spanned s d k = at_end (moved s.program k s.timeline) || spans.is_filled (ended_by s.program s.timeline d k)
+
+abbrev pub span_moves : {A : Type 0} → SessionState A → ℕ → ℕ → ℕ
+span_moves s n d = least (is_spanned s d) n
+
+-- k moves forward, and the frames that end, or begin and last; and why no more moves were made, if that is said
+abbrev pub spanned : {A : Type 0} → SessionState A → ℕ → ℕ → Option Reason → Answer A
+spanned s d k reason = goes_to s (replies.Spans (spans_by s.program s.timeline d k) reason) (moved s.program k s.timeline)
+
+abbrev pub spans_answer : {A : Type 0} → SessionState A → ℕ → ℕ → Option ℕ → Answer A
+spans_answer s n d None = spanned s d (span_moves s n d) None
+spans_answer s n d (Some k) = spanned s d k (Some Memory)
 
 -- back from the start, or from the oldest state that is kept, there is no way; else the answer is this
 abbrev pub if_back : {A : Type 0} → SessionState A → Answer A → Answer A
@@ -182,6 +199,7 @@ command_answer s (commands.Step n) (Some k) = stops_at s (forward_by s.program k
 command_answer s (commands.Accesses n at m) shortage =
     cond (at_end s.timeline) (refuses s refusals.AtEnd) (accesses_answer s n m (resolved_address s.program at) shortage)
 command_answer s (commands.Counts n) shortage = cond (at_end s.timeline) (refuses s refusals.AtEnd) (counts_answer s n shortage)
+command_answer s (commands.Frames n d) shortage = cond (at_end s.timeline) (refuses s refusals.AtEnd) (spans_answer s n d shortage)
 command_answer s (commands.Back n) shortage = if_back s (goes_to s replies.Place (back_by n s.timeline))
 command_answer s commands.Continue None = continue_answer s
 command_answer s commands.Continue (Some k) = stops_at s (moved s.program k s.timeline)
@@ -213,13 +231,14 @@ answer s (Err refused) shortage = refuses s (refusals.Line refused)
 
 -- Memory may run out, where a move may want some, after k moves of a `step` that were not all, and from which another move could
 -- be made, and after k moves of a `continue`, none of which led to a stop; and for a poke that isn't refused. So it may after
--- k moves of an `accesses` or a `counts` that were not all; and before the first of them, where there is none for the list.
+-- k moves of an `accesses`, a `counts` or a `frames` that were not all; and before the first of them, where there is none for the list.
 unfoldable pub IsValid : {A : Type 0} → SessionState A → Result (Option Command) Refused → Option ℕ → Type 0
 IsValid s said None = Unit {0}
 IsValid s (Ok (Some (commands.Step n))) (Some k) = (s.moves_want_memory ≡ true) × (k < n) × (at_end (forward_by s.program k s.timeline) ≡ false)
 IsValid s (Ok (Some (commands.Accesses n at m))) (Some k) =
     (at_end s.timeline ≡ false) × (a : ℕ) × (resolved_address s.program at ≡ Some a) × ((k ≡ 0) ⊎ ((s.moves_want_memory ≡ true) × (k < access_moves s n a m)))
 IsValid s (Ok (Some (commands.Counts n))) (Some k) = (at_end s.timeline ≡ false) × ((k ≡ 0) ⊎ ((s.moves_want_memory ≡ true) × (k < count_moves s n)))
+IsValid s (Ok (Some (commands.Frames n d))) (Some k) = (at_end s.timeline ≡ false) × ((k ≡ 0) ⊎ ((s.moves_want_memory ≡ true) × (k < span_moves s n d)))
 IsValid s (Ok (Some commands.Continue)) (Some k) =
     (s.moves_want_memory ≡ true) × (k < s.limit) × IsLeast (stop_on s.program (named_stops s.program s.stops.kept) s.timeline) s.limit k Memory
 IsValid s (Ok (Some (commands.Set x v))) (Some k) = (k ≡ 0) × IsOk (poke_temp s.program s.timeline.now x v)

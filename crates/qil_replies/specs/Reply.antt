@@ -10,7 +10,7 @@ use Rattle.qil_render.specs.Shown.{printed, temps_shown, frames_shown, memory_sh
 use Rattle.qil_render.specs.Listing.{block_shown}
 use Rattle.qil_replies.specs.declared.reply.Reply.{Reply}
 use Rattle.qil_replies.specs.declared.reply.Reply.TheVariants as replies
-use Rattle.qil_replies.specs.Texts.{refusal_text, reason_line, stop_line, deleted_line, stops_shown, access_line, count_line, place_text}
+use Rattle.qil_replies.specs.Texts.{refusal_text, reason_line, stop_line, deleted_line, stops_shown, access_line, count_line, span_line, place_text}
 
 -- The text of a reply in a program's state s after n moves, with these stops.
 unfoldable pub reply_text : {A : Type 0} → Program A → ℕ → State → List NumberedStop → Reply A → List ℕ
@@ -20,6 +20,7 @@ reply_text p n s stops replies.Place = state_line n s.frames s.status
 reply_text p n s stops (replies.Stopped reason) = reason_line reason ++ state_line n s.frames s.status
 reply_text p n s stops (replies.Accesses list reason) = flat_map access_line list ++ place_text reason n s
 reply_text p n s stops (replies.Counts list reason) = flat_map (count_line p) list ++ place_text reason n s
+reply_text p n s stops (replies.Spans list reason) = flat_map (span_line p) list ++ place_text reason n s
 reply_text p n s stops (replies.Added number kind) = stop_line p number kind
 reply_text p n s stops (replies.Deleted number) = deleted_line number
 reply_text p n s stops replies.Stops = stops_shown p stops

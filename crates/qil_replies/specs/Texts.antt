@@ -7,6 +7,7 @@ use Rattle.qil_accesses.specs.declared.access.Action.{Action}
 use Rattle.qil_accesses.specs.declared.access.Action.TheVariants.{Read, Write}
 use Rattle.qil_accesses.specs.declared.access.Access.{Access}
 use Rattle.qil_counts.specs.declared.count.Count.{Count}
+use Rattle.qil_spans.specs.declared.span.Span.{Span}
 use Rattle.qil_semantics.specs.State.{State}
 use Rattle.qil_semantics.specs.declared.reason.Reason.{Reason}
 use Rattle.qil_semantics.specs.declared.reason.Reason.TheVariants as reasons
@@ -80,6 +81,23 @@ abbrev pub count_line : {A : Type 0} → Program A → Count → List ℕ
 count_line p one =
     text_of (codes "count " ∷ decimal one.count ∷ codes " $" ∷ func_name (func_at p one.place.func.index) ∷ codes " @" ∷ label_in (block_at p one.place.func.index one.place.block.index)
     ∷ codes " " ∷ decimal one.place.index ∷ codes "\n" ∷ [])
+
+-- ---- frames along moves
+
+-- `#N`, or `-` where there is no position
+abbrev pub sign_text : Option ℕ → List ℕ
+sign_text None = codes "-"
+sign_text (Some n) = codes "#"
+
+abbrev pub digits_text : Option ℕ → List ℕ
+digits_text None = []
+digits_text (Some n) = decimal n
+
+-- `frame #B #E $F K`
+abbrev pub span_line : {A : Type 0} → Program A → Span → List ℕ
+span_line p one =
+    text_of (codes "frame " ∷ sign_text one.begin ∷ digits_text one.begin ∷ codes " " ∷ sign_text one.end ∷ digits_text one.end ∷ codes " $" ∷ func_name (func_at p one.func.index)
+    ∷ codes " " ∷ decimal one.below ∷ codes "\n" ∷ [])
 
 -- ---- stops
 

@@ -9,6 +9,7 @@ mod counts;
 mod put;
 mod reply;
 mod script;
+mod spans;
 mod stops;
 mod texts;
 

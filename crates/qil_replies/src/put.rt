@@ -10,6 +10,7 @@ ghost use Rattle.qil_replies.specs.Reply.{reply_text};
 use crate::accesses::put_accesses;
 use crate::counts::put_counts;
 use crate::reply::Reply;
+use crate::spans::put_spans;
 use crate::stops::put_stops;
 use crate::texts::{put_deleted, put_reason, put_stop, refusal_words};
 use qil_code::Code;
@@ -63,6 +64,10 @@ pub fn put_reply<'c, A: Allocator + Copy + 'c, M: Readers<A, Code<'c, A>>, P: Pu
         Reply::Counts(list, reason) => {
             let list = list.as_slice();
             put_counts(out, position, machine, list, *reason)
+        }
+        Reply::Spans(list, reason) => {
+            let list = list.as_slice();
+            put_spans(out, position, machine, list, *reason)
         }
         Reply::Added(number, kind) => put_stop(code_of(machine), out, *number, *kind),
         Reply::Deleted(number) => put_deleted(out, *number),

@@ -4,6 +4,7 @@ use qil_accesses::Access;
 use qil_commands::{LineName, Refused};
 use qil_counts::Count;
 use qil_semantics::Reason;
+use qil_spans::Span;
 use qil_stops::StopKind;
 use qil_tree::Items;
 use std::alloc::Allocator;
@@ -48,6 +49,8 @@ pub enum Reply<'t, A: Allocator> {
     Accesses(Items<Access, A>, Option<Reason>),
     /// The session moved: how many of the moves were made from each place, why it made no more, if that is said, and the place now.
     Counts(Items<Count, A>, Option<Reason>),
+    /// The session moved: the frames that ended or last, why it made no more moves, if that is said, and the place now.
+    Spans(Items<Span, A>, Option<Reason>),
     /// A stop was added: its number, and what it looks for.
     Added(u64, StopKind),
     /// The stop of this number was deleted.

@@ -2,6 +2,7 @@
 pub mod MoveAnswers
 pub mod AccessAnswers
 pub mod CountAnswers
+pub mod SpanAnswers
 pub mod PokeAnswers
 pub mod StopAnswers
 pub mod ShownAnswers

@@ -35,6 +35,7 @@ quit_is : (said : Result (Option Command) Refused) → is_quit said ≡ true →
 quit_is (Ok (Some (commands.Step n))) h = absurd (false≢true h)
 quit_is (Ok (Some (commands.Accesses n at m))) h = absurd (false≢true h)
 quit_is (Ok (Some (commands.Counts n))) h = absurd (false≢true h)
+quit_is (Ok (Some (commands.Frames n d))) h = absurd (false≢true h)
 quit_is (Ok (Some (commands.Back n))) h = absurd (false≢true h)
 quit_is (Ok (Some commands.Continue)) h = absurd (false≢true h)
 quit_is (Ok (Some commands.Reverse)) h = absurd (false≢true h)

@@ -13,6 +13,7 @@ mod poking;
 mod serving;
 mod session;
 mod showing;
+mod spanning;
 mod stopping;
 mod words;
 

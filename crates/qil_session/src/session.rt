@@ -15,6 +15,7 @@ use crate::counting::counts;
 use crate::moves::{answer_continue, answer_reverse, back, step};
 use crate::poking::{poke, set};
 use crate::showing::show_bytes;
+use crate::spanning::frames;
 use crate::stopping::{add_break, delete, watch_bytes, watch_temp};
 use qil_code::Code;
 use qil_commands::{Command, Refused};
@@ -114,6 +115,7 @@ impl<'c, A: Allocator + Copy + 'c, H: Runs<A, Code<'c, A>>> Session<A, H> {
                 accesses(&mut self.history, self.alloc, moves, address, count)
             }
             Command::Counts(moves) => counts(&mut self.history, self.alloc, moves),
+            Command::Frames(moves, least) => { frames(&mut self.history, self.alloc, moves, least) }
             Command::Back(count) => back(&mut self.history, count),
             Command::Continue => answer_continue(&mut self.history, &self.stops, self.limit),
             Command::Reverse => answer_reverse(&mut self.history, &self.stops, self.limit),

@@ -11,9 +11,9 @@ use std::alloc::{AllocError, Allocator};
 /// The most that are offered at once.
 const MOST: usize = 1000;
 
-const COMMANDS: [&str; 18] = [
-    "accesses", "back", "break", "continue", "counts", "delete", "list", "mem", "out", "poke",
-    "print", "reverse", "set", "step", "stops", "temps", "watch", "where",
+const COMMANDS: [&str; 19] = [
+    "accesses", "back", "break", "continue", "counts", "delete", "frames", "list", "mem", "out",
+    "poke", "print", "reverse", "set", "step", "stops", "temps", "watch", "where",
 ];
 
 /// The list of what is offered.

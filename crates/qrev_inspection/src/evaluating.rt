@@ -120,6 +120,7 @@ fn is_move(line: &[u8]) -> bool {
             Command::Step(_)
                 | Command::Accesses(..)
                 | Command::Counts(_)
+                | Command::Frames(..)
                 | Command::Back(_)
                 | Command::Continue
                 | Command::Reverse

@@ -33,6 +33,7 @@ done_of replies.Place = dones.Moved
 done_of (replies.Stopped reason) = dones.Stopped reason
 done_of (replies.Accesses list reason) = moved_or_stopped reason
 done_of (replies.Counts list reason) = moved_or_stopped reason
+done_of (replies.Spans list reason) = moved_or_stopped reason
 done_of (replies.Added number kind) = dones.Added number
 done_of reply = dones.Told
 

@@ -66,6 +66,7 @@ pub fn done_by<A: Allocator>(reply: &Reply<'_, A>) -> Done
         Reply::Stopped(reason) => Done::Stopped(*reason),
         Reply::Accesses(_, reason) => moved_or_stopped(*reason),
         Reply::Counts(_, reason) => moved_or_stopped(*reason),
+        Reply::Spans(_, reason) => moved_or_stopped(*reason),
         Reply::Added(number, _) => Done::Added(*number),
         _ => Done::Told,
     }

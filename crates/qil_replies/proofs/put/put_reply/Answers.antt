@@ -11,7 +11,8 @@ use Rattle.qil_render.specs.Shown.{printed}
 use Rattle.qil_replies.specs.Reply.{reply_text}
 use Rattle.qil_accesses.specs.declared.access.Access.{Access}
 use Rattle.qil_counts.specs.declared.count.Count.{Count}
-use Rattle.qil_replies.specs.Texts.{stop_line, stops_shown, access_line, count_line, place_text}
+use Rattle.qil_spans.specs.declared.span.Span.{Span}
+use Rattle.qil_replies.specs.Texts.{stop_line, stops_shown, access_line, count_line, span_line, place_text}
 use Rattle.qil_replies.proofs.put.put_reply.Goals as goal
 
 pub returns-in-Nothing : goal.returns-in-Nothing
@@ -40,6 +41,12 @@ unfolding reply_text
 returns-in-Counts g c =
     let w = g.M.Readers.whole c.args.machine.now in
     rw c.in-Counts.is (HasPut-as (ap (λ (list : List Count). flat_map (count_line w.program) list ++ place_text c.in-Counts.reason c.args.position (state_of w)) c.as_slice-list-in-Counts.ensures) c.put_counts.ensures)
+
+pub returns-in-Spans : goal.returns-in-Spans
+unfolding reply_text
+returns-in-Spans g c =
+    let w = g.M.Readers.whole c.args.machine.now in
+    rw c.in-Spans.is (HasPut-as (ap (λ (list : List Span). flat_map (span_line w.program) list ++ place_text c.in-Spans.reason c.args.position (state_of w)) c.as_slice-list-in-Spans.ensures) c.put_spans.ensures)
 
 pub returns-in-Added : goal.returns-in-Added
 unfolding reply_text

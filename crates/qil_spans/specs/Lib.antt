@@ -1,0 +1,4 @@
+-- The definitions.
+pub mod Spans
+pub mod Table
+pub mod Laws
